@@ -1,0 +1,5 @@
+pub mod Outside
+pub mod Calls
+pub mod Memory
+pub mod Untold
+pub mod RefusalTable
