@@ -1,0 +1,92 @@
+//! Axes of coverages.
+ghost use Rattle.std.specs.Prelude.{◌≡◌, ◌<◌, ℕ, length, [], IfOk, Err, MatchOption};
+ghost use Rattle.edr_axes.specs.Axes.{value_at, IsAscending, IsAxis, IsFirstFall};
+
+use edr_base::OutOfMemory;
+use std::alloc::{AllocError, Global};
+use std::marker::Model;
+
+/// Why some values are no axis.
+#[derive(Clone, Copy, Debug, PartialEq, Eq)]
+pub enum AxisFault {
+    /// There are none.
+    Empty,
+    /// The first place, from 0, whose value isn't above the one before.
+    NotAscending(usize),
+    /// Memory was wanting.
+    OutOfMemory,
+}
+
+/// An axis of a coverage (OGC 21-069r2, section 6.2): strictly ascending values, at least one.
+///
+/// They are metres, or seconds since 1970-01-01T00:00:00Z. Contracts see the list.
+#[derive(Debug, Drop)]
+pub struct Axis {
+    values: Vec<i64>,
+}
+
+impl Model for Axis {
+    ghost use Rattle.std.specs.Prelude.{ℤ, List};
+    ghost use Rattle.edr_axes.specs.Axes.{IsAxis};
+
+    ghost Value = { List ℤ };
+
+    ghost view = { λ axis. axis.values.items };
+
+    ghost invariant = { λ axis. IsAxis axis.values.items };
+}
+
+// The first place whose value isn't above the one before.
+fn first_fall(values: &[i64]) -> Option<usize>
+    ensures { MatchOption result (IsAscending values.now) (λ place. IsFirstFall values.now place) }
+{
+    for place in 1..values.len() {
+        if values[place] <= values[place - 1] {
+            return Some(place);
+        }
+    }
+    None
+}
+
+impl Axis {
+    /// The axis of these values, or the first fault.
+    pub fn of(alloc: Global, values: &[i64]) -> Result<Axis, AxisFault>
+        ensures ok { IfOk result (λ axis. (axis ≡ values.now) × IsAxis values.now) }
+        ensures empty { result ≡ Err AxisFault.Empty → values.now ≡ [] }
+        ensures not_ascending { (place : ℕ) → result ≡ Err (AxisFault.NotAscending place) → IsFirstFall values.now place }
+    {
+        if values.is_empty() {
+            return Err(AxisFault::Empty);
+        }
+        if let Some(place) = first_fall(values) {
+            return Err(AxisFault::NotAscending(place));
+        }
+        match Vec::from_slice(alloc, values) {
+            Ok(values) => Ok(Axis { values }),
+            Err(_) => Err(AxisFault::OutOfMemory),
+        }
+    }
+
+    /// How many values it has.
+    pub fn len(&self) -> usize
+        ensures { (result ≡ length self.now) × (0 < result) }
+    {
+        self.values.len()
+    }
+
+    /// Its values.
+    pub fn values(&self) -> &[i64]
+        ensures same { result.now ≡ self.now }
+        ensures axis { IsAxis self.now }
+    {
+        &self.values
+    }
+
+    /// The value at a place, from 0.
+    pub fn value(&self, place: usize) -> i64
+        requires { place < length self.now }
+        ensures { result ≡ value_at self.now place }
+    {
+        self.values[place]
+    }
+}
