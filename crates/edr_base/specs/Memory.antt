@@ -1,5 +1,5 @@
 -- The objects in memory: which of their calls fail, and what they tell.
-use Rattle.std.specs.Prelude.{◌≡◌, ℕ, ◌+◌, ◌<◌, ◌^◌, ◌-◌, Bool, true, false, not, bytes_eq, refl, List, [], drop, Vec, Contains, find, option_map, unwrap_or, slice_get}
+use Rattle.std.specs.Prelude.{◌≡◌, ℕ, ◌+◌, ◌<◌, ◌^◌, ◌-◌, Bool, true, false, not, bytes_eq, refl, List, [], drop, Vec, Contains, position, option_map, unwrap_or, slice_get}
 use Rattle.std.specs.declared.option.Option.{Option}
 use Rattle.std.specs.declared.alloc.Global.{Global}
 use Rattle.std.specs.Prelude.{None, Some}
@@ -17,9 +17,13 @@ File = Vec ℕ Global × Vec ℕ Global
 abbrev pub bytes_at : List File → ℕ → List ℕ
 bytes_at files place = unwrap_or (option_map (λ (f : File). f.1.items) (slice_get files place)) []
 
+-- the place of the first file of a name
+abbrev pub place_of_name : List File → List ℕ → Option ℕ
+place_of_name files name = position (λ (f : File). bytes_eq f.0.items name) files
+
 -- what the first file of a name holds
 abbrev pub content_of : List File → List ℕ → Option (List ℕ)
-content_of files name = option_map (λ (f : File). f.1.items) (find (λ (f : File). bytes_eq f.0.items name) files)
+content_of files name = option_map (bytes_at files) (place_of_name files name)
 
 -- what is left from a place on, where something is open
 abbrev pub left_in : Bool → ℕ → List ℕ → List ℕ

@@ -1,12 +1,28 @@
 //! The ground of the product: the outside as traits, numbers and texts as they are read, and the refusals.
 #![tactic(auto)]
 
+mod adapters;
+mod copying;
+mod fault_plan;
+mod memory_files;
+mod memory_link;
+mod memory_sink;
+mod memory_source;
 mod outside;
 mod places;
 mod refusals;
+mod sending;
 mod texts;
 
+pub use adapters::{RealSink, RealSource};
+pub use copying::{CopyFault, copy_all};
+pub use fault_plan::FaultPlan;
+pub use memory_files::MemoryFiles;
+pub use memory_link::MemoryLink;
+pub use memory_sink::MemorySink;
+pub use memory_source::MemorySource;
 pub use outside::{Failed, Faults, Files, Link, Sink, Source, Stop};
 pub use places::{Position, Spot};
 pub use refusals::Refusal;
+pub use sending::{SendFault, send, settle};
 pub use texts::{Items, OutOfMemory, Text};

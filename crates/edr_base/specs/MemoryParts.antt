@@ -1,0 +1,31 @@
+-- What the objects in memory were made with: how much they give or take at once, and which of their calls fail.
+use Rattle.std.specs.Prelude.{ℕ}
+use Rattle.edr_base.specs.declared.fault_plan.FaultPlan.{FaultPlan}
+use Rattle.edr_base.specs.declared.memory_source.MemorySource.{MemorySource}
+use Rattle.edr_base.specs.declared.memory_sink.MemorySink.{MemorySink}
+use Rattle.edr_base.specs.declared.memory_files.MemoryFiles.{MemoryFiles}
+use Rattle.edr_base.specs.declared.memory_link.MemoryLink.{MemoryLink}
+
+abbrev pub cut_of_source : MemorySource → ℕ
+cut_of_source s = s.cut
+
+abbrev pub plan_of_source : MemorySource → FaultPlan
+plan_of_source s = s.plan
+
+abbrev pub cut_of_sink : MemorySink → ℕ
+cut_of_sink s = s.cut
+
+abbrev pub plan_of_sink : MemorySink → FaultPlan
+plan_of_sink s = s.plan
+
+abbrev pub cut_of_files : MemoryFiles → ℕ
+cut_of_files s = s.cut
+
+abbrev pub plan_of_files : MemoryFiles → FaultPlan
+plan_of_files s = s.plan
+
+abbrev pub cut_of_link : MemoryLink → ℕ
+cut_of_link s = s.cut
+
+abbrev pub plan_of_link : MemoryLink → FaultPlan
+plan_of_link s = s.plan
