@@ -1,0 +1,43 @@
+//! All that a source gives.
+ghost use Rattle.std.specs.Prelude.{◌<◌, ◌^◌, IfOk, IsErrOf};
+ghost use Rattle.edr_base.specs.Outside.{Rose};
+ghost use Rattle.edr_base.specs.Calls.{SourceLent, ReadsAll, ReadsMore};
+
+use crate::outside::{Failed, Source};
+use std::alloc::Global;
+
+/// Why a source wasn't read whole.
+#[derive(Clone, Copy, Debug, PartialEq, Eq)]
+pub enum ReadStop {
+    /// The source failed, and counted it.
+    ReadFault,
+    /// More than the limit came.
+    TooLong,
+    /// Memory was wanting.
+    OutOfMemory,
+}
+
+/// All that is left of a source, where that is at most `limit` bytes. Reading stops as soon as more has come.
+#[tactic(auto, using(crate::proofs::KnownBytes::took_on, crate::proofs::KnownBytes::prepend_nothing))]
+pub fn read_all<S: Source>(alloc: Global, source: &mut S, limit: usize) -> Result<Vec<u8>, ReadStop>
+    requires { limit < 2 ^ 63 }
+    ensures all { IfOk result (λ bytes. ReadsAll bytes.items limit (S.left source.old) (S.left source.new)) }
+    ensures too_long { IsErrOf result ReadStop.TooLong → ReadsMore limit (S.left source.old) (S.left source.new) }
+    ensures lent { SourceLent (S.aside source.old) (S.aside source.new) (S.faults source.old) (S.faults source.new) }
+    ensures cause { IsErrOf result ReadStop.ReadFault → Rose (S.faults source.old) (S.faults source.new) }
+{
+    let mut bytes = Vec::new(alloc);
+    let mut buffer = [0u8; 16384];
+    while bytes.len() <= limit {
+        match source.read(&mut buffer) {
+            Ok(0) => return Ok(bytes),
+            Ok(count) => {
+                if bytes.extend_from_slice(&buffer[..count]).is_err() {
+                    return Err(ReadStop::OutOfMemory);
+                }
+            }
+            Err(Failed) => return Err(ReadStop::ReadFault),
+        }
+    }
+    Err(ReadStop::TooLong)
+}
