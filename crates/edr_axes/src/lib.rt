@@ -2,5 +2,7 @@
 #![tactic(auto)]
 
 mod axis;
+mod instants;
 
 pub use axis::{Axis, AxisFault};
+pub use instants::{EARLIEST, LATEST, texts_tell_times, times_are_written, write_instant};
