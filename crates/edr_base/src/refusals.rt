@@ -1,6 +1,6 @@
 //! Why a request gets no data.
 ghost use Rattle.std.specs.Prelude.{◌≡◌};
-ghost use Rattle.edr_base.specs.RefusalTable.{line_of};
+ghost use Rattle.edr_base.specs.RefusalTable.{line_of, body_of};
 
 /// A refusal, in the order in which they are looked for: the first that applies is answered.
 #[derive(Clone, Copy, Debug, PartialEq, Eq)]
@@ -115,6 +115,40 @@ impl Refusal {
             Refusal::NoLevels => b"NoLevels",
             Refusal::NoSamples => b"NoSamples",
             Refusal::TooLarge => b"TooLarge",
+        }
+    }
+
+    /// The body of the reply that carries it: its name and its number as JSON.
+    pub fn body(self) -> &'static [u8]
+        ensures { result.now ≡ body_of self }
+    {
+        match self {
+            Refusal::BadHead => b"{\"code\":\"BadHead\",\"number\":1}",
+            Refusal::BodyNotAllowed => b"{\"code\":\"BodyNotAllowed\",\"number\":2}",
+            Refusal::BadHost => b"{\"code\":\"BadHost\",\"number\":3}",
+            Refusal::VersionNotOffered => b"{\"code\":\"VersionNotOffered\",\"number\":4}",
+            Refusal::MethodNotOffered => b"{\"code\":\"MethodNotOffered\",\"number\":5}",
+            Refusal::NoSuchPage => b"{\"code\":\"NoSuchPage\",\"number\":6}",
+            Refusal::UnknownParameter => b"{\"code\":\"UnknownParameter\",\"number\":7}",
+            Refusal::RepeatedParameter => b"{\"code\":\"RepeatedParameter\",\"number\":8}",
+            Refusal::BadFormat => b"{\"code\":\"BadFormat\",\"number\":9}",
+            Refusal::MissingParameter => b"{\"code\":\"MissingParameter\",\"number\":10}",
+            Refusal::BadCoords => b"{\"code\":\"BadCoords\",\"number\":11}",
+            Refusal::WrongGeometry => b"{\"code\":\"WrongGeometry\",\"number\":12}",
+            Refusal::BadBbox => b"{\"code\":\"BadBbox\",\"number\":13}",
+            Refusal::BadDatetime => b"{\"code\":\"BadDatetime\",\"number\":14}",
+            Refusal::BadLevel => b"{\"code\":\"BadLevel\",\"number\":15}",
+            Refusal::BadDistance => b"{\"code\":\"BadDistance\",\"number\":16}",
+            Refusal::Conflict => b"{\"code\":\"Conflict\",\"number\":17}",
+            Refusal::UnknownCollection => b"{\"code\":\"UnknownCollection\",\"number\":18}",
+            Refusal::UnknownInstance => b"{\"code\":\"UnknownInstance\",\"number\":19}",
+            Refusal::UnknownLocation => b"{\"code\":\"UnknownLocation\",\"number\":20}",
+            Refusal::QueryNotOffered => b"{\"code\":\"QueryNotOffered\",\"number\":21}",
+            Refusal::UnknownParameterName => b"{\"code\":\"UnknownParameterName\",\"number\":22}",
+            Refusal::BadCrs => b"{\"code\":\"BadCrs\",\"number\":23}",
+            Refusal::NoLevels => b"{\"code\":\"NoLevels\",\"number\":24}",
+            Refusal::NoSamples => b"{\"code\":\"NoSamples\",\"number\":25}",
+            Refusal::TooLarge => b"{\"code\":\"TooLarge\",\"number\":26}",
         }
     }
 }
