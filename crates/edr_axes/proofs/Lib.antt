@@ -1,2 +1,3 @@
+pub mod AxisLemmas
 pub mod CalendarLemmas
 pub mod InstantLemmas

@@ -1,6 +1,6 @@
 //! Axes of coverages.
-ghost use Rattle.std.specs.Prelude.{◌≡◌, ◌<◌, ℕ, length, [], IfOk, Err, MatchOption};
-ghost use Rattle.edr_axes.specs.Axes.{value_at, IsAscending, IsAxis, IsFirstFall};
+ghost use Rattle.std.specs.Prelude.{◌≡◌, ◌<◌, ℕ, length, [], IfOk, Err, MatchOption, Contains, count_by, int_lt};
+ghost use Rattle.edr_axes.specs.Axes.{value_at, IsAscending, IsAxis, IsFirstFall, IsNearest, NearestIsOne};
 
 use edr_base::OutOfMemory;
 use std::alloc::{AllocError, Global};
@@ -48,6 +48,47 @@ fn first_fall(values: &[i64]) -> Option<usize>
     None
 }
 
+// How many values are below a bound. They come first.
+fn count_below(values: &[i64], bound: i64) -> usize
+    requires { IsAscending values.now }
+    ensures { result ≡ count_by (λ value. int_lt value bound) values.now }
+{
+    values.partition_point(|value| *value < bound)
+}
+
+// The place of a value, or `None` where there is no such value.
+fn place_in(values: &[i64], value: i64) -> Option<usize>
+    requires { IsAscending values.now }
+    ensures { MatchOption result (¬ (Contains values.now value))
+        (λ place. (place < length values.now) × (value_at values.now place ≡ value)) }
+{
+    let place = count_below(values, value);
+    if place < values.len() && values[place] == value {
+        Some(place)
+    } else {
+        None
+    }
+}
+
+// The place of the value with the least distance to `c`, the lower of two.
+fn nearest_in(values: &[i64], c: i64) -> usize
+    requires { IsAxis values.now }
+    ensures { IsNearest values.now c result }
+{
+    let place = count_below(values, c);
+    if place == 0 {
+        return 0;
+    }
+    if place == values.len() {
+        return place - 1;
+    }
+    if values[place].abs_diff(c) < values[place - 1].abs_diff(c) {
+        place
+    } else {
+        place - 1
+    }
+}
+
 impl Axis {
     /// The axis of these values, or the first fault.
     pub fn of(alloc: Global, values: &[i64]) -> Result<Axis, AxisFault>
@@ -89,4 +130,24 @@ impl Axis {
     {
         self.values[place]
     }
+
+    /// The place of a value, from 0, or `None` where it isn't on the axis. It takes no memory.
+    pub fn place_of(&self, value: i64) -> Option<usize>
+        ensures { MatchOption result (¬ (Contains self.now value))
+            (λ place. (place < length self.now) × (value_at self.now place ≡ value)) }
+    {
+        place_in(&self.values, value)
+    }
+
+    /// The place, from 0, of the value with the least distance to `c`, the lower of two. It takes no memory.
+    pub fn nearest(&self, c: i64) -> usize
+        ensures { IsNearest self.now c result }
+    {
+        nearest_in(&self.values, c)
+    }
 }
+
+/// No two places of an axis are nearest to one number.
+pub fn nearest_is_one()
+    ensures { NearestIsOne }
+{}

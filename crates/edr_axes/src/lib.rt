@@ -4,5 +4,5 @@
 mod axis;
 mod instants;
 
-pub use axis::{Axis, AxisFault};
+pub use axis::{Axis, AxisFault, nearest_is_one};
 pub use instants::{EARLIEST, LATEST, texts_tell_times, times_are_written, write_instant};

@@ -1,0 +1,5 @@
+use Rattle.edr_axes.proofs.AxisLemmas.{nearest_is_one}
+use Rattle.edr_axes.proofs.axis.nearest_is_one.Goals as goal
+
+pub returns : goal.returns
+returns c = nearest_is_one
