@@ -5,3 +5,5 @@ pub mod MemoryParts
 pub mod LinkTies
 pub mod Untold
 pub mod RefusalTable
+pub mod Numbers
+pub mod NumberParts
