@@ -30,3 +30,6 @@ pub use reading::{ReadStop, read_all};
 pub use refusals::Refusal;
 pub use sending::{SendFault, send, settle};
 pub use texts::{Items, OutOfMemory, Text};
+
+#[cfg(test)]
+mod tests;
