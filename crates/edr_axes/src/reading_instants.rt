@@ -1,0 +1,329 @@
+//! Times read from text.
+ghost use Rattle.std.specs.Prelude.{◌≡◌, ◌+◌, ◌*◌, ◌+ℤ◌, ◌-ℤ◌, ◌*ℤ◌, ◌<◌, ◌≤◌, ℤ, ℕ, List, [], ◌∷◌, All, length, take, drop, pos, neg_ℤ, MatchOption, IfSome};
+ghost use Rattle.jiff_core.specs.Calendar.{IsBetween, IsEpochDay, days_from_civil};
+ghost use Rattle.edr_axes.specs.Instants.{IsDay, IsTime};
+ghost use Rattle.edr_axes.specs.InstantGrammar.{IsInstant, IsOffset, IsZone, InstantsAreUnique, WrittenTimesAreInstants};
+ghost use Rattle.edr_axes.specs.InstantPieces.{IsPair, HasNoPair, BeginsWithDate, HasNoDate, BeginsWithMark, HasNoMark, BeginsWithMinutes, HasNoMinutes, HasNoOffset, HasNoZone, IsZoneEnd, HasNoZoneEnd, IsEnd, HasNoEnd};
+
+use crate::instants::{EARLIEST, LATEST};
+use jiff::civil::Date;
+
+// The number that two digits write, and the bytes after them.
+fn two_digits(text: &[u8]) -> Option<(u8, &[u8])>
+    ensures { MatchOption result (HasNoPair text.now) (λ r. IsPair text.now r.0 r.1.now) }
+{
+    match text {
+        [tens, ones, rest @ ..] => {
+            if *tens < b'0' || *tens > b'9' || *ones < b'0' || *ones > b'9' {
+                return None;
+            }
+            Some(((*tens - b'0') * 10 + (*ones - b'0'), rest))
+        }
+        _ => None,
+    }
+}
+
+// The bytes after a first byte.
+fn after(text: &[u8], first: u8) -> Option<&[u8]>
+    ensures { MatchOption result ((rest : List ℕ) → ¬ (text.now ≡ first ∷ rest))
+        (λ r. text.now ≡ first ∷ r.now) }
+{
+    match text {
+        [byte, rest @ ..] => { if *byte == first { Some(rest) } else { None } }
+        _ => None,
+    }
+}
+
+// The number of a day, 0 for 1970-01-01, if the calendar has it.
+fn day_number(year: u16, month: u8, day: u8) -> Option<i64>
+    requires year_in { year ≤ 9999 }
+    requires month_in { month < 100 }
+    requires day_in { day < 100 }
+    ensures value { MatchOption result (¬ (IsDay year month day))
+        (λ n. IsDay year month day × (n ≡ days_from_civil (pos year) month day)) }
+    ensures bound { IfSome result IsEpochDay }
+{
+    match Date::new(year as i16, month as i8, day as i8) {
+        Ok(date) => Some(date.to_plain().to_unix_epoch_day() as i64),
+        Err(_) => None,
+    }
+}
+
+// The number of the day of a date, `YYYY-MM-DD`, and the bytes after it.
+fn read_date(text: &[u8]) -> Option<(i64, &[u8])>
+    ensures value { MatchOption result (HasNoDate text.now) (λ r. BeginsWithDate text.now r.0 r.1.now) }
+    ensures bound { IfSome result (λ r. IsEpochDay r.0) }
+{
+    let Some((century, text)) = two_digits(text) else {
+        return None;
+    };
+    let Some((of_century, text)) = two_digits(text) else {
+        return None;
+    };
+    let Some(text) = after(text, b'-') else {
+        return None;
+    };
+    let Some((month, text)) = two_digits(text) else {
+        return None;
+    };
+    let Some(text) = after(text, b'-') else {
+        return None;
+    };
+    let Some((day, text)) = two_digits(text) else {
+        return None;
+    };
+    match day_number(century as u16 * 100 + of_century as u16, month, day) {
+        Some(number) => Some((number, text)),
+        None => None,
+    }
+}
+
+// The bytes after the `T` between a date and a time of day.
+fn after_mark(text: &[u8]) -> Option<&[u8]>
+    ensures { MatchOption result (HasNoMark text.now) (λ r. BeginsWithMark text.now r.now) }
+{
+    match after(text, b'T') {
+        Some(rest) => Some(rest),
+        None => after(text, b't'),
+    }
+}
+
+// The seconds of hours and minutes, `HH:MM`, and the bytes after them.
+fn read_minutes(text: &[u8]) -> Option<(u32, &[u8])>
+    ensures value { MatchOption result (HasNoMinutes text.now) (λ r. BeginsWithMinutes text.now r.0 r.1.now) }
+    ensures bound { IfSome result (λ r. r.0 ≤ 86340) }
+{
+    let Some((hour, text)) = two_digits(text) else {
+        return None;
+    };
+    let Some(text) = after(text, b':') else {
+        return None;
+    };
+    let Some((minute, text)) = two_digits(text) else {
+        return None;
+    };
+    if hour > 23 || minute > 59 {
+        return None;
+    }
+    Some((hour as u32 * 3600 + minute as u32 * 60, text))
+}
+
+// The seconds of an offset, `HH:MM`, and nothing after it.
+fn read_offset(text: &[u8]) -> Option<i64>
+    ensures value { MatchOption result (HasNoOffset text.now) (λ seconds. IsOffset text.now seconds) }
+    ensures bound { IfSome result (IsBetween (pos 0) (pos 86340)) }
+{
+    let Some((seconds, rest)) = read_minutes(text) else {
+        return None;
+    };
+    if rest.is_empty() {
+        Some(seconds as i64)
+    } else {
+        None
+    }
+}
+
+// The seconds that the clocks of a zone are ahead, by its first byte and the others.
+fn zone_of(first: u8, rest: &[u8]) -> Option<i64>
+    ensures value { MatchOption result (HasNoZone (first ∷ rest.now))
+        (λ ahead. IsZone (first ∷ rest.now) ahead) }
+    ensures bound { IfSome result (IsBetween (neg_ℤ (pos 86340)) (pos 86340)) }
+{
+    match first {
+        b'Z' | b'z' => { if rest.is_empty() { Some(0) } else { None } }
+        b'+' | b' ' => read_offset(rest),
+        b'-' => match read_offset(rest) {
+            Some(seconds) => Some(-seconds),
+            None => None,
+        },
+        _ => None,
+    }
+}
+
+// The seconds that the clocks of a zone are ahead.
+fn read_zone(text: &[u8]) -> Option<i64>
+    ensures value { MatchOption result (HasNoZone text.now) (λ ahead. IsZone text.now ahead) }
+    ensures bound { IfSome result (IsBetween (neg_ℤ (pos 86340)) (pos 86340)) }
+{
+    let Some((first, rest)) = text.split_first() else {
+        return None;
+    };
+    zone_of(*first, rest)
+}
+
+// How many zeros a text begins with.
+fn zero_count(text: &[u8]) -> usize
+    ensures within { result ≤ length text.now }
+    ensures zeros { All (λ byte. byte ≡ 48) (take result text.now) }
+    ensures other { (rest : List ℕ) → ¬ (drop result text.now ≡ 48 ∷ rest) }
+{
+    let mut count = 0;
+    while count < text.len() && text[count] == b'0' {
+        count += 1;
+    }
+    count
+}
+
+// The zone after a fraction of zeros, which may be left out.
+fn read_zone_end(text: &[u8]) -> Option<i64>
+    ensures value { MatchOption result (HasNoZoneEnd text.now) (λ ahead. IsZoneEnd text.now ahead) }
+    ensures bound { IfSome result (IsBetween (neg_ℤ (pos 86340)) (pos 86340)) }
+{
+    let Some(digits) = after(text, b'.') else {
+        return read_zone(text);
+    };
+    let zeros = zero_count(digits);
+    if zeros == 0 {
+        return None;
+    }
+    read_zone(&digits[zeros..])
+}
+
+// The seconds of the minute, which may be left out, and those that the zone's clocks are ahead.
+fn read_end(text: &[u8]) -> Option<(u8, i64)>
+    ensures value { MatchOption result (HasNoEnd text.now) (λ r. IsEnd text.now r.0 r.1) }
+    ensures second { IfSome result (λ r. r.0 ≤ 59) }
+    ensures ahead { IfSome result (λ r. IsBetween (neg_ℤ (pos 86340)) (pos 86340) r.1) }
+{
+    let Some(text) = after(text, b':') else {
+        return match read_zone(text) {
+            Some(ahead) => Some((0, ahead)),
+            None => None,
+        };
+    };
+    let Some((second, text)) = two_digits(text) else {
+        return None;
+    };
+    if second > 59 {
+        return None;
+    }
+    match read_zone_end(text) {
+        Some(ahead) => Some((second, ahead)),
+        None => None,
+    }
+}
+
+// The time at so many seconds of a day, by clocks that are ahead.
+fn time_at(day: i64, seconds: u32, ahead: i64) -> i64
+    requires day_in { IsEpochDay day }
+    requires seconds_in { seconds < 86400 }
+    requires ahead_in { IsBetween (neg_ℤ (pos 86340)) (pos 86340) ahead }
+    ensures { result ≡ (day *ℤ pos 86400 +ℤ pos seconds) -ℤ ahead }
+{
+    day * 86_400 + seconds as i64 - ahead
+}
+
+// The time, if it lies in the years 0000 to 9999.
+fn within_years(time: i64) -> Option<i64>
+    ensures { MatchOption result (¬ (IsTime time)) (λ same. (same ≡ time) × IsTime time) }
+{
+    if time < EARLIEST || time > LATEST {
+        None
+    } else {
+        Some(time)
+    }
+}
+
+/// The time that a text stands for, in seconds since 1970-01-01T00:00:00Z. None where it is no instant.
+///
+/// An instant is `YYYY-MM-DDTHH:MM:SSZ` (RFC 3339, section 5.6), of a day that the calendar has. `T` and `Z`
+/// may be small. The seconds may be left out, and may have a fraction of zeros. In place of `Z` may stand an
+/// offset, `+HH:MM` or `-HH:MM`; its `+` may be a space. With the offset taken off, the time has to lie from
+/// 0000-01-01T00:00:00Z to 9999-12-31T23:59:59Z. It takes no memory.
+pub fn read_instant(text: &[u8]) -> Option<i64>
+    ensures { MatchOption result ((time : ℤ) → ¬ (IsInstant text.now time))
+        (λ time. IsInstant text.now time) }
+{
+    let Some((day, text)) = read_date(text) else {
+        return None;
+    };
+    let Some(text) = after_mark(text) else {
+        return None;
+    };
+    let Some((seconds, text)) = read_minutes(text) else {
+        return None;
+    };
+    let Some((second, ahead)) = read_end(text) else {
+        return None;
+    };
+    within_years(time_at(day, seconds + second as u32, ahead))
+}
+
+/// A text is at most one instant.
+pub fn instants_are_unique()
+    ensures { InstantsAreUnique }
+{}
+
+/// The text that is written of a time is an instant, and stands for that time; so it is read back.
+pub fn written_times_are_instants()
+    ensures { WrittenTimesAreInstants }
+{}
+
+#[cfg(test)]
+mod tests {
+    use super::*;
+    use crate::instants::write_instant;
+
+    // Each text and its time, from another calendar's program.
+    #[test]
+    fn reads_instants(rt: HostRuntime) {
+        let cases = [
+            ("1970-01-01T00:00:00Z", Some(0)),
+            ("2024-06-19T17:30:05Z", Some(1_718_818_205)),
+            ("2024-01-01t00:00z", Some(1_704_067_200)),
+            ("2024-01-01T00:00:00.000Z", Some(1_704_067_200)),
+            ("2024-01-01T00:00:59.0-00:00", Some(1_704_067_259)),
+            ("2024-01-01T01:00:00+01:00", Some(1_704_067_200)),
+            ("2024-01-01T01:00:00 01:00", Some(1_704_067_200)),
+            ("2024-01-01T01:00-23:59", Some(1_704_157_140)),
+            ("2024-02-29T12:00:00Z", Some(1_709_208_000)),
+            ("2000-02-29T00:00:00Z", Some(951_782_400)),
+            ("1969-12-31T23:59:59Z", Some(-1)),
+            ("0000-02-29T00:00Z", Some(-62_162_121_600)),
+            ("0000-01-01T00:00:00Z", Some(-62_167_219_200)),
+            ("0000-01-01T00:01+00:01", Some(-62_167_219_200)),
+            ("0000-01-01T00:00+00:01", None),
+            ("9999-12-31T23:59:59Z", Some(253_402_300_799)),
+            ("9999-12-31T23:59:59.00 00:01", Some(253_402_300_739)),
+            ("9999-12-31T23:59:00-00:01", None),
+            ("9999-12-31T23:59:59-00:01", None),
+            ("2023-02-29T00:00:00Z", None),
+            ("1900-02-29T00:00:00Z", None),
+            ("2024-00-01T00:00:00Z", None),
+            ("2024-13-01T00:00:00Z", None),
+            ("2024-04-31T00:00:00Z", None),
+            ("2024-01-00T00:00:00Z", None),
+            ("2016-12-31T23:59:60Z", None),
+            ("2024-01-01T24:00:00Z", None),
+            ("2024-01-01T00:60:00Z", None),
+            ("2024-01-01T00:00:00.10Z", None),
+            ("2024-01-01T00:00:00.Z", None),
+            ("2024-01-01T00:00.0Z", None),
+            ("2024-01-01T00:00:00+24:00", None),
+            ("2024-01-01T00:00:00+00:60", None),
+            ("2024-01-01T00:00:00+0100", None),
+            ("2024-01-01T00:00:00+01:00Z", None),
+            ("2024-01-01T00:00:00", None),
+            ("2024-01-01T00:00:00Z ", None),
+            (" 2024-01-01T00:00:00Z", None),
+            ("2024-01-01 00:00:00Z", None),
+            ("2024-01-01T00:00:Z", None),
+            ("2024-01-01T0:00:00Z", None),
+            ("2024-1-01T00:00:00Z", None),
+            ("+2024-01-01T00:00:00Z", None),
+            ("2024-01-01", None),
+            ("T00:00Z", None),
+            ("", None),
+        ];
+        for (text, time) in cases {
+            assert_eq!(rt; read_instant(text.as_bytes()), time, "{text}");
+        }
+    }
+
+    #[test]
+    fn reads_what_is_written(rt: HostRuntime) {
+        for time in [EARLIEST, -1, 0, 951_782_400, LATEST] {
+            assert_eq!(rt; read_instant(&write_instant(time)), Some(time));
+        }
+    }
+}
