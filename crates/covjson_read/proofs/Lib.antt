@@ -1,0 +1,5 @@
+pub mod AnswerLemmas
+pub mod AxisLemmas
+pub mod ParameterLemmas
+pub mod RangeLemmas
+pub mod CoverageLemmas

@@ -1,0 +1,7 @@
+pub mod Answers
+pub mod Members
+pub mod Axes
+pub mod Systems
+pub mod Parameters
+pub mod Ranges
+pub mod Standing

@@ -1,0 +1,77 @@
+-- Members of objects, and what each has to be.
+use Rattle.std.specs.Prelude.{ℕ, ℤ, unsigned_abs, nat_le, List, Bool, true, is_some, ◌||◌, ◌&&◌, if◌then◌else◌, codes, ⊤, Option, Some, None, option_and_then, Ok, Err}
+use Rattle.serde_json.specs.Data.{Data, null, boolean, number, string, array, object, Items, no_items, item, Members}
+use Rattle.serde_json.specs.Find.{get, as_object, as_array, as_number, as_str, as_null, as_integer, as_u64}
+use Rattle.covjson_read.specs.declared.faults.Member.{Member}
+use Rattle.covjson_read.specs.declared.faults.CovFault.{CovFault}
+use Rattle.covjson_read.specs.declared.faults.CovFault.TheVariants.{Missing, WrongType, NotWhole, OutOfRange}
+use Rattle.covjson_read.specs.declared.members.Wanted.{Wanted}
+use Rattle.covjson_read.specs.declared.members.Wanted.TheVariants.{Texts, Numbers, Wholes, Naturals, NumbersOrNulls, WholesOrNulls}
+use Rattle.covjson_read.specs.Answers.{Answer, and_then, or_fault, check}
+
+-- the member of that name, or Missing
+abbrev pub need : List ℕ → Member → Data → Answer Data
+need name m d = or_fault (get name d) (Missing m)
+
+-- the member of that name, or WrongType
+abbrev pub part : List ℕ → Member → Data → Answer Data
+part name m d = or_fault (get name d) (WrongType m)
+
+-- an object, or WrongType
+abbrev pub object_at : Member → Data → Answer Members
+object_at m d = or_fault (as_object d) (WrongType m)
+
+-- a list, or WrongType
+abbrev pub list_at : Member → Data → Answer Items
+list_at m d = or_fault (as_array d) (WrongType m)
+
+-- a text, or WrongType
+abbrev pub text_at : Member → Data → Answer (List ℕ)
+text_at m d = or_fault (as_str d) (WrongType m)
+
+-- the text of the member of that name, or the empty text
+abbrev pub text_or_empty : Option Data → List ℕ
+text_or_empty None = codes ""
+text_or_empty (Some null) = codes ""
+text_or_empty (Some (boolean b)) = codes ""
+text_or_empty (Some (number n)) = codes ""
+text_or_empty (Some (string s)) = s
+text_or_empty (Some (array ds)) = codes ""
+text_or_empty (Some (object ms)) = codes ""
+
+-- the number that is held as a whole number of 64 bits
+abbrev pub whole_of : Data → Option ℤ
+whole_of d = option_and_then as_integer (as_number d)
+
+-- the number that is held as a whole number from 0
+abbrev pub natural_of : Data → Option ℕ
+natural_of d = option_and_then as_u64 (as_number d)
+
+-- a number, held whole, of at most that size
+abbrev pub whole_within : Member → ℕ → Data → Answer ℤ
+whole_within m limit d =
+    and_then (or_fault (as_number d) (WrongType m)) (λ n.
+    and_then (or_fault (as_integer n) (NotWhole m)) (λ z.
+    if nat_le (unsigned_abs z) limit then Ok z else Err (OutOfRange m)))
+
+-- the same, where null stands for an absent number
+abbrev pub whole_or_null : Member → ℕ → Data → Answer (Option ℤ)
+whole_or_null m limit d = if is_some (as_null d) then Ok None else and_then (whole_within m limit d) (λ z. Ok (Some z))
+
+-- the item is what is wanted
+abbrev pub is_wanted : Wanted → Data → Bool
+is_wanted Texts d = is_some (as_str d)
+is_wanted Numbers d = is_some (as_number d)
+is_wanted Wholes d = is_some (whole_of d)
+is_wanted Naturals d = is_some (natural_of d)
+is_wanted NumbersOrNulls d = is_some (as_null d) || is_some (as_number d)
+is_wanted WholesOrNulls d = is_some (as_null d) || is_some (whole_of d)
+
+-- each item is
+abbrev pub all_wanted : Wanted → Items → Bool
+all_wanted wanted no_items = true
+all_wanted wanted (item d ds) = is_wanted wanted d && all_wanted wanted ds
+
+-- each item is, or that fault
+abbrev pub need_each : Wanted → CovFault → Items → Answer ⊤
+need_each wanted fault ds = check (all_wanted wanted ds) fault

@@ -1,0 +1,66 @@
+-- The reference systems of a tree (OGC 21-069r2, section 5), and what they stand for.
+use Rattle.std.specs.Prelude.{◌≡◌, ℕ, List, codes, Bool, true, false, not, bytes_eq, ◌||◌, ◌&&◌, if◌then◌else◌, is_some, Option, Some, None, option_and_then}
+use Rattle.serde_json.specs.Data.{Data, array, Items, no_items, item}
+use Rattle.serde_json.specs.Find.{get, as_array, as_str}
+use Rattle.covjson_value.specs.declared.coverages.Referencing.{Referencing}
+use Rattle.covjson_read.specs.Members.{text_or_empty}
+
+-- the datum is that text
+abbrev pub is_text : List ℕ → Option (List ℕ) → Bool
+is_text text None = false
+is_text text (Some found) = bytes_eq found text
+
+-- a list has that text
+abbrev pub has_text : List ℕ → Items → Bool
+has_text text no_items = false
+has_text text (item d ds) = is_text text (as_str d) || has_text text ds
+
+abbrev pub has_text_if_list : List ℕ → Option Items → Bool
+has_text_if_list text None = false
+has_text_if_list text (Some ds) = has_text text ds
+
+-- the coordinates of an entry hold that name
+abbrev pub holds : List ℕ → Data → Bool
+holds name entry = has_text_if_list name (option_and_then as_array (get (codes "coordinates") entry))
+
+-- an entry has coordinates and a system
+abbrev pub is_connection : Data → Bool
+is_connection entry = is_some (get (codes "coordinates") entry) && is_some (get (codes "system") entry)
+
+abbrev pub all_connections : Items → Bool
+all_connections no_items = true
+all_connections (item d ds) = is_connection d && all_connections ds
+
+-- the text of a member of an entry's system, or the empty text
+abbrev pub system_text : List ℕ → Data → List ℕ
+system_text name entry = text_or_empty (option_and_then (get name) (get (codes "system") entry))
+
+-- an entry of both coordinates of the plane
+abbrev pub is_plane : Data → Bool
+is_plane entry = holds (codes "x") entry && holds (codes "y") entry
+
+-- the first of these
+abbrev pub first_plane : Items → Option Data
+first_plane no_items = None
+first_plane (item d ds) = if is_plane d then Some d else first_plane ds
+
+-- an entry of times in another calendar
+abbrev pub is_other_calendar : Data → Bool
+is_other_calendar entry = bytes_eq (system_text (codes "type") entry) (codes "TemporalRS") && not (bytes_eq (system_text (codes "calendar") entry) (codes "Gregorian"))
+
+-- the first of these
+abbrev pub first_other_calendar : Items → Option Data
+first_other_calendar no_items = None
+first_other_calendar (item d ds) = if is_other_calendar d then Some d else first_other_calendar ds
+
+-- the systems of a domain: that of the plane is projected, and those of times are Gregorian
+pub record StandsForReferencing (tree : Data) (referencing : Referencing) : Type 0 where
+  pub entries : Items
+  pub list : get (codes "referencing") tree ≡ Some (array entries)
+  pub connections : all_connections entries ≡ true
+  pub plane : Data
+  pub first : first_plane entries ≡ Some plane
+  pub projected : system_text (codes "type") plane ≡ codes "ProjectedCRS"
+  pub gregorian : first_other_calendar entries ≡ None
+  pub crs : referencing.crs ≡ system_text (codes "id") plane
+  pub no_vertical : referencing.vertical ≡ None

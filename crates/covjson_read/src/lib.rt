@@ -1,0 +1,13 @@
+//! CoverageJSON (OGC 21-069r2) as it is read: trees of JSON to coverages, by checks in one order.
+#![tactic(auto)]
+
+mod axes;
+mod coverages;
+mod faults;
+mod members;
+mod parameters;
+mod ranges;
+mod systems;
+
+pub use coverages::coverage_of;
+pub use faults::{CovFault, Member};

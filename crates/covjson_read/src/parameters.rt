@@ -1,0 +1,192 @@
+//! Parameters (OGC 21-069r2, section 6.3).
+ghost use Rattle.std.specs.Prelude.{◌≡◌, option_map, IfOk, IfSome, IsUtf8, codes, None, Some};
+ghost use Rattle.serde_json.specs.View.{view, members_view};
+ghost use Rattle.serde_json.specs.Find.{get};
+ghost use Rattle.covjson_value.specs.Coverages.{IsParameter};
+ghost use Rattle.covjson_read.specs.Answers.{Gives};
+ghost use Rattle.covjson_read.specs.Parameters.{StandsForParameter};
+ghost use Rattle.covjson_read.specs.Parameters as parameters;
+
+use crate::faults::{CovFault, Member};
+use crate::members::{need, object_at, part, text_at};
+use covjson_value::{Parameter, is_name};
+use edr_base::Text;
+use serde_json::{Map, Value};
+use std::alloc::Global;
+
+fn all_texts(members: &Map<String, Value>) -> bool
+    ensures { result ≡ parameters.all_texts (members_view members.now.entries) }
+{
+    for (_, text) in members.iter() {
+        if !text.is_string() {
+            return false;
+        }
+    }
+    true
+}
+
+fn first_said(members: &Map<String, Value>) -> Option<(&str, &Value)>
+    ensures { option_map (λ p. (p.0.now, view p.1.now)) result ≡ parameters.said_in None (members_view members.now.entries) }
+{
+    for (lang, text) in members.iter() {
+        return Some((lang, text));
+    }
+    None
+}
+
+// Of a label's members that of English, else the first; with its language.
+fn said_in<'a>(label: &'a Value, members: &'a Map<String, Value>) -> Option<(&'a str, &'a Value)>
+    ensures { option_map (λ p. (p.0.now, view p.1.now)) result
+        ≡ parameters.said_in (get (codes "en") (view label.now)) (members_view members.now.entries) }
+{
+    if let Some(english) = label.get("en") {
+        return Some(("en", english));
+    }
+    first_said(members)
+}
+
+// The language and the text of a label.
+fn label_at<'a>(tree: &'a Value, member: Member) -> Result<(&'a str, &'a str), CovFault>
+    ensures { Gives (λ p. (p.0.now, p.1.now)) result (parameters.label_at member (view tree.now)) }
+{
+    let label = part(tree, "label", member)?;
+    let members = object_at(label, member)?;
+    if !all_texts(members) {
+        return Err(CovFault::WrongType(member));
+    }
+    let Some((lang, said)) = said_in(label, members) else {
+        return Err(CovFault::WrongType(member));
+    };
+    let text = text_at(said, member)?;
+    Ok((lang, text))
+}
+
+fn parameter_label(tree: &Value) -> Result<(&str, &str), CovFault>
+    ensures { Gives (λ p. (p.0.now, p.1.now)) result (parameters.parameter_label (view tree.now)) }
+{
+    let property = need(tree, "observedProperty", Member::ObservedProperty)?;
+    if property.get("categories").is_some() {
+        return Err(CovFault::WrongType(Member::ObservedProperty));
+    }
+    label_at(property, Member::ObservedProperty)
+}
+
+fn unit_label(unit: &Value) -> Result<&str, CovFault>
+    ensures { Gives (λ s. s.now) result (parameters.unit_label (view unit.now)) }
+{
+    let (_, text) = label_at(unit, Member::Unit)?;
+    Ok(text)
+}
+
+// The text of a unit: its symbol, or the value of its symbol, else its label.
+fn unit_text(unit: &Value) -> Result<&str, CovFault>
+    ensures { Gives (λ s. s.now) result (parameters.unit_by_symbol (view unit.now) (get (codes "symbol") (view unit.now))) }
+{
+    let Some(symbol) = unit.get("symbol") else {
+        return unit_label(unit);
+    };
+    if let Some(text) = symbol.as_str() {
+        return Ok(text);
+    }
+    if !symbol.is_object() {
+        return unit_label(unit);
+    }
+    let value = part(symbol, "value", Member::Unit)?;
+    text_at(value, Member::Unit)
+}
+
+fn parameter_unit(tree: &Value) -> Result<Option<&str>, CovFault>
+    ensures { Gives (λ o. option_map (λ s. s.now) o) result (parameters.parameter_unit (view tree.now)) }
+{
+    let Some(unit) = tree.get("unit") else {
+        return Ok(None);
+    };
+    let text = unit_text(unit)?;
+    Ok(Some(text))
+}
+
+fn parameter_form(tree: &Value) -> Result<(), CovFault>
+    ensures { result ≡ parameters.parameter_form (view tree.now) }
+{
+    let _label = parameter_label(tree)?;
+    let _unit = parameter_unit(tree)?;
+    Ok(())
+}
+
+fn parameter_forms(members: &Map<String, Value>) -> Result<(), CovFault>
+    ensures { result ≡ parameters.parameter_forms (members_view members.now.entries) }
+{
+    for (_, tree) in members.iter() {
+        parameter_form(tree)?;
+    }
+    Ok(())
+}
+
+fn all_named_objects(members: &Map<String, Value>) -> bool {
+    for (name, tree) in members.iter() {
+        if !is_name(name.as_bytes()) || !tree.is_object() {
+            return false;
+        }
+    }
+    true
+}
+
+/// The parameters of a tree: an object of objects by names, each of which is as it has to be.
+pub fn parameters_of(tree: &Value) -> Result<&Value, CovFault>
+    ensures { IfOk result (λ v. get (codes "parameters") (view tree.now) ≡ Some (view v.now)) }
+{
+    let found = need(tree, "parameters", Member::Parameters)?;
+    let members = object_at(found, Member::Parameters)?;
+    if !all_named_objects(members) {
+        return Err(CovFault::WrongType(Member::Parameters));
+    }
+    parameter_forms(members)?;
+    Ok(found)
+}
+
+/// The text, where there is one.
+pub fn text_where_given(alloc: Global, text: Option<&str>) -> Result<Option<Text>, CovFault>
+    ensures value { IfOk result (λ t. t ≡ option_map (λ s. s.now) text.entry) }
+    ensures utf8 { IfOk result (λ t. IfSome t IsUtf8) }
+{
+    let Some(text) = text else {
+        return Ok(None);
+    };
+    let Ok(text) = Text::of(alloc, text.as_bytes()) else {
+        return Err(CovFault::OutOfMemory);
+    };
+    Ok(Some(text))
+}
+
+fn text_of(alloc: Global, text: &str) -> Result<Text, CovFault>
+    ensures value { IfOk result (λ t. t ≡ text.now) }
+    ensures utf8 { IfOk result IsUtf8 }
+{
+    match Text::of(alloc, text.as_bytes()) {
+        Ok(text) => Ok(text),
+        Err(_) => Err(CovFault::OutOfMemory),
+    }
+}
+
+/// The parameter of a name that a tree stands for.
+pub fn parameter_of(alloc: Global, id: &str, tree: &Value) -> Result<Parameter, CovFault>
+    ensures id { IfOk result (λ p. p.id ≡ id.now) }
+    ensures stands { IfOk result (StandsForParameter (view tree.now)) }
+    ensures valid { IfOk result IsParameter }
+{
+    if !is_name(id.as_bytes()) {
+        return Err(CovFault::WrongType(Member::Parameters));
+    }
+    let (lang, label) = parameter_label(tree)?;
+    let unit = parameter_unit(tree)?;
+    let id = text_of(alloc, id)?;
+    let lang = text_of(alloc, lang)?;
+    let label = text_of(alloc, label)?;
+    let unit = text_where_given(alloc, unit)?;
+    Ok(Parameter {
+        id,
+        lang,
+        label,
+        unit,
+    })
+}

@@ -1,0 +1,5 @@
+pub mod Domains
+pub mod Coverages
+pub mod Trees
+pub mod Puts
+pub mod Samples

@@ -1,0 +1,87 @@
+//! The trees of texts, times and samples, and members of objects.
+ghost use Rattle.std.specs.Prelude.{◌≡◌, IfOk, OnOk, IsUtf8, option_map};
+ghost use Rattle.serde_json.specs.Data.{string, put};
+ghost use Rattle.serde_json.specs.View.{view, members_view};
+ghost use Rattle.edr_axes.specs.Instants.{IsTime, instant_text};
+ghost use Rattle.covjson_value.specs.Trees.{sample_data, array_of};
+ghost use Rattle.covjson_value.specs.Puts.{put_if};
+
+use edr_axes::{times_are_written, write_instant};
+use edr_base::{OutOfMemory, Text};
+use serde_json::{Map, Value};
+use std::alloc::Global;
+use std::str;
+
+pub fn text_of(bytes: &[u8]) -> &str
+    requires { IsUtf8 bytes.now }
+    ensures { result.now ≡ bytes.now }
+{
+    match str::from_utf8(bytes) {
+        Ok(text) => text,
+        Err(_) => unreachable!(),
+    }
+}
+
+pub fn text_tree(alloc: Global, text: &Text) -> Result<Value, OutOfMemory>
+    requires { IsUtf8 text.now }
+    ensures { IfOk result (λ v. view v ≡ string text.now) }
+{
+    Ok(Value::try_from_str(alloc, text_of(text.bytes()))?)
+}
+
+pub fn time_tree(alloc: Global, time: i64) -> Result<Value, OutOfMemory>
+    requires { IsTime time }
+    ensures { IfOk result (λ v. view v ≡ string (instant_text time)) }
+{
+    times_are_written();
+    let bytes = write_instant(time);
+    Ok(Value::try_from_str(alloc, text_of(&bytes))?)
+}
+
+fn sample_tree(sample: Option<i64>) -> Value
+    ensures { view result ≡ sample_data sample }
+{
+    match sample {
+        Some(value) => Value::from(value),
+        None => Value::Null,
+    }
+}
+
+pub fn samples_tree(alloc: Global, samples: &[Option<i64>]) -> Result<Value, OutOfMemory>
+    ensures { IfOk result (λ v. view v ≡ array_of sample_data samples.now) }
+{
+    let mut items = Vec::with_capacity(alloc, samples.len())?;
+    for sample in samples {
+        items.push(sample_tree(*sample))?;
+    }
+    Ok(Value::Array(items))
+}
+
+pub fn put_text(
+    members: &mut Map<String, Value>,
+    alloc: Global,
+    key: &str,
+    text: &str,
+) -> Result<(), OutOfMemory>
+    ensures { OnOk result (members_view members.new.entries
+        ≡ put key.now (string text.now) (members_view members.old.entries)) }
+{
+    let tree = Value::try_from_str(alloc, text)?;
+    serde_json::put(members, alloc, key, tree)?;
+    Ok(())
+}
+
+pub fn put_given(
+    members: &mut Map<String, Value>,
+    alloc: Global,
+    key: &str,
+    tree: Option<Value>,
+) -> Result<(), OutOfMemory>
+    ensures { OnOk result (members_view members.new.entries
+        ≡ put_if key.now (option_map view tree) (members_view members.old.entries)) }
+{
+    if let Some(tree) = tree {
+        serde_json::put(members, alloc, key, tree)?;
+    }
+    Ok(())
+}

@@ -1,0 +1,20 @@
+//! Coverages of CoverageJSON (OGC 21-069r2): their values, which of them are valid, and their trees of JSON.
+#![tactic(auto)]
+
+mod axis_trees;
+mod coverages;
+mod domain_trees;
+mod domains;
+mod leaves;
+mod limits;
+mod names;
+mod parameter_trees;
+mod range_trees;
+mod trees;
+mod validity;
+
+pub use coverages::{Coverage, NdArray, Parameter, Referencing};
+pub use domains::{AxisName, Domain};
+pub use limits::{COORDINATE_LIMIT, NAME_LIMIT, SAMPLE_LIMIT};
+pub use names::is_name;
+pub use trees::tree_of;

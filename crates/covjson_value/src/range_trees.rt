@@ -1,0 +1,109 @@
+//! The trees of ranges.
+ghost use Rattle.std.specs.Prelude.{◌≡◌, ◌++◌, IfOk, OnOk, All, map, length, option_map};
+ghost use Rattle.serde_json.specs.View.{view};
+ghost use Rattle.covjson_value.specs.Coverages.{IsParameter, AscendById};
+ghost use Rattle.covjson_value.specs.Domains.{range_axis_of, range_axes};
+ghost use Rattle.covjson_value.specs.Trees.{array_if_some, name_data, length_data, range_data, ranges_data};
+ghost use Rattle.covjson_value.specs.Puts.{axis_alone};
+
+use crate::coverages::{NdArray, Parameter};
+use crate::domains::{AxisName, Domain};
+use crate::leaves::{put_given, put_text, samples_tree, text_of};
+use edr_base::OutOfMemory;
+use serde_json::{Map, Value};
+use std::alloc::Global;
+
+// The name of an axis, where it is one of the domain's ranges.
+fn push_name(
+    names: &mut Vec<Value>,
+    alloc: Global,
+    domain: &Domain,
+    name: AxisName,
+) -> Result<(), OutOfMemory>
+    ensures { OnOk result (map view names.new.items
+        ≡ map view names.old.items ++ map name_data (axis_alone name (range_axis_of domain.now name))) }
+{
+    if domain.range_axis(name).is_some() {
+        names.push(Value::try_from_str(alloc, name.letter())?)?;
+    }
+    Ok(())
+}
+
+// Its length, there.
+fn push_length(lengths: &mut Vec<Value>, domain: &Domain, name: AxisName) -> Result<(), OutOfMemory>
+    ensures { OnOk result (map view lengths.new.items
+        ≡ map view lengths.old.items ++ map length_data (axis_alone name (range_axis_of domain.now name))) }
+{
+    if let Some(values) = domain.range_axis(name) {
+        lengths.push(Value::from(values.len()))?;
+    }
+    Ok(())
+}
+
+fn axis_names(alloc: Global, domain: &Domain) -> Result<Vec<Value>, OutOfMemory>
+    ensures { IfOk result (λ names. map view names.items ≡ map name_data (range_axes domain.now)) }
+{
+    let mut names = Vec::new(alloc);
+    push_name(&mut names, alloc, domain, AxisName::T)?;
+    push_name(&mut names, alloc, domain, AxisName::Z)?;
+    push_name(&mut names, alloc, domain, AxisName::Y)?;
+    push_name(&mut names, alloc, domain, AxisName::X)?;
+    Ok(names)
+}
+
+fn shape(alloc: Global, domain: &Domain) -> Result<Vec<Value>, OutOfMemory>
+    ensures { IfOk result (λ lengths. map view lengths.items ≡ map length_data (range_axes domain.now)) }
+{
+    let mut lengths = Vec::new(alloc);
+    push_length(&mut lengths, domain, AxisName::T)?;
+    push_length(&mut lengths, domain, AxisName::Z)?;
+    push_length(&mut lengths, domain, AxisName::Y)?;
+    push_length(&mut lengths, domain, AxisName::X)?;
+    Ok(lengths)
+}
+
+// An array, unless it has no item.
+fn array_where_some(items: Vec<Value>) -> Option<Value>
+    ensures { option_map view result ≡ array_if_some (map view items.items) }
+{
+    if items.is_empty() {
+        None
+    } else {
+        Some(Value::Array(items))
+    }
+}
+
+fn range_tree(alloc: Global, domain: &Domain, range: &NdArray) -> Result<Value, OutOfMemory>
+    ensures { IfOk result (λ v. view v ≡ range_data domain.now range.now) }
+{
+    let names = array_where_some(axis_names(alloc, domain)?);
+    let lengths = array_where_some(shape(alloc, domain)?);
+    let values = samples_tree(alloc, range.values.items())?;
+    let mut members = Map::new(alloc);
+    put_given(&mut members, alloc, "axisNames", names)?;
+    put_text(&mut members, alloc, "dataType", "integer")?;
+    put_given(&mut members, alloc, "shape", lengths)?;
+    put_text(&mut members, alloc, "type", "NdArray")?;
+    serde_json::put(&mut members, alloc, "values", values)?;
+    Ok(Value::Object(members))
+}
+
+pub fn ranges_tree(
+    alloc: Global,
+    domain: &Domain,
+    parameters: &[Parameter],
+    ranges: &[NdArray],
+) -> Result<Value, OutOfMemory>
+    requires each { All IsParameter parameters.now }
+    requires ascending { AscendById parameters.now }
+    requires as_many { length ranges.now ≡ length parameters.now }
+    ensures { IfOk result (λ v. view v ≡ ranges_data domain.now parameters.now ranges.now) }
+{
+    let mut members = Map::new(alloc);
+    for place in 0..ranges.len() {
+        let tree = range_tree(alloc, domain, &ranges[place])?;
+        let id = text_of(parameters[place].id.bytes());
+        serde_json::put(&mut members, alloc, id, tree)?;
+    }
+    Ok(Value::Object(members))
+}
