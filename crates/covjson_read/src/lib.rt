@@ -8,6 +8,8 @@ mod members;
 mod parameters;
 mod ranges;
 mod systems;
+#[cfg(test)]
+mod tests;
 
 pub use coverages::coverage_of;
 pub use faults::{CovFault, Member};

@@ -72,6 +72,7 @@ fn put_axis(
     Ok(())
 }
 
+/// The tree of a domain's axes.
 pub fn axes_tree(alloc: Global, domain: &Domain) -> Result<Value, OutOfMemory>
     requires { HasAxes domain.now }
     ensures { IfOk result (λ v. view v ≡ axes_data domain.now) }

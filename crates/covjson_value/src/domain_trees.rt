@@ -87,6 +87,7 @@ fn referencing_tree(
     Ok(Value::Array(items))
 }
 
+/// The tree of a domain, with the systems of its coordinates.
 pub fn domain_tree(
     alloc: Global,
     domain: &Domain,

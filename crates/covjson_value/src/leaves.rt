@@ -12,6 +12,7 @@ use serde_json::{Map, Value};
 use std::alloc::Global;
 use std::str;
 
+/// The text that some bytes of UTF-8 are.
 pub fn text_of(bytes: &[u8]) -> &str
     requires { IsUtf8 bytes.now }
     ensures { result.now ≡ bytes.now }
@@ -22,6 +23,7 @@ pub fn text_of(bytes: &[u8]) -> &str
     }
 }
 
+/// A text.
 pub fn text_tree(alloc: Global, text: &Text) -> Result<Value, OutOfMemory>
     requires { IsUtf8 text.now }
     ensures { IfOk result (λ v. view v ≡ string text.now) }
@@ -29,6 +31,7 @@ pub fn text_tree(alloc: Global, text: &Text) -> Result<Value, OutOfMemory>
     Ok(Value::try_from_str(alloc, text_of(text.bytes()))?)
 }
 
+/// A time, as its text. It is in seconds since 1970-01-01T00:00:00Z.
 pub fn time_tree(alloc: Global, time: i64) -> Result<Value, OutOfMemory>
     requires { IsTime time }
     ensures { IfOk result (λ v. view v ≡ string (instant_text time)) }
@@ -47,6 +50,7 @@ fn sample_tree(sample: Option<i64>) -> Value
     }
 }
 
+/// A list of samples, with null where one is absent.
 pub fn samples_tree(alloc: Global, samples: &[Option<i64>]) -> Result<Value, OutOfMemory>
     ensures { IfOk result (λ v. view v ≡ array_of sample_data samples.now) }
 {
@@ -57,6 +61,7 @@ pub fn samples_tree(alloc: Global, samples: &[Option<i64>]) -> Result<Value, Out
     Ok(Value::Array(items))
 }
 
+/// Puts a member that is a text.
 pub fn put_text(
     members: &mut Map<String, Value>,
     alloc: Global,
@@ -71,6 +76,7 @@ pub fn put_text(
     Ok(())
 }
 
+/// Puts a member where its value is given.
 pub fn put_given(
     members: &mut Map<String, Value>,
     alloc: Global,

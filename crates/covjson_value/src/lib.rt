@@ -18,3 +18,6 @@ pub use domains::{AxisName, Domain};
 pub use limits::{COORDINATE_LIMIT, NAME_LIMIT, SAMPLE_LIMIT};
 pub use names::is_name;
 pub use trees::tree_of;
+
+#[cfg(test)]
+mod tests;

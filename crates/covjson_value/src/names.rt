@@ -12,12 +12,14 @@ fn is_name_byte(byte: u8) -> bool
     byte >= 32 && byte != 127 && byte != b','
 }
 
+/// Whether some bytes are UTF-8.
 pub fn is_utf8(text: &[u8]) -> bool
     ensures { IsTrue result ↔ IsUtf8 text.now }
 {
     str::from_utf8(text).is_ok()
 }
 
+/// Whether a text is UTF-8, or isn't given.
 pub fn is_utf8_where_given(text: &Option<Text>) -> bool
     ensures { IsTrue result ↔ IfSome text.now IsUtf8 }
 {

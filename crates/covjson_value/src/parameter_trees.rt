@@ -36,6 +36,7 @@ fn parameter_tree(alloc: Global, parameter: &Parameter) -> Result<Value, OutOfMe
     }
 }
 
+/// The tree of some parameters, by their ids.
 pub fn parameters_tree(alloc: Global, parameters: &[Parameter]) -> Result<Value, OutOfMemory>
     requires each { All IsParameter parameters.now }
     requires ascending { AscendById parameters.now }

@@ -88,6 +88,7 @@ fn range_tree(alloc: Global, domain: &Domain, range: &NdArray) -> Result<Value, 
     Ok(Value::Object(members))
 }
 
+/// The tree of some ranges, by the ids of their parameters.
 pub fn ranges_tree(
     alloc: Global,
     domain: &Domain,

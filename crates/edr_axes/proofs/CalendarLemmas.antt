@@ -73,7 +73,7 @@ months_in_order y j k low along high =
     let later = days_of_months_mono y (j - 1) (k - 1) (omega arith) in
     omega (arith, signed_arith, days_from_civil-day_count y j 1, days_from_civil-day_count y k 1, day_count-day_of_year y j 1 (omega arith), day_count-day_of_year y k 1 (omega arith))
 
--- days from 0000-01-01 to 9999-12-31
+-- days of the years 0000 to 9999
 abbrev pub IsDayNumber : ℤ → Type 0
 IsDayNumber day = (neg_ℤ (pos 719_528) ≤ℤ day) × (day ≤ℤ pos 2_932_896)
 
@@ -161,7 +161,7 @@ date_of_day day h =
     let in_month = stands_in_month day year _ in_year (has_begun (λ m. days_from_civil (pos year) m 1) 12 day (months_in_order (pos year))) in
     date_in_month day year _ in_year.within in_month
 
--- a date from 0000-01-01 on has a year that isn't negative
+-- a date from the year 0000 on has a year that isn't negative
 pub year_from_zero : (d : Date) → neg_ℤ (pos 719_528) ≤ℤ epoch_day d → pos 0 ≤ℤ d.year
 year_from_zero d h =
     by_lt_z d.year (pos 0)

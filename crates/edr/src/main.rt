@@ -1,0 +1,38 @@
+//! `edr`: asks a grid of CoverageJSON for its samples. This file makes the real objects; `run` does all else.
+#![tactic(auto)]
+
+mod endings;
+mod running;
+mod words;
+
+use edr_base::{MemoryFiles, MemoryLink, RealSink, RealSource};
+use endings::{Ending, tell};
+use running::run;
+use std::process::ExitCode;
+use words::words_of;
+
+fn main(rt: HostRuntime) -> ExitCode {
+    let alloc = rt.alloc();
+    let mut errors = RealSink::of(rt.stderr());
+    let Ok(words) = words_of(&rt, alloc) else {
+        tell(Ending::OutOfMemory, &mut errors);
+        return ExitCode::from(Ending::OutOfMemory.status());
+    };
+    let mut input = RealSource::of(rt.stdin());
+    let mut output = RealSink::of(rt.stdout());
+    let mut files = MemoryFiles::of(alloc, Vec::new(alloc), 1, Vec::new(alloc));
+    let mut link = MemoryLink::of(alloc, Vec::new(alloc), 1, Vec::new(alloc));
+    let status = run(
+        alloc,
+        &words,
+        &mut input,
+        &mut output,
+        &mut errors,
+        &mut files,
+        &mut link,
+    );
+    ExitCode::from(status)
+}
+
+#[cfg(test)]
+mod tests;

@@ -1,0 +1,11 @@
+pub mod CutLemmas
+pub mod PointLemmas
+pub mod TargetLemmas
+pub mod AnswerLemmas
+pub mod ReplyLemmas
+pub mod OnePlace
+pub mod NodeNumbers
+pub mod NodePasses
+pub mod PointLaws
+pub mod PointValid
+pub mod LineLemmas

@@ -1,0 +1,7 @@
+use Rattle.edr_serve.proofs.ReplyLemmas.{input_read}
+use Rattle.edr_serve.proofs.grid.read_grid.Goals as goal
+
+pub returns-in-Ok-clause-ok : goal.returns-in-Ok-clause-ok
+returns-in-Ok-clause-ok g c =
+    let ok = rw c.deref.ensures.value at c.grid_in.ensures.ok in
+    input_read c.grid_in.result c.in-Ok.bytes.items _ _ _ c.in-Ok.ensures.all ok

@@ -1,0 +1,33 @@
+-- The one grid that an input stands for.
+use Rattle.std.specs.Prelude.{◌≡◌, ◌≤◌, ℕ, ℤ, List, IfErr, ◌⊎◌}
+use Rattle.std.specs.Prelude.{None, Some}
+use Rattle.serde_json.specs.Data.{Data}
+use Rattle.covjson_value.specs.declared.coverages.Coverage.{Coverage}
+use Rattle.covjson_value.specs.declared.domains.Domain.TheVariants.{Grid}
+use Rattle.covjson_value.specs.Domains.{count_of}
+use Rattle.covjson_value.specs.Coverages.{IsValid}
+use Rattle.covjson_read.specs.Standing.{Stands}
+use Rattle.edr_serve.specs.Line.{IsOneLine, IsJson}
+use Rattle.edr_serve.specs.declared.limits.TheConstants.{NODE_LIMIT}
+
+-- the coverage is a grid with times and without levels, of few enough nodes
+pub record IsTimedGrid (coverage : Coverage) : Type 0 where
+  pub ts : List ℤ
+  pub ys : List ℤ
+  pub xs : List ℤ
+  pub domain : coverage.domain ≡ Grid (Some ts) None ys xs
+  pub few : count_of coverage.domain ≤ NODE_LIMIT
+
+-- the input is one line of JSON that stands for the coverage
+pub record InputStands (input : List ℕ) (coverage : Coverage) : Type 0 where
+  pub line : List ℕ
+  pub tree : Data
+  pub one : IsOneLine input line
+  pub json : IsJson line tree
+  pub stands : Stands tree coverage
+
+-- the input stands for this valid grid
+pub record IsInput (input : List ℕ) (coverage : Coverage) : Type 0 where
+  pub input_stands : InputStands input coverage
+  pub valid : IsValid coverage
+  pub grid : IsTimedGrid coverage

@@ -1,0 +1,7 @@
+pub mod Line
+pub mod Cuts
+pub mod Target
+pub mod NodePlaces
+pub mod Grids
+pub mod Answer
+pub mod FirstReply
