@@ -21,6 +21,7 @@ const USAGE: &[u8] =
     b"usage: edr ask TARGET | replay FEED [--advance] | check [--summary] | make NUMBER | show | fetch URL\n";
 
 // What is run, and what has to come of it.
+#[derive(Drop)]
 struct Case<'a> {
     words: &'a [&'a [u8]],
     input: &'a [u8],
@@ -191,5 +192,68 @@ fn a_read_that_fails_gives_nothing(rt: HostRuntime) -> Result<(), Fail> {
     assert_eq!(rt; status, case.status);
     assert!(rt; output.written() == case.output);
     assert!(rt; errors.written() == case.errors);
+    Ok(())
+}
+
+// The grid with its first `old` in place of which stands `new`.
+fn grid_with(alloc: Global, old: &[u8], new: &[u8]) -> Result<Vec<u8>, OutOfMemory> {
+    let mut text = Vec::new(alloc);
+    let mut rest = GRID;
+    for place in 0..GRID.len() {
+        let (front, back) = GRID.split_at(place);
+        if let Some(after) = back.strip_prefix(old) {
+            text.extend_from_slice(front)?;
+            text.extend_from_slice(new)?;
+            rest = after;
+            break;
+        }
+    }
+    text.extend_from_slice(rest)?;
+    Ok(text)
+}
+
+// Each is answered as an input that is no grid, and nothing is written.
+#[test]
+fn inputs_that_are_no_grids_are_refused(rt: HostRuntime) -> Result<(), Fail> {
+    let alloc = rt.alloc();
+    let table: [(&[u8], &[u8]); 17] = [
+        (b"}}}", b"}}}\n\n"),
+        (b"}}}", b"}}}\n{}"),
+        (b"{\"type\":\"Coverage\"", b"\n{\"type\":\"Coverage\""),
+        (b"}}}", b"}}"),
+        (b"Temperature", b"\xff"),
+        (b"Temperature", b"\xed\xa0\x80"),
+        (b"\"t\":{", b"\"z\":{\"values\":[0]},\"t\":{"),
+        (
+            b",\"t\":{\"values\":[\"2024-01-01T00:00:00Z\",\"2024-01-01T01:00:00Z\"]}",
+            b"",
+        ),
+        (b"[0,100,200]", b"[0,200,100]"),
+        (b"[0,100,200]", b"[0,100,100]"),
+        (b"[0,100,200]", b"[0,100,100000001]"),
+        (b"[0,100,200]", b"[]"),
+        (b",24,25]", b",24]"),
+        (b",24,25]", b",24,9007199254740992]"),
+        (b",24,25]", b",24,-9007199254740992]"),
+        (b",24,25]", b",24,2.5]"),
+        (b",24,25]", b",24,\"25\"]"),
+    ];
+    for (old, new) in table.iter() {
+        let input = grid_with(alloc, old, new)?;
+        let case = Case {
+            words: &[
+                b"ask",
+                b"/collections/grid/position?coords=POINT(50 0)&datetime=2024-01-01T00:00:00Z",
+            ],
+            input: &input,
+            status: 2,
+            output: b"",
+            errors: b"feed: NotFeedLine line 1\n",
+        };
+        let (status, output, errors) = run_cut(alloc, &case, 4096, &[])?;
+        assert_eq!(rt; status, case.status);
+        assert!(rt; output.written() == case.output);
+        assert!(rt; errors.written() == case.errors);
+    }
     Ok(())
 }
