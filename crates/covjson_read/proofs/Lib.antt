@@ -3,3 +3,5 @@ pub mod AxisLemmas
 pub mod ParameterLemmas
 pub mod RangeLemmas
 pub mod CoverageLemmas
+pub mod OneAxis
+pub mod OneCoverage

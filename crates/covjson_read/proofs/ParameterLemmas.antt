@@ -1,14 +1,42 @@
 -- Labels and units, and what they stand for.
 use Rattle.std.proofs.Common.{◌≡◌, ℕ, List, not, is_some, Option, Some, None, Ok, sym, ap, ◌∙◌, subst, codes}
-use Rattle.serde_json.specs.Data.{Data, null, boolean, number, string, array, object}
+use Rattle.serde_json.specs.Data.{Data, null, boolean, number, string, array, object, Members, no_members, member}
 use Rattle.serde_json.specs.Find.{get, get_member, as_object, as_str}
+use Rattle.std.specs.Prelude.{⊤, [], refl, true, ◌&&◌}
+use Rattle.std.proofs.lemmas.Map.Lookups.{exact_bytes}
+use Rattle.std.specs.declared.cmp.Ordering.{Ordering}
+use Rattle.std.specs.declared.cmp.Ordering.TheVariants.{Less, Equal, Greater}
+use Rattle.std.specs.Ordering.{nat_cmp, match_ordering}
+use Rattle.std.specs.Cmp.Lexicographic.{slice_cmp}
+use Rattle.covjson_value.specs.declared.coverages.Parameter.{Parameter}
+use Rattle.covjson_value.specs.Coverages.{IsName}
 use Rattle.covjson_read.specs.declared.faults.Member.{Member}
 use Rattle.covjson_read.specs.declared.faults.Member.TheVariants.{ObservedProperty, Unit}
 use Rattle.covjson_read.specs.declared.faults.CovFault.TheVariants.{WrongType}
 use Rattle.covjson_read.specs.Answers.{or_fault, check}
 use Rattle.covjson_read.specs.Members.{need, part, object_at, text_at}
-use Rattle.covjson_read.specs.Parameters.{all_texts, said_in, label_at, parameter_label, unit_label, unit_by_symbol, unit_if, parameter_unit, StandsForLabel, StandsForLabelText, StandsForSymbol, StandsForUnit}
+use Rattle.covjson_read.specs.Parameters.{all_texts, EachIsText, said_in, label_at, parameter_label, unit_label, unit_by_symbol, unit_if, parameter_unit, parameter_form, parameter_forms, AreNamedObjects, EachIsParameter, HoldsParameters, StandsForParameter, StandsForLabel, StandsForLabelText, StandsForSymbol, StandsForUnit}
 use Rattle.covjson_read.proofs.AnswerLemmas.{and_then_ok, or_fault_ok, as_object_some, as_str_some, check_ok, none_of}
+
+each_text : (d : Data) (lang : List ℕ) (ms : Members) → (all_texts ms ≡ true → EachIsText ms)
+    → is_some (as_str d) && all_texts ms ≡ true → EachIsText (member lang d ms)
+each_text null lang ms rest h = cc
+each_text (boolean b) lang ms rest h = cc
+each_text (number n) lang ms rest h = cc
+each_text (string s) lang ms rest h = ((s, refl), rest h)
+each_text (array ds) lang ms rest h = cc
+each_text (object ns) lang ms rest h = cc
+
+-- where all pass the test, each member is a text
+each_is_text : (ms : Members) → all_texts ms ≡ true → EachIsText ms
+each_is_text no_members h = tt
+each_is_text (member lang d ms) h = each_text d lang ms (each_is_text ms) h
+
+label_said : (l : Data) (ms : Members) (s : List ℕ × Data) (text : List ℕ) (p : List ℕ × List ℕ) → l ≡ object ms
+    → said_in (get (codes "en") l) ms ≡ Some s → s.1 ≡ string text → (s.0, text) ≡ p → said_in (get (codes "en") (object ms)) ms ≡ Some (p.0, string p.1)
+label_said l ms s text p is_object chosen is_text same =
+    ap (λ x. said_in (get (codes "en") x) ms) (sym is_object) ∙ chosen
+    ∙ ap (λ y. Some (s.0, y)) is_text ∙ ap (λ (x : List ℕ × List ℕ). Some (x.0, string x.1)) same
 
 pub label_stands : (m : Member) (d : Data) (p : List ℕ × List ℕ) → label_at m d ≡ Ok p → StandsForLabel d p.0 p.1
 label_stands m d p h =
@@ -24,8 +52,8 @@ label_stands m d p h =
     record {
       members = b.0;
       label = or_fault_ok (get (codes "label") d) _ a.0 a.1 ∙ ap Some is_object;
-      said = ap (λ l. said_in (get (codes "en") l) b.0) (sym is_object) ∙ or_fault_ok chosen _ s.0 s.1
-          ∙ ap (λ y. Some (s.0.0, y)) is_text ∙ ap (λ (x : List ℕ × List ℕ). Some (x.0, string x.1)) same;
+      texts = each_is_text b.0 (check_ok (all_texts b.0) _ _ k.1);
+      said = label_said a.0 b.0 s.0 t.0 p is_object (or_fault_ok chosen _ s.0 s.1) is_text same;
     }
 
 pub parameter_label_stands : (d : Data) (p : List ℕ × List ℕ) → parameter_label d ≡ Ok p
@@ -66,3 +94,34 @@ unit_if_stands (Some unit) (Some t) h =
 
 pub unit_stands : (d : Data) (u : Option (List ℕ)) → parameter_unit d ≡ Ok u → StandsForUnit (get (codes "unit") d) u
 unit_stands d u h = unit_if_stands (get (codes "unit") d) u h
+
+-- what has the form of a parameter stands for one
+form_stands : (d : Data) (x : ⊤) → parameter_form d ≡ Ok x → (parameter : Parameter) × StandsForParameter d parameter
+form_stands d x h =
+    let a = and_then_ok (parameter_label d) _ x h in
+    let b = and_then_ok (parameter_unit d) _ x a.2 in
+    let l = parameter_label_stands d a.0 a.1 in (
+      record { id = []; lang = a.0.0; label = a.0.1; unit = b.0 },
+      record { property = l.0; observed = l.1; no_categories = l.2; label = l.3; unit = unit_stands d b.0 b.1 },
+    )
+
+pub each_is_parameter : (ms : Members) (x : ⊤) → AreNamedObjects ms → parameter_forms ms ≡ Ok x → EachIsParameter ms
+each_is_parameter no_members x named h = tt
+each_is_parameter (member name d ms) x named h =
+    let a = and_then_ok (parameter_form d) _ x h in
+    (named.0, form_stands d a.0 a.1, each_is_parameter ms x named.2 a.2)
+
+name_by : (k l : List ℕ) (here : Data) (rest : Option Data) (d : Data) (o : Ordering) → slice_cmp nat_cmp k l ≡ o → IsName l
+    → (rest ≡ Some d → IsName k) → match_ordering o rest (Some here) rest ≡ Some d → IsName k
+name_by k l here rest d Less order name later h = later h
+name_by k l here rest d Equal order name later h = subst IsName (sym (exact_bytes k l order)) name
+name_by k l here rest d Greater order name later h = later h
+
+-- what is found among parameters has a name
+name_found : (k : List ℕ) (ms : Members) (d : Data) → EachIsParameter ms → get_member k ms ≡ Some d → IsName k
+name_found k no_members d each h = cc
+name_found k (member l here ms) d each h =
+    name_by k l here (get_member k ms) d (slice_cmp nat_cmp k l) refl each.0 (name_found k ms d each.2) h
+
+pub found_name : (k : List ℕ) (tree d : Data) → HoldsParameters tree → get k tree ≡ Some d → IsName k
+found_name k tree d holds h = name_found k holds.members d holds.each (ap (get k) (sym holds.is) ∙ h)

@@ -1,4 +1,4 @@
--- Axes and domains of a tree (OGC 21-069r2, section 6.1), and the axes and domains that they stand for.
+-- Axes and domains of a tree (OGC 21-069r2, Domain objects), and the axes and domains that they stand for.
 use Rattle.std.specs.Prelude.{◌≡◌, ℕ, ℤ, List, [], ◌∷◌, codes, Bool, true, false, IsTrue, IsSome, IsNone, bytes_eq, ◌||◌, ◌&&◌, ⊤, Option, Some, None, Ok}
 use Rattle.serde_json.specs.Data.{Data, string, array, object, Items, no_items, item, Members, no_members, member}
 use Rattle.serde_json.specs.Find.{get}

@@ -1,8 +1,9 @@
--- The parameters of a tree (OGC 21-069r2, section 6.3), and what they stand for.
+-- The parameters of a tree (OGC 21-069r2, Parameter objects), and what they stand for.
 use Rattle.std.specs.Prelude.{◌≡◌, ℕ, List, codes, Bool, true, not, ◌&&◌, is_some, ⊤, Option, Some, None, Ok}
 use Rattle.serde_json.specs.Data.{Data, null, boolean, number, string, array, object, Members, no_members, member}
 use Rattle.serde_json.specs.Find.{get, get_member, as_str, as_object}
 use Rattle.covjson_value.specs.declared.coverages.Parameter.{Parameter}
+use Rattle.covjson_value.specs.Coverages.{IsName}
 use Rattle.covjson_read.specs.declared.faults.Member.{Member}
 use Rattle.covjson_read.specs.declared.faults.Member.TheVariants.{ObservedProperty, Unit}
 use Rattle.covjson_read.specs.declared.faults.CovFault.TheVariants.{WrongType}
@@ -14,10 +15,10 @@ abbrev pub all_texts : Members → Bool
 all_texts no_members = true
 all_texts (member key d members) = is_some (as_str d) && all_texts members
 
--- each member is an object
-abbrev pub all_objects : Members → Bool
-all_objects no_members = true
-all_objects (member key d members) = is_some (as_object d) && all_objects members
+-- each member is an object by a name
+abbrev pub AreNamedObjects : Members → Type 0
+AreNamedObjects no_members = ⊤
+AreNamedObjects (member name d members) = IsName name × (is_some (as_object d) ≡ true) × AreNamedObjects members
 
 -- of the members of a label, by their languages, that of English, else the first, which is of the least language
 abbrev pub said_in : Option Data → Members → Option (List ℕ × Data)
@@ -75,10 +76,16 @@ parameter_forms (member id d members) = and_then (parameter_form d) (λ _. param
 
 -- ---- what stands for what
 
--- the member `label` has this text in this language: English, or without it the first
+-- each member is a text
+abbrev pub EachIsText : Members → Type 0
+EachIsText no_members = ⊤
+EachIsText (member lang d members) = ((text : List ℕ) × (d ≡ string text)) × EachIsText members
+
+-- the member `label` is an object of texts, and has this text in this language: English, or without it the first
 pub record StandsForLabel (d : Data) (lang text : List ℕ) : Type 0 where
   pub members : Members
   pub label : get (codes "label") d ≡ Some (object members)
+  pub texts : EachIsText members
   pub said : said_in (get (codes "en") (object members)) members ≡ Some (lang, string text)
 
 -- a label in some language
@@ -109,6 +116,17 @@ pub record StandsForParameter (d : Data) (parameter : Parameter) : Type 0 where
   pub no_categories : get (codes "categories") property ≡ None
   pub label : StandsForLabel property parameter.lang parameter.label
   pub unit : StandsForUnit (get (codes "unit") d) parameter.unit
+
+-- each member stands for a parameter, by a name
+abbrev pub EachIsParameter : Members → Type 0
+EachIsParameter no_members = ⊤
+EachIsParameter (member name d members) = IsName name × ((parameter : Parameter) × StandsForParameter d parameter) × EachIsParameter members
+
+-- an object of parameters by their names
+pub record HoldsParameters (d : Data) : Type 0 where
+  pub members : Members
+  pub is : d ≡ object members
+  pub each : EachIsParameter members
 
 -- the parameter of its name among those of a tree
 pub record StandsAmong (tree : Data) (parameter : Parameter) : Type 0 where

@@ -1,4 +1,4 @@
--- The ranges of a tree (OGC 21-069r2, section 6.4), and what they stand for.
+-- The ranges of a tree (OGC 21-069r2, NdArray objects), and what they stand for.
 use Rattle.std.specs.Prelude.{◌≡◌, ℕ, ℤ, List, [], ◌∷◌, length, map, codes, Option, Some, None}
 use Rattle.serde_json.specs.Data.{Data, null, string, array, Items, no_items, item, Members, no_members, member}
 use Rattle.serde_json.specs.Find.{get}

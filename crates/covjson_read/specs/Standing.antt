@@ -1,4 +1,4 @@
--- Which trees stand for which coverages (OGC 21-069r2, section 6).
+-- Which trees stand for which coverages (OGC 21-069r2, CoverageJSON objects).
 use Rattle.std.specs.Prelude.{◌≡◌, ◌<◌, List, length, codes, All, Some, option_and_then}
 use Rattle.serde_json.specs.Data.{Data, string, object, Members}
 use Rattle.serde_json.specs.Find.{get, as_str}
@@ -9,7 +9,7 @@ use Rattle.covjson_value.specs.declared.coverages.Coverage.{Coverage}
 use Rattle.covjson_value.specs.Coverages.{ids_of, IsParameter, AscendById, IsRange}
 use Rattle.covjson_read.specs.Axes.{EachStands, StandsForDomain}
 use Rattle.covjson_read.specs.Systems.{StandsForReferencing}
-use Rattle.covjson_read.specs.Parameters.{StandsAmong}
+use Rattle.covjson_read.specs.Parameters.{HoldsParameters, StandsAmong}
 use Rattle.covjson_read.specs.Ranges.{StandsForRange, names_of, values_of}
 
 -- the ranges of a tree, in ascending order of their names, with the parameters of these names
@@ -36,6 +36,11 @@ pub record Stands (tree : Data) (coverage : Coverage) : Type 0 where
   pub referencing_stands : StandsForReferencing domain coverage.referencing
   pub parameters : Data
   pub parameters_at : get (codes "parameters") tree ≡ Some parameters
+  pub parameters_are : HoldsParameters parameters
   pub ranges : Members
   pub ranges_at : get (codes "ranges") tree ≡ Some (object ranges)
   pub ranges_stand : StandsForRanges coverage.domain parameters ranges coverage.parameters coverage.ranges
+
+-- a tree stands for at most one coverage
+abbrev pub TreesStandForOne : Type 0
+TreesStandForOne = (tree : Data) (one other : Coverage) → Stands tree one → Stands tree other → one ≡ other

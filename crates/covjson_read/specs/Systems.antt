@@ -1,4 +1,4 @@
--- The reference systems of a tree (OGC 21-069r2, section 5), and what they stand for.
+-- The reference systems of a tree (OGC 21-069r2, reference system objects), and what they stand for.
 use Rattle.std.specs.Prelude.{◌≡◌, ℕ, List, codes, Bool, true, false, not, bytes_eq, ◌||◌, ◌&&◌, if◌then◌else◌, is_some, Option, Some, None, option_and_then}
 use Rattle.serde_json.specs.Data.{Data, array, Items, no_items, item}
 use Rattle.serde_json.specs.Find.{get, as_array, as_str}

@@ -1,4 +1,4 @@
-//! Axes of a domain (OGC 21-069r2, section 6.1.1).
+//! Axes of a domain (OGC 21-069r2, Axis objects).
 ghost use Rattle.std.specs.Prelude.{◌≡◌, IfOk, All, Some};
 ghost use Rattle.serde_json.specs.View.{view, items_view, members_view};
 ghost use Rattle.serde_json.specs.Find.{get};

@@ -1,10 +1,11 @@
-//! Coverages (OGC 21-069r2, section 6.5).
+//! Coverages (OGC 21-069r2, Coverage objects).
 ghost use Rattle.std.specs.Prelude.{◌≡◌, IfOk, IfSome, IsUtf8, option_and_then, codes};
 ghost use Rattle.serde_json.specs.View.{view, members_view};
 ghost use Rattle.serde_json.specs.Find.{get, as_str};
 ghost use Rattle.covjson_value.specs.Coverages.{IsValid};
 ghost use Rattle.covjson_read.specs.Axes.{IsGridOfTimes};
-ghost use Rattle.covjson_read.specs.Standing.{StandsForRanges, AreValid, Stands};
+ghost use Rattle.covjson_read.specs.Parameters.{HoldsParameters};
+ghost use Rattle.covjson_read.specs.Standing.{StandsForRanges, AreValid, Stands, TreesStandForOne};
 
 use crate::axes::grid_of;
 use crate::faults::{CovFault, Member};
@@ -13,6 +14,7 @@ use crate::parameters::{parameter_of, parameters_of, text_where_given};
 use crate::ranges::range_of;
 use crate::systems::referencing_of;
 use covjson_value::{Coverage, Domain, NdArray, Parameter};
+use edr_axes::instants_are_unique;
 use edr_base::{Items, Text};
 use serde_json::{Map, Value};
 use std::alloc::Global;
@@ -24,7 +26,8 @@ fn ranges_of(
     parameters: &Value,
     domain: &Domain,
 ) -> Result<(Vec<Parameter>, Vec<NdArray>), CovFault>
-    requires { IsGridOfTimes domain.now }
+    requires grid { IsGridOfTimes domain.now }
+    requires named { HoldsParameters (view parameters.now) }
     ensures stands { IfOk result (λ p. StandsForRanges domain.now (view parameters.now) (members_view ranges.now.entries) p.0.items p.1.items) }
     ensures valid { IfOk result (λ p. AreValid domain.now p.0.items p.1.items) }
 {
@@ -58,7 +61,7 @@ fn id_of(alloc: Global, tree: &Value) -> Result<Option<Text>, CovFault>
     }
 }
 
-/// The coverage that a tree of JSON stands for (OGC 21-069r2, section 6), or the first check that it fails.
+/// The coverage that a tree of JSON stands for (OGC 21-069r2, CoverageJSON objects), or the first check that it fails.
 ///
 /// It is read where its domain is a Grid with an axis `t` of times and without an axis of levels, where each axis
 /// has its values in an ascending list, and where each range has the axes `t`, `y` and `x` in this order. Other
@@ -89,4 +92,11 @@ pub fn coverage_of(alloc: Global, tree: &Value) -> Result<Coverage, CovFault>
         parameters: Items::of(kept),
         ranges: Items::of(read),
     })
+}
+
+/// A tree stands for at most one coverage.
+pub fn trees_stand_for_one()
+    ensures { TreesStandForOne }
+{
+    instants_are_unique();
 }

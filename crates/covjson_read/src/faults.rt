@@ -4,7 +4,7 @@ ghost use Rattle.std.specs.Prelude.{◌≡◌, ◌⊎◌};
 use edr_base::{OutOfMemory, Text};
 use std::alloc::Global;
 
-/// A member of a document, by which a fault says where it is (OGC 21-069r2, section 6).
+/// A member of a document, by which a fault says where it is (OGC 21-069r2, CoverageJSON objects).
 #[derive(Clone, Copy, Debug, PartialEq, Eq)]
 pub enum Member {
     /// The whole document.

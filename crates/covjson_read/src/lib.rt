@@ -11,5 +11,5 @@ mod systems;
 #[cfg(test)]
 mod tests;
 
-pub use coverages::coverage_of;
+pub use coverages::{coverage_of, trees_stand_for_one};
 pub use faults::{CovFault, Member};

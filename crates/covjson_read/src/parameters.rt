@@ -1,10 +1,10 @@
-//! Parameters (OGC 21-069r2, section 6.3).
-ghost use Rattle.std.specs.Prelude.{◌≡◌, option_map, IfOk, IfSome, IsUtf8, codes, None, Some};
+//! Parameters (OGC 21-069r2, Parameter objects).
+ghost use Rattle.std.specs.Prelude.{◌≡◌, ◌↔◌, IsTrue, option_map, IfOk, IfSome, IsUtf8, codes, None, Some};
 ghost use Rattle.serde_json.specs.View.{view, members_view};
 ghost use Rattle.serde_json.specs.Find.{get};
-ghost use Rattle.covjson_value.specs.Coverages.{IsParameter};
+ghost use Rattle.covjson_value.specs.Coverages.{IsName, IsParameter};
 ghost use Rattle.covjson_read.specs.Answers.{Gives};
-ghost use Rattle.covjson_read.specs.Parameters.{StandsForParameter};
+ghost use Rattle.covjson_read.specs.Parameters.{StandsForParameter, AreNamedObjects, HoldsParameters};
 ghost use Rattle.covjson_read.specs.Parameters as parameters;
 
 use crate::faults::{CovFault, Member};
@@ -122,7 +122,9 @@ fn parameter_forms(members: &Map<String, Value>) -> Result<(), CovFault>
     Ok(())
 }
 
-fn all_named_objects(members: &Map<String, Value>) -> bool {
+fn all_named_objects(members: &Map<String, Value>) -> bool
+    ensures { IsTrue result ↔ AreNamedObjects (members_view members.now.entries) }
+{
     for (name, tree) in members.iter() {
         if !is_name(name.as_bytes()) || !tree.is_object() {
             return false;
@@ -133,7 +135,8 @@ fn all_named_objects(members: &Map<String, Value>) -> bool {
 
 /// The parameters of a tree: an object of objects by names, each of which is as it has to be.
 pub fn parameters_of(tree: &Value) -> Result<&Value, CovFault>
-    ensures { IfOk result (λ v. get (codes "parameters") (view tree.now) ≡ Some (view v.now)) }
+    ensures found { IfOk result (λ v. get (codes "parameters") (view tree.now) ≡ Some (view v.now)) }
+    ensures parameters { IfOk result (λ v. HoldsParameters (view v.now)) }
 {
     let found = need(tree, "parameters", Member::Parameters)?;
     let members = object_at(found, Member::Parameters)?;
@@ -170,13 +173,11 @@ fn text_of(alloc: Global, text: &str) -> Result<Text, CovFault>
 
 /// The parameter of a name that a tree stands for.
 pub fn parameter_of(alloc: Global, id: &str, tree: &Value) -> Result<Parameter, CovFault>
+    requires { IsName id.now }
     ensures id { IfOk result (λ p. p.id ≡ id.now) }
     ensures stands { IfOk result (StandsForParameter (view tree.now)) }
     ensures valid { IfOk result IsParameter }
 {
-    if !is_name(id.as_bytes()) {
-        return Err(CovFault::WrongType(Member::Parameters));
-    }
     let (lang, label) = parameter_label(tree)?;
     let unit = parameter_unit(tree)?;
     let id = text_of(alloc, id)?;

@@ -1,4 +1,4 @@
-//! Ranges (OGC 21-069r2, section 6.4).
+//! Ranges (OGC 21-069r2, NdArray objects).
 ghost use Rattle.std.specs.Prelude.{◌≡◌, IfOk, OnOk, IfSome, All, length, codes};
 ghost use Rattle.std.specs.Bool.{OnTrue};
 ghost use Rattle.serde_json.specs.View.{view, items_view};

@@ -1,4 +1,4 @@
-//! The reference systems of a domain (OGC 21-069r2, section 5).
+//! The reference systems of a domain (OGC 21-069r2, reference system objects).
 ghost use Rattle.std.specs.Prelude.{◌≡◌, IfOk, IsUtf8, option_map, true};
 ghost use Rattle.serde_json.specs.View.{view, items_view};
 ghost use Rattle.serde_json.specs.Find.{get, as_str};

@@ -1,5 +1,5 @@
 //! A small Grid as a person reads it, and what broken forms of it are refused with.
-use crate::{CovFault, Member, coverage_of};
+use crate::{CovFault, coverage_of};
 use covjson_value::AxisName;
 use serde_json::Value;
 use std::alloc::Global;
@@ -88,117 +88,139 @@ fn fault_of(alloc: Global, tree: &Value) -> Result<CovFault, Fail> {
     }
 }
 
-fn fault_of_text(alloc: Global, text: &str) -> Result<CovFault, Fail> {
-    let tree = Value::from_str(alloc, text)?;
-    fault_of(alloc, &tree)
-}
-
-fn fault_of_parts(alloc: Global, parts: Parts) -> Result<CovFault, Fail> {
-    let tree = tree_of(alloc, parts)?;
-    fault_of(alloc, &tree)
+#[test]
+fn refuses_what_lacks_members(rt: HostRuntime) -> Result<(), Fail> {
+    for (text, wanted) in [
+        ("[]", "WrongType(Document)"),
+        ("{}", "Missing(Kind)"),
+        ("{\"type\":\"Domain\"}", "WrongType(Kind)"),
+        ("{\"type\":\"Coverage\"}", "Missing(Domain)"),
+        (
+            "{\"type\":\"Coverage\",\"domain\":{}}",
+            "Missing(DomainType)",
+        ),
+    ] {
+        let tree = Value::from_str(rt.alloc(), text)?;
+        let fault = fault_of(rt.alloc(), &tree)?;
+        let shown = format!(in rt.alloc(); "{fault:?}")?;
+        assert!(rt; shown.as_str() == wanted);
+    }
+    Ok(())
 }
 
 #[test]
-fn refuses_what_is_broken(rt: HostRuntime) -> Result<(), Fail> {
-    let alloc = rt.alloc();
-    assert!(rt;
-        matches!(
-            fault_of_text(alloc, "[]")?,
-            CovFault::WrongType(Member::Document)
-        )
-    );
-    assert!(rt; matches!(fault_of_text(alloc, "{}")?, CovFault::Missing(Member::Kind)));
-    assert!(rt;
-        matches!(
-            fault_of_text(alloc, "{\"type\":\"Coverage\"}")?,
-            CovFault::Missing(Member::Domain)
-        )
-    );
-    let kind = fault_of_parts(
-        alloc,
-        Parts {
-            kind: "Polygon",
-            ..GRID
-        },
-    )?;
-    assert!(rt;
-        matches!(kind, CovFault::UnsupportedDomain(text) if text.bytes() == b"Polygon".as_slice())
-    );
-    let x = fault_of_parts(
-        alloc,
-        Parts {
-            x: "[0,1.5,2]",
-            ..GRID
-        },
-    )?;
-    assert!(rt; matches!(x, CovFault::NotWhole(Member::X)));
-    let x = fault_of_parts(
-        alloc,
-        Parts {
-            x: "[0,1.5,\"2\"]",
-            ..GRID
-        },
-    )?;
-    assert!(rt; matches!(x, CovFault::WrongType(Member::X)));
-    let x = fault_of_parts(
-        alloc,
-        Parts {
-            x: "[0,0,1]",
-            ..GRID
-        },
-    )?;
-    assert!(rt; matches!(x, CovFault::NotMonotonic(Member::X)));
-    let time = fault_of_parts(
-        alloc,
-        Parts {
-            first: "2024-06-15",
-            ..GRID
-        },
-    )?;
-    assert!(rt; matches!(time, CovFault::BadTime(0)));
-    let system = fault_of_parts(
-        alloc,
-        Parts {
-            system: "GeographicCRS",
-            ..GRID
-        },
-    )?;
-    assert!(rt;
-        matches!(system, CovFault::UnsupportedSystem(text) if text.bytes() == b"GeographicCRS".as_slice())
-    );
-    let range = fault_of_parts(
-        alloc,
-        Parts {
-            data_type: "float",
-            ..GRID
-        },
-    )?;
-    assert!(rt;
-        matches!(range, CovFault::UnsupportedRange(text) if text.bytes() == b"float".as_slice())
-    );
-    let values = fault_of_parts(
-        alloc,
-        Parts {
-            values: "[10,11,12,13,null,15,20,21,22,23,24]",
-            ..GRID
-        },
-    )?;
-    assert!(rt; matches!(values, CovFault::WrongCount(Member::Values, 12, 11)));
-    let values = fault_of_parts(
-        alloc,
-        Parts {
-            values: "[10,11,12,13,null,15,20,21,22,23,24,9007199254740992]",
-            ..GRID
-        },
-    )?;
-    assert!(rt; matches!(values, CovFault::OutOfRange(Member::Values)));
-    let values = fault_of_parts(
-        alloc,
-        Parts {
-            values: "[10,11,12,13,null,15,20,21,22,23,24,18446744073709551615]",
-            ..GRID
-        },
-    )?;
-    assert!(rt; matches!(values, CovFault::OutOfRange(Member::Values)));
+fn refuses_broken_parts(rt: HostRuntime) -> Result<(), Fail> {
+    for (parts, wanted) in [
+        (
+            Parts {
+                x: "[0,1.5,2]",
+                ..GRID
+            },
+            "NotWhole(X)",
+        ),
+        (
+            Parts {
+                x: "[0,1.5,\"2\"]",
+                ..GRID
+            },
+            "WrongType(X)",
+        ),
+        (Parts { x: "[]", ..GRID }, "WrongType(X)"),
+        (
+            Parts {
+                x: "[0,0,1]",
+                ..GRID
+            },
+            "NotMonotonic(X)",
+        ),
+        (
+            Parts {
+                x: "[0,100,100000001]",
+                ..GRID
+            },
+            "OutOfRange(X)",
+        ),
+        (
+            Parts {
+                first: "2024-06-15",
+                ..GRID
+            },
+            "BadTime(0)",
+        ),
+        (
+            Parts {
+                values: "[10,11,12,13,null,15,20,21,22,23,24]",
+                ..GRID
+            },
+            "WrongCount(Values, 12, 11)",
+        ),
+        (
+            Parts {
+                values: "[10,11,12,13,null,15,20,21,22,23,24,9007199254740992]",
+                ..GRID
+            },
+            "OutOfRange(Values)",
+        ),
+        (
+            Parts {
+                values: "[10,11,12,13,null,15,20,21,22,23,24,18446744073709551615]",
+                ..GRID
+            },
+            "OutOfRange(Values)",
+        ),
+        (
+            Parts {
+                values: "[10,11,12,13,null,15,20,21,22,23,24,2.0]",
+                ..GRID
+            },
+            "NotWhole(Values)",
+        ),
+    ] {
+        let tree = tree_of(rt.alloc(), parts)?;
+        let fault = fault_of(rt.alloc(), &tree)?;
+        let shown = format!(in rt.alloc(); "{fault:?}")?;
+        assert!(rt; shown.as_str() == wanted);
+    }
+    Ok(())
+}
+
+fn unsupported(fault: &CovFault) -> Option<&[u8]> {
+    match fault {
+        CovFault::UnsupportedDomain(text) => Some(text.bytes()),
+        CovFault::UnsupportedSystem(text) => Some(text.bytes()),
+        CovFault::UnsupportedRange(text) => Some(text.bytes()),
+        _ => None,
+    }
+}
+
+#[test]
+fn refuses_other_kinds(rt: HostRuntime) -> Result<(), Fail> {
+    for (parts, wanted) in [
+        (
+            Parts {
+                kind: "Polygon",
+                ..GRID
+            },
+            "Polygon",
+        ),
+        (
+            Parts {
+                system: "GeographicCRS",
+                ..GRID
+            },
+            "GeographicCRS",
+        ),
+        (
+            Parts {
+                data_type: "float",
+                ..GRID
+            },
+            "float",
+        ),
+    ] {
+        let tree = tree_of(rt.alloc(), parts)?;
+        let fault = fault_of(rt.alloc(), &tree)?;
+        assert!(rt; unsupported(&fault) == Some(wanted.as_bytes()));
+    }
     Ok(())
 }

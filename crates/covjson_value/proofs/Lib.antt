@@ -5,3 +5,12 @@ pub mod TimeTexts
 pub mod NamedParts
 pub mod NoFloat
 pub mod SampleRows
+pub mod PlainJson
+pub mod JsonBack
+pub mod AxisLengths
+pub mod Within
+pub mod PlainDomains
+pub mod PlainCoverages
+pub mod Telling
+pub mod TellingDomains
+pub mod TellingCoverages

@@ -1,4 +1,4 @@
--- Which coverages are valid (OGC 21-069r2, section 6), within this product's limits.
+-- Which coverages are valid (OGC 21-069r2), within this product's limits.
 use Rattle.std.specs.Prelude.{◌≡◌, ◌≢◌, ℕ, ◌<◌, ◌≤◌, ℤ, unsigned_abs, List, length, map, All, IfSome, IsSome, IsUtf8}
 use Rattle.std.specs.declared.option.Option.{Option}
 use Rattle.std.specs.Ordering.{nat_cmp}

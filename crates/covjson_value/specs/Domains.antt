@@ -1,4 +1,4 @@
--- The axes of a domain (OGC 21-069r2, section 6.1).
+-- The axes of a domain (OGC 21-069r2, Domain objects).
 use Rattle.std.specs.Prelude.{ℕ, ◌*◌, ◌==◌, ◌||◌, Bool, true, false, not, if◌then◌else◌, ℤ, List, [], ◌∷◌, length, option_map, is_some}
 use Rattle.std.specs.declared.option.Option.{Option}
 use Rattle.std.specs.Prelude.{None, Some}

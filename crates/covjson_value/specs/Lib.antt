@@ -3,3 +3,4 @@ pub mod Coverages
 pub mod Trees
 pub mod Puts
 pub mod Samples
+pub mod Laws

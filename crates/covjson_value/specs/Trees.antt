@@ -1,4 +1,4 @@
--- The JSON of a coverage (OGC 21-069r2, section 6), with the members of each object in ascending order of their keys.
+-- The JSON of a coverage (OGC 21-069r2), with the members of each object in ascending order of their keys.
 use Rattle.std.specs.Prelude.{ℕ, ℤ, zip, pos, codes, List, [], ◌∷◌, length, map, Bool, true, false, option_map}
 use Rattle.std.specs.declared.option.Option.{Option}
 use Rattle.std.specs.Prelude.{None, Some}
@@ -70,7 +70,7 @@ axis_member domain name rest = member_if (axis_key name) (option_map (axis_data 
 abbrev pub axes_data : Domain → Data
 axes_data domain = object (axis_member domain T (axis_member domain X (axis_member domain Y (axis_member domain Z no_members))))
 
--- ---- referencing (section 5)
+-- ---- referencing
 
 -- a system of coordinates, by its name where that is known
 abbrev pub system_data : Option (List ℕ) → List ℕ → Data
@@ -103,7 +103,7 @@ abbrev pub referencing_data : Domain → Referencing → Data
 referencing_data domain referencing =
     array (item (horizontal_data referencing.crs) (item_if (has_axis domain Z) (vertical_data referencing.vertical) (item_if (has_axis domain T) temporal_data no_items)))
 
--- ---- domains (section 6.1)
+-- ---- domains
 
 abbrev pub domain_type : Domain → List ℕ
 domain_type (Grid t z y x) = codes "Grid"
@@ -116,7 +116,7 @@ domain_data domain referencing =
     (member (codes "referencing") (referencing_data domain referencing)
     (member (codes "type") (string (codes "Domain")) no_members))))
 
--- ---- parameters (section 6.3)
+-- ---- parameters
 
 abbrev pub property_data : Parameter → Data
 property_data parameter = object (member (codes "label") (object (member parameter.lang (string parameter.label) no_members)) no_members)
@@ -137,7 +137,7 @@ named_parameter parameter = (parameter.id, parameter_data parameter)
 abbrev pub parameters_data : List Parameter → Data
 parameters_data parameters = object (members_in_order (map named_parameter parameters))
 
--- ---- ranges (section 6.4)
+-- ---- ranges
 
 -- a value, or null where the sample is absent
 abbrev pub sample_data : Option ℤ → Data
@@ -165,7 +165,7 @@ named_ranges domain parameters ranges = zip (ids_of parameters) (map (range_data
 abbrev pub ranges_data : Domain → List Parameter → List NdArray → Data
 ranges_data domain parameters ranges = object (members_in_order (named_ranges domain parameters ranges))
 
--- ---- coverages (section 6.5)
+-- ---- coverages
 
 abbrev pub coverage_object : Data → Option Data → Data → Data → Data
 coverage_object domain id parameters ranges =

@@ -3,7 +3,7 @@
 use crate::domains::Domain;
 use edr_base::{Items, Text};
 
-/// What a range's values tell (OGC 21-069r2, section 6.3).
+/// What a range's values tell (OGC 21-069r2, Parameter objects).
 #[derive(Debug, Drop)]
 pub struct Parameter {
     /// Its name among the parameters: 1 to 128 bytes of UTF-8 without bytes below 32, byte 127 and the comma.
@@ -16,7 +16,7 @@ pub struct Parameter {
     pub unit: Option<Text>,
 }
 
-/// The systems that a domain's coordinates are in (OGC 21-069r2, section 5).
+/// The systems that a domain's coordinates are in (OGC 21-069r2, referencing).
 #[derive(Debug, Drop)]
 pub struct Referencing {
     /// The coordinate reference system of x and y, or an empty text where it isn't known.
@@ -25,14 +25,14 @@ pub struct Referencing {
     pub vertical: Option<Text>,
 }
 
-/// The values of one parameter (OGC 21-069r2, section 6.4).
+/// The values of one parameter (OGC 21-069r2, NdArray objects).
 #[derive(Debug, Drop)]
 pub struct NdArray {
     /// In row-major order t, z, y, x, the last axis fastest. None is an absent sample.
     pub values: Items<Option<i64>>,
 }
 
-/// A coverage (OGC 21-069r2, section 6.5).
+/// A coverage (OGC 21-069r2, Coverage objects).
 #[derive(Debug, Drop)]
 pub struct Coverage {
     /// Its name, where it has one.

@@ -20,13 +20,13 @@ pub enum AxisName {
     X,
 }
 
-/// The places and times of a coverage's values (OGC 21-069r2, section 6.1, and section 9 for the types).
+/// The places and times of a coverage's values (OGC 21-069r2, Domain objects and domain types).
 ///
 /// x and y are in metres of the coordinate reference system, z is a level in metres, and t is a time
 /// in seconds since 1970-01-01T00:00:00Z.
 #[derive(Debug, Drop)]
 pub enum Domain {
-    /// All nodes of some axes (section 9.11.1).
+    /// All nodes of some axes (domain type `Grid`).
     Grid {
         /// Times, where it has them.
         t: Option<Axis>,
@@ -37,7 +37,7 @@ pub enum Domain {
         /// The first coordinates.
         x: Axis,
     },
-    /// One place (section 9.11.7).
+    /// One place (domain type `Point`).
     Point {
         /// The time, where it has one.
         t: Option<i64>,
@@ -136,7 +136,7 @@ impl Domain {
         }
     }
 
-    /// The type of the domain in CoverageJSON (OGC 21-069r2, section 9). It takes no memory.
+    /// The type of the domain in CoverageJSON (OGC 21-069r2, domain types). It takes no memory.
     pub fn type_name(&self) -> &'static str
         ensures { result.now ≡ domain_type self.now }
     {

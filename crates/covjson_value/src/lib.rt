@@ -5,6 +5,7 @@ mod axis_trees;
 mod coverages;
 mod domain_trees;
 mod domains;
+mod laws;
 mod leaves;
 mod limits;
 mod names;
@@ -15,6 +16,7 @@ mod validity;
 
 pub use coverages::{Coverage, NdArray, Parameter, Referencing};
 pub use domains::{AxisName, Domain};
+pub use laws::{texts_read_back, texts_tell_coverages};
 pub use limits::{COORDINATE_LIMIT, NAME_LIMIT, SAMPLE_LIMIT};
 pub use names::is_name;
 pub use trees::tree_of;

@@ -44,7 +44,7 @@ fn object_of(
     Ok(Value::Object(members))
 }
 
-/// The tree of a valid coverage (OGC 21-069r2, section 6.5), with the members of each object in ascending
+/// The tree of a valid coverage (OGC 21-069r2, Coverage objects), with the members of each object in ascending
 /// order of their keys.
 pub fn tree_of(alloc: Global, coverage: &Coverage) -> Result<Value, OutOfMemory>
     requires { IsValid coverage.now }

@@ -1,12 +1,12 @@
 -- The line of an ending, and a line that was written.
-use Rattle.std.proofs.Common.{◌≡◌, ◌≢◌, ℕ, ◌+◌, ◌≤◌, List, [], ◌++◌, codes, Some, None, Result, Ok, Err, refl, rules, arith}
+use Rattle.std.proofs.Common.{◌≡◌, ◌≢◌, ℕ, ◌≤◌, List, [], ◌++◌, codes, Result, Ok, refl, arith}
 use Rattle.std.specs.declared.option.Option.{Option}
 use Rattle.std.specs.Prelude.{IsErrOf}
 use Rattle.edr_base.specs.Outside.{Rose}
 use Rattle.edr_base.specs.Calls.{Writes}
 use Rattle.edr_base.proofs.KnownBytes.{append_nothing, front_none}
 use Rattle.edr_base.specs.declared.sending.SendFault.{SendFault}
-use Rattle.edr_base.specs.declared.sending.SendFault.TheVariants.{WriteFault as ErrorsFault, OutOfMemory as ErrorsMemory}
+use Rattle.edr_base.specs.declared.sending.SendFault.TheVariants.{WriteFault as ErrorsFault}
 use Rattle.edr.specs.declared.endings.Ending.{Ending}
 use Rattle.edr.specs.declared.endings.Ending.TheVariants.{Done, Usage, NotFeedLine, ReadFault, WriteFault, OutOfMemory, Refused}
 use Rattle.edr.specs.Ends.{said_of, line_of, Tells}

@@ -1,5 +1,5 @@
 -- How a run ends: its status, and what it leaves on each object. Each table goes by the ending.
-use Rattle.std.specs.Prelude.{◌≡◌, ◌⊎◌, ℕ, List, ◌∷◌, ◌++◌, [], codes, Result, IsErrOf, IsNone, ⊤}
+use Rattle.std.specs.Prelude.{◌≡◌, ◌⊎◌, ℕ, List, ◌++◌, [], codes, Result, IsErrOf, IsNone, ⊤}
 use Rattle.std.specs.declared.option.Option.{Option}
 use Rattle.edr_base.specs.Outside.{Rose}
 use Rattle.edr_base.specs.Calls.{Writes}

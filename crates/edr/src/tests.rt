@@ -106,6 +106,16 @@ fn runs_end_as_they_have_to(rt: HostRuntime) -> Result<(), Fail> {
         Case {
             words: &[
                 b"ask",
+                b"/collections/grid/position?coords= Point ( 50.0\t-00 ) &datetime=2024-01-01t02:00 02:00",
+            ],
+            input: GRID,
+            status: 0,
+            output: FIRST,
+            errors: b"",
+        },
+        Case {
+            words: &[
+                b"ask",
                 b"/collections/grid/position?coords=POINT(-1 0)&datetime=2024-01-01T00:00:00Z",
             ],
             input: GRID,

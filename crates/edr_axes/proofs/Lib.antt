@@ -4,3 +4,8 @@ pub mod InstantEnds
 pub mod InstantLemmas
 pub mod InstantTexts
 pub mod InstantWholes
+pub mod LevelTexts
+pub mod LevelsLemmas
+pub mod SeriesLemmas
+pub mod SlashLemmas
+pub mod TimesLemmas

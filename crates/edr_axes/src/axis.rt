@@ -1,5 +1,5 @@
 //! Axes of coverages.
-ghost use Rattle.std.specs.Prelude.{◌≡◌, ◌<◌, ℕ, length, [], IfOk, Err, MatchOption, Contains, count_by, int_lt};
+ghost use Rattle.std.specs.Prelude.{◌≡◌, ◌<◌, ℕ, length, [], IfOk, Err, MatchOption, Contains, count_by, int_lt, int_le, max};
 ghost use Rattle.edr_axes.specs.Axes.{value_at, IsAscending, IsAxis, IsFirstFall, IsNearest, NearestIsOne};
 
 use edr_base::OutOfMemory;
@@ -17,7 +17,7 @@ pub enum AxisFault {
     OutOfMemory,
 }
 
-/// An axis of a coverage (OGC 21-069r2, section 6.2): strictly ascending values, at least one.
+/// An axis of a coverage (OGC 21-069r2, Axis objects): strictly ascending values, at least one.
 ///
 /// They are metres, or seconds since 1970-01-01T00:00:00Z. Contracts see the list.
 #[derive(Debug, Drop)]
@@ -54,6 +54,14 @@ fn count_below(values: &[i64], bound: i64) -> usize
     ensures { result ≡ count_by (λ value. int_lt value bound) values.now }
 {
     values.partition_point(|value| *value < bound)
+}
+
+// How many values are at most a bound. They come first.
+fn count_to(values: &[i64], bound: i64) -> usize
+    requires { IsAscending values.now }
+    ensures { result ≡ count_by (λ value. int_le value bound) values.now }
+{
+    values.partition_point(|value| *value <= bound)
 }
 
 // The place of a value, or `None` where there is no such value.
@@ -108,6 +116,15 @@ impl Axis {
         }
     }
 
+    /// An equal axis, or want of memory.
+    pub fn copy(&self, alloc: Global) -> Result<Axis, OutOfMemory>
+        ensures { IfOk result (λ axis. axis ≡ self.now) }
+    {
+        Ok(Axis {
+            values: Vec::from_slice(alloc, &self.values)?,
+        })
+    }
+
     /// How many values it has.
     pub fn len(&self) -> usize
         ensures { (result ≡ length self.now) × (0 < result) }
@@ -144,6 +161,18 @@ impl Axis {
         ensures { IsNearest self.now c result }
     {
         nearest_in(&self.values, c)
+    }
+
+    /// The places, from 0, of the values from `lo` to `hi`, both included: the first one, and the one after the last.
+    ///
+    /// The first is how many values are below `lo`. The second is how many are at most `hi`, or the first where
+    /// that is greater, so the two are equal where no value lies there. It takes no memory.
+    pub fn range(&self, lo: i64, hi: i64) -> (usize, usize)
+        ensures first { result.0 ≡ count_by (λ value. int_lt value lo) self.now }
+        ensures end { result.1 ≡ max result.0 (count_by (λ value. int_le value hi) self.now) }
+    {
+        let first = count_below(&self.values, lo);
+        (first, first.max(count_to(&self.values, hi)))
     }
 }
 

@@ -1,12 +1,16 @@
-//! Axes of coverages, and times as text.
+//! Axes of coverages, times as text, and the times and levels that a request selects.
 #![tactic(auto)]
 
 mod axis;
 mod instants;
+mod levels;
 mod reading_instants;
 #[cfg(test)]
 mod tests;
+mod times;
 
 pub use axis::{Axis, AxisFault, nearest_is_one};
 pub use instants::{EARLIEST, LATEST, texts_tell_times, times_are_written, write_instant};
+pub use levels::{LEVEL_LIMIT, LevelFault, Levels, levels_are_unique, read_levels};
 pub use reading_instants::{instants_are_unique, read_instant, written_times_are_instants};
+pub use times::{Times, read_times, times_are_unique};

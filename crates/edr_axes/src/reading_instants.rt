@@ -23,8 +23,8 @@ fn two_digits(text: &[u8]) -> Option<(u8, &[u8])>
     }
 }
 
-// The bytes after a first byte.
-fn after(text: &[u8], first: u8) -> Option<&[u8]>
+/// The bytes after a first byte.
+pub fn after(text: &[u8], first: u8) -> Option<&[u8]>
     ensures { MatchOption result ((rest : List ℕ) → ¬ (text.now ≡ first ∷ rest))
         (λ r. text.now ≡ first ∷ r.now) }
 {

@@ -29,6 +29,8 @@ fn axes(rt: HostRuntime) -> Result<(), Fail> {
     let axis = Axis::of(rt.alloc(), &[0, 100])?;
     assert_eq!(rt; axis.values(), [0, 100].as_slice());
     assert_eq!(rt; axis.len(), 2);
+    let copy = axis.copy(rt.alloc())?;
+    assert_eq!(rt; copy.values(), axis.values());
     Ok(())
 }
 
@@ -46,6 +48,17 @@ fn places(rt: HostRuntime) -> Result<(), Fail> {
         (201, None),
     ] {
         assert_eq!(rt; axis.place_of(value), place, "the place of {value}");
+    }
+    for (lo, hi, places) in [
+        (1, 200, (1, 3)),
+        (0, 100, (0, 2)),
+        (100, 100, (1, 2)),
+        (101, 199, (2, 2)),
+        (201, 300, (3, 3)),
+        (-9, -1, (0, 0)),
+        (100, 50, (1, 1)),
+    ] {
+        assert_eq!(rt; axis.range(lo, hi), places, "from {lo} to {hi}");
     }
     Ok(())
 }

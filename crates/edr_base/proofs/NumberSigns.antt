@@ -1,5 +1,8 @@
 -- A numeral has the sign that stands at its front, and a text has one value.
-use Rattle.std.proofs.Common.{◌≡◌, ℕ, zero, suc, subst, List, [], ◌∷◌, ◌++◌, refl, sym, ap, ◌∙◌, arith, ℤ}
+use Rattle.std.proofs.Common.{◌≡◌, ℕ, zero, suc, subst, List, [], ◌∷◌, ◌++◌, refl, sym, ap, ◌∙◌, arith, ℤ, ◌<◌, ◌^◌, inl, negsuc, pos}
+use Rattle.std.specs.Fmt.{decimal, signed_decimal}
+use Rattle.std.proofs.lemmas.Fmt.{decimal_is_IsNumeral}
+use Rattle.std.proofs.lemmas.List.{append-nil}
 use Rattle.std.specs.Int.{IsInRange}
 use Rattle.std.specs.Int.RustNames.{unsigned_abs}
 use Rattle.std.specs.Str.Parse.{AllDigits}
@@ -61,3 +64,13 @@ unsigned_abs-signed NoSign n = refl
 unsigned_abs-signed Plus n = refl
 unsigned_abs-signed Minus zero = refl
 unsigned_abs-signed Minus (suc n) = refl
+
+unsigned-decimal : (n : ℕ) → n < 2 ^ 64 → IsUnsigned (decimal n) n
+unsigned-decimal n h =
+    let d = decimal_is_IsNumeral n h in
+    record { digits = decimal n; point = []; text_is = sym (append-nil (decimal n)); are_digits = d.0.1; is_point = tt; some = inl d.0.0; size_is = sym d.1 }
+
+-- a number as it is written is a numeral of the number
+pub numeral-decimal : (z : ℤ) → unsigned_abs z < 2 ^ 64 → IsNumeral (signed_decimal z) z
+numeral-decimal (pos n) h = record { sign = NoSign; unsigned = decimal n; size = n; text_is = refl; is_unsigned = unsigned-decimal n h; value_is = refl }
+numeral-decimal (negsuc n) h = record { sign = Minus; unsigned = decimal (suc n); size = suc n; text_is = refl; is_unsigned = unsigned-decimal (suc n) h; value_is = refl }

@@ -7,3 +7,4 @@ pub mod Untold
 pub mod RefusalTable
 pub mod Numbers
 pub mod NumberParts
+pub mod Cuts

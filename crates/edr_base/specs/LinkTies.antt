@@ -1,6 +1,6 @@
 -- What reading and what writing can't change are told of one link, for the links of this crate.
 use Rattle.std.specs.Prelude.{◌≡◌, ℕ, Bool, true, false, not, List, [], refl}
-use Rattle.std.specs.Prelude.{None, Some}
+use Rattle.std.specs.Prelude.{Some}
 use Rattle.std.proofs.lemmas.Bool.{false≢true}
 use Rattle.edr_base.specs.Outside.{Asked, Ties}
 use Rattle.edr_base.specs.Memory.{left_in, link_aside, link_beside}

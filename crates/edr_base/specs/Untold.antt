@@ -1,6 +1,5 @@
 -- Objects that tell nothing of contents: real files, sockets and streams.
-use Rattle.std.specs.Prelude.{ℕ, Bool, List}
-use Rattle.std.specs.declared.option.Option.{Option}
+use Rattle.std.specs.Prelude.{Bool}
 use Rattle.std.specs.Prelude.{None}
 use Rattle.edr_base.specs.Outside.{Aside, Beside}
 

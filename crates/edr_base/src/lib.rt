@@ -3,6 +3,7 @@
 
 mod adapters;
 mod copying;
+mod cuts;
 mod fault_plan;
 mod memory_files;
 mod memory_link;
@@ -18,12 +19,13 @@ mod texts;
 
 pub use adapters::{RealSink, RealSource};
 pub use copying::{CopyFault, copy_all};
+pub use cuts::{cut_at, without_front};
 pub use fault_plan::FaultPlan;
 pub use memory_files::MemoryFiles;
 pub use memory_link::MemoryLink;
 pub use memory_sink::MemorySink;
 pub use memory_source::MemorySource;
-pub use numbers::{Whole, numeral, whole_number};
+pub use numbers::{Whole, numeral, whole_number, whole_number_is_one, written_number_is_numeral};
 pub use outside::{Failed, Faults, Files, Link, Sink, Source, Stop};
 pub use places::{Position, Spot};
 pub use reading::{ReadStop, read_all};

@@ -70,7 +70,7 @@ impl Faults for MemoryFiles {
 }
 
 impl Source for MemoryFiles {
-    ghost use Rattle.edr_base.specs.MemoryParts.{cut_of_files, plan_of_files};
+    ghost use Rattle.edr_base.specs.MemoryParts.{cut_of_files, plan_of_files, IsNextPlan};
 
     ghost left = { λ s. Some (left_in s.ready s.at (bytes_at s.files.items s.place)) };
 
@@ -91,6 +91,8 @@ impl Source for MemoryFiles {
         ensures fails { IsErr result
             ↔ (((⟦<MemoryFiles as Source>⟧.aside self.old).idle ≡ false) × (0 < length buf.new)
             × FailsNext (plan_of_files self.old).fails.items (plan_of_files self.old).calls) }
+        ensures plan { IsNextPlan (IsErr result) (plan_of_files self.old) (plan_of_files self.new) }
+        ensures kept_cut { cut_of_files self.new ≡ cut_of_files self.old }
     {
         let fails = self.plan.strikes();
         if !self.ready || buf.is_empty() {
@@ -108,7 +110,7 @@ impl Source for MemoryFiles {
 }
 
 impl Files for MemoryFiles {
-    ghost use Rattle.edr_base.specs.MemoryParts.{plan_of_files};
+    ghost use Rattle.edr_base.specs.MemoryParts.{cut_of_files, plan_of_files, IsNextPlan};
 
     fn open(&mut self, name: &[u8]) -> Result<(), Stop>
         requires { IsUtf8 name.now }
@@ -126,6 +128,8 @@ impl Files for MemoryFiles {
         ensures opens { IsOk result
             → ¬ (FailsNext (plan_of_files self.old).fails.items (plan_of_files self.old).calls)
             × ((⟦<MemoryFiles as Source>⟧.aside self.old).content name.now ≢ None) }
+        ensures plan { IsNextPlan (IsErrOf result Stop.Failed) (plan_of_files self.old) (plan_of_files self.new) }
+        ensures kept_cut { cut_of_files self.new ≡ cut_of_files self.old }
     {
         self.ready = false;
         let fails = self.plan.strikes();

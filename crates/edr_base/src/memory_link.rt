@@ -70,7 +70,7 @@ impl Faults for MemoryLink {
 }
 
 impl Source for MemoryLink {
-    ghost use Rattle.edr_base.specs.MemoryParts.{cut_of_link, plan_of_link};
+    ghost use Rattle.edr_base.specs.MemoryParts.{cut_of_link, plan_of_link, IsNextPlan};
 
     ghost left = { λ s. Some (left_in s.ready s.at s.incoming.items) };
 
@@ -91,6 +91,8 @@ impl Source for MemoryLink {
         ensures fails { IsErr result
             ↔ (((⟦<MemoryLink as Source>⟧.aside self.old).idle ≡ false) × (0 < length buf.new)
             × FailsNext (plan_of_link self.old).fails.items (plan_of_link self.old).calls) }
+        ensures plan { IsNextPlan (IsErr result) (plan_of_link self.old) (plan_of_link self.new) }
+        ensures kept_cut { cut_of_link self.new ≡ cut_of_link self.old }
     {
         let fails = self.plan.strikes();
         if !self.ready || buf.is_empty() {
@@ -105,7 +107,7 @@ impl Source for MemoryLink {
 }
 
 impl Sink for MemoryLink {
-    ghost use Rattle.edr_base.specs.MemoryParts.{cut_of_link, plan_of_link};
+    ghost use Rattle.edr_base.specs.MemoryParts.{cut_of_link, plan_of_link, IsNextPlan};
 
     ghost written = { λ s. Some s.written.items };
 
@@ -130,6 +132,8 @@ impl Sink for MemoryLink {
         ensures fails { IsErrOf result Stop.Failed
             ↔ (((⟦<MemoryLink as Sink>⟧.beside self.old).idle ≡ false) × (0 < length piece.now)
             × FailsNext (plan_of_link self.old).fails.items (plan_of_link self.old).calls) }
+        ensures plan { IsNextPlan (IsErrOf result Stop.Failed) (plan_of_link self.old) (plan_of_link self.new) }
+        ensures kept_cut { cut_of_link self.new ≡ cut_of_link self.old }
     {
         let fails = self.plan.strikes();
         if piece.is_empty() {
@@ -165,6 +169,8 @@ impl Sink for MemoryLink {
             ↔ (((⟦<MemoryLink as Sink>⟧.beside self.old).idle ≡ false)
             × FailsNext (plan_of_link self.old).fails.items (plan_of_link self.old).calls) }
         ensures only { result ≢ Err Stop.OutOfMemory }
+        ensures plan { IsNextPlan (IsErrOf result Stop.Failed) (plan_of_link self.old) (plan_of_link self.new) }
+        ensures kept_cut { cut_of_link self.new ≡ cut_of_link self.old }
     {
         let fails = self.plan.strikes();
         if self.ready && fails {
@@ -177,7 +183,7 @@ impl Sink for MemoryLink {
 }
 
 impl Link for MemoryLink {
-    ghost use Rattle.edr_base.specs.MemoryParts.{plan_of_link};
+    ghost use Rattle.edr_base.specs.MemoryParts.{cut_of_link, plan_of_link, IsNextPlan};
 
     ghost ties = { λ s. memory_ties s.ready (map peer_asked s.asked.items) s.incoming.items s.at s.written.items s.flushed };
 
@@ -200,6 +206,8 @@ impl Link for MemoryLink {
             → FailsNext (plan_of_link self.old).fails.items (plan_of_link self.old).calls }
         ensures connects { IsOk result
             → ¬ (FailsNext (plan_of_link self.old).fails.items (plan_of_link self.old).calls) }
+        ensures plan { IsNextPlan (IsErrOf result Stop.Failed) (plan_of_link self.old) (plan_of_link self.new) }
+        ensures kept_cut { cut_of_link self.new ≡ cut_of_link self.old }
     {
         self.ready = false;
         let fails = self.plan.strikes();

@@ -54,7 +54,7 @@ impl Faults for MemorySink {
 }
 
 impl Sink for MemorySink {
-    ghost use Rattle.edr_base.specs.MemoryParts.{cut_of_sink, plan_of_sink};
+    ghost use Rattle.edr_base.specs.MemoryParts.{cut_of_sink, plan_of_sink, IsNextPlan};
 
     ghost written = { λ s. Some s.bytes.items };
 
@@ -78,6 +78,8 @@ impl Sink for MemorySink {
         ensures cut { IfOk result (λ n. n ≤ cut_of_sink self.old) }
         ensures fails { IsErrOf result Stop.Failed
             ↔ ((0 < length piece.now) × FailsNext (plan_of_sink self.old).fails.items (plan_of_sink self.old).calls) }
+        ensures plan { IsNextPlan (IsErrOf result Stop.Failed) (plan_of_sink self.old) (plan_of_sink self.new) }
+        ensures kept_cut { cut_of_sink self.new ≡ cut_of_sink self.old }
     {
         let fails = self.plan.strikes();
         if piece.is_empty() {
@@ -109,6 +111,8 @@ impl Sink for MemorySink {
         ensures fails { IsErrOf result Stop.Failed
             ↔ FailsNext (plan_of_sink self.old).fails.items (plan_of_sink self.old).calls }
         ensures only { result ≢ Err Stop.OutOfMemory }
+        ensures plan { IsNextPlan (IsErrOf result Stop.Failed) (plan_of_sink self.old) (plan_of_sink self.new) }
+        ensures kept_cut { cut_of_sink self.new ≡ cut_of_sink self.old }
     {
         if self.plan.strikes() {
             self.plan.count_fault();

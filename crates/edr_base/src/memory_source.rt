@@ -72,7 +72,7 @@ impl Faults for MemorySource {
 }
 
 impl Source for MemorySource {
-    ghost use Rattle.edr_base.specs.MemoryParts.{cut_of_source, plan_of_source};
+    ghost use Rattle.edr_base.specs.MemoryParts.{cut_of_source, plan_of_source, IsNextPlan};
 
     ghost left = { λ s. Some (drop s.at s.bytes.items) };
 
@@ -92,6 +92,8 @@ impl Source for MemorySource {
         ensures cut { IfOk result (λ n. n ≤ cut_of_source self.old) }
         ensures fails { IsErr result
             ↔ ((0 < length buf.new) × FailsNext (plan_of_source self.old).fails.items (plan_of_source self.old).calls) }
+        ensures plan { IsNextPlan (IsErr result) (plan_of_source self.old) (plan_of_source self.new) }
+        ensures kept_cut { cut_of_source self.new ≡ cut_of_source self.old }
     {
         let fails = self.plan.strikes();
         if buf.is_empty() {

@@ -1,5 +1,7 @@
 //! Whole numbers as text.
-ghost use Rattle.std.specs.Prelude.{◌≡◌, ◌≤◌, ◌<◌, ◌==◌, ℕ, ℤ, pos, ◌≤ℤ◌, IsTrue, ◌↔◌, MatchOption, not, replicate, List};
+ghost use Rattle.std.specs.Prelude.{◌≡◌, ◌≤◌, ◌<◌, ◌^◌, ◌==◌, ℕ, ℤ, pos, ◌≤ℤ◌, IsTrue, ◌↔◌, MatchOption, not, replicate, List};
+ghost use Rattle.std.specs.Int.RustNames.{unsigned_abs};
+ghost use Rattle.std.specs.Fmt.{signed_decimal};
 ghost use Rattle.std.specs.Char.{is_ascii_digit};
 ghost use Rattle.std.specs.Str.Parse.{AllDigits, digits_value};
 ghost use Rattle.edr_base.specs.Numbers.{IsPoint, IsUnsigned, IsNumeral, IsWhole, MatchWhole, signed};
@@ -174,6 +176,11 @@ pub fn whole_number(text: &[u8], limit: i64) -> Whole
 pub fn whole_number_is_one()
     ensures numeral { (text : List ℕ) (v w : ℤ) → IsNumeral text v → IsNumeral text w → v ≡ w }
     ensures whole { (text : List ℕ) (v w : ℤ) → IsWhole text v → IsWhole text w → v ≡ w }
+{}
+
+/// A number as it is written by `Display` is a numeral, and stands for the number.
+pub fn written_number_is_numeral()
+    ensures { (z : ℤ) → unsigned_abs z < 2 ^ 64 → IsNumeral (signed_decimal z) z }
 {}
 
 #[cfg(test)]

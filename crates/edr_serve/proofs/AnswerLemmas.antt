@@ -1,40 +1,51 @@
 -- The node that a target asks for, its answer and its refusals, on a grid with times and without levels.
-use Rattle.std.proofs.Common.{◌≡◌, ℕ, ◌<◌, ℤ, List, Some, None, Vec, Global, Result, Ok, Err, length, refl, sym, ap, subst, ◌∙◌, arith, w64, FitsSigned}
+use Rattle.std.proofs.Common.{◌≡◌, ℕ, ℤ, List, Some, None, Vec, Global, Result, Ok, Err, sym, ap, subst, ◌∙◌, arith, w64, FitsSigned}
 use Rattle.std.proofs.lemmas.Int.{ints, fits_signed_from_abs}
 use Rattle.edr_axes.specs.Instants.{IsTime}
 use Rattle.covjson_value.specs.Coverages.{IsCoordinate}
 use Rattle.std.specs.Prelude.{IfOk}
 use Rattle.edr_serve.specs.declared.ask.FirstFault.{FirstFault}
-use Rattle.std.specs.declared.option.Option.{Option}
 use Rattle.edr_axes.specs.Axes.{value_at}
-use Rattle.edr_base.specs.declared.refusals.Refusal.{Refusal}
 use Rattle.covjson_value.specs.declared.coverages.Coverage.{Coverage}
 use Rattle.covjson_value.specs.declared.domains.Domain.{Domain}
 use Rattle.covjson_value.specs.declared.domains.Domain.TheVariants.{Grid}
-use Rattle.covjson_value.specs.Samples.{Node, node, point_at}
+use Rattle.covjson_value.specs.Samples.{node, point_at}
 use Rattle.covjson_value.specs.Trees.{coverage_text}
 use Rattle.edr_serve.specs.declared.point.GridPlace.{GridPlace}
 use Rattle.edr_serve.specs.NodePlaces.{IsPlaceOn, node_at}
 use Rattle.edr_serve.specs.Target.{IsFirstTarget, IsFirstPoint}
 use Rattle.edr_serve.specs.Grids.{IsTimedGrid}
-use Rattle.edr_serve.specs.Answer.{IsSampled, IsPlaceAsked, IsAnswer, HasNoSamples}
+use Rattle.edr_serve.specs.Answer.{IsSampled, IsNodePlace, IsPlaceAsked, IsAnswer, HasBadCoords, HasNoSamples}
+
+-- what holds of the axes that a grid was matched with holds of those that it has
+on_axes : (P : List ℤ → List ℤ → List ℤ → Type 0) (coverage : Coverage) (ts ys xs : List ℤ) → coverage.domain ≡ Grid (Some ts) None ys xs → P ts ys xs
+    → (g : IsTimedGrid coverage) → P g.ts g.ys g.xs
+on_axes P coverage ts ys xs matched p g =
+    let same : Grid (Some ts) None ys xs ≡ Grid (Some g.ts) None g.ys g.xs = sym matched ∙ g.domain in
+    let ts_same : ts ≡ g.ts = cc in
+    let ys_same : ys ≡ g.ys = cc in
+    let xs_same : xs ≡ g.xs = cc in
+    rw (← ts_same, ← ys_same, ← xs_same) p
+
+-- coordinates that are no point
+pub bad_coords : (target coords : List ℕ) (time : ℤ) → IsFirstTarget target coords time → ((x y : ℤ) → ¬ (IsFirstPoint coords x y)) → HasBadCoords target
+bad_coords target coords time t none = record { coords = coords; time = time; target_is = t; none = none }
+
+-- the place on the axes that a grid was matched with
+pub place_asked : (coverage : Coverage) (ts ys xs : List ℤ) (target coords : List ℕ) (time x y : ℤ) (at : GridPlace)
+    → coverage.domain ≡ Grid (Some ts) None ys xs → IsFirstTarget target coords time → IsFirstPoint coords x y
+    → IsNodePlace ts ys xs time x y at → (g : IsTimedGrid coverage) → IsPlaceAsked g.ts g.ys g.xs target at
+place_asked coverage ts ys xs target coords time x y at matched t p place =
+    on_axes (λ ts ys xs. IsPlaceAsked ts ys xs target at) coverage ts ys xs matched
+    (record { time = time; x = x; y = y; asks = record { coords = coords; target_is = t; point_is = p }; place = place })
 
 -- no samples on the axes that a grid was matched with, and so on those that it has
 pub no_samples : (coverage : Coverage) (ts ys xs : List ℤ) (target coords : List ℕ) (time x y : ℤ)
     → coverage.domain ≡ Grid (Some ts) None ys xs → IsFirstTarget target coords time → IsFirstPoint coords x y
     → ¬ (IsSampled ts ys xs time x y) → (g : IsTimedGrid coverage) → HasNoSamples g.ts g.ys g.xs target
-no_samples coverage ts ys xs target coords time x y matched t p none g =
-    let same : Grid (Some ts) None ys xs ≡ Grid (Some g.ts) None g.ys g.xs = sym matched ∙ g.domain in
-    let ts_same : ts ≡ g.ts = cc in
-    let ys_same : ys ≡ g.ys = cc in
-    let xs_same : xs ≡ g.xs = cc in
-    record {
-      time = time;
-      x = x;
-      y = y;
-      asks = record { coords = coords; target_is = t; point_is = p };
-      none = λ s. none (rw (ts_same, ys_same, xs_same) s);
-    }
+no_samples coverage ts ys xs target coords time x y matched t p none =
+    on_axes (λ ts ys xs. HasNoSamples ts ys xs target) coverage ts ys xs matched
+    (record { time = time; x = x; y = y; asks = record { coords = coords; target_is = t; point_is = p }; none = none })
 
 -- the place that is asked for is on the axes
 pub place_on : (coverage : Coverage) (g : IsTimedGrid coverage) (target : List ℕ) (at : GridPlace)

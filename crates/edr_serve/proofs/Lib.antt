@@ -1,4 +1,3 @@
-pub mod CutLemmas
 pub mod PointLemmas
 pub mod TargetLemmas
 pub mod AnswerLemmas

@@ -1,70 +1,58 @@
--- A point's text has one x and one y.
-use Rattle.std.proofs.Common.{◌≡◌, ◌≢◌, ℕ, ℤ, pos, List, ◌∷◌, ◌++◌, refl, sym, ap, ◌∙◌, subst, arith, codes, append_assoc}
+-- The point of some coordinates, in well-known text.
+use Rattle.std.proofs.Common.{◌≡◌, ℕ, ℤ, pos, List, [], ◌∷◌, ◌++◌, length, Err, refl, sym, ap, subst, arith, length-append}
 use Rattle.std.proofs.lemmas.Int.{ints}
-use Rattle.std.proofs.lemmas.List.{append_cancel_left, append_cancel_right}
-use Rattle.std.specs.List.{Contains}
-use Rattle.edr_base.specs.declared.numbers.Whole.{Whole}
-use Rattle.edr_base.specs.declared.numbers.Whole.TheVariants.{Value, TooLarge, NotWhole}
-use Rattle.edr_base.specs.Numbers.{IsWhole, MatchWhole}
-use Rattle.covjson_value.specs.Coverages.{IsCoordinate}
-use Rattle.edr_base.proofs.NumberWords.{whole-unique}
-use Rattle.edr_serve.specs.Cuts.{IsCut}
-use Rattle.edr_serve.specs.Target.{IsCoordinateText, IsFirstPoint}
-use Rattle.edr_serve.proofs.CutLemmas.{Contains-between, cut_unique}
+use Rattle.edr_base.specs.declared.places.Position.{Position}
+use Rattle.edr_wkt.specs.declared.geometry.Geometry.{Geometry}
+use Rattle.edr_wkt.specs.declared.faults.WktFault.{WktFault}
+use Rattle.edr_wkt.specs.declared.faults.WktFault.TheVariants.{NotWkt, TooManyPositions, OutOfRange, OpenRing, DecreasingM, OutOfMemory}
+use Rattle.edr_wkt.specs.Wkt.{IsWkt}
+use Rattle.edr_wkt.specs.Faults.{IsInRange, HasFault, MatchWkt}
+use Rattle.edr_wkt.proofs.WktLemmas.{wkt-unique}
+use Rattle.edr_serve.specs.Target.{plane_point, IsFirstPoint}
 
--- a text that isn't answered with a value is no coordinate
-pub coordinate_none : (text : List ℕ) (answer : Whole) → ((value : ℤ) → answer ≢ Value value) → MatchWhole answer (IsWhole text) (pos 100000000) → (value : ℤ) → ¬ (IsCoordinateText text value)
-coordinate_none text (Value v) other m value is = other v refl
-coordinate_none text TooLarge other m value is =
-    let same = whole-unique text value m.0 is.whole m.1 in
-    let within : IsCoordinate m.0 = subst IsCoordinate same is.within in
-    omega (arith, ints, within, m.2)
-coordinate_none text NotWhole other m value is = m value is.whole
+abbrev position : ℤ → ℤ → Position
+position x y = record { x = x; y = y; z = pos 0; m = pos 0 }
 
--- a text is at most one coordinate
-pub coordinate_unique : (text : List ℕ) (v w : ℤ) → IsCoordinateText text v → IsCoordinateText text w → v ≡ w
-coordinate_unique text v w p q = whole-unique text v w p.whole q.whole
+same_point : (x y v w : ℤ) → plane_point x y ≡ plane_point v w → (x ≡ v) × (y ≡ w)
+same_point x y v w same =
+    let positions : position x y ≡ position v w = cc in
+    (ap (λ (p : Position). p.x) positions, ap (λ (p : Position). p.y) positions)
 
--- a point's two numbers, with the space between them
-spaced : (first second : List ℕ) → first ++ codes " " ++ second ≡ first ++ 32 ∷ second
-spaced first second = append_assoc first (codes " ") second
+-- coordinates that stand for another geometry are no point
+pub other_geometry : (coords : List ℕ) (g : Geometry) → IsWkt coords g → ((x y : ℤ) → ¬ (g ≡ plane_point x y)) → (x y : ℤ) → ¬ (IsFirstPoint coords x y)
+other_geometry coords g w other x y p = other x y (wkt-unique coords g (plane_point x y) w p.wkt)
 
--- what stands behind the opening bracket
-pub end_is : (coords rest : List ℕ) (x y : ℤ) → coords ≡ codes "POINT(" ++ rest → (p : IsFirstPoint coords x y) → rest ≡ p.first ++ codes " " ++ p.second ++ codes ")"
-end_is coords rest x y front p = append_cancel_left (codes "POINT(") rest (p.first ++ codes " " ++ p.second ++ codes ")") (sym front ∙ p.text)
+-- a list of one item has no other
+the_one : {A : Type 0} (q : A) (front : List A) (bad : A) (rest : List A) → q ∷ [] ≡ front ++ bad ∷ rest → bad ≡ q
+the_one q [] bad rest e = cc
+the_one q (f ∷ fs) bad rest e =
+    let tail : [] ≡ fs ++ bad ∷ rest = cc in
+    absurd (omega (arith, ap length tail, length-append fs (bad ∷ rest)))
 
--- what stands between the brackets
-between_brackets : (coords rest numbers : List ℕ) (x y : ℤ) → coords ≡ codes "POINT(" ++ rest → rest ≡ numbers ++ codes ")" → (p : IsFirstPoint coords x y) → numbers ≡ p.first ++ 32 ∷ p.second
-between_brackets coords rest numbers x y front end p =
-    append_cancel_right numbers (p.first ++ codes " " ++ p.second) (codes ")") (sym end ∙ end_is coords rest x y front p) ∙ spaced p.first p.second
+none_there : {A : Type 0} (front : List A) (bad : A) (rest : List A) → ¬ ([] ≡ front ++ bad ∷ rest)
+none_there front bad rest e = omega (arith, ap length e, length-append front (bad ∷ rest))
 
--- a space stands between the brackets
-pub numbers-Contains : (coords rest numbers : List ℕ) (x y : ℤ) → coords ≡ codes "POINT(" ++ rest → rest ≡ numbers ++ codes ")" → IsFirstPoint coords x y → Contains numbers 32
-numbers-Contains coords rest numbers x y front end p =
-    let P : List ℕ → Type 0 = λ t. Contains t 32 in
-    subst P (sym (between_brackets coords rest numbers x y front end p)) (Contains-between 32 p.first p.second)
+-- what is at fault with the geometry of a text is at fault with the point that it stands for
+at_point : (coords : List ℕ) (fault : WktFault) (g : Geometry) (x y : ℤ) → IsWkt coords g → HasFault fault g → IsFirstPoint coords x y → HasFault fault (plane_point x y)
+at_point coords fault g x y w h p = let P : Geometry → Type 0 = λ g. HasFault fault g in subst P (wkt-unique coords g (plane_point x y) w p.wkt) h
 
--- the parts of a point, as they are found: what stands between the brackets is cut at its first space
-pub record IsFound (coords rest numbers first second : List ℕ) : Type 0 where
-  pub front : coords ≡ codes "POINT(" ++ rest
-  pub end : rest ≡ numbers ++ codes ")"
-  pub cut : IsCut 32 numbers first second
+-- a point within the limits has no fault
+pub no_point : (coords : List ℕ) (fault : WktFault) → ¬ (fault ≡ OutOfMemory) → MatchWkt (Err fault) coords → (x y : ℤ) → ¬ (IsFirstPoint coords x y)
+no_point coords NotWkt other m x y p = m (plane_point x y) p.wkt
+no_point coords TooManyPositions other m x y p = let h = at_point coords TooManyPositions m.0 x y m.1 m.2 p in omega (arith, h)
+no_point coords (OutOfRange place) other m x y p =
+    let h = at_point coords (OutOfRange place) m.0 x y m.1 m.2 p in
+    let bad = h.1 in
+    let x_in = p.x_in in
+    let y_in = p.y_in in
+    let q : Position = record { x = x; y = y; z = pos 0; m = pos 0 } in
+    let good : IsInRange q = record { x = x_in; y = y_in; z = omega arith; m_from = omega (arith, ints); m_to = omega (arith, ints) } in
+    bad.is_bad (subst IsInRange (sym (the_one q bad.front bad.bad bad.rest bad.items_are)) good)
+no_point coords (OpenRing place) other m x y p =
+    let h = at_point coords (OpenRing place) m.0 x y m.1 m.2 p in none_there h.2.front h.2.bad h.2.rest h.2.items_are
+no_point coords (DecreasingM place) other m x y p =
+    let h = at_point coords (DecreasingM place) m.0 x y m.1 m.2 p in none_there h.3.front h.3.before (h.3.falls ∷ h.3.rest) h.3.positions_are
+no_point coords OutOfMemory other m x y p = other refl
 
-pub found_coordinates : (coords rest numbers a b : List ℕ) (x y : ℤ) → IsFound coords rest numbers a b → IsFirstPoint coords x y → IsCoordinateText a x × IsCoordinateText b y
-found_coordinates coords rest numbers a b x y f p =
-    let numbers_are = between_brackets coords rest numbers x y f.front f.end p in
-    let same = cut_unique 32 p.first p.second a b p.first_is.no_space f.cut.first (sym numbers_are ∙ f.cut.text_is) in
-    (let P : List ℕ → Type 0 = λ t. IsCoordinateText t x in subst P same.0 p.first_is, let P : List ℕ → Type 0 = λ t. IsCoordinateText t y in subst P same.1 p.second_is)
-
-pub IsFirstPoint-found : (coords rest numbers a b : List ℕ) (x y : ℤ) → IsFound coords rest numbers a b → IsCoordinateText a x → IsCoordinateText b y → IsFirstPoint coords x y
-IsFirstPoint-found coords rest numbers a b x y f p q =
-    let inner : rest ≡ a ++ codes " " ++ b ++ codes ")" = f.end ∙ ap (λ n. n ++ codes ")") (f.cut.text_is ∙ sym (spaced a b)) in
-    record { first = a; second = b; text = f.front ∙ ap (λ r. codes "POINT(" ++ r) inner; first_is = p; second_is = q }
-
--- coordinates are at most one point
-pub point_unique : (coords : List ℕ) (x y u v : ℤ) → IsFirstPoint coords x y → IsFirstPoint coords u v → (x ≡ u) × (y ≡ v)
-point_unique coords x y u v p q =
-    let found : IsFound coords (p.first ++ codes " " ++ p.second ++ codes ")") (p.first ++ codes " " ++ p.second) p.first p.second =
-    record { front = p.text; end = refl; cut = record { text_is = spaced p.first p.second; first = p.first_is.no_space } } in
-    let same = found_coordinates coords (p.first ++ codes " " ++ p.second ++ codes ")") (p.first ++ codes " " ++ p.second) p.first p.second u v found q in
-    (coordinate_unique p.first x u p.first_is same.0, coordinate_unique p.second y v p.second_is same.1)
+pub point_unique : (coords : List ℕ) (x y v w : ℤ) → IsFirstPoint coords x y → IsFirstPoint coords v w → (x ≡ v) × (y ≡ w)
+point_unique coords x y v w p q = same_point x y v w (wkt-unique coords (plane_point x y) (plane_point v w) p.wkt q.wkt)

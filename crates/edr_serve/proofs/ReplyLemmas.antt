@@ -1,8 +1,8 @@
 -- The reply to a target from an input that may not be told.
-use Rattle.std.proofs.Common.{◌≡◌, ℕ, List, ◌++◌, Some, None, Result, Ok, Err, refl, sym, ap, ◌∙◌, subst, append-nil}
+use Rattle.std.proofs.Common.{◌≡◌, ℕ, List, ◌++◌, Some, None, Result, Ok, Err, sym, ap, ◌∙◌, subst, append-nil}
 use Rattle.edr_base.specs.Calls.{ReadsAll}
 use Rattle.std.specs.declared.option.Option.{Option}
-use Rattle.std.specs.Prelude.{IfOk, ⊤, ◌⊎◌}
+use Rattle.std.specs.Prelude.{IfOk}
 use Rattle.std.proofs.Common.{inl, inr}
 use Rattle.serde_json.specs.Data.{Data}
 use Rattle.edr_base.specs.declared.refusals.Refusal.{Refusal}

@@ -1,15 +1,12 @@
 -- A target has one pair of coordinates and instant, and an instant one time.
-use Rattle.std.proofs.Common.{◌≡◌, ℕ, ℤ, ◌<◌, List, ◌∷◌, ◌++◌, refl, sym, ◌∙◌, subst, arith, codes, append_assoc}
+use Rattle.std.proofs.Common.{◌≡◌, ℕ, ℤ, List, ◌∷◌, ◌++◌, refl, sym, ◌∙◌, subst, codes, append_assoc}
 use Rattle.std.proofs.lemmas.List.{append_cancel_left}
-use Rattle.std.proofs.lemmas.List.Elements.{All-contains, All-from_recursion}
-use Rattle.std.specs.List.{All, AllByRecursion, Contains}
-use Rattle.edr_axes.specs.Instants.{IsTime, Civil, civil_text, civil_at, instant_text}
+use Rattle.std.specs.List.{Contains}
 use Rattle.edr_axes.specs.InstantGrammar.{IsInstant}
-use Rattle.edr_axes.proofs.InstantLemmas.{tells_time}
-use Rattle.edr_axes.proofs.InstantWholes.{instant_unique, written_instant}
-use Rattle.edr_serve.specs.Cuts.{IsCut}
+use Rattle.edr_axes.proofs.InstantWholes.{instant_unique}
+use Rattle.edr_base.specs.Cuts.{IsCut}
 use Rattle.edr_serve.specs.Target.{IsPlain, HasParts, IsFirstTarget, target_text}
-use Rattle.edr_serve.proofs.CutLemmas.{Contains-between, cut_unique}
+use Rattle.edr_base.proofs.CutLemmas.{Contains-between, cut_unique}
 
 -- what stands before the coordinates
 abbrev pub query_front : List ℕ
@@ -49,82 +46,20 @@ pub parts_unique : (target c i d j : List ℕ) → HasParts target c i → HasPa
 parts_unique target c i d j p q =
     parts_same target (d ++ codes "&datetime=" ++ j) d (instant_front ++ j) j c i q.text (record { text_is = named d j; first = q.coords_plain.no_ampersand }) refl p
 
--- ---- times in targets
-
--- the written form of a time is an instant
-pub IsInstant-written : (instant : List ℕ) (time : ℤ) → IsTime time → instant ≡ instant_text time → IsInstant instant time
-IsInstant-written instant time h e = let P : List ℕ → Type 0 = λ t. IsInstant t time in subst P (sym e) (written_instant time h)
-
--- what is read of a written form is the time
-pub read_same : (instant : List ℕ) (read time : ℤ) → IsInstant instant read → IsTime time → instant ≡ instant_text time → read ≡ time
-read_same instant read time is h e = instant_unique instant read time is (IsInstant-written instant time h e)
-
--- each byte of a written time is above `&`, `%` and `+`
-bytes_high : (c : Civil) → AllByRecursion (λ b. 44 < b) (civil_text c)
-bytes_high c = (
-  omega arith,
-  (
-    omega arith,
-    (
-      omega arith,
-      (
-        omega arith,
-        (
-          omega arith,
-          (
-            omega arith,
-            (
-              omega arith,
-              (
-                omega arith,
-                (
-                  omega arith,
-                  (
-                    omega arith,
-                    (
-                      omega arith,
-                      (
-                        omega arith,
-                        (
-                          omega arith,
-                          (
-                            omega arith,
-                            (
-                              omega arith,
-                              (omega arith, (omega arith, (omega arith, (omega arith, (omega arith, tt))))),
-                            ),
-                          ),
-                        ),
-                      ),
-                    ),
-                  ),
-                ),
-              ),
-            ),
-          ),
-        ),
-      ),
-    ),
-  ),
-)
-
-IsPlain-high : (text : List ℕ) → All (λ b. 44 < b) text → IsPlain text
-IsPlain-high text all = record {
-  no_ampersand = λ h. omega (arith, All-contains (λ b. 44 < b) text 38 all h);
-  no_percent = λ h. omega (arith, All-contains (λ b. 44 < b) text 37 all h);
-  no_plus = λ h. omega (arith, All-contains (λ b. 44 < b) text 43 all h);
-}
-
-IsPlain-instant_text : (time : ℤ) → IsPlain (instant_text time)
-unfolding instant_text
-IsPlain-instant_text time = IsPlain-high (civil_text (civil_at time)) (All-from_recursion (λ b. 44 < b) (civil_text (civil_at time)) (bytes_high (civil_at time)))
-
 -- ---- the laws
 
 pub target_unique : (target c d : List ℕ) (t s : ℤ) → IsFirstTarget target c t → IsFirstTarget target d s → (c ≡ d) × (t ≡ s)
 target_unique target c d t s p q =
-    let same = parts_unique target c (instant_text t) d (instant_text s) p.parts q.parts in
-    (same.0, tells_time t s p.time_in q.time_in same.1)
+    let same = parts_unique target c p.instant d q.instant p.parts q.parts in
+    let P : List ℕ → Type 0 = λ i. IsInstant i t in
+    (same.0, instant_unique q.instant t s (subst P same.1 p.instant_is) q.instant_is)
 
-pub target_written : (coords : List ℕ) (time : ℤ) → IsPlain coords → IsTime time → IsFirstTarget (target_text coords time) coords time
-target_written coords time p h = record { parts = record { text = refl; coords_plain = p; instant_plain = IsPlain-instant_text time }; time_in = h }
+pub target_written : (coords instant : List ℕ) (time : ℤ) → IsPlain coords → IsPlain instant → IsInstant instant time → IsFirstTarget (target_text coords instant) coords time
+target_written coords instant time p q is = record { instant = instant; parts = record { text = refl; coords_plain = p; instant_plain = q }; instant_is = is }
+
+-- no target, where its instant is none
+pub no_target : (target c instant d : List ℕ) (time : ℤ) → HasParts target c instant → ((t : ℤ) → ¬ (IsInstant instant t)) → ¬ (IsFirstTarget target d time)
+no_target target c instant d time parts none first =
+    let same = parts_unique target c instant d first.instant parts first.parts in
+    let P : List ℕ → Type 0 = λ i. IsInstant i time in
+    none time (subst P (sym same.1) first.instant_is)

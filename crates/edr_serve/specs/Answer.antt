@@ -9,7 +9,7 @@ use Rattle.covjson_value.specs.declared.coverages.Coverage.{Coverage}
 use Rattle.covjson_value.specs.Samples.{node, point_at}
 use Rattle.covjson_value.specs.Trees.{coverage_text}
 use Rattle.edr_serve.specs.declared.point.GridPlace.{GridPlace}
-use Rattle.edr_serve.specs.Grids.{IsTimedGrid, IsInput}
+use Rattle.edr_serve.specs.Grids.{IsInput}
 use Rattle.edr_serve.specs.Target.{IsFirstTarget, IsFirstPoint}
 
 -- from the least to the greatest value of an axis, both included

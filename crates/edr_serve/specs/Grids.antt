@@ -1,5 +1,5 @@
 -- The one grid that an input stands for.
-use Rattle.std.specs.Prelude.{◌≡◌, ◌≤◌, ℕ, ℤ, List, IfErr, ◌⊎◌}
+use Rattle.std.specs.Prelude.{◌≡◌, ◌≤◌, ℕ, ℤ, List}
 use Rattle.std.specs.Prelude.{None, Some}
 use Rattle.serde_json.specs.Data.{Data}
 use Rattle.covjson_value.specs.declared.coverages.Coverage.{Coverage}

@@ -1,5 +1,4 @@
 pub mod Line
-pub mod Cuts
 pub mod Target
 pub mod NodePlaces
 pub mod Grids

@@ -1,7 +1,9 @@
--- The first form of a target: a position and an instant of the collection `grid` (OGC 19-086r6, section 8.2.1).
-use Rattle.std.specs.Prelude.{◌≡◌, ℕ, ℤ, List, ◌++◌, codes, Contains}
-use Rattle.edr_axes.specs.Instants.{IsTime, instant_text}
-use Rattle.edr_base.specs.Numbers.{IsWhole}
+-- The first form of a target: a position and an instant of the collection `grid` (OGC 19-086r6, the position query).
+use Rattle.std.specs.Prelude.{◌≡◌, ℕ, ℤ, pos, false, List, [], ◌∷◌, ◌++◌, codes, Contains}
+use Rattle.edr_axes.specs.InstantGrammar.{IsInstant}
+use Rattle.edr_wkt.specs.declared.geometry.Geometry.{Geometry}
+use Rattle.edr_wkt.specs.declared.geometry.Geometry.TheVariants.{Points}
+use Rattle.edr_wkt.specs.Wkt.{IsWkt}
 use Rattle.covjson_value.specs.Coverages.{IsCoordinate}
 
 -- a value that stands for itself in a query: no `&`, `%` and `+`
@@ -18,12 +20,9 @@ pub record HasParts (target coords instant : List ℕ) : Type 0 where
 
 -- the target is of the first form, with these coordinates and at this time
 pub record IsFirstTarget (target coords : List ℕ) (time : ℤ) : Type 0 where
-  pub parts : HasParts target coords (instant_text time)
-  pub time_in : IsTime time
-
--- the target of coordinates and a time
-abbrev pub target_text : List ℕ → ℤ → List ℕ
-target_text coords time = codes "/collections/grid/position?coords=" ++ coords ++ codes "&datetime=" ++ instant_text time
+  pub instant : List ℕ
+  pub parts : HasParts target coords instant
+  pub instant_is : IsInstant instant time
 
 -- a target has one pair of coordinates and time
 abbrev pub TargetIsOne : Type 0
@@ -31,23 +30,25 @@ TargetIsOne =
     (target coords other_coords : List ℕ) (time other_time : ℤ) → IsFirstTarget target coords time → IsFirstTarget target other_coords other_time
     → (coords ≡ other_coords) × (time ≡ other_time)
 
--- coordinates that stand for themselves have a target at each time
+-- the target of coordinates and an instant
+abbrev pub target_text : List ℕ → List ℕ → List ℕ
+target_text coords instant = codes "/collections/grid/position?coords=" ++ coords ++ codes "&datetime=" ++ instant
+
+-- coordinates that stand for themselves have a target at each instant that does
 abbrev pub TargetsAreWritten : Type 0
-TargetsAreWritten = (coords : List ℕ) (time : ℤ) → IsPlain coords → IsTime time → IsFirstTarget (target_text coords time) coords time
+TargetsAreWritten =
+    (coords instant : List ℕ) (time : ℤ) → IsPlain coords → IsPlain instant → IsInstant instant time
+    → IsFirstTarget (target_text coords instant) coords time
 
--- a text without spaces that is a coordinate
-pub record IsCoordinateText (text : List ℕ) (value : ℤ) : Type 0 where
-  pub no_space : ¬ (Contains text 32)
-  pub whole : IsWhole text value
-  pub within : IsCoordinate value
+-- the point of a plane
+abbrev pub plane_point : ℤ → ℤ → Geometry
+plane_point x y = Points false false false (record { x = x; y = y; z = pos 0; m = pos 0 } ∷ [])
 
--- the coordinates are a point: `POINT(50 0)`
+-- the coordinates are a point within the limits (OGC 06-103r4, section 7): `POINT(50 0)`
 pub record IsFirstPoint (coords : List ℕ) (x y : ℤ) : Type 0 where
-  pub first : List ℕ
-  pub second : List ℕ
-  pub text : coords ≡ codes "POINT(" ++ first ++ codes " " ++ second ++ codes ")"
-  pub first_is : IsCoordinateText first x
-  pub second_is : IsCoordinateText second y
+  pub wkt : IsWkt coords (plane_point x y)
+  pub x_in : IsCoordinate x
+  pub y_in : IsCoordinate y
 
 -- coordinates are at most one point
 abbrev pub PointIsOne : Type 0

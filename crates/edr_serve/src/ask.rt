@@ -12,7 +12,7 @@ ghost use Rattle.edr_serve.specs.Grids.{IsTimedGrid};
 ghost use Rattle.edr_serve.specs.Answer.{IsAnswer, IsPlaceAsked, RefusedBy, IsReplyTo, IsRefusalOf};
 ghost use Rattle.edr_serve.specs.FirstReply.{ReplyEnds, IsAnswerFault, IsWritingFault};
 
-use crate::coords::first_point;
+use crate::coords::{PointFault, first_point};
 use crate::grid::read_grid;
 use crate::point::{GridPlace, point_of};
 use crate::select::nearest_place;
@@ -37,16 +37,20 @@ pub enum FirstFault {
 }
 
 // The place of the node that a target selects, or its refusal.
-fn place_asked(coverage: &Coverage, target: &[u8]) -> Result<GridPlace, Refusal>
+fn place_asked(alloc: Global, coverage: &Coverage, target: &[u8]) -> Result<GridPlace, FirstFault>
     requires { IsTimedGrid coverage.now }
     ensures ok { IfOk result (λ at. (grid : IsTimedGrid coverage.now) → IsPlaceAsked grid.ts grid.ys grid.xs target.now at) }
-    ensures refused { IfErr result (λ refusal. (grid : IsTimedGrid coverage.now) → RefusedBy grid.ts grid.ys grid.xs target.now refusal) }
+    ensures refused { (refusal : TheRefusal) → result ≡ Err (FirstFault.Refused refusal)
+        → (grid : IsTimedGrid coverage.now) → RefusedBy grid.ts grid.ys grid.xs target.now refusal }
+    ensures faults { IfErr result IsAnswerFault }
 {
     let Some((coords, time)) = first_target(target) else {
-        return Err(Refusal::NoSuchPage);
+        return Err(FirstFault::Refused(Refusal::NoSuchPage));
     };
-    let Some(spot) = first_point(coords) else {
-        return Err(Refusal::BadCoords);
+    let spot = match first_point(alloc, coords) {
+        Ok(spot) => spot,
+        Err(PointFault::NotPoint) => return Err(FirstFault::Refused(Refusal::BadCoords)),
+        Err(PointFault::OutOfMemory) => return Err(FirstFault::OutOfMemory),
     };
     let Domain::Grid {
         t: Some(ts),
@@ -59,7 +63,7 @@ fn place_asked(coverage: &Coverage, target: &[u8]) -> Result<GridPlace, Refusal>
     };
     match nearest_place(ts, ys, xs, time, spot.x, spot.y) {
         Some(at) => Ok(at),
-        None => Err(Refusal::NoSamples),
+        None => Err(FirstFault::Refused(Refusal::NoSamples)),
     }
 }
 
@@ -92,9 +96,9 @@ fn answer(alloc: Global, coverage: Coverage, target: &[u8]) -> Result<Vec<u8>, F
         → (grid : IsTimedGrid coverage) → RefusedBy grid.ts grid.ys grid.xs target.now refusal }
     ensures faults { IfErr result IsAnswerFault }
 {
-    match place_asked(&coverage, target) {
+    match place_asked(alloc, &coverage, target) {
         Ok(at) => point_text(alloc, coverage, at),
-        Err(refusal) => Err(FirstFault::Refused(refusal)),
+        Err(fault) => Err(fault),
     }
 }
 

@@ -3,7 +3,6 @@
 
 mod ask;
 mod coords;
-mod cuts;
 mod grid;
 mod limits;
 mod line;
@@ -12,9 +11,9 @@ mod select;
 mod target;
 
 pub use ask::{FirstFault, ask_first};
-pub use coords::{first_point, point_is_one};
+pub use coords::{PointFault, first_point, point_is_one};
 pub use limits::{LINE_LIMIT, NODE_LIMIT};
 pub use line::{line_is_one, the_line};
 pub use point::{GridPlace, point_of};
 pub use select::nearest_place;
-pub use target::{first_target, parts_of, target_is_one, targets_are_written, written_time};
+pub use target::{first_target, parts_of, target_is_one, targets_are_written};

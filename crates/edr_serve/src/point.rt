@@ -103,7 +103,7 @@ fn ranges_at(alloc: Global, ranges: &[NdArray], number: usize) -> Result<Vec<NdA
     Ok(ones)
 }
 
-/// The coverage of one node of another: a Point (OGC 21-069r2, section 9.11.7) with the value of each parameter there.
+/// The coverage of one node of another: a Point (OGC 21-069r2, the domain type Point) with the value of each parameter there.
 ///
 /// Want of memory is the only error.
 pub fn point_of(alloc: Global, coverage: Coverage, at: GridPlace) -> Result<Coverage, OutOfMemory>

@@ -1,10 +1,9 @@
 //! Targets of the first form: a position and an instant of the collection `grid`.
 ghost use Rattle.std.specs.Prelude.{◌≡◌, ℕ, ℤ, List, MatchOption, IsTrue, ◌↔◌};
-ghost use Rattle.edr_axes.specs.Instants.{IsTime, instant_text};
 ghost use Rattle.edr_serve.specs.Target.{IsPlain, HasParts, IsFirstTarget, TargetIsOne, TargetsAreWritten};
 
-use crate::cuts::{cut_at, without_front};
-use edr_axes::{read_instant, write_instant};
+use edr_axes::read_instant;
+use edr_base::{cut_at, without_front};
 
 // Whether a value stands for itself in a query.
 fn is_plain(value: &[u8]) -> bool
@@ -13,7 +12,7 @@ fn is_plain(value: &[u8]) -> bool
     !value.contains(&b'&') && !value.contains(&b'%') && !value.contains(&b'+')
 }
 
-/// The coordinates and the instant of a target, as they are written (OGC 19-086r6, section 8.2.1).
+/// The coordinates and the instant of a target, as they are written (OGC 19-086r6, the position query).
 ///
 /// The target is `/collections/grid/position?coords=C&datetime=I`, where neither C nor I has `&`, `%` or `+`.
 pub fn parts_of(target: &[u8]) -> Option<(&[u8], &[u8])>
@@ -29,28 +28,15 @@ pub fn parts_of(target: &[u8]) -> Option<(&[u8], &[u8])>
     }
 }
 
-/// The time that is written so, `2024-01-01T00:00:00Z`, in seconds since 1970-01-01T00:00:00Z.
-///
-/// Of the texts that stand for a time it takes the one that `edr_axes::write_instant` writes.
-pub fn written_time(instant: &[u8]) -> Option<i64>
-    ensures { MatchOption result ((time : ℤ) → IsTime time → ¬ (instant.now ≡ instant_text time)) (λ time. IsTime time × (instant.now ≡ instant_text time)) }
-{
-    let time = read_instant(instant)?;
-    if write_instant(time).as_slice() == instant {
-        Some(time)
-    } else {
-        None
-    }
-}
-
 /// The coordinates of a target of the first form, as they are written, and its time.
 ///
-/// The time is in seconds since 1970-01-01T00:00:00Z, and stands in the target as `edr_axes::write_instant` writes it.
+/// The time is in seconds since 1970-01-01T00:00:00Z, and stands in the target as any instant of RFC 3339 that
+/// `edr_axes::read_instant` reads.
 pub fn first_target(target: &[u8]) -> Option<(&[u8], i64)>
     ensures { MatchOption result ((coords : List ℕ) (time : ℤ) → ¬ (IsFirstTarget target.now coords time)) (λ parts. IsFirstTarget target.now parts.0.now parts.1) }
 {
     let (coords, instant) = parts_of(target)?;
-    let time = written_time(instant)?;
+    let time = read_instant(instant)?;
     Some((coords, time))
 }
 
@@ -59,7 +45,7 @@ pub fn target_is_one()
     ensures { TargetIsOne }
 {}
 
-/// Coordinates that stand for themselves have a target at each time.
+/// Coordinates that stand for themselves have a target at each instant that does.
 pub fn targets_are_written()
     ensures { TargetsAreWritten }
 {}
@@ -120,19 +106,19 @@ mod tests {
             ),
             (
                 b"/collections/grid/position?coords=x&datetime=2024-01-01T00:00Z",
-                None,
+                Some((b"x", 1_704_067_200)),
             ),
             (
                 b"/collections/grid/position?coords=x&datetime=2024-01-01t00:00:00Z",
-                None,
+                Some((b"x", 1_704_067_200)),
             ),
             (
                 b"/collections/grid/position?coords=x&datetime=2024-01-01T00:00:00.0Z",
-                None,
+                Some((b"x", 1_704_067_200)),
             ),
             (
                 b"/collections/grid/position?coords=x&datetime=2024-01-01T01:00:00 01:00",
-                None,
+                Some((b"x", 1_704_067_200)),
             ),
             (
                 b"/collections/grid/position?coords=x&datetime=2023-02-29T00:00:00Z",

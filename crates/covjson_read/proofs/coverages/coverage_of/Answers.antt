@@ -20,7 +20,8 @@ returns-clause-stands c =
       domain_stands = c.in_ok-domain.ensures.stands;
       referencing_stands = c.in_ok-referencing.ensures.stands;
       parameters = view c.in_ok-parameters.parameters.now;
-      parameters_at = c.in_ok-parameters.ensures;
+      parameters_at = c.in_ok-parameters.ensures.found;
+      parameters_are = c.in_ok-parameters.ensures.parameters;
       ranges = ranges;
       ranges_at = or_fault_ok (get (codes "ranges") d) _ tree c.in_ok-ranges.ensures
           ∙ ap Some (as_object_some tree ranges (or_fault_ok (as_object tree) _ ranges c.in_ok-ranges-2.ensures));

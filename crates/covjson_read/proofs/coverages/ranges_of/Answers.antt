@@ -4,12 +4,20 @@ use Rattle.std.specs.List.Sorted.{IsStrictlySortedBy}
 use Rattle.std.specs.Cmp.Lexicographic.{slice_cmp}
 use Rattle.serde_json.specs.Find.{get}
 use Rattle.serde_json.specs.View.{view, members_view}
-use Rattle.covjson_value.specs.Coverages.{IsParameter, IsRange}
+use Rattle.covjson_value.specs.Coverages.{IsName, IsParameter, IsRange}
 use Rattle.covjson_read.specs.Parameters.{StandsAmong}
 use Rattle.covjson_read.specs.Ranges.{StandsForRange, names_of}
 use Rattle.covjson_read.proofs.AnswerLemmas.{or_fault_ok, All-push}
+use Rattle.covjson_read.proofs.ParameterLemmas.{found_name}
 use Rattle.covjson_read.proofs.CoverageLemmas.{ids_more, values_more, ids_all, values_all, kept_length, names_ascend}
 use Rattle.covjson_read.proofs.coverages.ranges_of.Goals as goal
+
+pub parameter_of-requires : goal.parameter_of-requires
+parameter_of-requires c =
+    let d = view c.args.parameters.now in
+    let found = or_fault_ok (get c.deref.result.now d) _ (view c.in_ok-tree.tree.now) c.in_ok-tree.ensures in
+    let same : c.deref.result.now ≡ c.deref-in-loop-id.result.now = search rules in
+    subst IsName same (found_name c.deref.result.now d _ c.requires.named found)
 
 pub loop-id-preserved : goal.loop-id-preserved
 loop-id-preserved c =

@@ -1,7 +1,6 @@
 use Rattle.std.proofs.Common.{rules, take, ◌++◌}
-use Rattle.edr_base.specs.Calls.{SourceLent, SinkLent}
 use Rattle.edr_base.proofs.KnownBytes.{moved_fault, took_on, grew_on}
-use Rattle.edr_base.specs.declared.copying.CopyFault.TheVariants.{ReadFault, WriteFault, OutOfMemory}
+use Rattle.edr_base.specs.declared.copying.CopyFault.TheVariants.{WriteFault, OutOfMemory}
 use Rattle.edr_base.proofs.copying.copy_all.Goals as goal
 
 pub returns-in-Err-WriteFault-clause-bytes : goal.returns-in-Err-WriteFault-clause-bytes

@@ -1,4 +1,4 @@
-use Rattle.std.proofs.Common.{◌≡◌, ◌≤◌, ◌-◌, ℕ, List, length, take}
+use Rattle.std.proofs.Common.{◌≡◌, ℕ, List}
 use Rattle.std.specs.Io.KnownBytes.{append_known, prepend_known}
 use Rattle.edr_base.specs.Calls.{SinkLent, SourceLent}
 use Rattle.edr_base.proofs.copying.copy_all.Given as goal

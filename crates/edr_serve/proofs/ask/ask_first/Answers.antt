@@ -1,4 +1,3 @@
-use Rattle.std.proofs.Common.{List, ℕ}
 use Rattle.edr_serve.specs.Answer.{IsReplyTo}
 use Rattle.edr_serve.proofs.ReplyLemmas.{reply_of, refusal_of, reply_is}
 use Rattle.edr_serve.proofs.ask.ask_first.Goals as goal

@@ -1,0 +1,130 @@
+-- The tree of a valid domain tells the domain and its referencing.
+use Rattle.std.proofs.Common.{◌≡◌, ℕ, ℤ, true≢false, is_some, bytes_eq, codes, List, [], ◌∷◌, Option, Some, None, IsSome, option_map, refl, ap, ap₂, sym}
+use Rattle.std.specs.Prelude.{⊤}
+use Rattle.serde_json.specs.Data.{Data, string, Items, no_items, Members, member, no_members}
+use Rattle.edr_axes.specs.Instants.{TextsTellTimes}
+use Rattle.covjson_value.specs.declared.domains.AxisName.{AxisName}
+use Rattle.covjson_value.specs.declared.domains.AxisName.TheVariants.{T, Z, Y, X}
+use Rattle.covjson_value.specs.declared.domains.Domain.{Domain}
+use Rattle.covjson_value.specs.declared.domains.Domain.TheVariants.{Grid, Point}
+use Rattle.covjson_value.specs.declared.coverages.Referencing.{Referencing}
+use Rattle.covjson_value.specs.Domains.{single, axis_of, has_axis}
+use Rattle.covjson_value.specs.Coverages.{IsAxisValue, IsNamedAxis, HasAxes}
+use Rattle.covjson_value.specs.Trees
+use Rattle.covjson_value.proofs.Telling.{Tells, any_given, integer_tells, option_tells, array_of_tells, IsApart, none_apart, member_apart, member_if_apart, member_if_tells}
+
+-- ---- axes
+
+axis_value_tells : TextsTellTimes → (name : AxisName) → Tells (IsAxisValue name) (Trees.axis_value_data name)
+axis_value_tells told T one other h k e = told one other h k (cc)
+axis_value_tells told Z one other h k e = integer_tells one other e
+axis_value_tells told Y one other h k e = integer_tells one other e
+axis_value_tells told X one other h k e = integer_tells one other e
+
+axis_tells : TextsTellTimes → (name : AxisName) → Tells (IsNamedAxis name) (Trees.axis_data name)
+axis_tells told name one other h k e = array_of_tells (IsAxisValue name) (Trees.axis_value_data name) (axis_value_tells told name) one other h.within k.within (cc)
+
+-- the members that follow an axis
+abbrev after_y : Domain → Members
+after_y domain = Trees.axis_member domain Z no_members
+
+abbrev after_x : Domain → Members
+after_x domain = Trees.axis_member domain Y (after_y domain)
+
+abbrev after_t : Domain → Members
+after_t domain = Trees.axis_member domain X (after_x domain)
+
+after_y_apart : (domain : Domain) → IsApart (codes "y") (after_y domain)
+after_y_apart domain = member_if_apart (codes "y") (codes "z") _ _ refl (none_apart (codes "y"))
+
+after_x_apart : (domain : Domain) → IsApart (codes "x") (after_x domain)
+after_x_apart domain = member_if_apart (codes "x") (codes "y") _ _ refl (member_if_apart (codes "x") (codes "z") _ _ refl (none_apart (codes "x")))
+
+after_t_apart : (domain : Domain) → IsApart (codes "t") (after_t domain)
+after_t_apart domain =
+    member_if_apart (codes "t") (codes "x") _ _ refl (member_if_apart (codes "t") (codes "y") _ _ refl (member_if_apart (codes "t") (codes "z") _ _ refl (none_apart (codes "t"))))
+
+abbrev given : Domain → AxisName → Option Data
+given domain name = option_map (Trees.axis_data name) (axis_of domain name)
+
+abbrev HaveSame : Domain → Domain → AxisName → Type 0
+HaveSame one other name = given one name ≡ given other name
+
+given_tell : (one other : Domain) → Trees.axes_data one ≡ Trees.axes_data other → (name : AxisName) → HaveSame one other name
+given_tell one other e =
+    let t = member_if_tells (codes "t") (given one T) (given other T) (after_t one) (after_t other) (after_t_apart one) (after_t_apart other) (cc) in
+    let x = member_if_tells (codes "x") (given one X) (given other X) (after_x one) (after_x other) (after_x_apart one) (after_x_apart other) t.1 in
+    let y = member_if_tells (codes "y") (given one Y) (given other Y) (after_y one) (after_y other) (after_y_apart one) (after_y_apart other) x.1 in
+    let z = member_if_tells (codes "z") (given one Z) (given other Z) no_members no_members (none_apart (codes "z")) (none_apart (codes "z")) y.1 in
+    λ name. elim name as (λ n. HaveSame one other n) [ T ↦ t.0 | Z ↦ z.0 | Y ↦ y.0 | X ↦ x.0 ]
+
+-- ---- domains
+
+single_tells : Tells (λ _. ⊤) single
+single_tells one other h k e = cc
+
+one_value_tells : (one other : Option ℤ) → option_map single one ≡ option_map single other → one ≡ other
+one_value_tells one other e = option_tells (λ _. ⊤) single single_tells one other (any_given one) (any_given other) e
+
+axes_tell : (one other : Domain) → Trees.domain_type one ≡ Trees.domain_type other → ((name : AxisName) → axis_of one name ≡ axis_of other name) → one ≡ other
+axes_tell (Grid t z y x) (Grid t₂ z₂ y₂ x₂) e same =
+    let times : t ≡ t₂ = same T in
+    let levels : z ≡ z₂ = same Z in
+    let rows : y ≡ y₂ = cc (same Y) in
+    let columns : x ≡ x₂ = cc (same X) in
+    cc
+axes_tell (Grid t z y x) (Point t₂ z₂ y₂ x₂) e same = absurd (true≢false (ap (bytes_eq (codes "Grid")) e))
+axes_tell (Point t z y x) (Grid t₂ z₂ y₂ x₂) e same = absurd (true≢false (ap (bytes_eq (codes "Point")) e))
+axes_tell (Point t z y x) (Point t₂ z₂ y₂ x₂) e same =
+    let time : t ≡ t₂ = one_value_tells t t₂ (same T) in
+    let level : z ≡ z₂ = one_value_tells z z₂ (same Z) in
+    let row : y ≡ y₂ = cc (same Y) in
+    let column : x ≡ x₂ = cc (same X) in
+    cc
+
+pub domain_tells : TextsTellTimes → (one other : Domain) (referencing referencing₂ : Referencing) → HasAxes one → HasAxes other → Trees.domain_data one referencing ≡ Trees.domain_data other referencing₂ → one ≡ other
+domain_tells told one other referencing referencing₂ h k e =
+    let axes : Trees.axes_data one ≡ Trees.axes_data other = cc in
+    let types : Trees.domain_type one ≡ Trees.domain_type other = cc in
+    axes_tell one other types (λ name. option_tells (IsNamedAxis name) (Trees.axis_data name) (axis_tells told name) (axis_of one name) (axis_of other name) (h name) (k name) (given_tell one other axes name))
+
+-- ---- referencing
+
+string_tells : Tells (λ _. ⊤) string
+string_tells one other h k e = cc
+
+pub texts_tell : (one other : Option (List ℕ)) → option_map string one ≡ option_map string other → one ≡ other
+texts_tell one other e = option_tells (λ _. ⊤) string string_tells one other (any_given one) (any_given other) e
+
+system_tells : (kind : List ℕ) (one other : Option (List ℕ)) → Trees.system_data one kind ≡ Trees.system_data other kind → one ≡ other
+system_tells kind one other e =
+    let rest : Members = member (codes "type") (string kind) no_members in
+    let apart : IsApart (codes "id") rest = member_apart (codes "id") (codes "type") _ _ refl in
+    texts_tell one other (member_if_tells (codes "id") (option_map string one) (option_map string other) rest rest apart apart (cc)).0
+
+crs_tells : (one other : List ℕ) → Trees.text_if_some one ≡ Trees.text_if_some other → one ≡ other
+crs_tells [] [] e = refl
+crs_tells [] (byte ∷ bytes) e = cc
+crs_tells (byte ∷ bytes) [] e = cc
+crs_tells (byte ∷ bytes) (byte₂ ∷ bytes₂) e = cc
+
+vertical_tells : (axis : Option (List ℤ)) (one other : Option (List ℕ)) (rest : Items) → (IsSome one → IsSome axis) → (IsSome other → IsSome axis)
+    → Trees.item_if (is_some axis) (Trees.vertical_data one) rest ≡ Trees.item_if (is_some axis) (Trees.vertical_data other) rest → one ≡ other
+vertical_tells (Some values) one other rest h k e = system_tells (codes "VerticalCRS") one other (cc)
+vertical_tells None None None rest h k e = refl
+vertical_tells None None (Some other) rest h k e = absurd (true≢false (sym (k refl)))
+vertical_tells None (Some one) other rest h k e = absurd (true≢false (sym (h refl)))
+
+same_referencing : (one other : Referencing) → one.crs ≡ other.crs → one.vertical ≡ other.vertical → one ≡ other
+same_referencing one other crs vertical =
+    let make : List ℕ → Option (List ℕ) → Referencing = λ crs vertical. record { crs = crs; vertical = vertical } in
+    ap₂ make crs vertical
+
+pub referencing_tells : (domain : Domain) (one other : Referencing) → (IsSome one.vertical → IsSome (axis_of domain Z)) → (IsSome other.vertical → IsSome (axis_of domain Z))
+    → Trees.referencing_data domain one ≡ Trees.referencing_data domain other → one ≡ other
+referencing_tells domain one other h k e =
+    let horizontal : Trees.horizontal_data one.crs ≡ Trees.horizontal_data other.crs = cc in
+    let crs = crs_tells one.crs other.crs (system_tells (codes "ProjectedCRS") (Trees.text_if_some one.crs) (Trees.text_if_some other.crs) (cc)) in
+    let rest : Items = Trees.item_if (has_axis domain T) Trees.temporal_data no_items in
+    let vertical = vertical_tells (axis_of domain Z) one.vertical other.vertical rest h k (cc) in
+    same_referencing one other crs vertical

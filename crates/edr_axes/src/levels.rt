@@ -1,0 +1,345 @@
+//! Levels that a request selects.
+ghost use Rattle.std.specs.Prelude.{◌≡◌, ◌*◌, ◌<◌, ◌≤ℤ◌, ◌↔◌, ℕ, ℤ, List, IsTrue, IfOk, IfSome, MatchOption, Contains, Err};
+ghost use Rattle.edr_axes.specs.Levels.{AreLevelTexts, HasLevel, HasNoLevels, IsInSeries, IsLevel, IsLevels, IsLevelText, IsLevelsText, IsRangeText, IsSeries, IsSeriesText, LevelsAreUnique};
+
+use crate::reading_instants::after;
+use edr_base::{Items, Whole, cut_at, whole_number};
+use std::alloc::{AllocFailed, Global};
+
+/// The greatest size (absolute value) of a level, in metres, and of each number that selects levels.
+pub const LEVEL_LIMIT: i64 = 100_000_000;
+
+/// Levels that a request selects (OGC 19-086r6, the parameter `z`).
+#[derive(Debug, Drop)]
+pub enum Levels {
+    /// Each level.
+    All,
+    /// One level.
+    At(i64),
+    /// The levels from the first number to the second, both included.
+    Between(i64, i64),
+    /// These levels.
+    List(Items<i64>),
+    /// The levels `first`, `first + step` and so on, `n` in all.
+    Series {
+        /// How many there are.
+        n: i64,
+        /// The first one.
+        first: i64,
+        /// How far each is above the one before.
+        step: i64,
+    },
+}
+
+/// Why a text was read as no levels.
+#[derive(Clone, Copy, Debug, PartialEq, Eq)]
+pub enum LevelFault {
+    /// It stands for none.
+    NotLevels,
+    /// Memory was wanting.
+    OutOfMemory,
+}
+
+impl<T: Drop> From<AllocFailed<T>> for LevelFault {
+    ghost use Rattle.edr_axes.specs.declared.levels.LevelFault.TheVariants.{OutOfMemory};
+
+    ghost from_gives = { λ _ fault. fault ≡ OutOfMemory };
+
+    fn from(_: AllocFailed<T>) -> LevelFault {
+        LevelFault::OutOfMemory
+    }
+}
+
+// Whether a distance is a multiple of a step, by less than a count.
+fn is_multiple(distance: u64, step: u64, count: u64) -> bool
+    requires { 0 < step }
+    ensures { IsTrue result ↔ ((k : ℕ) × (k < count) × (distance ≡ k * step)) }
+{
+    distance % step == 0 && distance / step < count
+}
+
+// Whether a level is in a series. It takes the same time for each series.
+fn is_in_series(n: i64, first: i64, step: i64, level: i64) -> bool
+    ensures { IsTrue result ↔ IsInSeries n first step level }
+{
+    if n < 1 {
+        return false;
+    }
+    if step == 0 {
+        return level == first;
+    }
+    let distance = level.abs_diff(first);
+    if step > 0 {
+        first <= level && is_multiple(distance, step.unsigned_abs(), n as u64)
+    } else {
+        level <= first && is_multiple(distance, step.unsigned_abs(), n as u64)
+    }
+}
+
+// The number within the limit that a text is.
+fn level_of(text: &[u8]) -> Option<i64>
+    ensures { MatchOption result ((level : ℤ) → ¬ (IsLevelText text.now level)) (λ level. IsLevelText text.now level) }
+{
+    match whole_number(text, LEVEL_LIMIT) {
+        Whole::Value(level) => Some(level),
+        _ => None,
+    }
+}
+
+// The two numbers of an interval.
+fn range_of(text: &[u8]) -> Option<(i64, i64)>
+    ensures { MatchOption result ((low high : ℤ) → ¬ (IsRangeText text.now low high)) (λ range. IsRangeText text.now range.0 range.1) }
+{
+    let (front, back) = cut_at(text, b'/')?;
+    let low = level_of(front)?;
+    let high = level_of(back)?;
+    if low > high {
+        return None;
+    }
+    Some((low, high))
+}
+
+// Whether numbers within the limit are those of a series.
+fn is_series(n: i64, first: i64, step: i64) -> bool
+    requires n_in { IsLevel n }
+    requires first_in { IsLevel first }
+    requires step_in { IsLevel step }
+    ensures { IsTrue result ↔ IsSeries n first step }
+{
+    if n < 1 {
+        return false;
+    }
+    if step < 1 {
+        return false;
+    }
+    first + (n - 1) * step <= LEVEL_LIMIT
+}
+
+// The three numbers of a series.
+fn series_of(text: &[u8]) -> Option<(i64, i64, i64)>
+    ensures { MatchOption result ((n first step : ℤ) → ¬ (IsSeriesText text.now n first step))
+        (λ series. IsSeriesText text.now series.0 series.1 series.2) }
+{
+    let (count, rest) = cut_at(after(text, b'R')?, b'/')?;
+    let (start, rise) = cut_at(rest, b'/')?;
+    let n = level_of(count)?;
+    let first = level_of(start)?;
+    let step = level_of(rise)?;
+    if !is_series(n, first, step) {
+        return None;
+    }
+    Some((n, first, step))
+}
+
+// The numbers of a list, of which there may be one.
+fn list_of(alloc: Global, text: &[u8]) -> Result<Vec<i64>, LevelFault>
+    ensures ok { IfOk result (λ levels. AreLevelTexts text.now levels.items) }
+    ensures none { result ≡ Err LevelFault.NotLevels → (levels : List ℤ) → ¬ (AreLevelTexts text.now levels) }
+{
+    let mut levels = Vec::new(alloc);
+    let mut rest = text;
+    while let Some((front, back)) = cut_at(rest, b',') {
+        let Some(level) = level_of(front) else {
+            return Err(LevelFault::NotLevels);
+        };
+        levels.push(level)?;
+        rest = back;
+    }
+    let Some(level) = level_of(rest) else {
+        return Err(LevelFault::NotLevels);
+    };
+    levels.push(level)?;
+    Ok(levels)
+}
+
+/// The levels that a text stands for.
+///
+/// It is a whole number, as `whole_number` reads it; or `min/max` with `min` not above `max`; or two whole numbers or
+/// more with commas between; or `Rn/min/step`, which is a series of `n` levels from `min` on. No size is above
+/// `LEVEL_LIMIT`, `n` and `step` are at least 1, and the last level of a series is at most `LEVEL_LIMIT`. Only a list
+/// takes memory.
+pub fn read_levels(alloc: Global, text: &[u8]) -> Result<Levels, LevelFault>
+    ensures text { IfOk result (λ levels. IsLevelsText text.now levels) }
+    ensures levels { IfOk result IsLevels }
+    ensures none { result ≡ Err LevelFault.NotLevels → HasNoLevels text.now }
+{
+    if let Some(only) = level_of(text) {
+        return Ok(Levels::At(only));
+    }
+    if let Some((low, high)) = range_of(text) {
+        return Ok(Levels::Between(low, high));
+    }
+    if let Some((n, first, step)) = series_of(text) {
+        return Ok(Levels::Series { n, first, step });
+    }
+    let levels = list_of(alloc, text)?;
+    Ok(Levels::List(Items::of(levels)))
+}
+
+impl Levels {
+    /// Whether a level is one of these. It takes no memory, and for a series the same time for each.
+    pub fn has(&self, level: i64) -> bool
+        ensures { IsTrue result ↔ HasLevel self.now level }
+    {
+        match self {
+            Levels::All => true,
+            Levels::At(only) => level == *only,
+            Levels::Between(low, high) => *low <= level && level <= *high,
+            Levels::List(levels) => levels.items().contains(&level),
+            Levels::Series { n, first, step } => is_in_series(*n, *first, *step, level),
+        }
+    }
+}
+
+/// A text stands for one set of levels at most.
+pub fn levels_are_unique()
+    ensures { LevelsAreUnique }
+{}
+
+#[cfg(test)]
+mod tests {
+    use super::{LevelFault, Levels, read_levels};
+    use edr_base::Items;
+    use std::rt::HostRuntime;
+    use std::test::Fail;
+
+    #[test]
+    fn one_or_two_numbers(rt: HostRuntime) {
+        for (text, only) in [
+            ("5", 5),
+            ("-5.0", -5),
+            (" +05. ", 5),
+            ("100000000", 100_000_000),
+            ("-100000000", -100_000_000),
+        ] {
+            let levels = read_levels(rt.alloc(), text.as_bytes());
+            assert!(rt; matches!(levels, Ok(Levels::At(level)) if level == only));
+        }
+        for (text, first, last) in [
+            ("1/2", 1, 2),
+            ("2/2", 2, 2),
+            ("-20/-10", -20, -10),
+            (" 1 / 2.0 ", 1, 2),
+        ] {
+            let levels = read_levels(rt.alloc(), text.as_bytes());
+            assert!(rt;
+                matches!(levels, Ok(Levels::Between(low, high)) if low == first && high == last)
+            );
+        }
+    }
+
+    #[test]
+    fn series(rt: HostRuntime) {
+        for (text, count, least, rise) in [
+            ("R1/0/1", 1, 0, 1),
+            ("R3/-10/20", 3, -10, 20),
+            ("R 2/+0/20.0", 2, 0, 20),
+            ("R2/0/100000000", 2, 0, 100_000_000),
+            ("R100000000/1/1", 100_000_000, 1, 1),
+        ] {
+            let levels = read_levels(rt.alloc(), text.as_bytes());
+            assert!(rt;
+                matches!(levels, Ok(Levels::Series { n, first, step }) if n == count && first == least && step == rise)
+            );
+        }
+    }
+
+    #[test]
+    fn lists(rt: HostRuntime) -> Result<(), Fail> {
+        for text in ["3,1,2", " 3 ,1.0,+2"] {
+            match read_levels(rt.alloc(), text.as_bytes())? {
+                Levels::List(levels) => assert_eq!(rt; levels.items(), [3, 1, 2].as_slice()),
+                _ => assert!(rt; false),
+            }
+        }
+        match read_levels(rt.alloc(), b"7,7")? {
+            Levels::List(levels) => assert_eq!(rt; levels.items(), [7, 7].as_slice()),
+            _ => assert!(rt; false),
+        }
+        Ok(())
+    }
+
+    #[test]
+    fn no_levels(rt: HostRuntime) {
+        for text in [
+            "",
+            " ",
+            "x",
+            "5.5",
+            "100000001",
+            "-100000001",
+            "2/1",
+            "1/",
+            "/1",
+            "/",
+            "1/2/3",
+            "1/100000001",
+            "../2",
+            "1,",
+            ",1",
+            ",",
+            "1,,2",
+            "1,2,",
+            "1,2,x",
+            "1,100000001",
+            "1,2/3",
+            "R0/0/1",
+            "R1/0/0",
+            "R-1/0/1",
+            "R2/1/100000000",
+            "R100000000/2/1",
+            "R2/0",
+            "R2/0/1/1",
+            "R/0/1",
+            "r2/0/1",
+            " R2/0/1",
+            "R",
+            "R 1",
+        ] {
+            let levels = read_levels(rt.alloc(), text.as_bytes());
+            assert_eq!(rt; levels.err(), Some(LevelFault::NotLevels), "{text}");
+        }
+    }
+
+    // Whether the levels have -1, 0, 10, 15, 20 and 30.
+    fn has_them(levels: &Levels) -> [bool; 6] {
+        [
+            levels.has(-1),
+            levels.has(0),
+            levels.has(10),
+            levels.has(15),
+            levels.has(20),
+            levels.has(30),
+        ]
+    }
+
+    // The series of these numbers.
+    fn series_of(n: i64, first: i64, step: i64) -> Levels {
+        Levels::Series { n, first, step }
+    }
+
+    #[test]
+    fn has(rt: HostRuntime) -> Result<(), Fail> {
+        let (yes, no) = (true, false);
+        let list = Levels::List(Items::of(Vec::from_slice(rt.alloc(), &[20, 0])?));
+        assert_eq!(rt; has_them(&Levels::All), [yes, yes, yes, yes, yes, yes]);
+        assert_eq!(rt; has_them(&Levels::At(10)), [no, no, yes, no, no, no]);
+        assert_eq!(rt;
+            has_them(&Levels::Between(0, 20)),
+            [no, yes, yes, yes, yes, no]
+        );
+        assert_eq!(rt; has_them(&list), [no, yes, no, no, yes, no]);
+        for (n, first, step, answers) in [
+            (3, 0, 10, [no, yes, yes, no, yes, no]),
+            (1, 10, 5, [no, no, yes, no, no, no]),
+            (0, 10, 5, [no, no, no, no, no, no]),
+            (2, 20, 0, [no, no, no, no, yes, no]),
+            (3, 20, -10, [no, yes, yes, no, yes, no]),
+        ] {
+            assert_eq!(rt; has_them(&series_of(n, first, step)), answers);
+        }
+        assert!(rt; series_of(2, i64::MIN, i64::MAX).has(-1));
+        assert!(rt; !series_of(i64::MAX, i64::MAX, i64::MIN).has(i64::MIN));
+        Ok(())
+    }
+}

@@ -1,0 +1,5 @@
+use Rattle.edr_base.proofs.NumberSigns.{numeral-decimal}
+use Rattle.edr_base.proofs.numbers.written_number_is_numeral.Goals as goal
+
+pub returns : goal.returns
+returns c = numeral-decimal

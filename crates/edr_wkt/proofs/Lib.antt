@@ -1,0 +1,13 @@
+pub mod WordLemmas
+pub mod PositionLemmas
+pub mod ListLemmas
+pub mod MemberLemmas
+pub mod GatherLemmas
+pub mod HeadingLemmas
+pub mod BodyLemmas
+pub mod CheckLemmas
+pub mod WktLemmas
+pub mod KeptLemmas
+pub mod GeometryLemmas
+pub mod SpellLemmas
+pub mod AnswerLemmas

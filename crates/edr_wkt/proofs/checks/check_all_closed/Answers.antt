@@ -1,0 +1,27 @@
+use Rattle.std.proofs.Common.{arith, List, ap, ◌∙◌, subst, length, get_or, ◌≡◌, Err}
+use Rattle.edr_base.specs.declared.places.Position.{Position}
+use Rattle.edr_wkt.specs.declared.geometry.Polygon.{Polygon}
+use Rattle.edr_wkt.specs.Faults.{IsClosed}
+use Rattle.edr_wkt.specs.Checks.{MatchGood}
+use Rattle.edr_wkt.proofs.CheckLemmas.{good-room, good-bad}
+use Rattle.edr_wkt.proofs.checks.check_all_closed.Goals as goal
+
+abbrev rings : Polygon → List (List Position)
+rings p = p.rings
+
+pub check_closed-requires : goal.check_closed-requires
+check_closed-requires c =
+    let list = c.args.polygons.now in
+    let at = c.loop-polygon.polygon-index in
+    let f : Polygon → List (List Position) = λ p. p.rings in
+    let e : c.items.result.now ≡ f (get_or list at c.polygon-item.result) = c.items.ensures ∙ ap rings c.polygon-item.is in
+    omega (arith, ap length e, good-room IsClosed f list c.args.before at c.loop-polygon.count c.polygon-item.result c.loop-polygon-test.true c.loop-polygon.invariant, c.requires)
+
+pub returns-in-Err : goal.returns-in-Err
+returns-in-Err c =
+    let list = c.args.polygons.now in
+    let at = c.loop-polygon.polygon-index in
+    let f : Polygon → List (List Position) = λ p. p.rings in
+    let e : c.items.result.now ≡ f (get_or list at c.polygon-item.result) = c.items.ensures ∙ ap rings c.polygon-item.is in
+    good-bad IsClosed f list c.args.before at c.loop-polygon.count c.in-Err.place c.polygon-item.result c.loop-polygon-test.true c.loop-polygon.invariant
+    (let P : List (List Position) → Type 0 = λ l. MatchGood (Err c.in-Err.place) IsClosed l c.loop-polygon.count in subst P e c.in-Err.ensures)

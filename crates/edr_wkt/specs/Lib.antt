@@ -1,0 +1,11 @@
+pub mod Limits
+pub mod Geometries
+pub mod Grammar
+pub mod Headings
+pub mod HeadingReads
+pub mod Wkt
+pub mod Spelling
+pub mod Reads
+pub mod BodyReads
+pub mod Faults
+pub mod Checks

@@ -1,0 +1,182 @@
+//! The brackets of each kind of geometry.
+ghost use Rattle.std.specs.Prelude.{◌≡◌, ◌≤◌, ◌∷◌, [], IfOk, Err};
+ghost use Rattle.edr_wkt.specs.declared.headings.Kind.TheVariants as k;
+ghost use Rattle.edr_wkt.specs.BodyReads.{IsBodyRead, HasNoBody};
+
+use crate::areas::{read_polygons, read_rings};
+use crate::geometry::{Geometry, Polygon};
+use crate::headings::{Heading, Kind};
+use crate::lists::{Stop, read_positions};
+use edr_base::{Items, OutOfMemory};
+use std::alloc::Global;
+
+// The inside of POINT.
+fn read_point<'a>(
+    alloc: Global,
+    has_z: bool,
+    has_m: bool,
+    text: &'a [u8],
+    count: &mut usize,
+) -> Result<(Geometry, &'a [u8]), Stop>
+    requires { count.old ≤ 10001 }
+    ensures read { IfOk result (λ r. IsBodyRead k.Point has_z has_m text.now count.old count.new r.0 r.1.now) }
+    ensures not_wkt { result ≡ Err Stop.NotWkt → HasNoBody k.Point has_z has_m text.now }
+{
+    match read_positions(alloc, false, has_z, has_m, text, count) {
+        Ok((positions, len, rest)) => {
+            if len != 1 {
+                return Err(Stop::NotWkt);
+            }
+            Ok((
+                Geometry::Points {
+                    multi: false,
+                    has_z,
+                    has_m,
+                    positions,
+                },
+                rest,
+            ))
+        }
+        Err(stop) => Err(stop),
+    }
+}
+
+// The inside of MULTIPOINT.
+fn read_multi_point<'a>(
+    alloc: Global,
+    has_z: bool,
+    has_m: bool,
+    text: &'a [u8],
+    count: &mut usize,
+) -> Result<(Geometry, &'a [u8]), Stop>
+    requires { count.old ≤ 10001 }
+    ensures read { IfOk result (λ r. IsBodyRead k.MultiPoint has_z has_m text.now count.old count.new r.0 r.1.now) }
+    ensures not_wkt { result ≡ Err Stop.NotWkt → HasNoBody k.MultiPoint has_z has_m text.now }
+{
+    match read_positions(alloc, true, has_z, has_m, text, count) {
+        Ok((positions, _, rest)) => Ok((
+            Geometry::Points {
+                multi: true,
+                has_z,
+                has_m,
+                positions,
+            },
+            rest,
+        )),
+        Err(stop) => Err(stop),
+    }
+}
+
+// The inside of LINESTRING.
+fn read_line<'a>(
+    alloc: Global,
+    has_z: bool,
+    has_m: bool,
+    text: &'a [u8],
+    count: &mut usize,
+) -> Result<(Geometry, &'a [u8]), Stop>
+    requires { count.old ≤ 10001 }
+    ensures read { IfOk result (λ r. IsBodyRead k.LineString has_z has_m text.now count.old count.new r.0 r.1.now) }
+    ensures not_wkt { result ≡ Err Stop.NotWkt → HasNoBody k.LineString has_z has_m text.now }
+{
+    match read_positions(alloc, false, has_z, has_m, text, count) {
+        Ok((positions, len, rest)) => {
+            if len < 2 {
+                return Err(Stop::NotWkt);
+            }
+            Ok((
+                Geometry::Line {
+                    has_z,
+                    has_m,
+                    positions,
+                },
+                rest,
+            ))
+        }
+        Err(stop) => Err(stop),
+    }
+}
+
+// The inside of MULTIPOLYGON.
+fn read_multi_polygon<'a>(
+    alloc: Global,
+    has_z: bool,
+    has_m: bool,
+    text: &'a [u8],
+    count: &mut usize,
+) -> Result<(Geometry, &'a [u8]), Stop>
+    requires { count.old ≤ 10001 }
+    ensures read { IfOk result (λ r. IsBodyRead k.MultiPolygon has_z has_m text.now count.old count.new r.0 r.1.now) }
+    ensures not_wkt { result ≡ Err Stop.NotWkt → HasNoBody k.MultiPolygon has_z has_m text.now }
+{
+    match read_polygons(alloc, has_z, has_m, text, count) {
+        Ok((polygons, rest)) => Ok((
+            Geometry::Polygons {
+                multi: true,
+                has_z,
+                has_m,
+                polygons,
+            },
+            rest,
+        )),
+        Err(stop) => Err(stop),
+    }
+}
+
+// The list of one polygon.
+fn listed(alloc: Global, polygon: Polygon) -> Result<Items<Polygon>, OutOfMemory>
+    ensures { IfOk result (λ list. list ≡ polygon ∷ []) }
+{
+    let mut polygons = Vec::new(alloc);
+    polygons.push(polygon)?;
+    Ok(Items::of(polygons))
+}
+
+// The inside of POLYGON.
+fn read_one_polygon<'a>(
+    alloc: Global,
+    has_z: bool,
+    has_m: bool,
+    text: &'a [u8],
+    count: &mut usize,
+) -> Result<(Geometry, &'a [u8]), Stop>
+    requires { count.old ≤ 10001 }
+    ensures read { IfOk result (λ r. IsBodyRead k.Polygon has_z has_m text.now count.old count.new r.0 r.1.now) }
+    ensures not_wkt { result ≡ Err Stop.NotWkt → HasNoBody k.Polygon has_z has_m text.now }
+{
+    match read_rings(alloc, has_z, has_m, text, count) {
+        Ok((rings, rest)) => match listed(alloc, Polygon { rings }) {
+            Ok(polygons) => Ok((
+                Geometry::Polygons {
+                    multi: false,
+                    has_z,
+                    has_m,
+                    polygons,
+                },
+                rest,
+            )),
+            Err(OutOfMemory) => Err(Stop::OutOfMemory),
+        },
+        Err(stop) => Err(stop),
+    }
+}
+
+/// The inside of the brackets behind a heading.
+pub fn read_body<'a>(
+    alloc: Global,
+    heading: Heading,
+    text: &'a [u8],
+    count: &mut usize,
+) -> Result<(Geometry, &'a [u8]), Stop>
+    requires { count.old ≤ 10001 }
+    ensures read { IfOk result (λ r. IsBodyRead heading.kind heading.has_z heading.has_m text.now count.old count.new r.0 r.1.now) }
+    ensures not_wkt { result ≡ Err Stop.NotWkt → HasNoBody heading.kind heading.has_z heading.has_m text.now }
+{
+    match heading.kind {
+        Kind::Point => read_point(alloc, heading.has_z, heading.has_m, text, count),
+        Kind::MultiPoint => read_multi_point(alloc, heading.has_z, heading.has_m, text, count),
+        Kind::LineString => read_line(alloc, heading.has_z, heading.has_m, text, count),
+        Kind::Polygon => read_one_polygon(alloc, heading.has_z, heading.has_m, text, count),
+        Kind::MultiPolygon => read_multi_polygon(alloc, heading.has_z, heading.has_m, text, count),
+    }
+}

@@ -1,0 +1,23 @@
+//! Well-known text of geometries (OGC 06-103r4), both ways.
+#![tactic(auto)]
+
+mod areas;
+mod bodies;
+mod checks;
+mod faults;
+mod geometry;
+mod headings;
+mod laws;
+mod lists;
+mod positions;
+mod reading;
+#[cfg(test)]
+mod tests;
+mod words;
+mod writing;
+
+pub use faults::WktFault;
+pub use geometry::{Geometry, Polygon};
+pub use laws::{wkt_answer_is_one, wkt_is_one, written_wkt_reads_back};
+pub use reading::read_wkt;
+pub use writing::write_wkt;

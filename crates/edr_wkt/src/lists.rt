@@ -1,0 +1,91 @@
+//! Lists of positions.
+ghost use Rattle.std.specs.Prelude.{◌≡◌, ◌≤◌, ◌<◌, ◌++◌, ◌∷◌, [], min, ◌+◌, IfOk, OnOk, Err};
+ghost use Rattle.edr_wkt.specs.Limits.{counted};
+ghost use Rattle.edr_wkt.specs.Grammar.{IsMember};
+ghost use Rattle.edr_wkt.specs.Reads.{ArePositions, HasNoItems};
+
+use crate::positions::read_member;
+use crate::words::read_mark;
+use edr_base::{Items, OutOfMemory, Position};
+use std::alloc::Global;
+
+/// Why a piece wasn't read.
+#[derive(Clone, Copy)]
+pub enum Stop {
+    /// The text isn't in the grammar.
+    NotWkt,
+    /// Memory was wanting.
+    OutOfMemory,
+}
+
+/// The most positions of a geometry.
+pub const MOST_POSITIONS: usize = 10_000;
+
+/// One position more, up to one beyond the limit.
+pub fn counted(count: usize) -> usize
+    requires { count ≤ 10001 }
+    ensures { result ≡ counted count 1 }
+{
+    if count <= MOST_POSITIONS {
+        count + 1
+    } else {
+        count
+    }
+}
+
+// One item more, up to four.
+fn longer(len: usize) -> usize
+    ensures { result ≡ min (len + 1) 4 }
+{
+    if len < 4 { len + 1 } else { 4 }
+}
+
+/// Keeps an item behind the others, unless the count of positions is beyond the limit.
+pub fn keep<T: Drop>(items: &mut Vec<T>, item: T, count: usize) -> Result<(), OutOfMemory>
+    ensures kept { OnOk result (count ≤ 10000 → items.new.items ≡ items.old.items ++ item ∷ []) }
+    ensures full { 10000 < count → items.new.items ≡ items.old.items }
+{
+    if count <= MOST_POSITIONS {
+        items.push(item)?;
+    }
+    Ok(())
+}
+
+/// The positions of a list, how many there are up to four, and what stands behind the list.
+pub fn read_positions<'a>(
+    alloc: Global,
+    multi: bool,
+    has_z: bool,
+    has_m: bool,
+    text: &'a [u8],
+    count: &mut usize,
+) -> Result<(Items<Position>, usize, &'a [u8]), Stop>
+    requires { count.old ≤ 10001 }
+    ensures read { IfOk result (λ r. ArePositions multi has_z has_m text.now count.old count.new r.0 r.1 r.2.now) }
+    ensures not_wkt { result ≡ Err Stop.NotWkt → HasNoItems (IsMember multi has_z has_m) text.now }
+{
+    let mut positions = Vec::new(alloc);
+    let mut len = 0;
+    let mut rest = text;
+    'members: loop {
+        let Some((position, after)) = read_member(multi, has_z, has_m, rest) else {
+            return Err(Stop::NotWkt);
+        };
+        *count = counted(*count);
+        len = longer(len);
+        match keep(&mut positions, position, *count) {
+            Ok(()) => {}
+            Err(OutOfMemory) => return Err(Stop::OutOfMemory),
+        }
+        let Some((mark, next)) = read_mark(after) else {
+            return Err(Stop::NotWkt);
+        };
+        if mark == b')' {
+            return Ok((Items::of(positions), len, next));
+        }
+        if mark != b',' {
+            return Err(Stop::NotWkt);
+        }
+        rest = next;
+    }
+}

@@ -1,0 +1,38 @@
+//! Reading well-known text.
+ghost use Rattle.edr_wkt.specs.Faults.{MatchWkt};
+
+use crate::bodies::read_body;
+use crate::checks::fault_of;
+use crate::faults::WktFault;
+use crate::geometry::Geometry;
+use crate::headings::read_heading;
+use crate::lists::{MOST_POSITIONS, Stop};
+use crate::words::without_blanks;
+use std::alloc::Global;
+
+/// The geometry that a text stands for (OGC 06-103r4, section 7), or the first fault that applies.
+///
+/// Numbers are whole: an optional sign, digits, and an optional point with zeros after it.
+pub fn read_wkt(alloc: Global, text: &[u8]) -> Result<Geometry, WktFault>
+    ensures { MatchWkt result text.now }
+{
+    let Some((heading, inside)) = read_heading(text) else {
+        return Err(WktFault::NotWkt);
+    };
+    let mut count = 0;
+    let (geometry, rest) = match read_body(alloc, heading, inside, &mut count) {
+        Ok(read) => read,
+        Err(Stop::NotWkt) => return Err(WktFault::NotWkt),
+        Err(Stop::OutOfMemory) => return Err(WktFault::OutOfMemory),
+    };
+    if !without_blanks(rest).is_empty() {
+        return Err(WktFault::NotWkt);
+    }
+    if count > MOST_POSITIONS {
+        return Err(WktFault::TooManyPositions);
+    }
+    match fault_of(&geometry) {
+        Some(fault) => Err(fault),
+        None => Ok(geometry),
+    }
+}

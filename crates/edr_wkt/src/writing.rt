@@ -1,0 +1,265 @@
+//! Writing well-known text.
+ghost use Rattle.std.specs.Prelude.{◌≡◌, ◌++◌, ◌∷◌, [], OnOk, IfOk};
+ghost use Rattle.std.specs.Fmt.{signed_decimal};
+ghost use Rattle.edr_wkt.specs.Spelling.{number_text, position_text, member_text, ring_text, polygon_text, joined, in_brackets, heading_text, dims_part, areas_text, spelled};
+ghost use Rattle.edr_wkt.specs.Headings.{tag_text};
+
+use crate::geometry::{Geometry, Polygon};
+use crate::headings::Kind;
+use edr_base::{Items, OutOfMemory, Position, Text};
+use itoa::Buffer;
+use std::alloc::Global;
+
+fn push_number(out: &mut Vec<u8>, number: i64) -> Result<(), OutOfMemory>
+    ensures { OnOk result (out.new.items ≡ out.old.items ++ signed_decimal number) }
+{
+    let mut buffer = Buffer::new();
+    out.extend_from_slice(buffer.format(number).as_bytes())?;
+    Ok(())
+}
+
+// A number behind a space, where a position has it.
+fn push_number_if(out: &mut Vec<u8>, has: bool, number: i64) -> Result<(), OutOfMemory>
+    ensures { OnOk result (out.new.items ≡ out.old.items ++ number_text has number) }
+{
+    if has {
+        out.push(b' ')?;
+        push_number(out, number)?;
+    }
+    Ok(())
+}
+
+fn push_position(
+    out: &mut Vec<u8>,
+    has_z: bool,
+    has_m: bool,
+    p: &Position,
+) -> Result<(), OutOfMemory>
+    ensures { OnOk result (out.new.items ≡ out.old.items ++ position_text has_z has_m p.now) }
+{
+    push_number(out, p.x)?;
+    push_number_if(out, true, p.y)?;
+    push_number_if(out, has_z, p.z)?;
+    push_number_if(out, has_m, p.m)?;
+    Ok(())
+}
+
+fn push_member(
+    out: &mut Vec<u8>,
+    multi: bool,
+    has_z: bool,
+    has_m: bool,
+    p: &Position,
+) -> Result<(), OutOfMemory>
+    ensures { OnOk result (out.new.items ≡ out.old.items ++ member_text multi has_z has_m p.now) }
+{
+    if !multi {
+        return push_position(out, has_z, has_m, p);
+    }
+    out.push(b'(')?;
+    push_position(out, has_z, has_m, p)?;
+    out.push(b')')?;
+    Ok(())
+}
+
+fn push_members(
+    out: &mut Vec<u8>,
+    multi: bool,
+    has_z: bool,
+    has_m: bool,
+    positions: &[Position],
+) -> Result<(), OutOfMemory>
+    ensures { OnOk result (out.new.items ≡ out.old.items ++ joined (member_text multi has_z has_m) positions.now) }
+{
+    if let [first, rest @ ..] = positions {
+        push_member(out, multi, has_z, has_m, first)?;
+        for position in rest {
+            out.push(b',')?;
+            push_member(out, multi, has_z, has_m, position)?;
+        }
+    }
+    Ok(())
+}
+
+fn push_ring(
+    out: &mut Vec<u8>,
+    has_z: bool,
+    has_m: bool,
+    ring: &[Position],
+) -> Result<(), OutOfMemory>
+    ensures { OnOk result (out.new.items ≡ out.old.items ++ ring_text has_z has_m ring.now) }
+{
+    out.push(b'(')?;
+    push_members(out, false, has_z, has_m, ring)?;
+    out.push(b')')?;
+    Ok(())
+}
+
+fn push_rings(
+    out: &mut Vec<u8>,
+    has_z: bool,
+    has_m: bool,
+    rings: &[Items<Position>],
+) -> Result<(), OutOfMemory>
+    ensures { OnOk result (out.new.items ≡ out.old.items ++ joined (ring_text has_z has_m) rings.now) }
+{
+    if let [first, rest @ ..] = rings {
+        push_ring(out, has_z, has_m, first.items())?;
+        for ring in rest {
+            out.push(b',')?;
+            push_ring(out, has_z, has_m, ring.items())?;
+        }
+    }
+    Ok(())
+}
+
+fn push_polygon(
+    out: &mut Vec<u8>,
+    has_z: bool,
+    has_m: bool,
+    polygon: &Polygon,
+) -> Result<(), OutOfMemory>
+    ensures { OnOk result (out.new.items ≡ out.old.items ++ polygon_text has_z has_m polygon.now) }
+{
+    out.push(b'(')?;
+    push_rings(out, has_z, has_m, polygon.rings.items())?;
+    out.push(b')')?;
+    Ok(())
+}
+
+fn push_polygons(
+    out: &mut Vec<u8>,
+    has_z: bool,
+    has_m: bool,
+    polygons: &[Polygon],
+) -> Result<(), OutOfMemory>
+    ensures { OnOk result (out.new.items ≡ out.old.items ++ joined (polygon_text has_z has_m) polygons.now) }
+{
+    if let [first, rest @ ..] = polygons {
+        push_polygon(out, has_z, has_m, first)?;
+        for polygon in rest {
+            out.push(b',')?;
+            push_polygon(out, has_z, has_m, polygon)?;
+        }
+    }
+    Ok(())
+}
+
+// The tag in capitals, and the dims behind a space.
+fn push_heading(out: &mut Vec<u8>, kind: Kind, has_z: bool, has_m: bool) -> Result<(), OutOfMemory>
+    ensures { OnOk result (out.new.items ≡ out.old.items ++ heading_text kind has_z has_m) }
+{
+    out.extend_from_slice(tag(kind))?;
+    out.extend_from_slice(dims(has_z, has_m))?;
+    Ok(())
+}
+
+fn tag(kind: Kind) -> &'static [u8]
+    ensures { result.now ≡ tag_text kind }
+{
+    match kind {
+        Kind::Point => b"POINT",
+        Kind::MultiPoint => b"MULTIPOINT",
+        Kind::LineString => b"LINESTRING",
+        Kind::Polygon => b"POLYGON",
+        Kind::MultiPolygon => b"MULTIPOLYGON",
+    }
+}
+
+fn dims(has_z: bool, has_m: bool) -> &'static [u8]
+    ensures { result.now ≡ dims_part has_z has_m }
+{
+    if has_z {
+        if has_m { b" ZM" } else { b" Z" }
+    } else if has_m {
+        b" M"
+    } else {
+        b""
+    }
+}
+
+fn push_points(
+    out: &mut Vec<u8>,
+    multi: bool,
+    has_z: bool,
+    has_m: bool,
+    positions: &[Position],
+) -> Result<(), OutOfMemory>
+    ensures { OnOk result (out.new.items ≡ out.old.items ++ in_brackets (joined (member_text multi has_z has_m) positions.now)) }
+{
+    out.push(b'(')?;
+    push_members(out, multi, has_z, has_m, positions)?;
+    out.push(b')')?;
+    Ok(())
+}
+
+fn push_areas(
+    out: &mut Vec<u8>,
+    multi: bool,
+    has_z: bool,
+    has_m: bool,
+    polygons: &[Polygon],
+) -> Result<(), OutOfMemory>
+    ensures { OnOk result (out.new.items ≡ out.old.items ++ areas_text multi has_z has_m polygons.now) }
+{
+    if !multi {
+        return push_polygons(out, has_z, has_m, polygons);
+    }
+    out.push(b'(')?;
+    push_polygons(out, has_z, has_m, polygons)?;
+    out.push(b')')?;
+    Ok(())
+}
+
+fn push_geometry(out: &mut Vec<u8>, geometry: &Geometry) -> Result<(), OutOfMemory>
+    ensures { OnOk result (out.new.items ≡ out.old.items ++ spelled geometry.now) }
+{
+    match geometry {
+        Geometry::Points {
+            multi,
+            has_z,
+            has_m,
+            positions,
+        } => {
+            let kind = if *multi {
+                Kind::MultiPoint
+            } else {
+                Kind::Point
+            };
+            push_heading(out, kind, *has_z, *has_m)?;
+            push_points(out, *multi, *has_z, *has_m, positions.items())
+        }
+        Geometry::Line {
+            has_z,
+            has_m,
+            positions,
+        } => {
+            push_heading(out, Kind::LineString, *has_z, *has_m)?;
+            push_points(out, false, *has_z, *has_m, positions.items())
+        }
+        Geometry::Polygons {
+            multi,
+            has_z,
+            has_m,
+            polygons,
+        } => {
+            let kind = if *multi {
+                Kind::MultiPolygon
+            } else {
+                Kind::Polygon
+            };
+            push_heading(out, kind, *has_z, *has_m)?;
+            push_areas(out, *multi, *has_z, *has_m, polygons.items())
+        }
+    }
+}
+
+/// The written form of a geometry (OGC 06-103r4, section 7): the tag in capitals, dims behind a space, and no other
+/// blank but one space between numbers. Each member of a MULTIPOINT has brackets.
+pub fn write_wkt(alloc: Global, geometry: &Geometry) -> Result<Text, OutOfMemory>
+    ensures { IfOk result (λ text. text ≡ spelled geometry.now) }
+{
+    let mut out = Vec::new(alloc);
+    push_geometry(&mut out, geometry)?;
+    Ok(Text::from_vec(out))
+}
