@@ -115,6 +115,15 @@ pub if_gives : {T U : Type 0} (r : Result T CovFault) (seen : T → U) (a : Answ
 if_gives (Ok x) seen a P tells h = tells x h
 if_gives (Err f) seen a P tells h = tt
 
+-- what a fact of the value tells of it
+pub if_ok : {T F : Type 0} (r : Result T F) (P Q : T → Type 0) → ((x : T) → P x → Q x) → IfOk r P → IfOk r Q
+if_ok (Ok x) P Q step h = step x h
+if_ok (Err f) P Q step h = tt
+
+pub if_both : {T F : Type 0} (r : Result T F) (P Q R : T → Type 0) → ((x : T) → P x → Q x → R x) → IfOk r P → IfOk r Q → IfOk r R
+if_both (Ok x) P Q R step h k = step x h k
+if_both (Err f) P Q R step h k = tt
+
 pub check_ok : (b : Bool) (f : CovFault) (x : ⊤) → check b f ≡ Ok x → b ≡ true
 check_ok true f x h = refl
 check_ok false f x h = cc

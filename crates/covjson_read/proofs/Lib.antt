@@ -1,6 +1,10 @@
 pub mod AnswerLemmas
 pub mod AxisLemmas
+pub mod SpanLemmas
 pub mod ParameterLemmas
+pub mod PlaceNumbers
+pub mod PlaceLemmas
+pub mod OrderLemmas
 pub mod RangeLemmas
 pub mod CoverageLemmas
 pub mod OneAxis

@@ -1,19 +1,26 @@
 -- A tree stands for at most one coverage.
-use Rattle.std.proofs.Common.{◌≡◌, ℕ, List, [], ◌∷◌, All, Option, Some, None, refl, sym, ap, ◌∙◌, subst, codes}
+use Rattle.std.proofs.Common.{◌≡◌, ℕ, ℤ, if◌then◌else◌, bytes_eq, List, [], ◌∷◌, length, get_or, All, Option, Some, None, refl, sym, ap, ◌∙◌, subst, codes, arith}
+use Rattle.std.proofs.lemmas.List.{same_lists, get_or_default}
 use Rattle.std.proofs.lemmas.List.Elements.{All-head, All-tail}
 use Rattle.serde_json.specs.Data.{Data, null, boolean, number, string, array, object}
 use Rattle.serde_json.specs.Find.{get}
 use Rattle.edr_axes.specs.InstantGrammar.{InstantsAreUnique}
+use Rattle.covjson_value.specs.declared.domains.AxisName.{AxisName}
+use Rattle.covjson_value.specs.declared.domains.AxisName.TheVariants.{T, Z, Y, X}
 use Rattle.covjson_value.specs.declared.domains.Domain.{Domain}
 use Rattle.covjson_value.specs.declared.coverages.Parameter.{Parameter}
 use Rattle.covjson_value.specs.declared.coverages.Referencing.{Referencing}
 use Rattle.covjson_value.specs.declared.coverages.Coverage.{Coverage}
 use Rattle.covjson_value.specs.Coverages.{ids_of}
+use Rattle.covjson_value.specs.Domains.{axis_key, tuples_of, count_of}
+use Rattle.covjson_read.specs.declared.axes.Turned.{Turned}
+use Rattle.covjson_read.specs.declared.places.Places.{Places}
 use Rattle.covjson_read.specs.Axes.{EachStands, StandsForDomain}
 use Rattle.covjson_read.specs.Systems.{StandsForReferencing, first_plane, system_text}
 use Rattle.covjson_read.specs.Parameters.{said_in, StandsForLabel, StandsForSymbol, StandsForUnit, StandsForParameter, StandsAmong}
-use Rattle.covjson_read.specs.Ranges.{StandsForSample, StandsForRange, names_of, values_of}
+use Rattle.covjson_read.specs.Ranges.{StandsForSample, StandsForName, NamesStand, AreInside, number_of, tree_number, item_at, HasSample, StandsForRange, names_of, values_of}
 use Rattle.covjson_read.specs.Standing.{Stands}
+use Rattle.covjson_read.proofs.PlaceLemmas.{has_places}
 use Rattle.covjson_read.proofs.OneAxis.{IsOne, each_one, domain_one}
 
 referencing_one : (tree : Data) (r s : Referencing) → StandsForReferencing tree r → StandsForReferencing tree s → r ≡ s
@@ -80,11 +87,53 @@ sample_one d None (Some w) a b = cc
 sample_one d (Some v) None a b = cc
 sample_one d (Some v) (Some w) a b = cc
 
-range_one : (domain : Domain) → IsOne (StandsForRange domain)
-range_one domain d r s a b =
-    let items : a.values.items ≡ b.values.items = cc (a.values.list, b.values.list) in
-    let values : r.values ≡ s.values = each_one StandsForSample sample_one b.values.items r.values s.values
-    (subst (λ ds. EachStands StandsForSample ds r.values) items a.values.each) b.values.each in
+-- ---- ranges
+
+-- the name of a key
+abbrev axis_named : List ℕ → AxisName
+axis_named text = if bytes_eq text (codes "t") then T else if bytes_eq text (codes "z") then Z else if bytes_eq text (codes "y") then Y else X
+
+named_back : (name : AxisName) → axis_named (axis_key name) ≡ name
+named_back T = refl
+named_back Z = refl
+named_back Y = refl
+named_back X = refl
+
+name_one : IsOne StandsForName
+name_one d name other a b =
+    let keys : axis_key name ≡ axis_key other = cc in
+    sym (named_back name) ∙ ap axis_named keys ∙ named_back other
+
+names_one : (domain : Domain) (o : Option Data) (names others : List AxisName) → NamesStand domain o names → NamesStand domain o others → names ≡ others
+names_one domain None names others a b = a.0 ∙ sym b.0
+names_one domain (Some d) names others a b =
+    let items : a.0 ≡ b.0 = cc (sym a.1 ∙ b.1) in
+    each_one StandsForName name_one b.0 names others (subst (λ ds. EachStands StandsForName ds names) items a.2) b.2
+
+has_sample_one : (o : Option Data) (v w : Option ℤ) → HasSample o v → HasSample o w → v ≡ w
+has_sample_one None v w a b = absurd a
+has_sample_one (Some d) v w a b = sample_one d v w a b
+
+-- as many values, and the same at the places of each number
+values_one : (domain : Domain) → tuples_of domain ≡ None → (values others : List (Option ℤ)) → length values ≡ count_of domain → length others ≡ count_of domain
+    → ((places : Places) → AreInside domain places → get_or values (number_of domain places) None ≡ get_or others (number_of domain places) None) → values ≡ others
+values_one domain along values others counted counted_too same =
+    same_lists values others (counted ∙ sym counted_too) (λ k d below.
+    let found = has_places domain k along (omega (arith, counted)) in
+    let one : get_or values k None ≡ get_or others k None = subst (λ (n : ℕ). get_or values n None ≡ get_or others n None) found.2 (same found.0 found.1) in
+    get_or_default values k d None below ∙ one ∙ get_or_default others k None d (omega (arith, counted, counted_too)))
+
+range_one : (domain : Domain) (turned : Turned) → tuples_of domain ≡ None → IsOne (StandsForRange domain turned)
+range_one domain turned along d r s a b =
+    let items : a.items ≡ b.items = cc (a.list, b.list) in
+    let names : a.names ≡ b.names = names_one domain (get (codes "axisNames") d) a.names b.names a.names_stand b.names_stand in
+    let values : r.values ≡ s.values = values_one domain along r.values s.values a.counted b.counted
+    (λ places inside.
+    let number = tree_number domain turned a.names places in
+    let place : item_at a.items number ≡ item_at b.items (tree_number domain turned b.names places) =
+    ap (λ ds. item_at ds number) items ∙ ap (λ ns. item_at b.items (tree_number domain turned ns places)) names in
+    has_sample_one (item_at b.items (tree_number domain turned b.names places)) _ _
+    (subst (λ (o : Option Data). HasSample o (get_or r.values (number_of domain places) None)) place (a.values places inside)) (b.values places inside)) in
     λ i. record { values = values i }
 
 pub coverage_one : InstantsAreUnique → (tree : Data) (one other : Coverage) → Stands tree one → Stands tree other → one ≡ other
@@ -93,15 +142,18 @@ coverage_one unique tree one other a b =
     let listed : a.parameters ≡ b.parameters = cc (a.parameters_at, b.parameters_at) in
     let members : a.ranges ≡ b.ranges = cc (a.ranges_at, b.ranges_at) in
     let id : one.id ≡ other.id = a.id ∙ sym b.id in
-    let domain : one.domain ≡ other.domain = domain_one unique b.domain one.domain other.domain (subst (λ d. StandsForDomain d one.domain) place a.domain_stands) b.domain_stands in
+    let both = domain_one unique b.domain a.turned b.turned one.domain other.domain (subst (λ d. StandsForDomain d a.turned one.domain) place a.domain_stands) b.domain_stands in
+    let domain : one.domain ≡ other.domain = both.0 in
+    let turned : a.turned ≡ b.turned = both.1 in
     let referencing : one.referencing ≡ other.referencing =
     referencing_one b.domain one.referencing other.referencing (subst (λ d. StandsForReferencing d one.referencing) place a.referencing_stands) b.referencing_stands in
     let parameters : one.parameters ≡ other.parameters =
     parameters_one b.parameters one.parameters other.parameters (a.ranges_stand.ids ∙ ap names_of members ∙ sym b.ranges_stand.ids)
     (subst (λ d. All (StandsAmong d) one.parameters) listed a.ranges_stand.parameters_stand) b.ranges_stand.parameters_stand in
-    let over : EachStands (StandsForRange other.domain) (values_of a.ranges) one.ranges =
-    subst (λ d. EachStands (StandsForRange d) (values_of a.ranges) one.ranges) domain a.ranges_stand.ranges_stand in
+    let over : EachStands (StandsForRange other.domain b.turned) (values_of a.ranges) one.ranges =
+    subst (λ r. EachStands (StandsForRange other.domain r) (values_of a.ranges) one.ranges) turned
+    (subst (λ d. EachStands (StandsForRange d a.turned) (values_of a.ranges) one.ranges) domain a.ranges_stand.ranges_stand) in
     let ranges : one.ranges ≡ other.ranges =
-    each_one (StandsForRange other.domain) (range_one other.domain) (values_of b.ranges) one.ranges other.ranges
-    (subst (λ ms. EachStands (StandsForRange other.domain) (values_of ms) one.ranges) members over) b.ranges_stand.ranges_stand in
+    each_one (StandsForRange other.domain b.turned) (range_one other.domain b.turned b.domain_stands.no_tuples) (values_of b.ranges) one.ranges other.ranges
+    (subst (λ ms. EachStands (StandsForRange other.domain b.turned) (values_of ms) one.ranges) members over) b.ranges_stand.ranges_stand in
     λ i. record { id = id i; domain = domain i; referencing = referencing i; parameters = parameters i; ranges = ranges i }

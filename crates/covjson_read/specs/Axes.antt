@@ -1,14 +1,16 @@
 -- Axes and domains of a tree (OGC 21-069r2, Domain objects), and the axes and domains that they stand for.
-use Rattle.std.specs.Prelude.{◌≡◌, ℕ, ℤ, List, [], ◌∷◌, codes, Bool, true, false, IsTrue, IsSome, IsNone, bytes_eq, ◌||◌, ◌&&◌, ⊤, Option, Some, None, Ok}
+use Rattle.std.specs.Prelude.{◌≡◌, ◌⊎◌, ℕ, ◌-◌, ◌<◌, ℤ, pos, ◌+ℤ◌, ◌-ℤ◌, ◌*ℤ◌, List, [], ◌∷◌, length, reverse, codes, Bool, true, false, IsTrue, IsSome, IsNone, bytes_eq, ◌||◌, ◌&&◌, ⊤, Option, Some, None, option_and_then, Ok}
 use Rattle.serde_json.specs.Data.{Data, string, array, object, Items, no_items, item, Members, no_members, member}
 use Rattle.serde_json.specs.Find.{get}
+use Rattle.edr_axes.specs.Axes.{value_at, IsAxis}
 use Rattle.edr_axes.specs.InstantGrammar.{IsInstant}
 use Rattle.covjson_value.specs.declared.domains.AxisName.{AxisName}
 use Rattle.covjson_value.specs.declared.domains.AxisName.TheVariants.{T, Z, Y, X}
 use Rattle.covjson_value.specs.declared.domains.Domain.{Domain}
 use Rattle.covjson_value.specs.declared.limits.TheConstants.{COORDINATE_LIMIT}
-use Rattle.covjson_value.specs.Domains.{axis_of, is_grid}
-use Rattle.covjson_value.specs.Trees.{axis_key, domain_type}
+use Rattle.covjson_value.specs.Domains.{axis_key, axis_of, tuples_of, is_grid}
+use Rattle.covjson_value.specs.Trees.{domain_type}
+use Rattle.covjson_read.specs.declared.axes.Turned.{Turned}
 use Rattle.covjson_read.specs.declared.faults.Member.{Member}
 use Rattle.covjson_read.specs.declared.faults.CovFault.TheVariants.{WrongType, NotWhole}
 use Rattle.covjson_read.specs.declared.members.Wanted.TheVariants.{Numbers, Wholes}
@@ -61,17 +63,70 @@ StandsForAxisValue Y = StandsForWhole
 StandsForAxisValue X = StandsForWhole
 
 -- an axis with its values in a list
-pub record StandsForAxis (name : AxisName) (axis : Data) (values : List ℤ) : Type 0 where
+pub record ListsValues (name : AxisName) (axis : Data) (values : List ℤ) : Type 0 where
   pub items : Items
   pub list : get (codes "values") axis ≡ Some (array items)
   pub values_stand : EachStands (StandsForAxisValue name) items values
 
+-- a member that is a whole number
+abbrev pub HasWhole : List ℕ → Data → ℤ → Type 0
+HasWhole key axis value = option_and_then whole_of (get key axis) ≡ Some value
+
+-- as many values as that, from the first to the last in equal steps:
+-- each is as far along as its place is from the first to the last
+pub record IsRegular (first last : ℤ) (count : ℕ) (values : List ℤ) : Type 0 where
+  pub counted : length values ≡ count
+  pub starts : value_at values 0 ≡ first
+  pub ends : value_at values (count - 1) ≡ last
+  pub even : (place : ℕ) → place < count → (value_at values place -ℤ first) *ℤ pos (count - 1) ≡ pos place *ℤ (last -ℤ first)
+
+-- for private clauses: values in steps of one size
+pub record AreSteps (first step : ℤ) (count : ℕ) (values : List ℤ) : Type 0 where
+  pub counted : length values ≡ count
+  pub each : (place : ℕ) → place < count → value_at values place ≡ first +ℤ pos place *ℤ step
+
+-- an axis of numbers by its first value, its last, and how many there are
+pub record SpansValues (axis : Data) (values : List ℤ) : Type 0 where
+  pub unlisted : get (codes "values") axis ≡ None
+  pub first : ℤ
+  pub last : ℤ
+  pub count : ℕ
+  pub start : HasWhole (codes "start") axis first
+  pub stop : HasWhole (codes "stop") axis last
+  pub num : HasWhole (codes "num") axis (pos count)
+  pub regular : IsRegular first last count values
+
+-- the values of an axis as the tree has them: times are listed, numbers are listed or spanned
+abbrev pub HoldsValues : AxisName → Data → List ℤ → Type 0
+HoldsValues T axis values = ListsValues T axis values
+HoldsValues Z axis values = ListsValues Z axis values ⊎ SpansValues axis values
+HoldsValues Y axis values = ListsValues Y axis values ⊎ SpansValues axis values
+HoldsValues X axis values = ListsValues X axis values ⊎ SpansValues axis values
+
+-- values as they stand, or turned round
+abbrev pub turned_if : Bool → List ℤ → List ℤ
+turned_if true values = reverse values
+turned_if false values = values
+
+-- an axis stands for its values in ascending order; where it has several and they descend, they are turned
+pub record StandsForAxis (name : AxisName) (axis : Data) (turned : Bool) (values : List ℤ) : Type 0 where
+  pub ascending : IsAxis values
+  pub several : turned ≡ true → 1 < length values
+  pub held : HoldsValues name axis (turned_if turned values)
+
 -- the axis of a name is in the tree and in the domain, or in neither
-abbrev pub HasSameAxis : AxisName → Option Data → Option (List ℤ) → Type 0
-HasSameAxis name None None = ⊤
-HasSameAxis name None (Some values) = ⊥
-HasSameAxis name (Some axis) None = ⊥
-HasSameAxis name (Some axis) (Some values) = StandsForAxis name axis values
+abbrev pub HasSameAxis : AxisName → Option Data → Bool → Option (List ℤ) → Type 0
+HasSameAxis name None turned None = turned ≡ false
+HasSameAxis name None turned (Some values) = ⊥
+HasSameAxis name (Some axis) turned None = ⊥
+HasSameAxis name (Some axis) turned (Some values) = StandsForAxis name axis turned values
+
+-- whether an axis is turned
+abbrev pub is_turned : Turned → AxisName → Bool
+is_turned turned T = turned.t
+is_turned turned Z = turned.z
+is_turned turned Y = turned.y
+is_turned turned X = turned.x
 
 -- the name of an axis
 abbrev pub is_axis_key : List ℕ → Bool
@@ -82,13 +137,14 @@ abbrev pub all_axis_keys : Members → Bool
 all_axis_keys no_members = true
 all_axis_keys (member key d members) = is_axis_key key && all_axis_keys members
 
--- a domain of its type, with its axes and no others
-pub record StandsForDomain (tree : Data) (domain : Domain) : Type 0 where
+-- a domain of its type, with its axes and no others, of which none is composite
+pub record StandsForDomain (tree : Data) (turned : Turned) (domain : Domain) : Type 0 where
   pub kind : get (codes "domainType") tree ≡ Some (string (domain_type domain))
   pub members : Members
   pub axes : get (codes "axes") tree ≡ Some (object members)
   pub no_others : all_axis_keys members ≡ true
-  pub same_axes : (name : AxisName) → HasSameAxis name (get (axis_key name) (object members)) (axis_of domain name)
+  pub no_tuples : tuples_of domain ≡ None
+  pub same_axes : (name : AxisName) → HasSameAxis name (get (axis_key name) (object members)) (is_turned turned name) (axis_of domain name)
 
 -- a Grid with an axis of times and without one of levels
 abbrev pub IsGridOfTimes : Domain → Type 0

@@ -4,4 +4,5 @@ pub mod Axes
 pub mod Systems
 pub mod Parameters
 pub mod Ranges
+pub mod Orders
 pub mod Standing

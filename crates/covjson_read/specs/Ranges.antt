@@ -1,14 +1,17 @@
 -- The ranges of a tree (OGC 21-069r2, NdArray objects), and what they stand for.
-use Rattle.std.specs.Prelude.{◌≡◌, ℕ, ℤ, List, [], ◌∷◌, length, map, codes, Option, Some, None}
+use Rattle.std.specs.Prelude.{◌≡◌, ℕ, zero, suc, ◌+◌, ◌-◌, ◌*◌, ◌<◌, ◌≤◌, ℤ, Bool, true, false, if◌then◌else◌, List, [], ◌∷◌, length, map, All, codes, ⊤, Option, Some, None}
+use Rattle.std.specs.List.{slice_index_or}
 use Rattle.serde_json.specs.Data.{Data, null, string, array, Items, no_items, item, Members, no_members, member}
 use Rattle.serde_json.specs.Find.{get}
 use Rattle.covjson_value.specs.declared.domains.AxisName.{AxisName}
+use Rattle.covjson_value.specs.declared.domains.AxisName.TheVariants.{T, Z, Y, X}
 use Rattle.covjson_value.specs.declared.domains.Domain.{Domain}
 use Rattle.covjson_value.specs.declared.coverages.NdArray.{NdArray}
-use Rattle.covjson_value.specs.Domains.{NamedAxis, range_axes}
-use Rattle.covjson_value.specs.Trees.{axis_key}
+use Rattle.covjson_value.specs.Domains.{axis_key, axis_of, has_axis, is_among, axis_length, count_of}
+use Rattle.covjson_read.specs.declared.axes.Turned.{Turned}
+use Rattle.covjson_read.specs.declared.places.Places.{Places}
 use Rattle.covjson_read.specs.Members.{whole_of, natural_of}
-use Rattle.covjson_read.specs.Axes.{EachStands}
+use Rattle.covjson_read.specs.Axes.{EachStands, is_turned}
 
 -- a sample: a number that is held whole, or null where it is absent
 abbrev pub StandsForSample : Data → Option ℤ → Type 0
@@ -23,14 +26,6 @@ StandsForName d name = d ≡ string (axis_key name)
 abbrev pub StandsForLength : Data → ℕ → Type 0
 StandsForLength d n = natural_of d ≡ Some n
 
--- the axes of a range in their order
-abbrev pub range_names : Domain → List AxisName
-range_names domain = map (λ (axis : NamedAxis). axis.name) (range_axes domain)
-
--- and their lengths
-abbrev pub range_lengths : Domain → List ℕ
-range_lengths domain = map (λ (axis : NamedAxis). length axis.values) (range_axes domain)
-
 -- an array of whole numbers
 pub record HoldsIntegers (d : Data) : Type 0 where
   pub kind : get (codes "type") d ≡ Some (string (codes "NdArray"))
@@ -42,12 +37,95 @@ pub record ListStands {V : Type 0} (name : List ℕ) (R : Data → V → Type 0)
   pub list : get name d ≡ Some (array items)
   pub each : EachStands R items values
 
--- a range over a domain: its values in row-major order of the domain's axes, the last fastest
-pub record StandsForRange (domain : Domain) (d : Data) (range : NdArray) : Type 0 where
+-- ---- places
+
+-- how many values the axis of a name has, and 1 where the domain hasn't it
+abbrev pub length_of : Domain → AxisName → ℕ
+length_of domain name = axis_length (axis_of domain name)
+
+-- the place on the axis of a name
+abbrev pub place_on : Places → AxisName → ℕ
+place_on places T = places.t
+place_on places Z = places.z
+place_on places Y = places.y
+place_on places X = places.x
+
+-- each place is on its axis
+abbrev pub AreInside : Domain → Places → Type 0
+AreInside domain places = (name : AxisName) → place_on places name < length_of domain name
+
+-- the number of places among those of some axes in their order, the last fastest: row-major order
+abbrev pub row_major : (AxisName → ℕ) → (AxisName → ℕ) → List AxisName → ℕ → ℕ
+row_major lengths places [] number = number
+row_major lengths places (name ∷ names) number = row_major lengths places names (number * lengths name + places name)
+
+-- the number of the value at some places of the domain
+abbrev pub number_of : Domain → Places → ℕ
+number_of domain places = row_major (length_of domain) (place_on places) (T ∷ Z ∷ Y ∷ X ∷ []) 0
+
+-- the place on an axis as the tree has it: counted from the end where the axis is turned
+abbrev pub tree_place : Domain → Turned → Places → AxisName → ℕ
+tree_place domain turned places name = if is_turned turned name then length_of domain name - 1 - place_on places name else place_on places name
+
+-- the number, among the values of a tree with its axes in that order, of the value at some places of the domain
+abbrev pub tree_number : Domain → Turned → List AxisName → Places → ℕ
+tree_number domain turned names places = row_major (length_of domain) (tree_place domain turned places) names 0
+
+-- ---- a range
+
+-- no name stands twice
+abbrev pub AreDistinct : List AxisName → Type 0
+AreDistinct [] = ⊤
+AreDistinct (name ∷ names) = (is_among name names ≡ false) × AreDistinct names
+
+-- the axes of a range: distinct, each one of the domain's, and among them each of several values
+pub record AreRangeAxes (domain : Domain) (names : List AxisName) : Type 0 where
+  pub distinct : AreDistinct names
+  pub owned : All (λ name. has_axis domain name ≡ true) names
+  pub all_long : (name : AxisName) → 1 < length_of domain name → is_among name names ≡ true
+
+-- no axis has several values
+abbrev pub IsOnePlace : Domain → Type 0
+IsOnePlace domain = (name : AxisName) → length_of domain name ≤ 1
+
+-- the list of the axes' names; it may be left out where no axis has several values
+abbrev pub NamesStand : Domain → Option Data → List AxisName → Type 0
+NamesStand domain None names = (names ≡ []) × IsOnePlace domain
+NamesStand domain (Some d) names = (items : Items) × (d ≡ array items) × EachStands StandsForName items names
+
+-- the list of their lengths; it may be left out there too
+abbrev pub ShapeStands : Domain → Option Data → List AxisName → Type 0
+ShapeStands domain None names = IsOnePlace domain
+ShapeStands domain (Some d) names = (items : Items) × (d ≡ array items) × EachStands StandsForLength items (map (length_of domain) names)
+
+abbrev pub count_items : Items → ℕ
+count_items no_items = 0
+count_items (item d ds) = suc (count_items ds)
+
+-- the item at a place
+abbrev pub item_at : Items → ℕ → Option Data
+item_at no_items place = None
+item_at (item d ds) zero = Some d
+item_at (item d ds) (suc place) = item_at ds place
+
+-- a datum is there, and stands for the sample
+abbrev pub HasSample : Option Data → Option ℤ → Type 0
+HasSample None sample = ⊥
+HasSample (Some d) sample = StandsForSample d sample
+
+-- a range over a domain: at each place of the domain it has the value that the tree has at that place
+pub record StandsForRange (domain : Domain) (turned : Turned) (d : Data) (range : NdArray) : Type 0 where
   pub integers : HoldsIntegers d
-  pub axis_names : ListStands (codes "axisNames") StandsForName d (range_names domain)
-  pub shape : ListStands (codes "shape") StandsForLength d (range_lengths domain)
-  pub values : ListStands (codes "values") StandsForSample d range.values
+  pub names : List AxisName
+  pub names_stand : NamesStand domain (get (codes "axisNames") d) names
+  pub axes : AreRangeAxes domain names
+  pub shape : ShapeStands domain (get (codes "shape") d) names
+  pub items : Items
+  pub list : get (codes "values") d ≡ Some (array items)
+  pub as_many : count_items items ≡ count_of domain
+  pub counted : length range.values ≡ count_of domain
+  pub values : (places : Places) → AreInside domain places
+      → HasSample (item_at items (tree_number domain turned names places)) (slice_index_or range.values (number_of domain places) None)
 
 -- the names of members
 abbrev pub names_of : Members → List (List ℕ)

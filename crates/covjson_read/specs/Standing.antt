@@ -7,16 +7,17 @@ use Rattle.covjson_value.specs.declared.coverages.Parameter.{Parameter}
 use Rattle.covjson_value.specs.declared.coverages.NdArray.{NdArray}
 use Rattle.covjson_value.specs.declared.coverages.Coverage.{Coverage}
 use Rattle.covjson_value.specs.Coverages.{ids_of, IsParameter, AscendById, IsRange}
+use Rattle.covjson_read.specs.declared.axes.Turned.{Turned}
 use Rattle.covjson_read.specs.Axes.{EachStands, StandsForDomain}
 use Rattle.covjson_read.specs.Systems.{StandsForReferencing}
 use Rattle.covjson_read.specs.Parameters.{HoldsParameters, StandsAmong}
 use Rattle.covjson_read.specs.Ranges.{StandsForRange, names_of, values_of}
 
 -- the ranges of a tree, in ascending order of their names, with the parameters of these names
-pub record StandsForRanges (domain : Domain) (parameters : Data) (ranges : Members) (kept : List Parameter) (read : List NdArray) : Type 0 where
+pub record StandsForRanges (domain : Domain) (turned : Turned) (parameters : Data) (ranges : Members) (kept : List Parameter) (read : List NdArray) : Type 0 where
   pub ids : ids_of kept ≡ names_of ranges
   pub parameters_stand : All (StandsAmong parameters) kept
-  pub ranges_stand : EachStands (StandsForRange domain) (values_of ranges) read
+  pub ranges_stand : EachStands (StandsForRange domain turned) (values_of ranges) read
 
 -- parameters and ranges that a coverage may have over a domain
 pub record AreValid (domain : Domain) (kept : List Parameter) (read : List NdArray) : Type 0 where
@@ -32,14 +33,15 @@ pub record Stands (tree : Data) (coverage : Coverage) : Type 0 where
   pub id : coverage.id ≡ option_and_then as_str (get (codes "id") tree)
   pub domain : Data
   pub domain_at : get (codes "domain") tree ≡ Some domain
-  pub domain_stands : StandsForDomain domain coverage.domain
+  pub turned : Turned
+  pub domain_stands : StandsForDomain domain turned coverage.domain
   pub referencing_stands : StandsForReferencing domain coverage.referencing
   pub parameters : Data
   pub parameters_at : get (codes "parameters") tree ≡ Some parameters
   pub parameters_are : HoldsParameters parameters
   pub ranges : Members
   pub ranges_at : get (codes "ranges") tree ≡ Some (object ranges)
-  pub ranges_stand : StandsForRanges coverage.domain parameters ranges coverage.parameters coverage.ranges
+  pub ranges_stand : StandsForRanges coverage.domain turned parameters ranges coverage.parameters coverage.ranges
 
 -- a tree stands for at most one coverage
 abbrev pub TreesStandForOne : Type 0

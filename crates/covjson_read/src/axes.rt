@@ -1,23 +1,46 @@
 //! Axes of a domain (OGC 21-069r2, Axis objects).
-ghost use Rattle.std.specs.Prelude.{◌≡◌, IfOk, All, Some};
+ghost use Rattle.std.specs.Prelude.{◌≡◌, ◌≤◌, ◌<◌, IfOk, All, length, Some, true, reverse};
 ghost use Rattle.serde_json.specs.View.{view, items_view, members_view};
 ghost use Rattle.serde_json.specs.Find.{get};
-ghost use Rattle.edr_axes.specs.Axes.{IsAxis};
 ghost use Rattle.edr_axes.specs.Instants.{IsTime};
-ghost use Rattle.covjson_value.specs.Coverages.{IsAxisValue, IsNamedAxis, HasAxes};
-ghost use Rattle.covjson_value.specs.Trees.{axis_key};
+ghost use Rattle.covjson_value.specs.declared.domains.AxisName.TheVariants.{T, X};
+ghost use Rattle.covjson_value.specs.Coverages.{IsCoordinate, IsAxisValue, IsNamedAxis, HasAxes, HasTuples};
+ghost use Rattle.covjson_value.specs.Domains.{axis_key};
 ghost use Rattle.covjson_read.specs.Answers.{Gives, GivesUnlessMemory};
-ghost use Rattle.covjson_read.specs.Axes.{EachStands, StandsForTime, StandsForAxis, HasSameAxis, StandsForDomain, IsGridOfTimes, is_axis_key, all_axis_keys};
+ghost use Rattle.covjson_read.specs.Axes.{EachStands, StandsForTime, HoldsValues, turned_if, HasSameAxis, StandsForDomain, IsGridOfTimes, is_axis_key, all_axis_keys};
 ghost use Rattle.covjson_read.specs.Axes as axes;
 
 use crate::faults::{CovFault, Member, unsupported_domain};
 use crate::members::{
     Wanted, list_at, need, need_form, need_wholes, object_at, part, text_at, wholes,
 };
+use crate::spans::spanned;
 use covjson_value::{AxisName, COORDINATE_LIMIT, Domain};
 use edr_axes::{Axis, AxisFault, read_instant};
 use serde_json::{Map, Value};
 use std::alloc::Global;
+
+/// Which axes of a tree descend, so that they and the values over them are turned round.
+#[derive(Clone, Copy, Debug, PartialEq, Eq)]
+pub struct Turned {
+    /// The axis of times.
+    pub t: bool,
+    /// The axis of levels.
+    pub z: bool,
+    /// The axis of second coordinates.
+    pub y: bool,
+    /// The axis of first coordinates.
+    pub x: bool,
+}
+
+/// An axis in ascending order, and whether it was turned round for that.
+#[derive(Debug, Drop)]
+pub struct ReadAxis {
+    /// Its values.
+    pub axis: Axis,
+    /// Whether the tree has them in descending order.
+    pub turned: bool,
+}
 
 /// The name of the member for an axis.
 pub fn key_of(name: AxisName) -> &'static str
@@ -100,32 +123,79 @@ fn times(alloc: Global, items: &Vec<Value>) -> Result<Vec<i64>, CovFault>
     Ok(found)
 }
 
-// The values of an axis: of that of times texts, and of the others numbers.
-fn axis_values(alloc: Global, axis: &Value, name: AxisName) -> Result<Vec<i64>, CovFault>
-    ensures stands { IfOk result (λ v. StandsForAxis name (view axis.now) v.items) }
-    ensures in_range { IfOk result (λ v. All (IsAxisValue name) v.items) }
+// The times of an axis.
+fn axis_times(alloc: Global, axis: &Value) -> Result<Vec<i64>, CovFault>
+    ensures stands { IfOk result (λ v. HoldsValues T (view axis.now) v.items) }
+    ensures in_range { IfOk result (λ v. All IsTime v.items) }
 {
-    let member = member_of(name);
-    let AxisName::T = name else {
-        return coordinates(alloc, axis, member);
-    };
-    let items = axis_items(axis, member)?;
-    need_form(items, Wanted::Texts, member)?;
+    let items = axis_items(axis, Member::T)?;
+    need_form(items, Wanted::Texts, Member::T)?;
     times(alloc, items)
 }
 
+// The numbers of an axis: listed, or spanned where they aren't listed.
+fn axis_numbers(alloc: Global, axis: &Value, member: Member) -> Result<Vec<i64>, CovFault>
+    ensures stands { IfOk result (λ v. HoldsValues X (view axis.now) v.items) }
+    ensures in_range { IfOk result (λ v. All IsCoordinate v.items) }
+{
+    let _members = object_at(axis, member)?;
+    if axis.get("values").is_some() {
+        coordinates(alloc, axis, member)
+    } else {
+        spanned(alloc, axis, member)
+    }
+}
+
+// The values of an axis as the tree has them.
+fn axis_values(alloc: Global, axis: &Value, name: AxisName) -> Result<Vec<i64>, CovFault>
+    ensures stands { IfOk result (λ v. HoldsValues name (view axis.now) v.items) }
+    ensures in_range { IfOk result (λ v. All (IsAxisValue name) v.items) }
+{
+    match name {
+        AxisName::T => axis_times(alloc, axis),
+        AxisName::Z | AxisName::Y | AxisName::X => axis_numbers(alloc, axis, member_of(name)),
+    }
+}
+
+// Descending values, turned round.
+fn turned_round(alloc: Global, values: Vec<i64>, member: Member) -> Result<ReadAxis, CovFault>
+    requires { 1 < length values.items }
+    ensures turned { IfOk result (λ r. r.turned ≡ true) }
+    ensures values { IfOk result (λ r. r.axis ≡ reverse values.items) }
+{
+    let mut ascending = values;
+    ascending.reverse();
+    match Axis::of(alloc, &ascending) {
+        Ok(axis) => Ok(ReadAxis { axis, turned: true }),
+        Err(AxisFault::OutOfMemory) => Err(CovFault::OutOfMemory),
+        Err(_) => Err(CovFault::NotMonotonic(member)),
+    }
+}
+
+// Values in ascending order: as they stand, or turned round.
+fn in_direction(alloc: Global, values: Vec<i64>, member: Member) -> Result<ReadAxis, CovFault>
+    ensures held { IfOk result (λ r. turned_if r.turned r.axis ≡ values.items) }
+    ensures several { IfOk result (λ r. r.turned ≡ true → 1 < length r.axis) }
+{
+    match Axis::of(alloc, &values) {
+        Ok(axis) => Ok(ReadAxis {
+            axis,
+            turned: false,
+        }),
+        Err(AxisFault::NotAscending(_)) => turned_round(alloc, values, member),
+        Err(AxisFault::Empty) => Err(CovFault::WrongType(member)),
+        Err(AxisFault::OutOfMemory) => Err(CovFault::OutOfMemory),
+    }
+}
+
 /// The axis of a name: Missing, then its form, its values and their order.
-pub fn axis_at(alloc: Global, tree: &Value, name: AxisName) -> Result<Axis, CovFault>
-    ensures stands { IfOk result (λ axis. HasSameAxis name (get (axis_key name) (view tree.now)) (Some axis)) }
-    ensures named { IfOk result (IsNamedAxis name) }
+pub fn axis_at(alloc: Global, tree: &Value, name: AxisName) -> Result<ReadAxis, CovFault>
+    ensures stands { IfOk result (λ r. HasSameAxis name (get (axis_key name) (view tree.now)) r.turned (Some r.axis)) }
+    ensures named { IfOk result (λ r. IsNamedAxis name r.axis) }
 {
     let axis = need(tree, key_of(name), member_of(name))?;
     let values = axis_values(alloc, axis, name)?;
-    match Axis::of(alloc, &values) {
-        Ok(axis) => Ok(axis),
-        Err(AxisFault::OutOfMemory) => Err(CovFault::OutOfMemory),
-        Err(_) => Err(CovFault::NotMonotonic(member_of(name))),
-    }
+    in_direction(alloc, values, member_of(name))
 }
 
 fn is_axis_key(key: &str) -> bool
@@ -146,11 +216,13 @@ pub fn all_axis_keys(members: &Map<String, Value>) -> bool
     true
 }
 
-/// The Grid of a tree, with times and without levels: its type, its axes' names, and then axis by axis.
-pub fn grid_of(alloc: Global, tree: &Value) -> Result<Domain, CovFault>
-    ensures stands { IfOk result (StandsForDomain (view tree.now)) }
-    ensures axes { IfOk result HasAxes }
-    ensures grid { IfOk result IsGridOfTimes }
+/// The Grid of a tree, with times and without levels: its type, its axes' names, and then axis by axis; and which of its
+/// axes were turned round.
+pub fn grid_of(alloc: Global, tree: &Value) -> Result<(Domain, Turned), CovFault>
+    ensures stands { IfOk result (λ p. StandsForDomain (view tree.now) p.1 p.0) }
+    ensures axes { IfOk result (λ p. HasAxes p.0) }
+    ensures tuples { IfOk result (λ p. HasTuples p.0) }
+    ensures grid { IfOk result (λ p. IsGridOfTimes p.0) }
 {
     let kind = need(tree, "domainType", Member::DomainType)?;
     let kind = text_at(kind, Member::DomainType)?;
@@ -168,10 +240,17 @@ pub fn grid_of(alloc: Global, tree: &Value) -> Result<Domain, CovFault>
     }
     let y = axis_at(alloc, axes, AxisName::Y)?;
     let x = axis_at(alloc, axes, AxisName::X)?;
-    Ok(Domain::Grid {
-        t: Some(t),
+    let turned = Turned {
+        t: t.turned,
+        z: false,
+        y: y.turned,
+        x: x.turned,
+    };
+    let domain = Domain::Grid {
+        t: Some(t.axis),
         z: None,
-        y,
-        x,
-    })
+        y: y.axis,
+        x: x.axis,
+    };
+    Ok((domain, turned))
 }

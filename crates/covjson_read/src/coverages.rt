@@ -7,7 +7,7 @@ ghost use Rattle.covjson_read.specs.Axes.{IsGridOfTimes};
 ghost use Rattle.covjson_read.specs.Parameters.{HoldsParameters};
 ghost use Rattle.covjson_read.specs.Standing.{StandsForRanges, AreValid, Stands, TreesStandForOne};
 
-use crate::axes::grid_of;
+use crate::axes::{Turned, grid_of};
 use crate::faults::{CovFault, Member};
 use crate::members::{need, object_at, text_or_empty};
 use crate::parameters::{parameter_of, parameters_of, text_where_given};
@@ -25,10 +25,11 @@ fn ranges_of(
     ranges: &Map<String, Value>,
     parameters: &Value,
     domain: &Domain,
+    turned: Turned,
 ) -> Result<(Vec<Parameter>, Vec<NdArray>), CovFault>
     requires grid { IsGridOfTimes domain.now }
     requires named { HoldsParameters (view parameters.now) }
-    ensures stands { IfOk result (λ p. StandsForRanges domain.now (view parameters.now) (members_view ranges.now.entries) p.0.items p.1.items) }
+    ensures stands { IfOk result (λ p. StandsForRanges domain.now turned (view parameters.now) (members_view ranges.now.entries) p.0.items p.1.items) }
     ensures valid { IfOk result (λ p. AreValid domain.now p.0.items p.1.items) }
 {
     if ranges.is_empty() {
@@ -39,7 +40,7 @@ fn ranges_of(
     for (id, range) in ranges.iter() {
         let tree = need(parameters, id, Member::Parameters)?;
         let parameter = parameter_of(alloc, id, tree)?;
-        let array = range_of(alloc, range, domain)?;
+        let array = range_of(alloc, range, domain, turned)?;
         if kept.push(parameter).is_err() {
             return Err(CovFault::OutOfMemory);
         }
@@ -63,9 +64,10 @@ fn id_of(alloc: Global, tree: &Value) -> Result<Option<Text>, CovFault>
 
 /// The coverage that a tree of JSON stands for (OGC 21-069r2, CoverageJSON objects), or the first check that it fails.
 ///
-/// It is read where its domain is a Grid with an axis `t` of times and without an axis of levels, where each axis
-/// has its values in an ascending list, and where each range has the axes `t`, `y` and `x` in this order. Other
-/// coverages are refused. Members that aren't needed are passed over, and parameters without a range too.
+/// It is read where its domain is a Grid with an axis `t` of times and without an axis of levels. An axis has its values
+/// in a list, or of x and y by `start`, `stop` and `num`; they ascend or descend, and descending ones are turned round with
+/// the samples over them. A range may have its axes in any order. Other coverages are refused. Members that aren't needed
+/// are passed over, and parameters without a range too.
 pub fn coverage_of(alloc: Global, tree: &Value) -> Result<Coverage, CovFault>
     ensures stands { IfOk result (Stands (view tree.now)) }
     ensures valid { IfOk result IsValid }
@@ -79,12 +81,12 @@ pub fn coverage_of(alloc: Global, tree: &Value) -> Result<Coverage, CovFault>
     let id = id_of(alloc, tree)?;
     let place = need(tree, "domain", Member::Domain)?;
     let _members = object_at(place, Member::Domain)?;
-    let domain = grid_of(alloc, place)?;
+    let (domain, turned) = grid_of(alloc, place)?;
     let referencing = referencing_of(alloc, place)?;
     let parameters = parameters_of(tree)?;
     let ranges = need(tree, "ranges", Member::Ranges)?;
     let ranges = object_at(ranges, Member::Ranges)?;
-    let (kept, read) = ranges_of(alloc, ranges, parameters, &domain)?;
+    let (kept, read) = ranges_of(alloc, ranges, parameters, &domain, turned)?;
     Ok(Coverage {
         id,
         domain,

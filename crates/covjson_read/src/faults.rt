@@ -70,7 +70,7 @@ pub enum CovFault {
     OutOfRange(Member),
     /// The place, from 0, of a text that is no time.
     BadTime(usize),
-    /// An axis whose values don't ascend.
+    /// An axis whose values neither ascend nor descend.
     NotMonotonic(Member),
     /// The wanted count and the count that was found.
     WrongCount(Member, u128, u128),

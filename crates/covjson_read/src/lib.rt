@@ -5,8 +5,11 @@ mod axes;
 mod coverages;
 mod faults;
 mod members;
+mod orders;
 mod parameters;
+mod places;
 mod ranges;
+mod spans;
 mod systems;
 #[cfg(test)]
 mod tests;

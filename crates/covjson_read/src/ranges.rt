@@ -1,17 +1,21 @@
 //! Ranges (OGC 21-069r2, NdArray objects).
-ghost use Rattle.std.specs.Prelude.{◌≡◌, IfOk, OnOk, IfSome, All, length, codes};
+ghost use Rattle.std.specs.Prelude.{◌≡◌, ◌<◌, IfOk, OnOk, IfSome, All, length, map, codes, true};
 ghost use Rattle.std.specs.Bool.{OnTrue};
 ghost use Rattle.serde_json.specs.View.{view, items_view};
-ghost use Rattle.covjson_value.specs.Domains.{axis_of, axis_length, count_of};
+ghost use Rattle.serde_json.specs.Find.{get};
+ghost use Rattle.covjson_value.specs.Domains.{has_axis, count_of};
+ghost use Rattle.covjson_value.specs.Domains as domains;
 ghost use Rattle.covjson_value.specs.Coverages.{IsRange, IsSample};
 ghost use Rattle.covjson_read.specs.Axes.{EachStands, IsGridOfTimes};
-ghost use Rattle.covjson_read.specs.Ranges.{HoldsIntegers, ListStands, StandsForName, StandsForLength, StandsForSample, StandsForRange, range_names, range_lengths};
+ghost use Rattle.covjson_read.specs.Ranges.{HoldsIntegers, ListStands, StandsForName, StandsForLength, StandsForSample, length_of, AreDistinct, AreRangeAxes, IsOnePlace, NamesStand, ShapeStands, StandsForRange};
 
-use crate::axes::key_of;
+use crate::axes::Turned;
 use crate::faults::{CovFault, Member, unsupported_range};
 use crate::members::{
     Wanted, list_at, need, need_form, need_wholes, object_at, text_or_empty, wholes_or_nulls,
 };
+use crate::orders::in_order;
+use crate::places::axis_len;
 use crate::systems::is_text;
 use covjson_value::{AxisName, Domain, NdArray, SAMPLE_LIMIT};
 use edr_base::Items;
@@ -35,30 +39,124 @@ fn need_integers(alloc: Global, tree: &Value) -> Result<(), CovFault>
     Ok(())
 }
 
-// A list of the names of these axes, in their order.
-fn are_names(items: &Vec<Value>, names: &[AxisName]) -> bool
-    ensures { OnTrue result (EachStands StandsForName (items_view items.now.items) names.now) }
+// The axis of a name, where it is one.
+fn axis_named(item: &Value) -> Option<AxisName>
+    ensures { IfSome result (StandsForName (view item.now)) }
 {
-    if items.len() != names.len() {
-        return false;
+    if is_text(item, "t") {
+        Some(AxisName::T)
+    } else if is_text(item, "z") {
+        Some(AxisName::Z)
+    } else if is_text(item, "y") {
+        Some(AxisName::Y)
+    } else if is_text(item, "x") {
+        Some(AxisName::X)
+    } else {
+        None
     }
+}
+
+// The axes that a list names.
+fn axes_named(alloc: Global, items: &Vec<Value>) -> Result<Vec<AxisName>, CovFault>
+    ensures { IfOk result (λ v. EachStands StandsForName (items_view items.now.items) v.items) }
+{
+    let mut names = Vec::new(alloc);
+    for item in items {
+        let Some(name) = axis_named(item) else {
+            return Err(CovFault::WrongType(Member::AxisNames));
+        };
+        if names.push(name).is_err() {
+            return Err(CovFault::OutOfMemory);
+        }
+    }
+    Ok(names)
+}
+
+fn is_among(name: AxisName, names: &[AxisName]) -> bool
+    ensures { result ≡ domains.is_among name names.now }
+{
+    for other in names {
+        if *other == name {
+            return true;
+        }
+    }
+    false
+}
+
+fn are_distinct(names: &[AxisName]) -> bool
+    ensures { OnTrue result (AreDistinct names.now) }
+{
     for place in 0..names.len() {
-        if !is_text(&items[place], key_of(names[place])) {
+        if is_among(names[place], &names[place + 1..]) {
             return false;
         }
     }
     true
 }
 
-fn need_names(tree: &Value, names: &[AxisName]) -> Result<(), CovFault>
-    ensures { OnOk result (ListStands (codes "axisNames") StandsForName (view tree.now) names.now) }
+fn are_owned(names: &[AxisName], domain: &Domain) -> bool
+    ensures { OnTrue result (All (λ name. has_axis domain.now name ≡ true) names.now) }
 {
-    let list = need(tree, "axisNames", Member::AxisNames)?;
+    for name in names {
+        if domain.axis(*name).is_none() {
+            return false;
+        }
+    }
+    true
+}
+
+// An axis of several values is among these.
+fn is_kept(name: AxisName, names: &[AxisName], domain: &Domain) -> bool
+    ensures { OnTrue result (1 < length_of domain.now name → domains.is_among name names.now ≡ true) }
+{
+    axis_len(domain, name) <= 1 || is_among(name, names)
+}
+
+fn are_range_axes(names: &[AxisName], domain: &Domain) -> bool
+    ensures { OnTrue result (AreRangeAxes domain.now names.now) }
+{
+    are_distinct(names)
+        && are_owned(names, domain)
+        && is_kept(AxisName::T, names, domain)
+        && is_kept(AxisName::Z, names, domain)
+        && is_kept(AxisName::Y, names, domain)
+        && is_kept(AxisName::X, names, domain)
+}
+
+fn is_one_place(domain: &Domain) -> bool
+    ensures { OnTrue result (IsOnePlace domain.now) }
+{
+    axis_len(domain, AxisName::T) <= 1
+        && axis_len(domain, AxisName::Z) <= 1
+        && axis_len(domain, AxisName::Y) <= 1
+        && axis_len(domain, AxisName::X) <= 1
+}
+
+// The names of a range's axes in their order; none where they are left out.
+fn names_at(alloc: Global, tree: &Value, domain: &Domain) -> Result<Vec<AxisName>, CovFault>
+    ensures { IfOk result (λ v. NamesStand domain.now (get (codes "axisNames") (view tree.now)) v.items) }
+{
+    let Some(list) = tree.get("axisNames") else {
+        return if is_one_place(domain) {
+            Ok(Vec::new(alloc))
+        } else {
+            Err(CovFault::Missing(Member::AxisNames))
+        };
+    };
     let items = list_at(list, Member::AxisNames)?;
-    if !are_names(items, names) {
+    axes_named(alloc, items)
+}
+
+// The axes of a range.
+fn axes_of(alloc: Global, tree: &Value, domain: &Domain) -> Result<Vec<AxisName>, CovFault>
+    ensures stands { IfOk result (λ v. NamesStand domain.now (get (codes "axisNames") (view tree.now)) v.items) }
+    ensures axes { IfOk result (λ v. AreRangeAxes domain.now v.items) }
+{
+    let names = names_at(alloc, tree, domain)?;
+    if !are_range_axes(&names, domain) {
         return Err(CovFault::WrongType(Member::AxisNames));
     }
-    Ok(())
+    Ok(names)
 }
 
 // A whole number from 0, which has to be that length.
@@ -74,34 +172,32 @@ fn need_length(item: &Value, length: usize) -> Result<(), CovFault>
     Ok(())
 }
 
-fn need_lengths(items: &Vec<Value>, lengths: &[usize]) -> Result<(), CovFault>
-    ensures { OnOk result (EachStands StandsForLength (items_view items.now.items) lengths.now) }
+// The lengths of these axes.
+fn need_lengths(items: &Vec<Value>, names: &[AxisName], domain: &Domain) -> Result<(), CovFault>
+    ensures { OnOk result (EachStands StandsForLength (items_view items.now.items) (map (length_of domain.now) names.now)) }
 {
-    if items.len() != lengths.len() {
-        return Err(CovFault::WrongCount(Member::Shape, lengths.len() as u128, items.len() as u128));
+    if items.len() != names.len() {
+        return Err(CovFault::WrongCount(Member::Shape, names.len() as u128, items.len() as u128));
     }
-    for place in 0..lengths.len() {
-        need_length(&items[place], lengths[place])?;
+    for place in 0..names.len() {
+        need_length(&items[place], axis_len(domain, names[place]))?;
     }
     Ok(())
 }
 
-fn need_shape(tree: &Value, lengths: &[usize]) -> Result<(), CovFault>
-    ensures { OnOk result (ListStands (codes "shape") StandsForLength (view tree.now) lengths.now) }
+fn need_shape(tree: &Value, names: &[AxisName], domain: &Domain) -> Result<(), CovFault>
+    ensures { OnOk result (ShapeStands domain.now (get (codes "shape") (view tree.now)) names.now) }
 {
-    let list = need(tree, "shape", Member::Shape)?;
+    let Some(list) = tree.get("shape") else {
+        return if is_one_place(domain) {
+            Ok(())
+        } else {
+            Err(CovFault::Missing(Member::Shape))
+        };
+    };
     let items = list_at(list, Member::Shape)?;
     need_form(items, Wanted::Naturals, Member::Shape)?;
-    need_lengths(items, lengths)
-}
-
-fn axis_len(domain: &Domain, name: AxisName) -> usize
-    ensures { result ≡ axis_length (axis_of domain.now name) }
-{
-    match domain.axis(name) {
-        Some(values) => values.len(),
-        None => 1,
-    }
+    need_lengths(items, names, domain)
 }
 
 // How many values a range has, or the greatest count where that is beyond it.
@@ -140,22 +236,23 @@ fn samples(alloc: Global, tree: &Value, domain: &Domain) -> Result<Vec<Option<i6
     wholes_or_nulls(alloc, items, Member::Values, SAMPLE_LIMIT)
 }
 
-/// The range over a Grid that a tree stands for, of whole numbers in row-major order t, y, x.
-pub fn range_of(alloc: Global, tree: &Value, domain: &Domain) -> Result<NdArray, CovFault>
+/// The range over a Grid that a tree stands for: its values in row-major order t, y, x, whatever the order of its axes in the
+/// tree and whichever of them are turned round.
+pub fn range_of(
+    alloc: Global,
+    tree: &Value,
+    domain: &Domain,
+    turned: Turned,
+) -> Result<NdArray, CovFault>
     requires { IsGridOfTimes domain.now }
-    ensures stands { IfOk result (StandsForRange domain.now (view tree.now)) }
+    ensures stands { IfOk result (StandsForRange domain.now turned (view tree.now)) }
     ensures valid { IfOk result (IsRange domain.now) }
 {
     need_integers(alloc, tree)?;
-    let names = [AxisName::T, AxisName::Y, AxisName::X];
-    need_names(tree, &names)?;
-    let lengths = [
-        axis_len(domain, AxisName::T),
-        axis_len(domain, AxisName::Y),
-        axis_len(domain, AxisName::X),
-    ];
-    need_shape(tree, &lengths)?;
+    let names = axes_of(alloc, tree, domain)?;
+    need_shape(tree, &names, domain)?;
     let values = samples(alloc, tree, domain)?;
+    let values = in_order(alloc, values, domain, turned, &names)?;
     Ok(NdArray {
         values: Items::of(values),
     })

@@ -1,4 +1,5 @@
 //! A small Grid as a person reads it, and what broken forms of it are refused with.
+use crate::axes::axis_at;
 use crate::{CovFault, coverage_of};
 use covjson_value::AxisName;
 use serde_json::Value;
@@ -10,33 +11,42 @@ use std::test::Fail;
 #[derive(Clone, Copy)]
 struct Parts {
     kind: &'static str,
+    t: &'static str,
+    y: &'static str,
     x: &'static str,
-    first: &'static str,
     system: &'static str,
     data_type: &'static str,
+    names: &'static str,
+    shape: &'static str,
     values: &'static str,
 }
 
 const GRID: Parts = Parts {
     kind: "Grid",
+    t: "[\"2024-01-01T00:00:00Z\",\"2024-01-01T01:00:00Z\"]",
+    y: "[0,100]",
     x: "[0,100,200]",
-    first: "2024-01-01T00:00:00Z",
     system: "ProjectedCRS",
     data_type: "integer",
+    names: "\"axisNames\":[\"t\",\"y\",\"x\"],",
+    shape: "\"shape\":[2,2,3],",
     values: "[10,11,12,13,null,15,20,21,22,23,24,25]",
 };
 
 fn tree_of(alloc: Global, parts: Parts) -> Result<Value, Fail> {
     let Parts {
         kind,
+        t,
+        y,
         x,
-        first,
         system,
         data_type,
+        names,
+        shape,
         values,
     } = parts;
     let axes = format!(in alloc;
-        "\"x\":{{\"values\":{x}}},\"y\":{{\"values\":[0,100]}},\"t\":{{\"values\":[\"{first}\",\"2024-01-01T01:00:00Z\"]}}"
+        "\"x\":{{\"values\":{x}}},\"y\":{{\"values\":{y}}},\"t\":{{\"values\":{t}}}"
     )?;
     let plane = format!(in alloc;
         "{{\"coordinates\":[\"x\",\"y\"],\"system\":{{\"type\":\"{system}\",\"id\":\"http://www.opengis.net/def/crs/EPSG/0/32633\"}}}}"
@@ -49,7 +59,7 @@ fn tree_of(alloc: Global, parts: Parts) -> Result<Value, Fail> {
     let parameters =
         "{\"temp\":{\"type\":\"Parameter\",\"unit\":{\"symbol\":\"Cel\"},\"observedProperty\":{\"label\":{\"en\":\"Temperature\"}}}}";
     let range = format!(in alloc;
-        "{{\"type\":\"NdArray\",\"dataType\":\"{data_type}\",\"axisNames\":[\"t\",\"y\",\"x\"],\"shape\":[2,2,3],\"values\":{values}}}"
+        "{{\"type\":\"NdArray\",\"dataType\":\"{data_type}\",{names}{shape}\"values\":{values}}}"
     )?;
     let text = format!(in alloc;
         "{{\"type\":\"Coverage\",\"domain\":{domain},\"parameters\":{parameters},\"ranges\":{{\"temp\":{range}}}}}"
@@ -77,6 +87,161 @@ fn reads_a_grid(rt: HostRuntime) -> Result<(), Fail> {
     let values = coverage.ranges.items()[0].values.items();
     assert!(rt; values.len() == 12);
     assert!(rt; values[0] == Some(10) && values[4].is_none() && values[11] == Some(25));
+    Ok(())
+}
+
+// The values of the small Grid, t, y, x.
+const VALUES: [Option<i64>; 12] = [
+    Some(10),
+    Some(11),
+    Some(12),
+    Some(13),
+    None,
+    Some(15),
+    Some(20),
+    Some(21),
+    Some(22),
+    Some(23),
+    Some(24),
+    Some(25),
+];
+
+#[test]
+fn reads_axes_in_any_order_and_direction(rt: HostRuntime) -> Result<(), Fail> {
+    for parts in [
+        Parts {
+            names: "\"axisNames\":[\"x\",\"y\",\"t\"],",
+            shape: "\"shape\":[3,2,2],",
+            values: "[10,20,13,23,11,21,null,24,12,22,15,25]",
+            ..GRID
+        },
+        Parts {
+            names: "\"axisNames\":[\"y\",\"t\",\"x\"],",
+            values: "[10,11,12,20,21,22,13,null,15,23,24,25]",
+            ..GRID
+        },
+        Parts {
+            y: "[100,0]",
+            values: "[13,null,15,10,11,12,23,24,25,20,21,22]",
+            ..GRID
+        },
+        Parts {
+            x: "[200,100,0]",
+            names: "\"axisNames\":[\"x\",\"y\",\"t\"],",
+            shape: "\"shape\":[3,2,2],",
+            values: "[12,22,15,25,11,21,null,24,10,20,13,23]",
+            ..GRID
+        },
+    ] {
+        let tree = tree_of(rt.alloc(), parts)?;
+        let coverage = coverage_of(rt.alloc(), &tree)?;
+        assert!(rt; coverage.domain.axis(AxisName::Y) == Some([0, 100].as_slice()));
+        assert!(rt; coverage.domain.axis(AxisName::X) == Some([0, 100, 200].as_slice()));
+        assert!(rt; coverage.ranges.items()[0].values.items() == VALUES.as_slice());
+    }
+    Ok(())
+}
+
+#[test]
+fn reads_one_place_without_names_of_axes(rt: HostRuntime) -> Result<(), Fail> {
+    let parts = Parts {
+        t: "[\"2024-01-01T00:00:00Z\"]",
+        y: "[100]",
+        x: "[200]",
+        names: "",
+        shape: "",
+        values: "[7]",
+        ..GRID
+    };
+    let tree = tree_of(rt.alloc(), parts)?;
+    let coverage = coverage_of(rt.alloc(), &tree)?;
+    assert!(rt; coverage.ranges.items()[0].values.items() == [Some(7)].as_slice());
+    Ok(())
+}
+
+#[test]
+fn reads_axes(rt: HostRuntime) -> Result<(), Fail> {
+    let three = [0, 100, 200];
+    let one = [7];
+    for (text, wanted, turned) in [
+        ("{\"x\":{\"values\":[0,100,200]}}", three.as_slice(), false),
+        ("{\"x\":{\"values\":[200,100,0]}}", three.as_slice(), true),
+        (
+            "{\"x\":{\"start\":0,\"stop\":200,\"num\":3}}",
+            three.as_slice(),
+            false,
+        ),
+        (
+            "{\"x\":{\"start\":200,\"stop\":0,\"num\":3}}",
+            three.as_slice(),
+            true,
+        ),
+        (
+            "{\"x\":{\"start\":7,\"stop\":7,\"num\":1}}",
+            one.as_slice(),
+            false,
+        ),
+        (
+            "{\"x\":{\"start\":5,\"stop\":6,\"num\":2,\"values\":[0,100,200]}}",
+            three.as_slice(),
+            false,
+        ),
+    ] {
+        let tree = Value::from_str(rt.alloc(), text)?;
+        let read = axis_at(rt.alloc(), &tree, AxisName::X)?;
+        assert!(rt; read.axis.values() == wanted);
+        assert!(rt; read.turned == turned);
+    }
+    Ok(())
+}
+
+#[test]
+fn refuses_axes(rt: HostRuntime) -> Result<(), Fail> {
+    for (text, wanted) in [
+        ("{}", "Missing(X)"),
+        ("{\"x\":{}}", "WrongType(X)"),
+        ("{\"x\":{\"start\":0,\"stop\":200}}", "WrongType(X)"),
+        (
+            "{\"x\":{\"start\":0.5,\"stop\":\"200\",\"num\":3}}",
+            "WrongType(X)",
+        ),
+        (
+            "{\"x\":{\"start\":0.5,\"stop\":200,\"num\":3}}",
+            "NotWhole(X)",
+        ),
+        (
+            "{\"x\":{\"start\":0,\"stop\":100,\"num\":4}}",
+            "NotWhole(X)",
+        ),
+        (
+            "{\"x\":{\"start\":0,\"stop\":100,\"num\":1}}",
+            "NotWhole(X)",
+        ),
+        (
+            "{\"x\":{\"start\":0,\"stop\":0,\"num\":0}}",
+            "OutOfRange(X)",
+        ),
+        (
+            "{\"x\":{\"start\":0,\"stop\":100000001,\"num\":2}}",
+            "OutOfRange(X)",
+        ),
+        (
+            "{\"x\":{\"start\":0,\"stop\":4000000,\"num\":4000001}}",
+            "OutOfRange(X)",
+        ),
+        (
+            "{\"x\":{\"start\":5,\"stop\":5,\"num\":2}}",
+            "NotMonotonic(X)",
+        ),
+        ("{\"x\":{\"values\":[0,200,100]}}", "NotMonotonic(X)"),
+    ] {
+        let tree = Value::from_str(rt.alloc(), text)?;
+        let Err(fault) = axis_at(rt.alloc(), &tree, AxisName::X) else {
+            return Err(Fail::new("read"));
+        };
+        let shown = format!(in rt.alloc(); "{fault:?}")?;
+        assert!(rt; shown.as_str() == wanted);
+    }
     Ok(())
 }
 
@@ -142,7 +307,7 @@ fn refuses_broken_parts(rt: HostRuntime) -> Result<(), Fail> {
         ),
         (
             Parts {
-                first: "2024-06-15",
+                t: "[\"2024-06-15\",\"2024-06-15T01:00:00Z\"]",
                 ..GRID
             },
             "BadTime(0)",
@@ -176,6 +341,48 @@ fn refuses_broken_parts(rt: HostRuntime) -> Result<(), Fail> {
             "NotWhole(Values)",
         ),
     ] {
+        let tree = tree_of(rt.alloc(), parts)?;
+        let fault = fault_of(rt.alloc(), &tree)?;
+        let shown = format!(in rt.alloc(); "{fault:?}")?;
+        assert!(rt; shown.as_str() == wanted);
+    }
+    Ok(())
+}
+
+#[test]
+fn refuses_other_axes_of_ranges(rt: HostRuntime) -> Result<(), Fail> {
+    for (names, shape, wanted) in [
+        (
+            "\"axisNames\":[\"t\",\"y\",\"x\",\"x\"],",
+            "\"shape\":[2,2,3,3],",
+            "WrongType(AxisNames)",
+        ),
+        (
+            "\"axisNames\":[\"t\",\"y\",\"lon\"],",
+            "\"shape\":[2,2,3],",
+            "WrongType(AxisNames)",
+        ),
+        (
+            "\"axisNames\":[\"t\",\"z\",\"y\",\"x\"],",
+            "\"shape\":[2,1,2,3],",
+            "WrongType(AxisNames)",
+        ),
+        (
+            "\"axisNames\":[\"y\",\"x\"],",
+            "\"shape\":[2,3],",
+            "WrongType(AxisNames)",
+        ),
+        ("", "\"shape\":[2,2,3],", "Missing(AxisNames)"),
+        (GRID.names, "", "Missing(Shape)"),
+        (GRID.names, "\"shape\":[2,3,2],", "WrongCount(Shape, 2, 3)"),
+        (GRID.names, "\"shape\":[2,2],", "WrongCount(Shape, 3, 2)"),
+        (GRID.names, "\"shape\":[2,2,\"3\"],", "WrongType(Shape)"),
+    ] {
+        let parts = Parts {
+            names,
+            shape,
+            ..GRID
+        };
         let tree = tree_of(rt.alloc(), parts)?;
         let fault = fault_of(rt.alloc(), &tree)?;
         let shown = format!(in rt.alloc(); "{fault:?}")?;

@@ -1,13 +1,15 @@
 -- A valid axis is short: it ascends between two bounds.
-use Rattle.std.proofs.Common.{ℕ, zero, suc, ◌+◌, ◌-◌, ◌<◌, ◌≤◌, ◌^◌, ℤ, pos, neg_ℤ, ◌+ℤ◌, ◌≤ℤ◌, unsigned_abs, Bool, true, false, if◌then◌else◌, List, length, All, Option, Some, None, IfSome, arith, add-one}
+use Rattle.std.proofs.Common.{◌≡◌, ℕ, zero, suc, ◌+◌, ◌-◌, ◌<◌, ◌≤◌, ◌^◌, ℤ, pos, neg_ℤ, ◌+ℤ◌, ◌≤ℤ◌, unsigned_abs, Bool, true, false, if◌then◌else◌, List, [], length, All, Option, Some, None, IfSome, refl, arith, add-one}
 use Rattle.std.proofs.lemmas.Int.{ints}
 use Rattle.std.proofs.lemmas.List.Elements.{All-nil, All-cons}
+use Rattle.json.proofs.Printed.Utf8.{are_ascii}
+use Rattle.edr_base.specs.declared.places.Position.{Position}
 use Rattle.edr_axes.specs.Axes.{value_at, IsAscending, IsAxis}
 use Rattle.covjson_value.specs.declared.domains.AxisName.{AxisName}
 use Rattle.covjson_value.specs.declared.domains.AxisName.TheVariants.{T, Z, Y, X}
 use Rattle.covjson_value.specs.declared.domains.Domain.{Domain}
-use Rattle.covjson_value.specs.Domains.{NamedAxis, axis_of, axis_before, is_grid, long_axis, range_axes, range_axis_of}
-use Rattle.covjson_value.specs.Coverages.{IsNamedAxis, HasAxes}
+use Rattle.covjson_value.specs.Domains.{AxisLength, axis_key, axis_of, tuples_of, coordinates_of, axis_before, composite_alone, is_grid, long_axis, range_axes, range_axis_of, range_tuples_of}
+use Rattle.covjson_value.specs.Coverages.{IsNamedAxis, HasAxes, AreTuples, HasTuples}
 
 rises : (values : List ℤ) → IsAscending values → (place : ℕ) → place < length values → (value_at values 0 +ℤ pos place) ≤ℤ value_at values place
 rises values ascends zero inside = omega (arith, ints)
@@ -47,22 +49,46 @@ IsShort-axis X values h = coordinates_short values h.ascending h.within
 
 -- ---- the axes of the ranges
 
-kept_short : (test : Bool) (values : List ℤ) → IsShort values → IfSome (if test then Some values else None) IsShort
-kept_short true values h = h
-kept_short false values h = tt
+-- an axis of ranges, by a name of ASCII and a count of 64 bits
+pub record IsCounted (axis : AxisLength) : Type 0 where
+  pub key : are_ascii axis.key ≡ true
+  pub count : axis.count < 2 ^ 64
 
-long_short : (each : Bool) (name : AxisName) (axis : Option (List ℤ)) → IfSome axis (IsNamedAxis name) → IfSome (long_axis each axis) IsShort
-long_short each name None h = tt
-long_short each name (Some values) h = kept_short _ values (IsShort-axis name values h)
+key_ascii : (name : AxisName) → are_ascii (axis_key name) ≡ true
+key_ascii T = refl
+key_ascii Z = refl
+key_ascii Y = refl
+key_ascii X = refl
 
-abbrev pub HasShort : NamedAxis → Type 0
-HasShort axis = IsShort axis.values
+abbrev HasCount : {V : Type 0} → List V → Type 0
+HasCount values = length values < 2 ^ 64
 
-before_short : (name : AxisName) (axis : Option (List ℤ)) (axes : List NamedAxis) → IfSome axis IsShort → All HasShort axes → All HasShort (axis_before name axis axes)
-before_short name None axes h hs = hs
-before_short name (Some values) axes h hs = All-cons HasShort _ axes h hs
+kept_counted : {V : Type 0} (test : Bool) (values : List V) → HasCount values → IfSome (if test then Some values else None) HasCount
+kept_counted true values h = h
+kept_counted false values h = tt
 
-pub range_axes_short : (domain : Domain) → HasAxes domain → All HasShort (range_axes domain)
-range_axes_short domain h =
-    let each : (name : AxisName) → IfSome (range_axis_of domain name) IsShort = λ name. long_short (is_grid domain) name (axis_of domain name) (h name) in
-    before_short T _ _ (each T) (before_short Z _ _ (each Z) (before_short Y _ _ (each Y) (before_short X _ _ (each X) (All-nil HasShort))))
+long_counted : {V : Type 0} (each : Bool) (axis : Option (List V)) → IfSome axis HasCount → IfSome (long_axis each axis) HasCount
+long_counted each None h = tt
+long_counted each (Some values) h = kept_counted _ values h
+
+axis_counted : (name : AxisName) (axis : Option (List ℤ)) → IfSome axis (IsNamedAxis name) → IfSome axis HasCount
+axis_counted name None h = tt
+axis_counted name (Some values) h = omega (arith, IsShort-axis name values h)
+
+tuples_counted : (names : List AxisName) (tuples : Option (List Position)) → IfSome tuples (AreTuples names) → IfSome tuples HasCount
+tuples_counted names None h = tt
+tuples_counted names (Some tuples) h = h.counted
+
+before_counted : (name : AxisName) (axis : Option (List ℤ)) (axes : List AxisLength) → IfSome axis HasCount → All IsCounted axes → All IsCounted (axis_before name axis axes)
+before_counted name None axes h hs = hs
+before_counted name (Some values) axes h hs = All-cons IsCounted _ axes (record { key = key_ascii name; count = h }) hs
+
+alone_counted : (tuples : Option (List Position)) → IfSome tuples HasCount → All IsCounted (composite_alone tuples)
+alone_counted None h = All-nil IsCounted
+alone_counted (Some tuples) h = All-cons IsCounted _ [] (record { key = refl; count = h }) (All-nil IsCounted)
+
+pub range_axes_counted : (domain : Domain) → HasAxes domain → HasTuples domain → All IsCounted (range_axes domain)
+range_axes_counted domain axes tuples =
+    let each : (name : AxisName) → IfSome (range_axis_of domain name) HasCount = λ name. long_counted (is_grid domain) (axis_of domain name) (axis_counted name (axis_of domain name) (axes name)) in
+    let composite : IfSome (range_tuples_of domain) HasCount = long_counted (is_grid domain) (tuples_of domain) (tuples_counted (coordinates_of domain) (tuples_of domain) tuples.tuples) in
+    before_counted T _ _ (each T) (before_counted Z _ _ (each Z) (before_counted Y _ _ (each Y) (before_counted X _ _ (each X) (alone_counted _ composite))))

@@ -1,5 +1,8 @@
 pub mod Rows
 pub mod Order
+pub mod InTime
+pub mod Counts
+pub mod Tuples
 pub mod InOrder
 pub mod TimeTexts
 pub mod NamedParts
@@ -12,5 +15,7 @@ pub mod Within
 pub mod PlainDomains
 pub mod PlainCoverages
 pub mod Telling
+pub mod TellingTuples
 pub mod TellingDomains
 pub mod TellingCoverages
+pub mod TellingDocuments

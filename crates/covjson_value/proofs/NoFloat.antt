@@ -4,6 +4,7 @@ use Rattle.std.specs.List.{zip}
 use Rattle.serde_json.specs.Data.{Data, string, Members, Items}
 use Rattle.serde_json.specs.View.{items_of}
 use Rattle.serde_json.specs.Written.{has_float, items_have_float, members_have_float}
+use Rattle.edr_base.specs.declared.places.Position.{Position}
 use Rattle.covjson_value.specs.declared.domains.AxisName.{AxisName}
 use Rattle.covjson_value.specs.declared.domains.AxisName.TheVariants.{T, Z, Y, X}
 use Rattle.covjson_value.specs.declared.domains.Domain.{Domain}
@@ -12,7 +13,7 @@ use Rattle.covjson_value.specs.declared.coverages.Referencing.{Referencing}
 use Rattle.covjson_value.specs.declared.coverages.NdArray.{NdArray}
 use Rattle.covjson_value.specs.declared.coverages.Coverage.{Coverage}
 use Rattle.covjson_value.specs.Coverages.{ids_of}
-use Rattle.covjson_value.specs.Domains.{axis_of, has_axis, range_axes}
+use Rattle.covjson_value.specs.Domains.{axis_key, axis_of, tuples_of, coordinates_of, coordinate, has_coordinate, range_axes}
 use Rattle.covjson_value.specs.Trees
 
 abbrev pub NoFloat : Data → Type 0
@@ -50,10 +51,21 @@ axis-NoFloat : (name : AxisName) (axis : Option (List ℤ)) → IfSome (option_m
 axis-NoFloat name None = tt
 axis-NoFloat name (Some values) = rw (items_of-NoFloat (Trees.axis_value_data name) (axis_value-NoFloat name) values) refl
 
+keys-NoFloat : (names : List AxisName) → NoFloat (Trees.keys_data names)
+keys-NoFloat names = items_of-NoFloat (λ name. string (axis_key name)) (λ name. refl) names
+
+tuple-NoFloat : (names : List AxisName) (tuple : Position) → NoFloat (Trees.tuple_data names tuple)
+tuple-NoFloat names tuple = items_of-NoFloat (λ name. Trees.axis_value_data name (coordinate name tuple)) (λ name. axis_value-NoFloat name (coordinate name tuple)) names
+
+composite-NoFloat : (names : List AxisName) (tuples : Option (List Position)) → IfSome (option_map (Trees.composite_data names) tuples) NoFloat
+composite-NoFloat names None = tt
+composite-NoFloat names (Some tuples) = rw (keys-NoFloat names, items_of-NoFloat (Trees.tuple_data names) (tuple-NoFloat names) tuples) refl
+
 axes-NoFloat : (domain : Domain) → NoFloat (Trees.axes_data domain)
 axes-NoFloat domain =
-    member_if-NoFloat _ _ _ (axis-NoFloat T (axis_of domain T)) (member_if-NoFloat _ _ _ (axis-NoFloat X (axis_of domain X))
-    (member_if-NoFloat _ _ _ (axis-NoFloat Y (axis_of domain Y)) (member_if-NoFloat _ _ _ (axis-NoFloat Z (axis_of domain Z)) refl)))
+    member_if-NoFloat _ _ _ (composite-NoFloat (coordinates_of domain) (tuples_of domain))
+    (member_if-NoFloat _ _ _ (axis-NoFloat T (axis_of domain T)) (member_if-NoFloat _ _ _ (axis-NoFloat X (axis_of domain X))
+    (member_if-NoFloat _ _ _ (axis-NoFloat Y (axis_of domain Y)) (member_if-NoFloat _ _ _ (axis-NoFloat Z (axis_of domain Z)) refl))))
 
 system-NoFloat : (name : Option (List ℕ)) (kind : List ℕ) → NoFloat (Trees.system_data name kind)
 system-NoFloat None kind = refl
@@ -62,8 +74,8 @@ system-NoFloat (Some name) kind = refl
 referencing-NoFloat : (domain : Domain) (referencing : Referencing) → NoFloat (Trees.referencing_data domain referencing)
 referencing-NoFloat domain referencing =
     rw (system-NoFloat (Trees.text_if_some referencing.crs) _)
-    (item_if-NoFloat (has_axis domain Z) (Trees.vertical_data referencing.vertical) _ (rw (system-NoFloat referencing.vertical _) refl)
-    (item_if-NoFloat (has_axis domain T) Trees.temporal_data _ refl refl))
+    (item_if-NoFloat (has_coordinate domain Z) (Trees.vertical_data referencing.vertical) _ (rw (system-NoFloat referencing.vertical _) refl)
+    (item_if-NoFloat (has_coordinate domain T) Trees.temporal_data _ refl refl))
 
 domain-NoFloat : (domain : Domain) (referencing : Referencing) → NoFloat (Trees.domain_data domain referencing)
 domain-NoFloat domain referencing = rw (axes-NoFloat domain, referencing-NoFloat domain referencing) refl
@@ -105,3 +117,6 @@ coverage-NoFloat coverage =
     rw (domain-NoFloat coverage.domain coverage.referencing)
     (member_if-NoFloat _ _ _ (string-NoFloat coverage.id)
     (rw (parameters-NoFloat coverage.parameters, ranges-NoFloat coverage.domain (ids_of coverage.parameters) coverage.ranges) refl))
+
+pub collection-NoFloat : (coverages : List Coverage) → NoFloat (Trees.collection_data (Trees.array_of Trees.coverage_data coverages))
+collection-NoFloat coverages = rw (items_of-NoFloat Trees.coverage_data coverage-NoFloat coverages) refl

@@ -2,19 +2,21 @@
 use Rattle.std.proofs.Common.{◌≡◌, ℕ, suc, ◌≤◌, ℤ, unsigned_abs, codes, List, [], ◌∷◌, Option, Some, None, IfSome, option_map, true, IsUtf8, Greater, nat_cmp, refl, arith}
 use Rattle.std.specs.Cmp.Lexicographic.{slice_cmp}
 use Rattle.serde_json.specs.Data.{Data, string, object, no_members, member}
+use Rattle.edr_base.specs.declared.places.Position.{Position}
 use Rattle.edr_axes.specs.Instants.{TimesAreWritten}
 use Rattle.covjson_value.specs.declared.domains.AxisName.{AxisName}
 use Rattle.covjson_value.specs.declared.domains.AxisName.TheVariants.{T, Z, Y, X}
 use Rattle.covjson_value.specs.declared.domains.Domain.{Domain}
-use Rattle.covjson_value.specs.declared.domains.Domain.TheVariants.{Grid, Point}
+use Rattle.covjson_value.specs.declared.domains.Domain.TheVariants.{Grid, Point, PointSeries, VerticalProfile, MultiPoint, Trajectory}
 use Rattle.covjson_value.specs.declared.coverages.Referencing.{Referencing}
-use Rattle.covjson_value.specs.Domains.{axis_of, has_axis}
-use Rattle.covjson_value.specs.Coverages.{IsAxisValue, IsNamedAxis, HasAxes, IsReferencing}
+use Rattle.covjson_value.specs.Domains.{axis_key, axis_of, tuples_of, coordinates_of, coordinate, has_coordinate}
+use Rattle.covjson_value.specs.Coverages.{IsAxisValue, IsNamedAxis, HasAxes, IsTuple, AreTuples, HasTuples, IsReferencing}
 use Rattle.covjson_value.specs.Trees
 use Rattle.json.proofs.Printed.Utf8.{are_ascii, IsUtf8-are_ascii}
 use Rattle.std.specs.Prelude.{⊤}
-use Rattle.covjson_value.proofs.Within.{IsWithin, text_within, word_within, integer_within, array_within, none_within, item_within, item_if_within, array_of_within, object_within, no_members_within, named_within, member_if_within, alone_within}
+use Rattle.covjson_value.proofs.Within.{IsWithin, within_more, text_within, word_within, integer_within, array_within, none_within, item_within, item_if_within, array_of_within, object_within, no_members_within, named_within, member_if_within, alone_within}
 use Rattle.covjson_value.proofs.TimeTexts.{IsUtf8-IsWritten}
+use Rattle.covjson_value.proofs.Tuples.{coordinates_are_values}
 
 -- ---- axes
 
@@ -27,19 +29,42 @@ axis_value_within written n Z value h = coordinate_within n value h
 axis_value_within written n Y value h = coordinate_within n value h
 axis_value_within written n X value h = coordinate_within n value h
 
-axis_within : TimesAreWritten → (name : AxisName) (axis : Option (List ℤ)) → IfSome axis (IsNamedAxis name) → IfSome (option_map (Trees.axis_data name) axis) (IsWithin 2)
-axis_within written name None h = tt
-axis_within written name (Some values) h =
-    alone_within 1 (codes "values") _ (IsUtf8-are_ascii _ refl) (array_of_within 0 (IsAxisValue name) (Trees.axis_value_data name) (axis_value_within written 0 name) values h.within)
+axis_within : TimesAreWritten → (n : ℕ) (name : AxisName) (axis : Option (List ℤ)) → IfSome axis (IsNamedAxis name) → IfSome (option_map (Trees.axis_data name) axis) (IsWithin (suc (suc n)))
+axis_within written n name None h = tt
+axis_within written n name (Some values) h =
+    alone_within (suc n) (codes "values") _ (IsUtf8-are_ascii _ refl) (array_of_within n (IsAxisValue name) (Trees.axis_value_data name) (axis_value_within written n name) values h.within)
 
-axes_within : TimesAreWritten → (domain : Domain) → HasAxes domain → IsWithin 3 (Trees.axes_data domain)
-axes_within written domain h =
-    let each : (name : AxisName) → IfSome (option_map (Trees.axis_data name) (axis_of domain name)) (IsWithin 2) = λ name. axis_within written name (axis_of domain name) (h name) in
+key_within : (n : ℕ) (name : AxisName) → IsWithin n (string (axis_key name))
+key_within n T = word_within n (codes "t") refl
+key_within n Z = word_within n (codes "z") refl
+key_within n Y = word_within n (codes "y") refl
+key_within n X = word_within n (codes "x") refl
+
+keys_within : (n : ℕ) (names : List AxisName) → IsWithin (suc n) (Trees.keys_data names)
+keys_within n names = array_of_within n (λ _. ⊤) (λ name. string (axis_key name)) (λ name _. key_within n name) names (λ k d inside. tt)
+
+tuple_within : TimesAreWritten → (names : List AxisName) (tuple : Position) → IsTuple names tuple → IsWithin 1 (Trees.tuple_data names tuple)
+tuple_within written names tuple h =
+    array_of_within 0 (λ name. IsAxisValue name (coordinate name tuple)) (λ name. Trees.axis_value_data name (coordinate name tuple)) (λ name k. axis_value_within written 0 name (coordinate name tuple) k)
+    names (coordinates_are_values names tuple h)
+
+composite_within : TimesAreWritten → (names : List AxisName) (tuples : Option (List Position)) → IfSome tuples (AreTuples names) → IfSome (option_map (Trees.composite_data names) tuples) (IsWithin 3)
+composite_within written names None h = tt
+composite_within written names (Some tuples) h =
     object_within 2 _
-    (member_if_within 2 [] (codes "t") _ _ refl refl (each T)
-    (member_if_within 2 (codes "t") (codes "x") _ _ refl refl (each X)
-    (member_if_within 2 (codes "x") (codes "y") _ _ refl refl (each Y)
-    (member_if_within 2 (codes "y") (codes "z") _ _ refl refl (each Z) (no_members_within 2 _)))))
+    (named_within 2 [] (codes "coordinates") _ _ refl refl (keys_within 1 names)
+    (named_within 2 (codes "coordinates") (codes "dataType") _ _ refl refl (word_within 2 (codes "tuple") refl)
+    (named_within 2 (codes "dataType") (codes "values") _ _ refl refl (array_of_within 1 (IsTuple names) (Trees.tuple_data names) (tuple_within written names) tuples h.each) (no_members_within 2 _))))
+
+axes_within : TimesAreWritten → (domain : Domain) → HasAxes domain → HasTuples domain → IsWithin 4 (Trees.axes_data domain)
+axes_within written domain h tuples =
+    let each : (name : AxisName) → IfSome (option_map (Trees.axis_data name) (axis_of domain name)) (IsWithin 3) = λ name. axis_within written 1 name (axis_of domain name) (h name) in
+    object_within 3 _
+    (member_if_within 3 [] (codes "composite") _ _ refl refl (composite_within written (coordinates_of domain) (tuples_of domain) tuples.tuples)
+    (member_if_within 3 (codes "composite") (codes "t") _ _ refl refl (each T)
+    (member_if_within 3 (codes "t") (codes "x") _ _ refl refl (each X)
+    (member_if_within 3 (codes "x") (codes "y") _ _ refl refl (each Y)
+    (member_if_within 3 (codes "y") (codes "z") _ _ refl refl (each Z) (no_members_within 3 _))))))
 
 -- ---- referencing
 
@@ -61,15 +86,9 @@ system_within name kind h ascii =
     object_within 0 _ (member_if_within 0 [] (codes "id") _ _ refl refl (given_text_within 0 name h)
     (named_within 0 (codes "id") (codes "type") _ _ refl refl (word_within 0 kind ascii) (no_members_within 0 _)))
 
-pub key_within : (n : ℕ) (name : AxisName) → IsWithin n (string (Trees.axis_key name))
-key_within n T = word_within n (codes "t") refl
-key_within n Z = word_within n (codes "z") refl
-key_within n Y = word_within n (codes "y") refl
-key_within n X = word_within n (codes "x") refl
-
 connection_within : (names : List AxisName) (system : Data) → IsWithin 1 system → IsWithin 2 (Trees.connection_data names system)
 connection_within names system h =
-    two_within 1 (codes "coordinates") (codes "system") _ system refl refl refl refl (array_of_within 0 (λ _. ⊤) (λ name. string (Trees.axis_key name)) (λ name _. key_within 0 name) names (λ k d inside. tt)) h
+    two_within 1 (codes "coordinates") (codes "system") _ system refl refl refl refl (keys_within 0 names) h
 
 temporal_within : IsWithin 2 Trees.temporal_data
 temporal_within = connection_within (T ∷ []) _ (two_within 0 (codes "calendar") (codes "type") _ _ refl refl refl refl (word_within 0 (codes "Gregorian") refl) (word_within 0 (codes "TemporalRS") refl))
@@ -77,19 +96,23 @@ temporal_within = connection_within (T ∷ []) _ (two_within 0 (codes "calendar"
 referencing_within : (domain : Domain) (referencing : Referencing) → IsReferencing referencing → IsWithin 3 (Trees.referencing_data domain referencing)
 referencing_within domain referencing h =
     array_within 2 _ (item_within 2 _ _ (connection_within (X ∷ Y ∷ []) _ (system_within (Trees.text_if_some referencing.crs) (codes "ProjectedCRS") (text_if_some-utf8 referencing.crs h.crs) refl))
-    (item_if_within 2 (has_axis domain Z) (Trees.vertical_data referencing.vertical) _ (connection_within (Z ∷ []) _ (system_within referencing.vertical (codes "VerticalCRS") h.vertical refl))
-    (item_if_within 2 (has_axis domain T) Trees.temporal_data _ temporal_within (none_within 2))))
+    (item_if_within 2 (has_coordinate domain Z) (Trees.vertical_data referencing.vertical) _ (connection_within (Z ∷ []) _ (system_within referencing.vertical (codes "VerticalCRS") h.vertical refl))
+    (item_if_within 2 (has_coordinate domain T) Trees.temporal_data _ temporal_within (none_within 2))))
 
 -- ---- domains
 
 type_within : (n : ℕ) (domain : Domain) → IsWithin n (string (Trees.domain_type domain))
 type_within n (Grid t z y x) = word_within n (codes "Grid") refl
 type_within n (Point t z y x) = word_within n (codes "Point") refl
+type_within n (PointSeries t z y x) = word_within n (codes "PointSeries") refl
+type_within n (VerticalProfile t z y x) = word_within n (codes "VerticalProfile") refl
+type_within n (MultiPoint t has_z spots) = word_within n (codes "MultiPoint") refl
+type_within n (Trajectory z has_z steps) = word_within n (codes "Trajectory") refl
 
-pub domain_within : TimesAreWritten → (domain : Domain) (referencing : Referencing) → HasAxes domain → IsReferencing referencing → IsWithin 4 (Trees.domain_data domain referencing)
-domain_within written domain referencing axes h =
-    object_within 3 _
-    (named_within 3 [] (codes "axes") _ _ refl refl (axes_within written domain axes)
-    (named_within 3 (codes "axes") (codes "domainType") _ _ refl refl (type_within 3 domain)
-    (named_within 3 (codes "domainType") (codes "referencing") _ _ refl refl (referencing_within domain referencing h)
-    (named_within 3 (codes "referencing") (codes "type") _ _ refl refl (word_within 3 (codes "Domain") refl) (no_members_within 3 _)))))
+pub domain_within : TimesAreWritten → (domain : Domain) (referencing : Referencing) → HasAxes domain → HasTuples domain → IsReferencing referencing → IsWithin 5 (Trees.domain_data domain referencing)
+domain_within written domain referencing axes tuples h =
+    object_within 4 _
+    (named_within 4 [] (codes "axes") _ _ refl refl (axes_within written domain axes tuples)
+    (named_within 4 (codes "axes") (codes "domainType") _ _ refl refl (type_within 4 domain)
+    (named_within 4 (codes "domainType") (codes "referencing") _ _ refl refl (within_more 3 4 _ (omega arith) (referencing_within domain referencing h))
+    (named_within 4 (codes "referencing") (codes "type") _ _ refl refl (word_within 4 (codes "Domain") refl) (no_members_within 4 _)))))

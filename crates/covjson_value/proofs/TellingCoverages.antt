@@ -1,6 +1,6 @@
 -- The tree of a valid coverage tells the coverage.
 use Rattle.std.proofs.Common.{◌≡◌, ℕ, ℤ, codes, List, map, length, Option, Some, None, IsSome, option_map, refl, ap, ap₂, ◌∙◌, sym, subst, arith}
-use Rattle.std.specs.Prelude.{⊤}
+use Rattle.std.specs.Prelude.{⊤, IsTrue}
 use Rattle.std.proofs.lemmas.List.{length-map}
 use Rattle.serde_json.specs.Data.{string, Members, member, no_members}
 use Rattle.edr_axes.specs.Instants.{TextsTellTimes}
@@ -10,7 +10,7 @@ use Rattle.covjson_value.specs.declared.coverages.Parameter.{Parameter}
 use Rattle.covjson_value.specs.declared.coverages.Referencing.{Referencing}
 use Rattle.covjson_value.specs.declared.coverages.NdArray.{NdArray}
 use Rattle.covjson_value.specs.declared.coverages.Coverage.{Coverage}
-use Rattle.covjson_value.specs.Domains.{axis_of, range_axes}
+use Rattle.covjson_value.specs.Domains.{has_coordinate, range_axes}
 use Rattle.covjson_value.specs.Coverages.{ids_of, IsValid}
 use Rattle.covjson_value.specs.Trees
 use Rattle.covjson_value.proofs.InOrder.{Pair}
@@ -101,8 +101,8 @@ after_id_apart coverage = member_apart (codes "id") (codes "parameters") _ _ ref
 pub coverage_tells : TextsTellTimes → (one other : Coverage) → IsValid one → IsValid other → Trees.coverage_data one ≡ Trees.coverage_data other → one ≡ other
 coverage_tells told one other h k e =
     let domains : Trees.domain_data one.domain one.referencing ≡ Trees.domain_data other.domain other.referencing = cc in
-    let domain = domain_tells told one.domain other.domain one.referencing other.referencing h.axes k.axes domains in
-    let vertical : IsSome other.referencing.vertical → IsSome (axis_of one.domain Z) = subst (λ (d : Domain). IsSome other.referencing.vertical → IsSome (axis_of d Z)) (sym domain) k.vertical in
+    let domain = domain_tells told one.domain other.domain one.referencing other.referencing h.axes k.axes h.tuples k.tuples domains in
+    let vertical : IsSome other.referencing.vertical → IsTrue (has_coordinate one.domain Z) = subst (λ (d : Domain). IsSome other.referencing.vertical → IsTrue (has_coordinate d Z)) (sym domain) k.vertical in
     let referenced : Trees.referencing_data one.domain one.referencing ≡ Trees.referencing_data other.domain other.referencing = cc in
     let referencing = referencing_tells one.domain one.referencing other.referencing h.vertical vertical (referenced ∙ ap (λ (d : Domain). Trees.referencing_data d other.referencing) (sym domain)) in
     let later = member_if_tells (codes "id") (option_map string one.id) (option_map string other.id) (after_id one) (after_id other) (after_id_apart one) (after_id_apart other) (cc) in

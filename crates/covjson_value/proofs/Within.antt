@@ -39,6 +39,13 @@ pub integer_within : (n : ℕ) (value : ℤ) → unsigned_abs value < 2 ^ 63 →
 integer_within n (pos m) h = record { plain = omega (arith, h); shallow = omega arith }
 integer_within n (negsuc m) h = record { plain = omega (arith, h); shallow = omega arith }
 
+pub count_within : (n count : ℕ) → count < 2 ^ 64 → IsWithin n (integer (pos count))
+count_within n count h = record { plain = h; shallow = omega arith }
+
+-- what is within a depth is within a greater one
+pub within_more : (n more : ℕ) (d : Data) → n ≤ more → IsWithin n d → IsWithin more d
+within_more n more d less h = record { plain = h.plain; shallow = omega (arith, h.shallow, less) }
+
 -- ---- arrays
 
 pub array_within : (n : ℕ) (ds : Items) → AreWithin n ds → IsWithin (suc n) (array ds)

@@ -1,14 +1,15 @@
 //! The trees of a domain's axes.
-ghost use Rattle.std.specs.Prelude.{◌≡◌, IfOk, OnOk, IfSome, All, map, option_map};
+ghost use Rattle.std.specs.Prelude.{◌≡◌, IfOk, OnOk, IfSome, All, codes, option_map};
 ghost use Rattle.serde_json.specs.View.{view, members_view};
-ghost use Rattle.covjson_value.specs.Domains.{axis_of};
-ghost use Rattle.covjson_value.specs.Coverages.{IsAxisValue, IsNamedAxis, HasAxes};
-ghost use Rattle.covjson_value.specs.Trees.{array_of, axis_key, axis_value_data, axis_data, axes_data};
+ghost use Rattle.covjson_value.specs.Domains.{axis_key, axis_of, tuples_of, coordinates_of};
+ghost use Rattle.covjson_value.specs.Domains as domains;
+ghost use Rattle.covjson_value.specs.Coverages.{IsAxisValue, IsNamedAxis, HasAxes, HasTuples};
+ghost use Rattle.covjson_value.specs.Trees.{array_of, axis_value_data, axis_data, keys_data, tuple_data, composite_data, axes_data};
 ghost use Rattle.covjson_value.specs.Puts.{put_if};
 
 use crate::domains::{AxisName, Domain};
 use crate::leaves::time_tree;
-use edr_base::OutOfMemory;
+use edr_base::{OutOfMemory, Position};
 use serde_json::{Map, Value, json};
 use std::alloc::Global;
 
@@ -55,6 +56,64 @@ fn axis_tree(alloc: Global, name: AxisName, values: &[i64]) -> Result<Value, Out
     Ok(json!(in alloc; {"values": values})?)
 }
 
+// A coordinate of a tuple.
+fn coordinate(tuple: &Position, name: AxisName) -> i64
+    ensures { result ≡ domains.coordinate name tuple.now }
+{
+    match name {
+        AxisName::T => tuple.m,
+        AxisName::Z => tuple.z,
+        AxisName::Y => tuple.y,
+        AxisName::X => tuple.x,
+    }
+}
+
+fn tuple_tree(alloc: Global, names: &[AxisName], tuple: &Position) -> Result<Value, OutOfMemory>
+    requires { All (λ name. IsAxisValue name (domains.coordinate name tuple.now)) names.now }
+    ensures { IfOk result (λ v. view v ≡ tuple_data names.now tuple.now) }
+{
+    let mut items = Vec::with_capacity(alloc, names.len())?;
+    for name in names {
+        items.push(axis_value_tree(alloc, *name, coordinate(tuple, *name))?)?;
+    }
+    Ok(Value::Array(items))
+}
+
+fn tuples_tree(alloc: Global, names: &[AxisName], tuples: &[Position]) -> Result<Value, OutOfMemory>
+    requires { All (λ tuple. All (λ name. IsAxisValue name (domains.coordinate name tuple)) names.now) tuples.now }
+    ensures { IfOk result (λ v. view v ≡ array_of (tuple_data names.now) tuples.now) }
+{
+    let mut items = Vec::with_capacity(alloc, tuples.len())?;
+    for tuple in tuples {
+        items.push(tuple_tree(alloc, names, tuple)?)?;
+    }
+    Ok(Value::Array(items))
+}
+
+/// The names of some axes.
+pub fn keys_tree(alloc: Global, names: &[AxisName]) -> Result<Value, OutOfMemory>
+    ensures { IfOk result (λ v. view v ≡ keys_data names.now) }
+{
+    let mut items = Vec::with_capacity(alloc, names.len())?;
+    for name in names {
+        items.push(Value::try_from_str(alloc, name.letter())?)?;
+    }
+    Ok(Value::Array(items))
+}
+
+fn composite_tree(
+    alloc: Global,
+    names: &[AxisName],
+    tuples: &[Position],
+) -> Result<Value, OutOfMemory>
+    requires { All (λ tuple. All (λ name. IsAxisValue name (domains.coordinate name tuple)) names.now) tuples.now }
+    ensures { IfOk result (λ v. view v ≡ composite_data names.now tuples.now) }
+{
+    let coordinates = keys_tree(alloc, names)?;
+    let values = tuples_tree(alloc, names, tuples)?;
+    Ok(json!(in alloc; {"coordinates": coordinates, "dataType": "tuple", "values": values})?)
+}
+
 fn put_axis(
     members: &mut Map<String, Value>,
     alloc: Global,
@@ -72,12 +131,30 @@ fn put_axis(
     Ok(())
 }
 
+fn put_composite(
+    members: &mut Map<String, Value>,
+    alloc: Global,
+    domain: &Domain,
+) -> Result<(), OutOfMemory>
+    requires { HasTuples domain.now }
+    ensures { OnOk result (members_view members.new.entries
+        ≡ put_if (codes "composite") (option_map (composite_data (coordinates_of domain.now)) (tuples_of domain.now)) (members_view members.old.entries)) }
+{
+    if let Some(tuples) = domain.tuples() {
+        let composite = composite_tree(alloc, domain.coordinates(), tuples)?;
+        serde_json::put(members, alloc, "composite", composite)?;
+    }
+    Ok(())
+}
+
 /// The tree of a domain's axes.
 pub fn axes_tree(alloc: Global, domain: &Domain) -> Result<Value, OutOfMemory>
-    requires { HasAxes domain.now }
+    requires axes { HasAxes domain.now }
+    requires tuples { HasTuples domain.now }
     ensures { IfOk result (λ v. view v ≡ axes_data domain.now) }
 {
     let mut members = Map::new(alloc);
+    put_composite(&mut members, alloc, domain)?;
     put_axis(&mut members, alloc, domain, AxisName::T)?;
     put_axis(&mut members, alloc, domain, AxisName::X)?;
     put_axis(&mut members, alloc, domain, AxisName::Y)?;

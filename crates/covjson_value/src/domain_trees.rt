@@ -1,8 +1,7 @@
 //! The trees of domains and of the systems of their coordinates.
 ghost use Rattle.std.specs.Prelude.{◌≡◌, IfOk, IsUtf8, IfSome, option_map, option_copied};
 ghost use Rattle.serde_json.specs.View.{view};
-ghost use Rattle.covjson_value.specs.Coverages.{IsReferencing, HasAxes};
-ghost use Rattle.covjson_value.specs.Domains.{axis_of, has_axis};
+ghost use Rattle.covjson_value.specs.Coverages.{IsReferencing, HasAxes, HasTuples};
 ghost use Rattle.covjson_value.specs.Trees.{connection, text_if_some, system_data, horizontal_data, vertical_data, temporal_data, referencing_data, domain_type, domain_data};
 
 use crate::axis_trees::axes_tree;
@@ -94,6 +93,7 @@ pub fn domain_tree(
     referencing: &Referencing,
 ) -> Result<Value, OutOfMemory>
     requires axes { HasAxes domain.now }
+    requires tuples { HasTuples domain.now }
     requires referencing { IsReferencing referencing.now }
     ensures { IfOk result (λ v. view v ≡ domain_data domain.now referencing.now) }
 {

@@ -1,13 +1,15 @@
 //! Domains of coverages and their axes.
-ghost use Rattle.std.specs.Prelude.{◌≡◌, ◌≤◌, ◌<◌, ◌^◌, ◌↔◌, option_map, length, IsTrue, IfSome, MatchOption};
-ghost use Rattle.covjson_value.specs.Domains.{axis_of, has_axis, single, axis_length, count_of, is_grid, range_axis_of};
+ghost use Rattle.std.specs.Prelude.{◌≡◌, ◌≤◌, ◌<◌, ◌^◌, option_map, IfSome, MatchOption};
+ghost use Rattle.covjson_value.specs.Domains.{axis_of, tuples_of, coordinates_of, is_among, has_coordinate, single, axis_length, count_of, is_grid, range_axis_of, range_tuples_of};
 ghost use Rattle.covjson_value.specs.Trees.{domain_type};
+ghost use Rattle.covjson_value.specs.declared.domains.AxisName.TheVariants.{T, Z, Y, X};
 ghost use Rattle.edr_axes.specs.Axes.{IsAxis};
 
 use edr_axes::Axis;
+use edr_base::{Items, Position};
 use std::slice;
 
-/// An axis of a domain, by its name.
+/// A coordinate of a domain, and the axis of that name.
 #[derive(Clone, Copy, Debug, PartialEq, Eq)]
 pub enum AxisName {
     /// Times, in seconds since 1970-01-01T00:00:00Z.
@@ -23,7 +25,8 @@ pub enum AxisName {
 /// The places and times of a coverage's values (OGC 21-069r2, Domain objects and domain types).
 ///
 /// x and y are in metres of the coordinate reference system, z is a level in metres, and t is a time
-/// in seconds since 1970-01-01T00:00:00Z.
+/// in seconds since 1970-01-01T00:00:00Z. In a valid coverage coordinates and levels have a size of at most
+/// `COORDINATE_LIMIT`, and times lie in the years 0000 to 9999.
 #[derive(Debug, Drop)]
 pub enum Domain {
     /// All nodes of some axes (domain type `Grid`).
@@ -47,6 +50,46 @@ pub enum Domain {
         y: i64,
         /// The first coordinate.
         x: i64,
+    },
+    /// Several times at one place (domain type `PointSeries`).
+    PointSeries {
+        /// The times.
+        t: Axis,
+        /// The level, where it has one.
+        z: Option<i64>,
+        /// The second coordinate.
+        y: i64,
+        /// The first coordinate.
+        x: i64,
+    },
+    /// Several levels at one place (domain type `VerticalProfile`).
+    VerticalProfile {
+        /// The time, where it has one.
+        t: Option<i64>,
+        /// The levels.
+        z: Axis,
+        /// The second coordinate.
+        y: i64,
+        /// The first coordinate.
+        x: i64,
+    },
+    /// Several places (domain type `MultiPoint`).
+    MultiPoint {
+        /// The time, where it has one.
+        t: Option<i64>,
+        /// Whether each place has a level.
+        has_z: bool,
+        /// The places, at least one, m being 0, and z where they have no levels.
+        spots: Items<Position>,
+    },
+    /// Several places, each at its time (domain type `Trajectory`).
+    Trajectory {
+        /// The level of all places, where they have one together; None where each has its own.
+        z: Option<i64>,
+        /// Whether each place has a level of its own.
+        has_z: bool,
+        /// The places, at least one, in the order of their times, which are m and never fall; z is 0 where they have no levels of their own.
+        steps: Items<Position>,
     },
 }
 
@@ -72,33 +115,139 @@ fn values_of(axis: &Option<Axis>) -> Option<&[i64]>
     }
 }
 
+// The names of the coordinates of tuples.
+const SPOT: [AxisName; 2] = [AxisName::X, AxisName::Y];
+
+const SPOT_WITH_LEVEL: [AxisName; 3] = [AxisName::X, AxisName::Y, AxisName::Z];
+
+const STEP: [AxisName; 3] = [AxisName::T, AxisName::X, AxisName::Y];
+
+const STEP_WITH_LEVEL: [AxisName; 4] = [AxisName::T, AxisName::X, AxisName::Y, AxisName::Z];
+
 impl Domain {
     /// The values of an axis, or None where the domain hasn't that axis. It takes no memory.
     pub fn axis(&self, name: AxisName) -> Option<&[i64]>
         ensures values { option_map (λ values. values.now) result ≡ axis_of self.now name }
         ensures axis { IfSome result (λ values. IsAxis values.now) }
     {
-        match self {
-            Domain::Grid { t, z, y, x } => match name {
-                AxisName::T => values_of(t),
-                AxisName::Z => values_of(z),
-                AxisName::Y => Some(y.values()),
-                AxisName::X => Some(x.values()),
-            },
-            Domain::Point { t, z, y, x } => match name {
-                AxisName::T => single_of(t),
-                AxisName::Z => single_of(z),
-                AxisName::Y => Some(slice::from_ref(y)),
-                AxisName::X => Some(slice::from_ref(x)),
-            },
+        match name {
+            AxisName::T => self.times(),
+            AxisName::Z => self.levels(),
+            AxisName::Y => self.rows(),
+            AxisName::X => self.columns(),
         }
     }
 
-    /// Whether the domain has an axis. It takes no memory.
-    pub fn has(&self, name: AxisName) -> bool
-        ensures { result ≡ has_axis self.now name }
+    fn times(&self) -> Option<&[i64]>
+        ensures values { option_map (λ values. values.now) result ≡ axis_of self.now T }
+        ensures axis { IfSome result (λ values. IsAxis values.now) }
     {
-        self.axis(name).is_some()
+        match self {
+            Domain::Grid { t, .. } => values_of(t),
+            Domain::PointSeries { t, .. } => Some(t.values()),
+            Domain::Point { t, .. }
+            | Domain::VerticalProfile { t, .. }
+            | Domain::MultiPoint { t, .. } => single_of(t),
+            Domain::Trajectory { .. } => None,
+        }
+    }
+
+    fn levels(&self) -> Option<&[i64]>
+        ensures values { option_map (λ values. values.now) result ≡ axis_of self.now Z }
+        ensures axis { IfSome result (λ values. IsAxis values.now) }
+    {
+        match self {
+            Domain::Grid { z, .. } => values_of(z),
+            Domain::VerticalProfile { z, .. } => Some(z.values()),
+            Domain::Point { z, .. }
+            | Domain::PointSeries { z, .. }
+            | Domain::Trajectory { z, .. } => single_of(z),
+            Domain::MultiPoint { .. } => None,
+        }
+    }
+
+    fn rows(&self) -> Option<&[i64]>
+        ensures values { option_map (λ values. values.now) result ≡ axis_of self.now Y }
+        ensures axis { IfSome result (λ values. IsAxis values.now) }
+    {
+        match self {
+            Domain::Grid { y, .. } => Some(y.values()),
+            Domain::Point { y, .. }
+            | Domain::PointSeries { y, .. }
+            | Domain::VerticalProfile { y, .. } => Some(slice::from_ref(y)),
+            Domain::MultiPoint { .. } | Domain::Trajectory { .. } => None,
+        }
+    }
+
+    fn columns(&self) -> Option<&[i64]>
+        ensures values { option_map (λ values. values.now) result ≡ axis_of self.now X }
+        ensures axis { IfSome result (λ values. IsAxis values.now) }
+    {
+        match self {
+            Domain::Grid { x, .. } => Some(x.values()),
+            Domain::Point { x, .. }
+            | Domain::PointSeries { x, .. }
+            | Domain::VerticalProfile { x, .. } => Some(slice::from_ref(x)),
+            Domain::MultiPoint { .. } | Domain::Trajectory { .. } => None,
+        }
+    }
+
+    /// The tuples of the composite axis, or None where the domain has none. Their m is the time, and what is no coordinate
+    /// of them is 0. It takes no memory.
+    pub fn tuples(&self) -> Option<&[Position]>
+        ensures { option_map (λ tuples. tuples.now) result ≡ tuples_of self.now }
+    {
+        match self {
+            Domain::MultiPoint { spots, .. } => Some(spots.items()),
+            Domain::Trajectory { steps, .. } => Some(steps.items()),
+            Domain::Grid { .. }
+            | Domain::Point { .. }
+            | Domain::PointSeries { .. }
+            | Domain::VerticalProfile { .. } => None,
+        }
+    }
+
+    /// The names of the coordinates of the tuples, in their order; none where there are no tuples.
+    /// It takes no memory.
+    pub fn coordinates(&self) -> &'static [AxisName]
+        ensures { result.now ≡ coordinates_of self.now }
+    {
+        match self {
+            Domain::MultiPoint { has_z, .. } => { if *has_z { &SPOT_WITH_LEVEL } else { &SPOT } }
+            Domain::Trajectory { has_z, .. } => { if *has_z { &STEP_WITH_LEVEL } else { &STEP } }
+            Domain::Grid { .. }
+            | Domain::Point { .. }
+            | Domain::PointSeries { .. }
+            | Domain::VerticalProfile { .. } => &[],
+        }
+    }
+
+    /// Whether the tuples have a coordinate. It takes no memory.
+    pub fn is_in_tuples(&self, name: AxisName) -> bool
+        ensures { result ≡ is_among name (coordinates_of self.now) }
+    {
+        match self {
+            Domain::MultiPoint { has_z, .. } => match name {
+                AxisName::T => false,
+                AxisName::Z => *has_z,
+                AxisName::Y | AxisName::X => true,
+            },
+            Domain::Trajectory { has_z, .. } => match name {
+                AxisName::Z => *has_z,
+                AxisName::T | AxisName::Y | AxisName::X => true,
+            },
+            Domain::Grid { .. }
+            | Domain::Point { .. }
+            | Domain::PointSeries { .. }
+            | Domain::VerticalProfile { .. } => false,
+        }
+    }
+
+    /// Whether the domain has a coordinate, in its tuples or along an axis. It takes no memory.
+    pub fn has(&self, name: AxisName) -> bool
+        ensures { result ≡ has_coordinate self.now name }
+    {
+        self.is_in_tuples(name) || self.axis(name).is_some()
     }
 
     // 1 where it hasn't the axis.
@@ -112,6 +261,16 @@ impl Domain {
         }
     }
 
+    // 1 where it has none.
+    fn tuples_len(&self) -> usize
+        ensures { result ≡ axis_length (tuples_of self.now) }
+    {
+        match self.tuples() {
+            Some(tuples) => tuples.len(),
+            None => 1,
+        }
+    }
+
     /// How many values a parameter has over the domain: the product of the lengths of its axes.
     /// None where that is beyond a usize. It takes no memory.
     pub fn count(&self) -> Option<usize>
@@ -121,9 +280,10 @@ impl Domain {
         let levels = self.axis_len(AxisName::Z);
         let rows = self.axis_len(AxisName::Y);
         let columns = self.axis_len(AxisName::X);
-        let nodes = rows.checked_mul(columns)?;
-        let places = levels.checked_mul(nodes)?;
-        times.checked_mul(places)
+        let places = columns.checked_mul(self.tuples_len())?;
+        let nodes = rows.checked_mul(places)?;
+        let profiles = levels.checked_mul(nodes)?;
+        times.checked_mul(profiles)
     }
 
     /// Whether it is a Grid. It takes no memory.
@@ -132,7 +292,11 @@ impl Domain {
     {
         match self {
             Domain::Grid { .. } => true,
-            Domain::Point { .. } => false,
+            Domain::Point { .. }
+            | Domain::PointSeries { .. }
+            | Domain::VerticalProfile { .. }
+            | Domain::MultiPoint { .. }
+            | Domain::Trajectory { .. } => false,
         }
     }
 
@@ -143,6 +307,10 @@ impl Domain {
         match self {
             Domain::Grid { .. } => "Grid",
             Domain::Point { .. } => "Point",
+            Domain::PointSeries { .. } => "PointSeries",
+            Domain::VerticalProfile { .. } => "VerticalProfile",
+            Domain::MultiPoint { .. } => "MultiPoint",
+            Domain::Trajectory { .. } => "Trajectory",
         }
     }
 
@@ -154,6 +322,18 @@ impl Domain {
         let values = self.axis(name)?;
         if self.is_grid() || values.len() != 1 {
             Some(values)
+        } else {
+            None
+        }
+    }
+
+    /// The tuples of the composite axis of the domain's ranges: where it has not just one. It takes no memory.
+    pub fn range_tuples(&self) -> Option<&[Position]>
+        ensures { option_map (λ tuples. tuples.now) result ≡ range_tuples_of self.now }
+    {
+        let tuples = self.tuples()?;
+        if self.is_grid() || tuples.len() != 1 {
+            Some(tuples)
         } else {
             None
         }

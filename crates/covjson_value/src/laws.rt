@@ -1,9 +1,9 @@
 //! What the texts of coverages tell.
-ghost use Rattle.covjson_value.specs.Laws.{TextsReadBack, TextsTellCoverages};
+ghost use Rattle.covjson_value.specs.Laws.{TextsReadBack, TextsTellCoverages, DocumentTextsReadBack, TextsTellDocuments};
 
 use edr_axes::{texts_tell_times, times_are_written};
 
-/// A valid coverage's text (OGC 21-069r2, section 6.5) is UTF-8, and what is read in it is the JSON of the coverage.
+/// A valid coverage's text (OGC 21-069r2, Coverage objects) is UTF-8, and what is read in it is the JSON of the coverage.
 pub fn texts_read_back()
     ensures { TextsReadBack }
 {
@@ -15,5 +15,20 @@ pub fn texts_tell_coverages()
     ensures { TextsTellCoverages }
 {
     texts_read_back();
+    texts_tell_times();
+}
+
+/// A valid document's text is UTF-8, and what is read in it is the JSON of the document.
+pub fn document_texts_read_back()
+    ensures { DocumentTextsReadBack }
+{
+    times_are_written();
+}
+
+/// Valid documents with one text are equal.
+pub fn texts_tell_documents()
+    ensures { TextsTellDocuments }
+{
+    document_texts_read_back();
     texts_tell_times();
 }

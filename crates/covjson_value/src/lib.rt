@@ -14,12 +14,14 @@ mod range_trees;
 mod trees;
 mod validity;
 
-pub use coverages::{Coverage, NdArray, Parameter, Referencing};
+pub use coverages::{Coverage, Document, NdArray, Parameter, Referencing};
 pub use domains::{AxisName, Domain};
-pub use laws::{texts_read_back, texts_tell_coverages};
+pub use laws::{
+    document_texts_read_back, texts_read_back, texts_tell_coverages, texts_tell_documents,
+};
 pub use limits::{COORDINATE_LIMIT, NAME_LIMIT, SAMPLE_LIMIT};
 pub use names::is_name;
-pub use trees::tree_of;
+pub use trees::{document_tree, tree_of};
 
 #[cfg(test)]
 mod tests;

@@ -29,7 +29,7 @@ pub fn is_utf8_where_given(text: &Option<Text>) -> bool
     }
 }
 
-/// Whether a text is a name: 1 to 128 bytes of UTF-8 without bytes below 32, byte 127 and the comma.
+/// Whether a text is a name: 1 to 128 bytes of UTF-8 without bytes below 32, byte 127 and the comma. It takes no memory.
 pub fn is_name(text: &[u8]) -> bool
     ensures { IsTrue result ↔ IsName text.now }
 {

@@ -2,7 +2,7 @@
 ghost use Rattle.std.specs.Prelude.{◌≡◌, ◌++◌, IfOk, OnOk, All, map, length, option_map};
 ghost use Rattle.serde_json.specs.View.{view};
 ghost use Rattle.covjson_value.specs.Coverages.{IsParameter, AscendById};
-ghost use Rattle.covjson_value.specs.Domains.{range_axis_of, range_axes};
+ghost use Rattle.covjson_value.specs.Domains.{composite_alone, range_axis_of, range_tuples_of, range_axes};
 ghost use Rattle.covjson_value.specs.Trees.{array_if_some, name_data, length_data, range_data, ranges_data};
 ghost use Rattle.covjson_value.specs.Puts.{axis_alone};
 
@@ -40,6 +40,28 @@ fn push_length(lengths: &mut Vec<Value>, domain: &Domain, name: AxisName) -> Res
     Ok(())
 }
 
+// The name of the composite axis, where that is one.
+fn push_composite(names: &mut Vec<Value>, alloc: Global, domain: &Domain) -> Result<(), OutOfMemory>
+    ensures { OnOk result (map view names.new.items
+        ≡ map view names.old.items ++ map name_data (composite_alone (range_tuples_of domain.now))) }
+{
+    if domain.range_tuples().is_some() {
+        names.push(Value::try_from_str(alloc, "composite")?)?;
+    }
+    Ok(())
+}
+
+// Its length, there.
+fn push_tuples(lengths: &mut Vec<Value>, domain: &Domain) -> Result<(), OutOfMemory>
+    ensures { OnOk result (map view lengths.new.items
+        ≡ map view lengths.old.items ++ map length_data (composite_alone (range_tuples_of domain.now))) }
+{
+    if let Some(tuples) = domain.range_tuples() {
+        lengths.push(Value::from(tuples.len()))?;
+    }
+    Ok(())
+}
+
 fn axis_names(alloc: Global, domain: &Domain) -> Result<Vec<Value>, OutOfMemory>
     ensures { IfOk result (λ names. map view names.items ≡ map name_data (range_axes domain.now)) }
 {
@@ -48,6 +70,7 @@ fn axis_names(alloc: Global, domain: &Domain) -> Result<Vec<Value>, OutOfMemory>
     push_name(&mut names, alloc, domain, AxisName::Z)?;
     push_name(&mut names, alloc, domain, AxisName::Y)?;
     push_name(&mut names, alloc, domain, AxisName::X)?;
+    push_composite(&mut names, alloc, domain)?;
     Ok(names)
 }
 
@@ -59,6 +82,7 @@ fn shape(alloc: Global, domain: &Domain) -> Result<Vec<Value>, OutOfMemory>
     push_length(&mut lengths, domain, AxisName::Z)?;
     push_length(&mut lengths, domain, AxisName::Y)?;
     push_length(&mut lengths, domain, AxisName::X)?;
+    push_tuples(&mut lengths, domain)?;
     Ok(lengths)
 }
 

@@ -1,17 +1,18 @@
 //! Which coverages are valid.
-ghost use Rattle.std.specs.Prelude.{◌≡◌, ◌↔◌, ℕ, ℤ, IsTrue, IfSome, IsSome, All};
+ghost use Rattle.std.specs.Prelude.{◌≡◌, ◌↔◌, true, map, IsTrue, IfSome, IsSome, IsNone, All};
 ghost use Rattle.std.specs.Ordering.{nat_cmp};
 ghost use Rattle.std.specs.declared.cmp.Ordering.TheVariants.{Less};
 ghost use Rattle.std.specs.Cmp.Lexicographic.{slice_cmp};
-ghost use Rattle.covjson_value.specs.declared.domains.AxisName.TheVariants.{Z};
-ghost use Rattle.covjson_value.specs.Domains.{axis_of};
-ghost use Rattle.covjson_value.specs.Coverages.{IsSample, IsAxisValue, IsNamedAxis, HasAxes, IsParameter, IsReferencing, AscendById, IsRange, IsValid};
+ghost use Rattle.covjson_value.specs.declared.domains.AxisName.TheVariants.{T, Z};
+ghost use Rattle.covjson_value.specs.Domains.{axis_of, tuples_of, coordinates_of, coordinate, is_among, has_coordinate};
+ghost use Rattle.covjson_value.specs.Coverages.{IsSample, IsAxisValue, IsNamedAxis, HasAxes, IsTupleValue, IsTuple, NeverFall, AreTuples, HasTuples, IsParameter, IsReferencing, AscendById, IsRange, IsValid, IsValidDocument};
 
-use crate::coverages::{Coverage, NdArray, Parameter, Referencing};
+use crate::coverages::{Coverage, Document, NdArray, Parameter, Referencing};
 use crate::domains::{AxisName, Domain};
 use crate::limits::{COORDINATE_LIMIT, SAMPLE_LIMIT};
 use crate::names::{is_name, is_utf8, is_utf8_where_given};
 use edr_axes::{EARLIEST, LATEST};
+use edr_base::Position;
 
 fn is_axis_value(name: AxisName, value: i64) -> bool
     ensures { IsTrue result ↔ IsAxisValue name value }
@@ -39,6 +40,70 @@ fn has_axes(domain: &Domain) -> bool
         && is_named_axis(domain, AxisName::Z)
         && is_named_axis(domain, AxisName::Y)
         && is_named_axis(domain, AxisName::X)
+}
+
+// What is no coordinate is 0.
+fn is_tuple_value(is_coordinate: bool, name: AxisName, value: i64) -> bool
+    ensures { IsTrue result ↔ IsTupleValue is_coordinate name value }
+{
+    if is_coordinate {
+        is_axis_value(name, value)
+    } else {
+        value == 0
+    }
+}
+
+fn is_tuple(domain: &Domain, tuple: &Position) -> bool
+    ensures { IsTrue result ↔ IsTuple (coordinates_of domain.now) tuple.now }
+{
+    is_tuple_value(domain.is_in_tuples(AxisName::T), AxisName::T, tuple.m)
+        && is_tuple_value(domain.is_in_tuples(AxisName::Z), AxisName::Z, tuple.z)
+        && is_tuple_value(domain.is_in_tuples(AxisName::Y), AxisName::Y, tuple.y)
+        && is_tuple_value(domain.is_in_tuples(AxisName::X), AxisName::X, tuple.x)
+}
+
+fn are_tuples(domain: &Domain, tuples: &[Position]) -> bool
+    ensures { IsTrue result ↔ All (IsTuple (coordinates_of domain.now)) tuples.now }
+{
+    tuples.iter().all(|tuple| is_tuple(domain, tuple))
+}
+
+fn never_fall(tuples: &[Position]) -> bool
+    ensures { IsTrue result ↔ NeverFall (map (coordinate T) tuples.now) }
+{
+    for place in 1..tuples.len() {
+        if tuples[place].m < tuples[place - 1].m {
+            return false;
+        }
+    }
+    true
+}
+
+// The tuples that a domain has are in order.
+fn has_good_tuples(domain: &Domain) -> bool
+    ensures { IsTrue result ↔ IfSome (tuples_of domain.now) (AreTuples (coordinates_of domain.now)) }
+{
+    match domain.tuples() {
+        Some(tuples) => !tuples.is_empty() && are_tuples(domain, tuples) && never_fall(tuples),
+        None => true,
+    }
+}
+
+// A coordinate of tuples has no axis of its own.
+fn is_once(domain: &Domain, name: AxisName) -> bool
+    ensures { IsTrue result ↔ (is_among name (coordinates_of domain.now) ≡ true → IsNone (axis_of domain.now name)) }
+{
+    !domain.is_in_tuples(name) || domain.axis(name).is_none()
+}
+
+fn has_tuples(domain: &Domain) -> bool
+    ensures { IsTrue result ↔ HasTuples domain.now }
+{
+    has_good_tuples(domain)
+        && is_once(domain, AxisName::T)
+        && is_once(domain, AxisName::Z)
+        && is_once(domain, AxisName::Y)
+        && is_once(domain, AxisName::X)
 }
 
 fn is_parameter(parameter: &Parameter) -> bool
@@ -103,14 +168,17 @@ fn are_ranges(ranges: &[NdArray], domain: &Domain) -> bool
 
 // A vertical system is given only where there are levels.
 fn has_vertical_in_place(referencing: &Referencing, domain: &Domain) -> bool
-    ensures { IsTrue result ↔ (IsSome referencing.now.vertical → IsSome (axis_of domain.now Z)) }
+    ensures { IsTrue result ↔ (IsSome referencing.now.vertical → IsTrue (has_coordinate domain.now Z)) }
 {
-    referencing.vertical.is_none() || domain.axis(AxisName::Z).is_some()
+    referencing.vertical.is_none() || domain.has(AxisName::Z)
 }
 
 impl Coverage {
-    /// Whether the coverage is valid: some parameters, ascending by id, with one range each, of as many values
-    /// as the domain has; and names, texts, axes and numbers as they have to be. It takes no memory.
+    /// Whether the coverage is valid (OGC 21-069r2, Coverage objects): at least one parameter, strictly ascending by ids
+    /// that are names, with one range each, of as many values as the domain has; texts of UTF-8; axes strictly ascending
+    /// and not empty; at least one tuple in a composite axis, times of a Trajectory that never fall, and a level of its own
+    /// only where its tuples have none; a vertical system only where the domain has z; coordinates, levels, times and
+    /// samples within their limits. It takes no memory.
     pub fn is_valid(&self) -> bool
         ensures { IsTrue result ↔ IsValid self.now }
     {
@@ -118,6 +186,7 @@ impl Coverage {
         let ranges = self.ranges.items();
         is_utf8_where_given(&self.id)
             && has_axes(&self.domain)
+            && has_tuples(&self.domain)
             && is_referencing(&self.referencing)
             && has_vertical_in_place(&self.referencing, &self.domain)
             && !parameters.is_empty()
@@ -125,5 +194,20 @@ impl Coverage {
             && ascend_by_id(parameters)
             && ranges.len() == parameters.len()
             && are_ranges(ranges, &self.domain)
+    }
+}
+
+impl Document {
+    /// Whether each of its coverages is valid (OGC 21-069r2, CoverageCollection objects); a collection of none is. It takes
+    /// no memory.
+    pub fn is_valid(&self) -> bool
+        ensures { IsTrue result ↔ IsValidDocument self.now }
+    {
+        match self {
+            Document::One(coverage) => coverage.is_valid(),
+            Document::Many(coverages) => {
+                coverages.items().iter().all(|coverage| coverage.is_valid())
+            }
+        }
     }
 }

@@ -2,8 +2,7 @@
 ghost use Rattle.std.specs.Prelude.{◌≡◌, ◌*◌, ◌<◌, ◌≤ℤ◌, ◌↔◌, ℕ, ℤ, List, IsTrue, IfOk, IfSome, MatchOption, Contains, Err};
 ghost use Rattle.edr_axes.specs.Levels.{AreLevelTexts, HasLevel, HasNoLevels, IsInSeries, IsLevel, IsLevels, IsLevelText, IsLevelsText, IsRangeText, IsSeries, IsSeriesText, LevelsAreUnique};
 
-use crate::reading_instants::after;
-use edr_base::{Items, Whole, cut_at, whole_number};
+use edr_base::{Items, Whole, cut_at, whole_number, without_front};
 use std::alloc::{AllocFailed, Global};
 
 /// The greatest size (absolute value) of a level, in metres, and of each number that selects levels.
@@ -120,7 +119,7 @@ fn series_of(text: &[u8]) -> Option<(i64, i64, i64)>
     ensures { MatchOption result ((n first step : ℤ) → ¬ (IsSeriesText text.now n first step))
         (λ series. IsSeriesText text.now series.0 series.1 series.2) }
 {
-    let (count, rest) = cut_at(after(text, b'R')?, b'/')?;
+    let (count, rest) = cut_at(without_front(text, b"R")?, b'/')?;
     let (start, rise) = cut_at(rest, b'/')?;
     let n = level_of(count)?;
     let first = level_of(start)?;
@@ -198,108 +197,10 @@ pub fn levels_are_unique()
 
 #[cfg(test)]
 mod tests {
-    use super::{LevelFault, Levels, read_levels};
+    use super::Levels;
     use edr_base::Items;
     use std::rt::HostRuntime;
     use std::test::Fail;
-
-    #[test]
-    fn one_or_two_numbers(rt: HostRuntime) {
-        for (text, only) in [
-            ("5", 5),
-            ("-5.0", -5),
-            (" +05. ", 5),
-            ("100000000", 100_000_000),
-            ("-100000000", -100_000_000),
-        ] {
-            let levels = read_levels(rt.alloc(), text.as_bytes());
-            assert!(rt; matches!(levels, Ok(Levels::At(level)) if level == only));
-        }
-        for (text, first, last) in [
-            ("1/2", 1, 2),
-            ("2/2", 2, 2),
-            ("-20/-10", -20, -10),
-            (" 1 / 2.0 ", 1, 2),
-        ] {
-            let levels = read_levels(rt.alloc(), text.as_bytes());
-            assert!(rt;
-                matches!(levels, Ok(Levels::Between(low, high)) if low == first && high == last)
-            );
-        }
-    }
-
-    #[test]
-    fn series(rt: HostRuntime) {
-        for (text, count, least, rise) in [
-            ("R1/0/1", 1, 0, 1),
-            ("R3/-10/20", 3, -10, 20),
-            ("R 2/+0/20.0", 2, 0, 20),
-            ("R2/0/100000000", 2, 0, 100_000_000),
-            ("R100000000/1/1", 100_000_000, 1, 1),
-        ] {
-            let levels = read_levels(rt.alloc(), text.as_bytes());
-            assert!(rt;
-                matches!(levels, Ok(Levels::Series { n, first, step }) if n == count && first == least && step == rise)
-            );
-        }
-    }
-
-    #[test]
-    fn lists(rt: HostRuntime) -> Result<(), Fail> {
-        for text in ["3,1,2", " 3 ,1.0,+2"] {
-            match read_levels(rt.alloc(), text.as_bytes())? {
-                Levels::List(levels) => assert_eq!(rt; levels.items(), [3, 1, 2].as_slice()),
-                _ => assert!(rt; false),
-            }
-        }
-        match read_levels(rt.alloc(), b"7,7")? {
-            Levels::List(levels) => assert_eq!(rt; levels.items(), [7, 7].as_slice()),
-            _ => assert!(rt; false),
-        }
-        Ok(())
-    }
-
-    #[test]
-    fn no_levels(rt: HostRuntime) {
-        for text in [
-            "",
-            " ",
-            "x",
-            "5.5",
-            "100000001",
-            "-100000001",
-            "2/1",
-            "1/",
-            "/1",
-            "/",
-            "1/2/3",
-            "1/100000001",
-            "../2",
-            "1,",
-            ",1",
-            ",",
-            "1,,2",
-            "1,2,",
-            "1,2,x",
-            "1,100000001",
-            "1,2/3",
-            "R0/0/1",
-            "R1/0/0",
-            "R-1/0/1",
-            "R2/1/100000000",
-            "R100000000/2/1",
-            "R2/0",
-            "R2/0/1/1",
-            "R/0/1",
-            "r2/0/1",
-            " R2/0/1",
-            "R",
-            "R 1",
-        ] {
-            let levels = read_levels(rt.alloc(), text.as_bytes());
-            assert_eq!(rt; levels.err(), Some(LevelFault::NotLevels), "{text}");
-        }
-    }
 
     // Whether the levels have -1, 0, 10, 15, 20 and 30.
     fn has_them(levels: &Levels) -> [bool; 6] {

@@ -6,6 +6,7 @@ ghost use Rattle.edr_axes.specs.InstantGrammar.{IsInstant, IsOffset, IsZone, Ins
 ghost use Rattle.edr_axes.specs.InstantPieces.{IsPair, HasNoPair, BeginsWithDate, HasNoDate, BeginsWithMark, HasNoMark, BeginsWithMinutes, HasNoMinutes, HasNoOffset, HasNoZone, IsZoneEnd, HasNoZoneEnd, IsEnd, HasNoEnd};
 
 use crate::instants::{EARLIEST, LATEST};
+use edr_base::without_front;
 use jiff::civil::Date;
 
 // The number that two digits write, and the bytes after them.
@@ -19,17 +20,6 @@ fn two_digits(text: &[u8]) -> Option<(u8, &[u8])>
             }
             Some(((*tens - b'0') * 10 + (*ones - b'0'), rest))
         }
-        _ => None,
-    }
-}
-
-/// The bytes after a first byte.
-pub fn after(text: &[u8], first: u8) -> Option<&[u8]>
-    ensures { MatchOption result ((rest : List ℕ) → ¬ (text.now ≡ first ∷ rest))
-        (λ r. text.now ≡ first ∷ r.now) }
-{
-    match text {
-        [byte, rest @ ..] => { if *byte == first { Some(rest) } else { None } }
         _ => None,
     }
 }
@@ -60,13 +50,13 @@ fn read_date(text: &[u8]) -> Option<(i64, &[u8])>
     let Some((of_century, text)) = two_digits(text) else {
         return None;
     };
-    let Some(text) = after(text, b'-') else {
+    let Some(text) = without_front(text, b"-") else {
         return None;
     };
     let Some((month, text)) = two_digits(text) else {
         return None;
     };
-    let Some(text) = after(text, b'-') else {
+    let Some(text) = without_front(text, b"-") else {
         return None;
     };
     let Some((day, text)) = two_digits(text) else {
@@ -82,9 +72,9 @@ fn read_date(text: &[u8]) -> Option<(i64, &[u8])>
 fn after_mark(text: &[u8]) -> Option<&[u8]>
     ensures { MatchOption result (HasNoMark text.now) (λ r. BeginsWithMark text.now r.now) }
 {
-    match after(text, b'T') {
+    match without_front(text, b"T") {
         Some(rest) => Some(rest),
-        None => after(text, b't'),
+        None => without_front(text, b"t"),
     }
 }
 
@@ -96,7 +86,7 @@ fn read_minutes(text: &[u8]) -> Option<(u32, &[u8])>
     let Some((hour, text)) = two_digits(text) else {
         return None;
     };
-    let Some(text) = after(text, b':') else {
+    let Some(text) = without_front(text, b":") else {
         return None;
     };
     let Some((minute, text)) = two_digits(text) else {
@@ -169,7 +159,7 @@ fn read_zone_end(text: &[u8]) -> Option<i64>
     ensures value { MatchOption result (HasNoZoneEnd text.now) (λ ahead. IsZoneEnd text.now ahead) }
     ensures bound { IfSome result (IsBetween (neg_ℤ (pos 86340)) (pos 86340)) }
 {
-    let Some(digits) = after(text, b'.') else {
+    let Some(digits) = without_front(text, b".") else {
         return read_zone(text);
     };
     let zeros = zero_count(digits);
@@ -185,7 +175,7 @@ fn read_end(text: &[u8]) -> Option<(u8, i64)>
     ensures second { IfSome result (λ r. r.0 ≤ 59) }
     ensures ahead { IfSome result (λ r. IsBetween (neg_ℤ (pos 86340)) (pos 86340) r.1) }
 {
-    let Some(text) = after(text, b':') else {
+    let Some(text) = without_front(text, b":") else {
         return match read_zone(text) {
             Some(ahead) => Some((0, ahead)),
             None => None,

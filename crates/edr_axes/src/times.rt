@@ -105,69 +105,12 @@ pub fn times_are_unique()
 
 #[cfg(test)]
 mod tests {
-    use super::{Times, read_times};
+    use super::Times;
     use std::rt::HostRuntime;
 
     const FIRST: i64 = 1_704_067_200;
 
     const LAST: i64 = 1_704_070_800;
-
-    #[test]
-    fn times(rt: HostRuntime) {
-        let table: [(&[u8], Option<Times>); 30] = [
-            (b"2024-01-01T00:00:00Z", Some(Times::At(FIRST))),
-            (b"2024-01-01T02:00 01:00", Some(Times::At(LAST))),
-            (
-                b"2024-01-01T00:00:00Z/2024-01-01T01:00:00Z",
-                Some(Times::Between(Some(FIRST), Some(LAST))),
-            ),
-            (
-                b"2024-01-01T00:00Z/2024-01-01T00:00:00.0+00:00",
-                Some(Times::Between(Some(FIRST), Some(FIRST))),
-            ),
-            (
-                b"2024-01-01T00:00:00Z/..",
-                Some(Times::Between(Some(FIRST), None)),
-            ),
-            (
-                b"2024-01-01T00:00:00Z/",
-                Some(Times::Between(Some(FIRST), None)),
-            ),
-            (
-                b"../2024-01-01T01:00:00Z",
-                Some(Times::Between(None, Some(LAST))),
-            ),
-            (
-                b"/2024-01-01T01:00:00Z",
-                Some(Times::Between(None, Some(LAST))),
-            ),
-            (b"../..", Some(Times::All)),
-            (b"/..", Some(Times::All)),
-            (b"../", Some(Times::All)),
-            (b"/", Some(Times::All)),
-            (b"2024-01-01T01:00:00Z/2024-01-01T00:00:00Z", None),
-            (b"2024-01-01T00:00:00Z/2024-01-01T00:00:00+00:01", None),
-            (b"", None),
-            (b"..", None),
-            (b".", None),
-            (b"//", None),
-            (b"../../..", None),
-            (b"./..", None),
-            (b".../..", None),
-            (b" ../..", None),
-            (b"../ ..", None),
-            (b"2024-01-01T00:00:00Z//", None),
-            (b"2024-01-01T00:00:00Z/../..", None),
-            (b"2024-01-01T00:00:00Z/2024-01-01T00:00:00Z/", None),
-            (b"2024-06-15/..", None),
-            (b"2024-01-01T00:00:00Z /..", None),
-            (b"2024-01-01T00:00:00Z,2024-01-01T01:00:00Z", None),
-            (b"2024-02-30T00:00:00Z/..", None),
-        ];
-        for (text, times) in table.iter() {
-            assert!(rt; read_times(text) == *times);
-        }
-    }
 
     #[test]
     fn has(rt: HostRuntime) {

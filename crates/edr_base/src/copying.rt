@@ -1,5 +1,5 @@
 //! All of a source to a sink.
-ghost use Rattle.std.specs.Prelude.{IfOk, IsErrOf};
+ghost use Rattle.std.specs.Prelude.{◌≡◌, IfOk, IsErrOf};
 ghost use Rattle.std.specs.Io.KnownBytes.{IsAtEnd};
 ghost use Rattle.edr_base.specs.Outside.{Rose};
 ghost use Rattle.edr_base.specs.Calls.{SourceLent, SinkLent, WritesOf};
@@ -23,6 +23,7 @@ pub enum CopyFault {
 /// An input of 18,446,744,073,709,551,615 reads and more is given up as if memory were wanting.
 pub fn copy_all<S: Source, K: Sink>(source: &mut S, sink: &mut K) -> Result<(), CopyFault>
     ensures bytes { WritesOf result (S.left source.old) (K.written sink.old) (K.written sink.new) }
+    ensures flushed { K.flushed sink.new ≡ K.flushed sink.old }
     ensures ended { IfOk result (λ _. IsAtEnd (S.left source.new)) }
     ensures source { SourceLent (S.aside source.old) (S.aside source.new) (S.faults source.old) (S.faults source.new) }
     ensures sink { SinkLent (K.beside sink.old) (K.beside sink.new) (K.faults sink.old) (K.faults sink.new) }

@@ -153,13 +153,20 @@ fn a_source_is_read_up_to_the_limit(rt: HostRuntime) -> Result<(), Fail> {
     Ok(())
 }
 
+// No contract tells what they pass on.
 #[test]
 fn adapters_pass_bytes_on(rt: HostRuntime) -> Result<(), Fail> {
     let alloc = rt.alloc();
     let mut source = RealSource::of(b"real".as_slice());
-    let mut sink = RealSink::of(Vec::new(alloc));
-    assert!(rt; copy_all(&mut source, &mut sink) == Ok(()));
+    let mut kept = MemorySink::of(alloc, 3, numbers_of(alloc, &[])?);
+    assert!(rt; copy_all(&mut source, &mut kept) == Ok(()));
+    assert!(rt; kept.written() == b"real".as_slice());
+    let mut bytes = Vec::new(alloc);
+    let mut sink = RealSink::of(&mut bytes);
+    assert!(rt; send(&mut sink, b"real").is_ok());
     assert!(rt; settle(&mut sink).is_ok());
+    drop(sink);
+    assert!(rt; bytes.as_slice() == b"real".as_slice());
     Ok(())
 }
 

@@ -1,5 +1,5 @@
 -- The node that a target asks for, its answer and its refusals, on a grid with times and without levels.
-use Rattle.std.proofs.Common.{◌≡◌, ℕ, ℤ, List, Some, None, Vec, Global, Result, Ok, Err, sym, ap, subst, ◌∙◌, arith, w64, FitsSigned}
+use Rattle.std.proofs.Common.{◌≡◌, ℕ, ℤ, List, Some, None, Vec, Global, Result, Ok, Err, refl, sym, ap, subst, ◌∙◌, arith, w64, FitsSigned}
 use Rattle.std.proofs.lemmas.Int.{ints, fits_signed_from_abs}
 use Rattle.edr_axes.specs.Instants.{IsTime}
 use Rattle.covjson_value.specs.Coverages.{IsCoordinate}
@@ -53,7 +53,7 @@ pub place_on : (coverage : Coverage) (g : IsTimedGrid coverage) (target : List �
 place_on coverage g target at asked =
     let P : Domain → Type 0 = λ d. IsPlaceOn d at in
     let z = asked.place.z_is in
-    subst P (sym g.domain) (record { t = asked.place.t_in; z = omega (arith, z); y = asked.place.row.inside; x = asked.place.column.inside })
+    subst P (sym g.domain) (record { along = refl; t = asked.place.t_in; z = omega (arith, z); y = asked.place.row.inside; x = asked.place.column.inside })
 
 -- its node is at the time that is asked for, and at the nearest values
 node_asked : (coverage : Coverage) (g : IsTimedGrid coverage) (target : List ℕ) (at : GridPlace) (asked : IsPlaceAsked g.ts g.ys g.xs target at)

@@ -1,12 +1,13 @@
 -- The numbers of nodes in the order t, z, y, x.
-use Rattle.std.proofs.Common.{◌≡◌, ℕ, ◌+◌, ◌*◌, ◌<◌, ◌≤◌, List, refl, sym, ap, ◌∙◌, subst, arith, Some, None, ℤ}
+use Rattle.std.proofs.Common.{◌≡◌, ℕ, ◌+◌, ◌*◌, ◌<◌, ◌≤◌, List, refl, sym, ap, ◌∙◌, subst, arith, None}
 use Rattle.std.specs.declared.option.Option.{Option}
 use Rattle.std.proofs.lemmas.Nat.{mul-add-lt}
 use Rattle.std.proofs.Math.Nat.{le-mul_of_pos_right}
-use Rattle.covjson_value.specs.declared.domains.AxisName.{AxisName}
 use Rattle.covjson_value.specs.declared.domains.AxisName.TheVariants.{T, Z, Y, X}
 use Rattle.covjson_value.specs.declared.domains.Domain.{Domain}
-use Rattle.covjson_value.specs.Domains.{NamedAxis, axis_of, axis_before, axis_length, places, count_of}
+use Rattle.edr_base.specs.declared.places.Position.{Position}
+use Rattle.covjson_value.specs.Domains.{tuples_of, axis_length, count_of}
+use Rattle.covjson_value.proofs.Counts as counts
 use Rattle.edr_serve.specs.declared.point.GridPlace.{GridPlace}
 use Rattle.edr_serve.specs.NodePlaces.{length_of, IsPlaceOn}
 
@@ -36,21 +37,15 @@ steps_below t z y x times levels rows columns ht hz hy hx =
     small : (a b y c x n : ℕ) → a ≤ b → b + y ≤ c → c + x < n → (a < n) × (b < n) × (b + y < n) × (c < n)
     small a b y c x n h k l = (omega arith, omega arith, omega arith, omega arith)
 
-places_before : (name : AxisName) (axis : Option (List ℤ)) (axes : List NamedAxis) → places (axis_before name axis axes) ≡ axis_length axis * places axes
-places_before name None axes = omega arith
-places_before name (Some values) axes = refl
-
-pub count_is : (domain : Domain) → count_of domain ≡ length_of domain T * (length_of domain Z * (length_of domain Y * (length_of domain X * 1)))
-count_is domain =
-    places_before T (axis_of domain T) _
-    ∙ ap (λ n. length_of domain T * n) (places_before Z (axis_of domain Z) _
-    ∙ ap (λ n. length_of domain Z * n) (places_before Y (axis_of domain Y) _
-    ∙ ap (λ n. length_of domain Y * n) (places_before X (axis_of domain X) _)))
+pub count_is : (domain : Domain) → tuples_of domain ≡ None → count_of domain ≡ length_of domain T * (length_of domain Z * (length_of domain Y * (length_of domain X * 1)))
+count_is domain along =
+    counts.count_is domain
+    ∙ ap (λ (tuples : Option (List Position)). length_of domain T * (length_of domain Z * (length_of domain Y * (length_of domain X * axis_length tuples)))) along
 
 pub node_steps : (domain : Domain) (at : GridPlace) → IsPlaceOn domain at
     → StepsBelow at.t at.z at.y at.x (length_of domain Z) (length_of domain Y) (length_of domain X) (count_of domain)
 node_steps domain at on =
-    subst (StepsBelow at.t at.z at.y at.x (length_of domain Z) (length_of domain Y) (length_of domain X)) (sym (count_is domain))
+    subst (StepsBelow at.t at.z at.y at.x (length_of domain Z) (length_of domain Y) (length_of domain X)) (sym (count_is domain on.along))
     (steps_below at.t at.z at.y at.x (length_of domain T) (length_of domain Z) (length_of domain Y) (length_of domain X) on.t on.z on.y on.x)
 
 -- the same at lengths that were read

@@ -12,7 +12,7 @@ use Rattle.edr_axes.specs.Axes.{value_at, IsAscending}
 use Rattle.edr_axes.proofs.AxisLemmas.{ascending_far}
 use Rattle.covjson_value.specs.declared.domains.AxisName.TheVariants.{T, Z, Y, X}
 use Rattle.covjson_value.specs.declared.domains.Domain.{Domain}
-use Rattle.covjson_value.specs.declared.domains.Domain.TheVariants.{Grid, Point}
+use Rattle.covjson_value.specs.declared.domains.Domain.TheVariants.{Grid, Point, PointSeries, VerticalProfile, MultiPoint, Trajectory}
 use Rattle.covjson_value.specs.Domains.{axis_of, axis_length}
 use Rattle.covjson_value.specs.Coverages.{IsNamedAxis, HasAxes}
 use Rattle.covjson_value.specs.Samples.{Node, node, nodes_of, values_or_absent, same_where_given, same_node}
@@ -162,3 +162,13 @@ node_passes (Point t z y x) at axes on =
     node_of_axes (axis_of (Point t z y x) T) (axis_of (Point t z y x) Z) (y ∷ []) (x ∷ []) at.t at.z at.y at.x
     (ascends_where_given (axis_of (Point t z y x) T) (IsNamedAxis T) (λ values h. h.ascending.ascending) (axes T)) (ascends_where_given (axis_of (Point t z y x) Z) (IsNamedAxis Z) (λ values h. h.ascending.ascending) (axes Z))
     (axes Y).ascending.ascending (axes X).ascending.ascending on.t on.z on.y on.x
+node_passes (PointSeries t z y x) at axes on =
+    node_of_axes (axis_of (PointSeries t z y x) T) (axis_of (PointSeries t z y x) Z) (y ∷ []) (x ∷ []) at.t at.z at.y at.x
+    (ascends_where_given (axis_of (PointSeries t z y x) T) (IsNamedAxis T) (λ values h. h.ascending.ascending) (axes T)) (ascends_where_given (axis_of (PointSeries t z y x) Z) (IsNamedAxis Z) (λ values h. h.ascending.ascending) (axes Z))
+    (axes Y).ascending.ascending (axes X).ascending.ascending on.t on.z on.y on.x
+node_passes (VerticalProfile t z y x) at axes on =
+    node_of_axes (axis_of (VerticalProfile t z y x) T) (axis_of (VerticalProfile t z y x) Z) (y ∷ []) (x ∷ []) at.t at.z at.y at.x
+    (ascends_where_given (axis_of (VerticalProfile t z y x) T) (IsNamedAxis T) (λ values h. h.ascending.ascending) (axes T)) (ascends_where_given (axis_of (VerticalProfile t z y x) Z) (IsNamedAxis Z) (λ values h. h.ascending.ascending) (axes Z))
+    (axes Y).ascending.ascending (axes X).ascending.ascending on.t on.z on.y on.x
+node_passes (MultiPoint t has_z spots) at axes on = cc (on.along)
+node_passes (Trajectory z has_z steps) at axes on = cc (on.along)

@@ -1,5 +1,5 @@
 -- The coverage of one node of a valid coverage is valid.
-use Rattle.std.proofs.Common.{◌≡◌, ℕ, zero, suc, ◌<◌, List, [], ◌∷◌, length, get_or, refl, sym, subst, arith, Some, None, IfSome, IsSome, ℤ, All}
+use Rattle.std.proofs.Common.{◌≡◌, ℕ, zero, suc, ◌<◌, List, [], ◌∷◌, length, get_or, refl, sym, subst, arith, Some, None, IfSome, IsSome, IsTrue, true≢false, ℤ, All}
 use Rattle.std.specs.declared.option.Option.{Option}
 use Rattle.std.specs.Prelude.{option_map}
 use Rattle.std.proofs.lemmas.List.{length-map}
@@ -8,11 +8,11 @@ use Rattle.edr_axes.specs.Axes.{value_at}
 use Rattle.covjson_value.specs.declared.domains.AxisName.{AxisName}
 use Rattle.covjson_value.specs.declared.domains.AxisName.TheVariants.{T, Z, Y, X}
 use Rattle.covjson_value.specs.declared.domains.Domain.{Domain}
-use Rattle.covjson_value.specs.declared.domains.Domain.TheVariants.{Grid, Point}
+use Rattle.covjson_value.specs.declared.domains.Domain.TheVariants.{Grid, Point, PointSeries, VerticalProfile, MultiPoint, Trajectory}
 use Rattle.covjson_value.specs.declared.coverages.NdArray.{NdArray}
 use Rattle.covjson_value.specs.declared.coverages.Coverage.{Coverage}
-use Rattle.covjson_value.specs.Domains.{axis_of, axis_length, single, count_of}
-use Rattle.covjson_value.specs.Coverages.{IsSample, IsAxisValue, IsNamedAxis, HasAxes, IsRange, IsValid}
+use Rattle.covjson_value.specs.Domains.{axis_of, tuples_of, has_coordinate, axis_length, single, count_of}
+use Rattle.covjson_value.specs.Coverages.{IsSample, IsAxisValue, IsNamedAxis, HasAxes, HasTuples, IsRange, IsValid}
 use Rattle.covjson_value.specs.Samples.{Node, values_at, point_at}
 use Rattle.edr_serve.specs.declared.point.GridPlace.{GridPlace}
 use Rattle.edr_serve.specs.NodePlaces.{IsPlaceOn, node_at, number_of, point_domain, one_value}
@@ -42,6 +42,27 @@ point_axes (Grid t z ys xs) at axes on Y = one_named Y ys at.y (axes Y) on.y
 point_axes (Grid t z ys xs) at axes on X = one_named X xs at.x (axes X) on.x
 point_axes (Point t z y x) at axes on Y = one_named Y (single y) at.y (axes Y) on.y
 point_axes (Point t z y x) at axes on X = one_named X (single x) at.x (axes X) on.x
+point_axes (PointSeries t z y x) at axes on Y = one_named Y (single y) at.y (axes Y) on.y
+point_axes (PointSeries t z y x) at axes on X = one_named X (single x) at.x (axes X) on.x
+point_axes (VerticalProfile t z y x) at axes on Y = one_named Y (single y) at.y (axes Y) on.y
+point_axes (VerticalProfile t z y x) at axes on X = one_named X (single x) at.x (axes X) on.x
+point_axes (MultiPoint t has_z spots) at axes on Y = cc (on.along)
+point_axes (MultiPoint t has_z spots) at axes on X = cc (on.along)
+point_axes (Trajectory z has_z steps) at axes on Y = cc (on.along)
+point_axes (Trajectory z has_z steps) at axes on X = cc (on.along)
+
+-- the domain of one node has no tuples
+point_tuples : (at : Node) → HasTuples (point_domain at)
+point_tuples at = record { tuples = tt; once = λ name among. absurd (true≢false (sym among)) }
+
+-- a domain without tuples has its levels along an axis
+level_along : (domain : Domain) → tuples_of domain ≡ None → IsTrue (has_coordinate domain Z) → IsSome (axis_of domain Z)
+level_along (Grid t z y x) along h = h
+level_along (Point t z y x) along h = h
+level_along (PointSeries t z y x) along h = h
+level_along (VerticalProfile t z y x) along h = h
+level_along (MultiPoint t has_z spots) along h = cc (along)
+level_along (Trajectory z has_z steps) along h = cc (along)
 
 level_stays : (axis : Option (List ℤ)) (place : ℕ) → IsSome axis → IsSome (option_map single (option_map (λ values. value_at values place) axis))
 level_stays None place h = h
@@ -69,8 +90,9 @@ point_valid coverage at valid on =
     record {
       id = tt;
       axes = point_axes coverage.domain at valid.axes on;
+      tuples = point_tuples here;
       referencing = valid.referencing;
-      vertical = λ given. level_stays (axis_of coverage.domain Z) at.z (valid.vertical given);
+      vertical = λ given. level_stays (axis_of coverage.domain Z) at.z (level_along coverage.domain on.along (valid.vertical given));
       some = valid.some;
       parameters = valid.parameters;
       ascending = valid.ascending;

@@ -8,7 +8,6 @@ use Rattle.covjson_value.specs.Domains.{count_of}
 use Rattle.covjson_value.specs.Coverages.{IsValid}
 use Rattle.covjson_read.specs.Standing.{Stands}
 use Rattle.edr_serve.specs.Line.{IsOneLine, IsJson}
-use Rattle.edr_serve.specs.declared.limits.TheConstants.{NODE_LIMIT}
 
 -- the coverage is a grid with times and without levels, of few enough nodes
 pub record IsTimedGrid (coverage : Coverage) : Type 0 where
@@ -16,7 +15,7 @@ pub record IsTimedGrid (coverage : Coverage) : Type 0 where
   pub ys : List ℤ
   pub xs : List ℤ
   pub domain : coverage.domain ≡ Grid (Some ts) None ys xs
-  pub few : count_of coverage.domain ≤ NODE_LIMIT
+  pub few : count_of coverage.domain ≤ 4_000_000
 
 -- the input is one line of JSON that stands for the coverage
 pub record InputStands (input : List ℕ) (coverage : Coverage) : Type 0 where

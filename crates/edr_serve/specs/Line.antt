@@ -2,11 +2,10 @@
 use Rattle.std.specs.Prelude.{◌≡◌, ◌⊎◌, ℕ, ◌≤◌, List, [], ◌∷◌, ◌++◌, length, Contains, IsUtf8, Some}
 use Rattle.serde_json.specs.Data.{Data}
 use Rattle.serde_json.specs.Read.{read}
-use Rattle.edr_serve.specs.declared.limits.TheConstants.{LINE_LIMIT}
 
 -- the bytes are one line, with or without its line feed
 pub record IsOneLine (bytes line : List ℕ) : Type 0 where
-  pub within : length line ≤ LINE_LIMIT
+  pub within : length line ≤ 16_777_216
   pub plain : ¬ (Contains line 10)
   pub whole : (bytes ≡ line) ⊎ (bytes ≡ line ++ 10 ∷ [])
 

@@ -1,5 +1,5 @@
 -- The node at some places of a domain's axes, and its number among the nodes.
-use Rattle.std.specs.Prelude.{ℕ, ◌+◌, ◌*◌, ◌<◌, ℤ, [], ◌∷◌, option_map}
+use Rattle.std.specs.Prelude.{◌≡◌, ℕ, ◌+◌, ◌*◌, ◌<◌, ℤ, [], ◌∷◌, option_map}
 use Rattle.std.specs.List.{slice_index_or}
 use Rattle.std.specs.declared.option.Option.{Option}
 use Rattle.std.specs.Prelude.{None}
@@ -9,7 +9,7 @@ use Rattle.covjson_value.specs.declared.domains.AxisName.TheVariants.{T, Z, Y, X
 use Rattle.covjson_value.specs.declared.domains.Domain.{Domain}
 use Rattle.covjson_value.specs.declared.domains.Domain.TheVariants.{Point}
 use Rattle.covjson_value.specs.declared.coverages.NdArray.{NdArray}
-use Rattle.covjson_value.specs.Domains.{axis_of, axis_length}
+use Rattle.covjson_value.specs.Domains.{axis_of, tuples_of, axis_length}
 use Rattle.covjson_value.specs.Samples.{Node, node, values_or_none}
 use Rattle.edr_serve.specs.declared.point.GridPlace.{GridPlace}
 
@@ -17,8 +17,9 @@ use Rattle.edr_serve.specs.declared.point.GridPlace.{GridPlace}
 abbrev pub length_of : Domain → AxisName → ℕ
 length_of domain name = axis_length (axis_of domain name)
 
--- each place is on its axis
+-- each place is on its axis, and the domain has no tuples besides
 pub record IsPlaceOn (domain : Domain) (at : GridPlace) : Type 0 where
+  pub along : tuples_of domain ≡ None
   pub t : at.t < length_of domain T
   pub z : at.z < length_of domain Z
   pub y : at.y < length_of domain Y

@@ -1,19 +1,22 @@
-use Rattle.std.proofs.Common.{All}
+use Rattle.std.proofs.Common.{ℤ, All, Vec, Global}
 use Rattle.serde_json.specs.View.{view}
-use Rattle.covjson_value.specs.Coverages.{IsAxisValue}
-use Rattle.covjson_read.specs.Axes.{StandsForAxis}
-use Rattle.covjson_read.proofs.AnswerLemmas.{if_gives}
-use Rattle.covjson_read.proofs.AxisLemmas.{coordinates_stand, coordinates_axis, coordinates_within}
+use Rattle.covjson_value.specs.declared.domains.AxisName.TheVariants.{X}
+use Rattle.covjson_value.specs.Coverages.{IsCoordinate, IsAxisValue}
+use Rattle.covjson_read.specs.Axes.{HoldsValues}
+use Rattle.covjson_read.proofs.AnswerLemmas.{if_ok}
+use Rattle.covjson_read.proofs.AxisLemmas.{not_times, numbers_hold, coordinates_within}
 use Rattle.covjson_read.proofs.axes.axis_values.Goals as goal
 
-pub returns-in_default : goal.returns-in_default
-returns-in_default c =
+pub returns-in-Z : goal.returns-in-Z
+returns-in-Z c =
     let name = c.args.name in
     let axis = view c.args.axis.now in
-    let stand = coordinates_stand c.member_of-member.result axis in
+    let other = not_times name c.in-Z.is in
+    let numbers : Vec ℤ Global → Type 0 = λ v. HoldsValues X axis v.items in
+    let values : Vec ℤ Global → Type 0 = λ v. HoldsValues name axis v.items in
+    let coordinates : Vec ℤ Global → Type 0 = λ v. All IsCoordinate v.items in
+    let within : Vec ℤ Global → Type 0 = λ v. All (IsAxisValue name) v.items in
     record {
-      stands = if_gives _ (λ v. v.items) _ (λ v. StandsForAxis name axis v.items)
-          (λ v e. coordinates_axis name c.in_default.not-T axis v.items (stand v.items e)) c.coordinates.ensures;
-      in_range = if_gives _ (λ v. v.items) _ (λ v. All (IsAxisValue name) v.items)
-          (λ v e. coordinates_within name c.in_default.not-T v.items (stand v.items e).3) c.coordinates.ensures;
+      stands = if_ok c.axis_numbers.result numbers values (λ v h. numbers_hold name other axis v.items h) c.axis_numbers.ensures.stands;
+      in_range = if_ok c.axis_numbers.result coordinates within (λ v h. coordinates_within name other v.items h) c.axis_numbers.ensures.in_range;
     }

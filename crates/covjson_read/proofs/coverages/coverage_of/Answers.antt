@@ -17,6 +17,7 @@ returns-clause-stands c =
       id = c.in_ok-id.ensures.value;
       domain = place;
       domain_at = or_fault_ok (get (codes "domain") d) _ place c.in_ok-place.ensures;
+      turned = c.in_ok-domain.turned;
       domain_stands = c.in_ok-domain.ensures.stands;
       referencing_stands = c.in_ok-referencing.ensures.stands;
       parameters = view c.in_ok-parameters.parameters.now;

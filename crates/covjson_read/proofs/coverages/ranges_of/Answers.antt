@@ -39,7 +39,7 @@ loop-id-preserved c =
       parameters_stand = All-push (StandsAmong d) c.loop-id.kept.items c.push.new.self.items p pushed i.parameters_stand among;
       parameters = All-push IsParameter c.loop-id.kept.items c.push.new.self.items p pushed i.parameters c.in_ok-parameter.ensures.valid;
       as_many = omega (arith, i.as_many, ap length pushed, ap length read, length_push c.loop-id.kept.items p, length_push c.loop-id.read.items a);
-      ranges_stand = values_more (StandsForRange domain) c.loop-id.read.items c.push-in-loop-id.new.self.items a c.loop-id.id-iterator c.next.new.self
+      ranges_stand = values_more (StandsForRange domain c.args.turned) c.loop-id.read.items c.push-in-loop-id.new.self.items a c.loop-id.id-iterator c.next.new.self
           c.args.ranges.now.entries k v c.in-Some.ensures.steps c.in_ok-array.ensures.stands read i.ranges_stand;
       ranges = All-push (IsRange domain) c.loop-id.read.items c.push-in-loop-id.new.self.items a read i.ranges c.in_ok-array.ensures.valid;
     }
@@ -51,7 +51,7 @@ returns-clause-stands c =
     record {
       ids = ids_all c.loop-id.kept.items c.loop-id.id-iterator _ ended i.ids;
       parameters_stand = i.parameters_stand;
-      ranges_stand = values_all (StandsForRange c.args.domain.now) c.loop-id.read.items c.loop-id.id-iterator c.args.ranges.now.entries ended i.ranges_stand;
+      ranges_stand = values_all (StandsForRange c.args.domain.now c.args.turned) c.loop-id.read.items c.loop-id.id-iterator c.args.ranges.now.entries ended i.ranges_stand;
     }
 
 pub returns-clause-valid : goal.returns-clause-valid

@@ -14,7 +14,7 @@ invariant-loop-id l = record {
   parameters_stand : All (StandsAmong (view l.parameters)) l.kept.items;
   parameters : All IsParameter l.kept.items;
   as_many : length l.read.items ≡ length l.kept.items;
-  ranges_stand : (rest : List NdArray) → EachStands (StandsForRange l.domain) (values_of (members_view l.id-iterator)) rest
-      → EachStands (StandsForRange l.domain) (values_of (members_view l.ranges.entries)) (l.read.items ++ rest);
+  ranges_stand : (rest : List NdArray) → EachStands (StandsForRange l.domain l.turned) (values_of (members_view l.id-iterator)) rest
+      → EachStands (StandsForRange l.domain l.turned) (values_of (members_view l.ranges.entries)) (l.read.items ++ rest);
   ranges : All (IsRange l.domain) l.read.items;
 }

@@ -6,33 +6,33 @@ use Rattle.edr_axes.proofs.levels.series_of.Goals as goal
 
 pub returns-in_err-count : goal.returns-in_err-count
 returns-in_err-count c =
-    rw c.from_residual-in_err-count.ensures (λ n first step is. c.in_err-count.ensures (series_slash c.args.text.now _ n first step c.in_ok-after.ensures is))
+    rw c.from_residual-in_err-count.ensures (λ n first step is. c.in_err-count.ensures (series_slash c.args.text.now _ n first step c.in_ok-without_front.ensures is))
 
 pub returns-in_err-start : goal.returns-in_err-start
 returns-in_err-start c =
-    rw c.from_residual-in_err-start.ensures (λ n first step is. c.in_err-start.ensures (series_second c.args.text.now _ _ _ n first step c.in_ok-after.ensures c.in_ok-count.ensures is))
+    rw c.from_residual-in_err-start.ensures (λ n first step is. c.in_err-start.ensures (series_second c.args.text.now _ _ _ n first step c.in_ok-without_front.ensures c.in_ok-count.ensures is))
 
 pub returns-in_err-n : goal.returns-in_err-n
 returns-in_err-n c =
-    rw c.from_residual-in_err-n.ensures (λ n first step is. c.in_err-n.ensures n (series_first c.args.text.now _ _ _ n first step c.in_ok-after.ensures c.in_ok-count.ensures is).0)
+    rw c.from_residual-in_err-n.ensures (λ n first step is. c.in_err-n.ensures n (series_first c.args.text.now _ _ _ n first step c.in_ok-without_front.ensures c.in_ok-count.ensures is).0)
 
 pub returns-in_err-first : goal.returns-in_err-first
 returns-in_err-first c =
     let cut : IsSeriesCut c.args.text.now c.in_ok-count.count.now c.in_ok-start.start.now c.in_ok-start.rise.now =
-    record { behind = _; rest = _; letter_is = c.in_ok-after.ensures; first_cut = c.in_ok-count.ensures; second_cut = c.in_ok-start.ensures } in
+    record { behind = _; rest = _; letter_is = c.in_ok-without_front.ensures; first_cut = c.in_ok-count.ensures; second_cut = c.in_ok-start.ensures } in
     rw c.from_residual-in_err-first.ensures (λ n first step is. c.in_err-first.ensures first (series_parts c.args.text.now _ _ _ n first step cut is).first_is)
 
 pub returns-in_err-step : goal.returns-in_err-step
 returns-in_err-step c =
     let cut : IsSeriesCut c.args.text.now c.in_ok-count.count.now c.in_ok-start.start.now c.in_ok-start.rise.now =
-    record { behind = _; rest = _; letter_is = c.in_ok-after.ensures; first_cut = c.in_ok-count.ensures; second_cut = c.in_ok-start.ensures } in
+    record { behind = _; rest = _; letter_is = c.in_ok-without_front.ensures; first_cut = c.in_ok-count.ensures; second_cut = c.in_ok-start.ensures } in
     rw c.from_residual-in_err-step.ensures (λ n first step is. c.in_err-step.ensures step (series_parts c.args.text.now _ _ _ n first step cut is).step_is)
 
 pub returns-then-not-is_series : goal.returns-then-not-is_series
 returns-then-not-is_series c =
     let n = c.in_ok-n.n in let first = c.in_ok-first.first in let step = c.in_ok-step.step in
     let cut : IsSeriesCut c.args.text.now c.in_ok-count.count.now c.in_ok-start.start.now c.in_ok-start.rise.now =
-    record { behind = _; rest = _; letter_is = c.in_ok-after.ensures; first_cut = c.in_ok-count.ensures; second_cut = c.in_ok-start.ensures } in
+    record { behind = _; rest = _; letter_is = c.in_ok-without_front.ensures; first_cut = c.in_ok-count.ensures; second_cut = c.in_ok-start.ensures } in
     let are : AreSeriesTexts c.in_ok-count.count.now c.in_ok-start.start.now c.in_ok-start.rise.now n first step =
     record { count_is = c.in_ok-n.ensures; first_is = c.in_ok-first.ensures; step_is = c.in_ok-step.ensures } in
     let n_fits = level_fits n c.in_ok-n.ensures.within in let first_fits = level_fits first c.in_ok-first.ensures.within in let step_fits = level_fits step c.in_ok-step.ensures.within in
@@ -43,7 +43,7 @@ pub returns : goal.returns
 returns c =
     let n = c.in_ok-n.n in let first = c.in_ok-first.first in let step = c.in_ok-step.step in
     let cut : IsSeriesCut c.args.text.now c.in_ok-count.count.now c.in_ok-start.start.now c.in_ok-start.rise.now =
-    record { behind = _; rest = _; letter_is = c.in_ok-after.ensures; first_cut = c.in_ok-count.ensures; second_cut = c.in_ok-start.ensures } in
+    record { behind = _; rest = _; letter_is = c.in_ok-without_front.ensures; first_cut = c.in_ok-count.ensures; second_cut = c.in_ok-start.ensures } in
     let are : AreSeriesTexts c.in_ok-count.count.now c.in_ok-start.start.now c.in_ok-start.rise.now n first step =
     record { count_is = c.in_ok-n.ensures; first_is = c.in_ok-first.ensures; step_is = c.in_ok-step.ensures } in
     let n_fits = level_fits n c.in_ok-n.ensures.within in let first_fits = level_fits first c.in_ok-first.ensures.within in let step_fits = level_fits step c.in_ok-step.ensures.within in

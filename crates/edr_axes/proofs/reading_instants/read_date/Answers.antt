@@ -3,12 +3,12 @@ use Rattle.edr_axes.proofs.reading_instants.read_date.Goals as goal
 
 pub returns-in_default-two_digits-2-clause-value : goal.returns-in_default-two_digits-2-clause-value
 returns-in_default-two_digits-2-clause-value c =
-    no_month c.args.text.now c.in-Some.text.now c.in-Some-two_digits.text.now c.in-Some-after.text.now c.in-Some.century c.in-Some-two_digits.of_century
-    c.in-Some.ensures c.in-Some-two_digits.ensures c.in-Some-after.ensures c.in_default-two_digits-2.ensures
+    no_month c.args.text.now c.in-Some.text.now c.in-Some-two_digits.text.now c.in-Some-without_front.text.now c.in-Some.century c.in-Some-two_digits.of_century
+    c.in-Some.ensures c.in-Some-two_digits.ensures c.in-Some-without_front.ensures c.in_default-two_digits-2.ensures
 
 pub returns-in_default-two_digits-3-clause-value : goal.returns-in_default-two_digits-3-clause-value
 returns-in_default-two_digits-3-clause-value c =
-    no_day c.args.text.now c.in-Some.text.now c.in-Some-two_digits.text.now c.in-Some-after.text.now c.in-Some-two_digits-2.text.now
-    c.in-Some-after-2.text.now c.in-Some.century c.in-Some-two_digits.of_century c.in-Some-two_digits-2.month
-    c.in-Some.ensures c.in-Some-two_digits.ensures c.in-Some-after.ensures c.in-Some-two_digits-2.ensures c.in-Some-after-2.ensures
+    no_day c.args.text.now c.in-Some.text.now c.in-Some-two_digits.text.now c.in-Some-without_front.text.now c.in-Some-two_digits-2.text.now
+    c.in-Some-without_front-2.text.now c.in-Some.century c.in-Some-two_digits.of_century c.in-Some-two_digits-2.month
+    c.in-Some.ensures c.in-Some-two_digits.ensures c.in-Some-without_front.ensures c.in-Some-two_digits-2.ensures c.in-Some-without_front-2.ensures
     c.in_default-two_digits-3.ensures

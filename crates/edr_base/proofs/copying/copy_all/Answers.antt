@@ -19,6 +19,7 @@ loop-preserved g c =
     let bs = take c.in-Ok.count c.read.new.buf in
     record {
       moved = (m.0 ++ bs, took_on _ _ _ m.0 bs m.1 c.in-Ok.ensures.bytes.0, grew_on _ _ _ m.0 bs m.2 c.in-Ok-send.ensures.bytes.whole);
+      flushed = search rules;
       source = search rules;
       sink = search rules;
     }

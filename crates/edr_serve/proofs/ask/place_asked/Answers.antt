@@ -6,6 +6,7 @@ use Rattle.edr_serve.specs.Answer.{RefusedBy}
 use Rattle.edr_serve.proofs.AnswerLemmas.{bad_coords, place_asked, no_samples, time_fits, coordinate_fits}
 use Rattle.edr_serve.proofs.ReplyLemmas.{refused_by}
 use Rattle.edr_serve.proofs.ask.place_asked.Goals as goal
+use Rattle.edr_serve.proofs.ask.place_asked.Goals.{in_default-domain-via-in-Grid+in-Some+in_default, in_default-domain-via-in-Grid+in_default, in_default-domain-via-in_default}
 
 pub returns-in-Err-NotPoint-clause-refused : goal.returns-in-Err-NotPoint-clause-refused
 returns-in-Err-NotPoint-clause-refused c = λ refusal e g.
@@ -32,3 +33,12 @@ returns-in-None-clause-refused c = λ refusal e g.
     let none = simp to_z-of_z at c.in-None.ensures in
     let bad = no_samples c.args.coverage.now _ _ _ _ _ _ _ _ matched c.in-Some.ensures c.in-Ok.ensures.ok none g in
     refused_by (λ r. RefusedBy g.ts g.ys g.xs c.args.target.now r) NoSamples refusal bad cc
+
+pub unreachable-requires : goal.unreachable-requires
+unreachable-requires c =
+    let grid = c.requires.domain in
+    elim c.in_default-domain.branch [
+      | in_default-domain-via-in-Grid+in-Some+in_default w ↦ search rules
+      | in_default-domain-via-in-Grid+in_default w ↦ search rules
+      | in_default-domain-via-in_default w ↦ search rules
+    ]

@@ -1,0 +1,51 @@
+use Rattle.std.proofs.Common.{rules, to_z, of_z, ◌≡◌, arith, pos, ◌+ℤ◌, ◌*ℤ◌, [], ◌∷◌, ◌++◌, refl}
+use Rattle.std.proofs.lemmas.Int.{to_z-of_z, to_z_pos, fits_signed_from_abs}
+use mir.Syntax.{w64}
+use Rattle.covjson_read.proofs.SpanLemmas.{AreFirst, between_ends, step_size, first_more}
+use Rattle.covjson_read.proofs.spans.stepped.Goals as goal
+
+pub overflow_mul-place : goal.overflow_mul-place
+overflow_mul-place c =
+    let place = c.loop-place.place in
+    let a = c.args in
+    let place_is = to_z_pos w64 place (omega arith) in
+    let step_is = to_z-of_z w64 a.step c.ranges.step in
+    rw (place_is, step_is)
+    (fits_signed_from_abs w64 (pos place *ℤ a.step) (omega (arith, step_size a.first a.step place a.count (omega arith) c.requires.first c.requires.last)))
+
+pub overflow_add-first : goal.overflow_add-first
+overflow_add-first c =
+    let place = c.loop-place.place in
+    let a = c.args in
+    let far = pos place *ℤ a.step in
+    let place_is = to_z_pos w64 place (omega arith) in
+    let step_is = to_z-of_z w64 a.step c.ranges.step in
+    let first_is = to_z-of_z w64 a.first c.ranges.first in
+    let far_is = to_z-of_z w64 far (fits_signed_from_abs w64 far (omega (arith, step_size a.first a.step place a.count (omega arith) c.requires.first c.requires.last))) in
+    rw (place_is, step_is, first_is, far_is)
+    (fits_signed_from_abs w64 (a.first +ℤ far) (omega (arith, between_ends a.first a.step place a.count (omega arith) c.requires.first c.requires.last)))
+
+pub loop-place-preserved : goal.loop-place-preserved
+loop-place-preserved c =
+    let place = c.loop-place.place in
+    let a = c.args in
+    let far = pos place *ℤ a.step in
+    let value = a.first +ℤ far in
+    let inside = between_ends a.first a.step place a.count (omega arith) c.requires.first c.requires.last in
+    let place_is = to_z_pos w64 place (omega arith) in
+    let step_is = to_z-of_z w64 a.step c.ranges.step in
+    let first_is = to_z-of_z w64 a.first c.ranges.first in
+    let far_is = to_z-of_z w64 far (fits_signed_from_abs w64 far (omega (arith, step_size a.first a.step place a.count (omega arith) c.requires.first c.requires.last))) in
+    let value_is = to_z-of_z w64 value (fits_signed_from_abs w64 value (omega (arith, inside))) in
+    let old = c.loop-place.values.items in
+    let given : c.push.new.self.items ≡ old ++ to_z w64 (of_z w64 (to_z w64 (of_z w64 a.first) +ℤ to_z w64 (of_z w64 (to_z w64 place *ℤ to_z w64 (of_z w64 a.step))))) ∷ [] = search rules in
+    let pushed : c.push.new.self.items ≡ old ++ value ∷ [] = rw (place_is, step_is, first_is, far_is, value_is) at given in
+    let before : AreFirst a.first a.step place old = rw (step_is, first_is) at c.loop-place.invariant in
+    rw (step_is, first_is, pushed) (first_more a.first a.step place old value refl inside before)
+
+pub returns-clause-steps : goal.returns-clause-steps
+returns-clause-steps c =
+    let step_is = to_z-of_z w64 c.args.step c.ranges.step in
+    let first_is = to_z-of_z w64 c.args.first c.ranges.first in
+    let all : AreFirst c.args.first c.args.step c.loop-place.place c.loop-place.values.items = rw (step_is, first_is) at c.loop-place.invariant in
+    record { counted = omega (arith, all.counted); each = λ place inside. all.each place (omega arith) }

@@ -1,0 +1,12 @@
+use Rattle.std.proofs.Common.{map, ap, ◌∙◌, arith}
+use Rattle.std.proofs.lemmas.List.{take_all}
+use Rattle.serde_json.specs.Data.{array}
+use Rattle.serde_json.specs.View.{items_of}
+use Rattle.serde_json.proofs.Views.{view-Array}
+use Rattle.covjson_value.specs.Trees.{tuple_data}
+use Rattle.covjson_value.proofs.axis_trees.tuples_tree.Goals as goal
+
+pub returns : goal.returns
+returns c =
+    view-Array c.loop-tuple.items
+    ∙ ap (λ ds. array (items_of ds)) (c.loop-tuple.invariant ∙ ap (map (tuple_data c.args.names.now)) (take_all _ _ (omega arith)))

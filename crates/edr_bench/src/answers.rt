@@ -1,0 +1,64 @@
+//! What the commands print.
+use edr_base::OutOfMemory;
+use edr_wkt::WktFault;
+use std::alloc::AllocError;
+use std::fmt;
+
+/// What a command that was done prints.
+#[derive(Clone, Copy, Debug, PartialEq, Eq)]
+pub enum Answer {
+    /// How many positions a geometry has, how many samples a grid, or how many bytes a text.
+    Count(usize),
+    /// Why a text is no geometry.
+    NoGeometry(WktFault),
+}
+
+/// Why a command wasn't done.
+#[derive(Clone, Copy, Debug, PartialEq, Eq)]
+pub enum BenchFault {
+    /// The words are none of the commands'.
+    Usage,
+    /// The input wasn't read whole: a read failed, or it has more than 64 MiB.
+    Input,
+    /// The grid that was made isn't valid.
+    NotValid,
+    /// Memory was wanting.
+    OutOfMemory,
+}
+
+impl From<OutOfMemory> for BenchFault {
+    fn from(_fault: OutOfMemory) -> BenchFault {
+        BenchFault::OutOfMemory
+    }
+}
+
+impl From<AllocError> for BenchFault {
+    fn from(_fault: AllocError) -> BenchFault {
+        BenchFault::OutOfMemory
+    }
+}
+
+impl fmt::Display for Answer {
+    fn fmt<W: fmt::Write>(&self, f: &mut fmt::Formatter<W>) -> fmt::Result {
+        match self {
+            Answer::Count(count) => write!(f, "{count}"),
+            Answer::NoGeometry(fault) => write!(f, "{fault:?}"),
+        }
+    }
+}
+
+impl fmt::Display for BenchFault {
+    fn fmt<W: fmt::Write>(&self, f: &mut fmt::Formatter<W>) -> fmt::Result {
+        match self {
+            BenchFault::Usage => {
+                write!(
+                    f,
+                    "usage: edr_bench wkt | make COUNT | write COUNT ROUNDS | tree COUNT ROUNDS"
+                )
+            }
+            BenchFault::Input => write!(f, "input not read"),
+            BenchFault::NotValid => write!(f, "grid not valid"),
+            BenchFault::OutOfMemory => write!(f, "out of memory"),
+        }
+    }
+}

@@ -1,0 +1,41 @@
+//! The commands, as the words after the program's name give them.
+use crate::grids::Rows;
+
+/// What is to be done.
+#[derive(Clone, Copy, Debug, PartialEq, Eq)]
+pub enum Command {
+    /// Reads well-known text.
+    Wkt,
+    /// Makes a grid.
+    Make(Rows),
+    /// Makes a grid and writes it so many times.
+    Write(Rows, u32),
+    /// Makes a grid and its tree, and writes the tree so many times.
+    Tree(Rows, u32),
+}
+
+fn rows_of(word: &String) -> Option<Rows> {
+    match word.as_str().parse::<u32>() {
+        Ok(count) => Rows::of_samples(count),
+        Err(_) => None,
+    }
+}
+
+fn rounds_of(word: &String) -> Option<u32> {
+    word.as_str().parse::<u32>().ok()
+}
+
+/// The command that some words are, or None where they are none.
+pub fn command_of(words: &[String]) -> Option<Command> {
+    match words {
+        [name] if name.as_str() == "wkt" => Some(Command::Wkt),
+        [name, count] if name.as_str() == "make" => Some(Command::Make(rows_of(count)?)),
+        [name, count, rounds] if name.as_str() == "write" => {
+            Some(Command::Write(rows_of(count)?, rounds_of(rounds)?))
+        }
+        [name, count, rounds] if name.as_str() == "tree" => {
+            Some(Command::Tree(rows_of(count)?, rounds_of(rounds)?))
+        }
+        _ => None,
+    }
+}

@@ -1,0 +1,51 @@
+//! `edr_bench`: does one piece of the work alone, so that its time and its memory can be measured.
+//!
+//! - `wkt` reads standard input whole as well-known text, and prints the number of its positions or why it is none.
+//! - `make COUNT` makes a grid of so many samples of one digit, and prints their number. COUNT is a multiple of 1,000,
+//!   up to 4,000,000.
+//! - `write COUNT ROUNDS` makes that grid and writes it so many times, and prints the length of its text.
+//! - `tree COUNT ROUNDS` makes that grid and its tree of JSON and writes the tree so many times, and prints the length.
+#![tactic(auto)]
+
+mod answers;
+mod commands;
+mod grids;
+mod running;
+
+use answers::BenchFault;
+use commands::command_of;
+use edr_base::RealSource;
+use running::carry_out;
+use std::process::ExitCode;
+use std::rt::HostRuntime;
+use std::{env, io};
+
+// The words after the program's name.
+fn words_of(rt: &HostRuntime) -> io::Result<Vec<String>> {
+    let mut words = Vec::new(rt.alloc());
+    for word in env::args(rt)?.skip(1) {
+        words.push(word)?;
+    }
+    Ok(words)
+}
+
+fn main(rt: HostRuntime) -> ExitCode {
+    let mut input = RealSource::of(rt.stdin());
+    let done = match words_of(&rt) {
+        Ok(words) => match command_of(&words) {
+            Some(command) => carry_out(rt.alloc(), command, &mut input),
+            None => Err(BenchFault::Usage),
+        },
+        Err(_) => Err(BenchFault::OutOfMemory),
+    };
+    match done {
+        Ok(answer) => match println!(rt; "{answer}") {
+            Ok(()) => ExitCode::SUCCESS,
+            Err(_) => ExitCode::FAILURE,
+        },
+        Err(fault) => {
+            let _ = eprintln!(rt; "edr_bench: {fault}");
+            ExitCode::FAILURE
+        }
+    }
+}

@@ -1,0 +1,119 @@
+//! What each command does.
+ghost use Rattle.covjson_value.specs.Coverages.{IsValidDocument};
+
+use crate::answers::{Answer, BenchFault};
+use crate::commands::Command;
+use crate::grids::{Rows, grid_of};
+use covjson_value::{Document, document_tree};
+use covjson_write::write_whole;
+use edr_base::{Items, OutOfMemory, Position, ReadStop, Source, read_all};
+use edr_wkt::{Geometry, Polygon, WktFault, read_wkt};
+use serde_json::Value;
+use std::alloc::Global;
+
+const MOST_INPUT: usize = 67_108_864;
+
+fn positions_in_rings(rings: &[Items<Position>]) -> usize {
+    let mut count: usize = 0;
+    for ring in rings {
+        count = count.saturating_add(ring.items().len());
+    }
+    count
+}
+
+fn positions_in_polygons(polygons: &[Polygon]) -> usize {
+    let mut count: usize = 0;
+    for polygon in polygons {
+        count = count.saturating_add(positions_in_rings(polygon.rings.items()));
+    }
+    count
+}
+
+fn count_positions(geometry: &Geometry) -> usize {
+    match geometry {
+        Geometry::Points { positions, .. } | Geometry::Line { positions, .. } => {
+            positions.items().len()
+        }
+        Geometry::Polygons { polygons, .. } => positions_in_polygons(polygons.items()),
+    }
+}
+
+fn read<S: Source>(alloc: Global, input: &mut S) -> Result<Answer, BenchFault> {
+    let text = match read_all(alloc, input, MOST_INPUT) {
+        Ok(text) => text,
+        Err(ReadStop::OutOfMemory) => return Err(BenchFault::OutOfMemory),
+        Err(ReadStop::ReadFault | ReadStop::TooLong) => return Err(BenchFault::Input),
+    };
+    match read_wkt(alloc, &text) {
+        Ok(geometry) => Ok(Answer::Count(count_positions(&geometry))),
+        Err(WktFault::OutOfMemory) => Err(BenchFault::OutOfMemory),
+        Err(fault) => Ok(Answer::NoGeometry(fault)),
+    }
+}
+
+// The document of a grid.
+fn made(alloc: Global, rows: Rows) -> Result<Document, BenchFault> {
+    Ok(Document::One(grid_of(alloc, rows)?))
+}
+
+fn count_samples(document: &Document) -> usize {
+    match document {
+        Document::One(coverage) => coverage.domain.count().unwrap_or(0),
+        Document::Many(coverages) => coverages.items().len(),
+    }
+}
+
+fn make(alloc: Global, rows: Rows) -> Result<Answer, BenchFault> {
+    Ok(Answer::Count(count_samples(&made(alloc, rows)?)))
+}
+
+// Writes a document so many times, and answers the length of its text.
+fn write_rounds(alloc: Global, document: &Document, rounds: u32) -> Result<usize, OutOfMemory>
+    requires { IsValidDocument document.now }
+{
+    let mut length = 0;
+    for _ in 0..rounds {
+        length = write_whole(alloc, document)?.bytes().len();
+    }
+    Ok(length)
+}
+
+// Writes a tree so many times, and answers the length of its text.
+fn tree_rounds(alloc: Global, tree: &Value, rounds: u32) -> Result<usize, OutOfMemory> {
+    let mut length = 0;
+    for _ in 0..rounds {
+        length = tree.to_vec(alloc)?.len();
+    }
+    Ok(length)
+}
+
+fn write(alloc: Global, rows: Rows, rounds: u32) -> Result<Answer, BenchFault> {
+    let document = made(alloc, rows)?;
+    if !document.is_valid() {
+        return Err(BenchFault::NotValid);
+    }
+    Ok(Answer::Count(write_rounds(alloc, &document, rounds)?))
+}
+
+fn write_tree(alloc: Global, rows: Rows, rounds: u32) -> Result<Answer, BenchFault> {
+    let document = made(alloc, rows)?;
+    if !document.is_valid() {
+        return Err(BenchFault::NotValid);
+    }
+    let tree = document_tree(alloc, &document)?;
+    Ok(Answer::Count(tree_rounds(alloc, &tree, rounds)?))
+}
+
+/// Does what a command asks for. Only `wkt` reads the input.
+pub fn carry_out<S: Source>(
+    alloc: Global,
+    command: Command,
+    input: &mut S,
+) -> Result<Answer, BenchFault> {
+    match command {
+        Command::Wkt => read(alloc, input),
+        Command::Make(rows) => make(alloc, rows),
+        Command::Write(rows, rounds) => write(alloc, rows, rounds),
+        Command::Tree(rows, rounds) => write_tree(alloc, rows, rounds),
+    }
+}
