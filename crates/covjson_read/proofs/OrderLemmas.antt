@@ -1,84 +1,161 @@
 -- Values in the order of the domain's axes.
-use Rattle.std.proofs.Common.{◌≡◌, ◌⊎◌, inl, inr, ℕ, ◌+◌, ◌-◌, ◌*◌, ◌<◌, ◌≤◌, ℤ, if◌then◌else◌, Bool, true, false, List, [], ◌∷◌, ◌++◌, length, get_or, All, Option, None, refl, sym, ap, ◌∙◌, subst, arith}
+use Rattle.std.proofs.Common.{◌≡◌, inl, inr, ℕ, zero, suc, add-one, ◌+◌, ◌-◌, ◌*◌, ◌<◌, ℤ, if◌then◌else◌, Bool, true, false, List, [], ◌∷◌, ◌++◌, length, map, get_or, All, Option, None, refl, sym, ap, ◌∙◌, subst, arith}
 use Rattle.std.proofs.lemmas.Bool.{cases_lt}
-use Rattle.std.proofs.lemmas.List.{get_or_append_left, get_or_push, get_or_default}
-use Rattle.covjson_value.specs.declared.domains.AxisName.{AxisName}
-use Rattle.covjson_value.specs.declared.domains.AxisName.TheVariants.{T, Z, Y, X}
+use Rattle.std.proofs.lemmas.List.{get_or_append_left, get_or_push, get_or_default, get_or-map, ext_get_or, length-map, map-append, length_push}
 use Rattle.covjson_value.specs.declared.domains.Domain.{Domain}
-use Rattle.covjson_value.specs.Domains.{is_among, tuples_of, count_of}
+use Rattle.covjson_value.specs.Domains.{count_of}
 use Rattle.covjson_read.specs.declared.axes.Turned.{Turned}
 use Rattle.covjson_read.specs.declared.places.Places.{Places}
-use Rattle.covjson_read.specs.Axes.{is_turned}
-use Rattle.covjson_read.specs.Ranges.{length_of, place_on, AreInside, row_major, number_of, tree_place, tree_number, AreRangeAxes}
-use Rattle.covjson_read.specs.Orders.{AreInOrder, IsUsual, IsUnturned}
+use Rattle.covjson_read.specs.declared.places.RangeAxis.{RangeAxis}
+use Rattle.covjson_read.specs.declared.places.RangeAxis.TheVariants.{T, Z, Y, X, Composite}
+use Rattle.covjson_read.specs.Ranges.{length_of, place_on, is_range_turned, is_named, AreInside, row_major, number_of, tree_place, tree_number, AreRangeAxes}
+use Rattle.covjson_read.specs.Orders.{below, places_at, value_in_tree, ordered, AreInOrder, IsUsual, IsUnturned}
 use Rattle.covjson_read.proofs.PlaceNumbers.{row_major_same, usual, passed_over}
-use Rattle.covjson_read.proofs.PlaceLemmas.{tree_number_once, tree_number_inside, has_places}
+use Rattle.covjson_read.proofs.PlaceLemmas.{number_inside, tree_number_once, tree_number_inside, places_at_inside, places_at_number}
 
--- the values at the places of the first numbers are those of the tree
-abbrev pub AreFirst : Domain → Turned → List AxisName → List (Option ℤ) → List (Option ℤ) → ℕ → Type 0
-AreFirst domain turned names values found number =
-    (places : Places) → AreInside domain places → number_of domain places < number
-    → get_or found (number_of domain places) None ≡ get_or values (tree_number domain turned names places) None
+-- ---- the numbers below a bound
+
+pub length-below : (n : ℕ) → length (below n) ≡ n
+length-below zero = refl
+length-below (suc n) = omega (arith, length_push (below n) n, length-below n)
+
+pub get_or-below : (n k d : ℕ) → k < n → get_or (below n) k d ≡ k
+get_or-below zero k d h = absurd (omega arith)
+get_or-below (suc n) k d h =
+    elim (cases_lt k n) [
+      | inl before ↦ get_or_append_left (below n) (n ∷ []) d k (omega (arith, length-below n)) ∙ get_or-below n k d before
+      | inr here ↦
+          let last : n ≡ k = omega arith in
+          get_or_push (below n) n d k (length-below n ∙ last) ∙ last
+    ]
+
+-- ---- the values in order
+
+pub ordered_length : (domain : Domain) (turned : Turned) (names : List RangeAxis) (values : List (Option ℤ)) → length (ordered domain turned names values) ≡ count_of domain
+ordered_length domain turned names values =
+    length-map (below (count_of domain)) (λ number. value_in_tree domain turned names values (places_at domain number)) ∙ length-below (count_of domain)
+
+-- the value of a number
+pub ordered_at : (domain : Domain) (turned : Turned) (names : List RangeAxis) (values : List (Option ℤ)) (number : ℕ) → number < count_of domain
+    → get_or (ordered domain turned names values) number None ≡ value_in_tree domain turned names values (places_at domain number)
+ordered_at domain turned names values number inside =
+    let value = λ (k : ℕ). value_in_tree domain turned names values (places_at domain k) in
+    get_or-map value (below (count_of domain)) number 0 None (omega (arith, length-below (count_of domain)))
+    ∙ ap value (get_or-below (count_of domain) number 0 inside)
+
+-- they are in order
+pub ordered_in_order : (domain : Domain) (turned : Turned) (names : List RangeAxis) (values : List (Option ℤ))
+    → AreInOrder domain turned names values (ordered domain turned names values)
+ordered_in_order domain turned names values = record {
+  counted = ordered_length domain turned names values;
+  each = λ places inside.
+      let number = number_of domain places in
+      let below = number_inside domain places inside in
+      ordered_at domain turned names values number below
+      ∙ ap (λ n. get_or values n None)
+      (tree_number_once domain turned names (places_at domain number) places (places_at_inside domain number below) inside (places_at_number domain number));
+}
+
+-- and no other values are
+pub in_order_is_ordered : (domain : Domain) (turned : Turned) (names : List RangeAxis) (values other : List (Option ℤ))
+    → AreInOrder domain turned names values other → other ≡ ordered domain turned names values
+in_order_is_ordered domain turned names values other in_order =
+    ext_get_or None other (ordered domain turned names values) (in_order.counted ∙ sym (ordered_length domain turned names values))
+    (λ number h.
+    let inside : number < count_of domain = omega (arith, in_order.counted) in
+    ap (λ n. get_or other n None) (sym (places_at_number domain number))
+    ∙ in_order.each (places_at domain number) (places_at_inside domain number inside)
+    ∙ sym (ordered_at domain turned names values number inside))
 
 -- one value more
-pub first_more : (domain : Domain) (turned : Turned) (names : List AxisName) (values found new : List (Option ℤ)) (number : ℕ) (value : Option ℤ) (here : Places)
-    → new ≡ found ++ value ∷ [] → length found ≡ number → AreInside domain here → number_of domain here ≡ number
-    → value ≡ get_or values (tree_number domain turned names here) None
-    → AreFirst domain turned names values found number → AreFirst domain turned names values new (number + 1)
-first_more domain turned names values found new number value here pushed counted in_here is_here is_value before places inside h =
-    elim (cases_lt (number_of domain places) number) [
-      | inl below ↦ rw pushed (get_or_append_left found (value ∷ []) None (number_of domain places) (omega arith) ∙ before places inside below)
-      | inr above ↦
-          let same : number_of domain here ≡ number_of domain places = omega arith in
-          rw pushed (get_or_push found value None (number_of domain places) (omega arith)) ∙ is_value
-          ∙ ap (λ n. get_or values n None) (tree_number_once domain turned names here places in_here inside same)
-    ]
+pub ordered_more : (domain : Domain) (turned : Turned) (names : List RangeAxis) (values found new : List (Option ℤ)) (number : ℕ) (value : Option ℤ) (here : Places)
+    → new ≡ found ++ value ∷ [] → here ≡ places_at domain number → value ≡ get_or values (tree_number domain turned names here) None
+    → found ≡ map (λ k. value_in_tree domain turned names values (places_at domain k)) (below number)
+    → new ≡ map (λ k. value_in_tree domain turned names values (places_at domain k)) (below (number + 1))
+ordered_more domain turned names values found new number value here pushed is_here is_value before =
+    let value_at = λ (k : ℕ). value_in_tree domain turned names values (places_at domain k) in
+    let last : value ≡ value_at number = is_value ∙ ap (value_in_tree domain turned names values) is_here in
+    pushed ∙ ap (λ (vs : List (Option ℤ)). vs ++ value ∷ []) before ∙ ap (λ v. map value_at (below number) ++ v ∷ []) last
+    ∙ sym (map-append value_at (below number) (number ∷ [])) ∙ ap (λ n. map value_at (below n)) (sym (add-one number))
 
 -- ---- the domain's own order
 
-straight : (domain : Domain) (turned : Turned) (places : Places) (name : AxisName) → is_turned turned name ≡ false → tree_place domain turned places name ≡ place_on places name
+straight : (domain : Domain) (turned : Turned) (places : Places) (name : RangeAxis) → is_range_turned turned name ≡ false → tree_place domain turned places name ≡ place_on places name
 straight domain turned places name h = ap (λ b. if b then length_of domain name - 1 - place_on places name else place_on places name) h
 
 -- an axis that is left out has one value
-left_out : (domain : Domain) (names : List AxisName) (places : Places) → AreRangeAxes domain names → AreInside domain places → (name : AxisName)
-    → is_among name names ≡ false → (length_of domain name ≡ 1) × (place_on places name ≡ 0)
+left_out : (domain : Domain) (names : List RangeAxis) (places : Places) → AreRangeAxes domain names → AreInside domain places → (name : RangeAxis)
+    → is_named name names ≡ false → (length_of domain name ≡ 1) × (place_on places name ≡ 0)
 left_out domain names places axes inside name out =
     elim (cases_lt 1 (length_of domain name)) [
       | inl long ↦ cc (axes.all_long name long)
       | inr short ↦ (omega (arith, inside name), omega (arith, inside name))
     ]
 
-in_usual_order : (lengths places : AxisName → ℕ) (names : List AxisName) → IsUsual names
-    → ((name : AxisName) → is_among name names ≡ false → (lengths name ≡ 1) × (places name ≡ 0)) → row_major lengths places names 0 ≡ usual lengths places
-in_usual_order lengths places names (inl e) out = ap (λ ns. row_major lengths places ns 0) e
-in_usual_order lengths places names (inr (inl e)) out =
-    let z = out Z (ap (is_among Z) e) in
-    ap (λ ns. row_major lengths places ns 0) e
-    ∙ ap (λ n. (n * lengths Y + places Y) * lengths X + places X) (sym (passed_over (0 * lengths T + places T) (lengths Z) (places Z) z.0 z.1))
-in_usual_order lengths places names (inr (inr (inl e))) out =
-    let t = out T (ap (is_among T) e) in
-    ap (λ ns. row_major lengths places ns 0) e
-    ∙ ap (λ n. ((n * lengths Z + places Z) * lengths Y + places Y) * lengths X + places X) (sym (passed_over 0 (lengths T) (places T) t.0 t.1))
-in_usual_order lengths places names (inr (inr (inr e))) out =
-    let t = out T (ap (is_among T) e) in
-    let z = out Z (ap (is_among Z) e) in
-    ap (λ ns. row_major lengths places ns 0) e
-    ∙ ap (λ n. (n * lengths Y + places Y) * lengths X + places X)
-    (sym (passed_over (0 * lengths T + places T) (lengths Z) (places Z) z.0 z.1 ∙ passed_over 0 (lengths T) (places T) t.0 t.1))
+abbrev keep : Bool → RangeAxis → List RangeAxis → List RangeAxis
+keep true name names = name ∷ names
+keep false name names = names
 
-pub usual_number : (domain : Domain) (turned : Turned) (names : List AxisName) (places : Places) → AreRangeAxes domain names → IsUsual names → IsUnturned turned
+-- those of the axes that are among some, in the domain's own order
+abbrev kept : (RangeAxis → Bool) → List RangeAxis
+kept among = keep (among T) T (keep (among Z) Z (keep (among Y) Y (keep (among X) X (keep (among Composite) Composite []))))
+
+is_kept : (names others : List RangeAxis) → names ≡ others → others ≡ kept (λ name. is_named name others) → names ≡ kept (λ name. is_named name names)
+is_kept names others same is = subst (λ (ns : List RangeAxis). ns ≡ kept (λ name. is_named name ns)) (sym same) is
+
+usual_kept : (names : List RangeAxis) → IsUsual names → names ≡ kept (λ name. is_named name names)
+usual_kept names (inl e) = is_kept names _ e refl
+usual_kept names (inr (inl e)) = is_kept names _ e refl
+usual_kept names (inr (inr (inl e))) = is_kept names _ e refl
+usual_kept names (inr (inr (inr (inl e)))) = is_kept names _ e refl
+usual_kept names (inr (inr (inr (inr (inl e))))) = is_kept names _ e refl
+usual_kept names (inr (inr (inr (inr (inr (inl e)))))) = is_kept names _ e refl
+usual_kept names (inr (inr (inr (inr (inr (inr (inl e))))))) = is_kept names _ e refl
+usual_kept names (inr (inr (inr (inr (inr (inr (inr e))))))) = is_kept names _ e refl
+
+-- an axis that is left out may as well be there
+kept_number : (lengths places : RangeAxis → ℕ) (b : Bool) (name : RangeAxis) (names : List RangeAxis) (number : ℕ)
+    → (b ≡ false → (lengths name ≡ 1) × (places name ≡ 0))
+    → row_major lengths places (keep b name names) number ≡ row_major lengths places names (number * lengths name + places name)
+kept_number lengths places true name names number out = refl
+kept_number lengths places false name names number out =
+    ap (row_major lengths places names) (sym (passed_over number (lengths name) (places name) (out refl).0 (out refl).1))
+
+all_kept : (lengths places : RangeAxis → ℕ) (among : RangeAxis → Bool) → ((name : RangeAxis) → among name ≡ false → (lengths name ≡ 1) × (places name ≡ 0))
+    → row_major lengths places (kept among) 0 ≡ usual lengths places
+all_kept lengths places among out =
+    kept_number lengths places (among T) T _ _ (out T)
+    ∙ kept_number lengths places (among Z) Z _ _ (out Z)
+    ∙ kept_number lengths places (among Y) Y _ _ (out Y)
+    ∙ kept_number lengths places (among X) X _ _ (out X)
+    ∙ kept_number lengths places (among Composite) Composite [] _ (out Composite)
+
+usual_number : (domain : Domain) (turned : Turned) (names : List RangeAxis) (places : Places) → AreRangeAxes domain names → IsUsual names → IsUnturned turned
     → AreInside domain places → number_of domain places ≡ tree_number domain turned names places
 usual_number domain turned names places axes in_order unturned inside =
-    sym (row_major_same (length_of domain) (tree_place domain turned places) (place_on places) (λ name. straight domain turned places name (unturned name)) names 0
-    ∙ in_usual_order (length_of domain) (place_on places) names in_order (left_out domain names places axes inside))
+    let lengths = length_of domain in
+    let on = place_on places in
+    sym (row_major_same lengths (tree_place domain turned places) on (λ name. straight domain turned places name (unturned name)) names 0
+    ∙ ap (λ ns. row_major lengths on ns 0) (usual_kept names in_order)
+    ∙ all_kept lengths on (λ name. is_named name names) (left_out domain names places axes inside))
+
+-- values in that order stay as they are
+pub usual_ordered : (domain : Domain) (turned : Turned) (names : List RangeAxis) (values : List (Option ℤ)) → AreRangeAxes domain names
+    → length values ≡ count_of domain → IsUsual names → IsUnturned turned → ordered domain turned names values ≡ values
+usual_ordered domain turned names values axes counted usual unturned =
+    sym (in_order_is_ordered domain turned names values values (record {
+      counted = counted;
+      each = λ places inside. ap (λ n. get_or values n None) (usual_number domain turned names places axes usual unturned inside);
+    }))
 
 -- ---- what holds of each value
 
-pub ordered_all : (P : Option ℤ → Type 0) (domain : Domain) (turned : Turned) (names : List AxisName) (values ordered : List (Option ℤ)) → tuples_of domain ≡ None
-    → AreRangeAxes domain names → length values ≡ count_of domain → AreInOrder domain turned names values ordered → All P values → All P ordered
-ordered_all P domain turned names values ordered along axes counted in_order all k d below =
-    let found = has_places domain k along (omega (arith, in_order.counted)) in
-    let n = tree_number domain turned names found.0 in
-    let same : get_or values n None ≡ get_or ordered k d =
-    sym (in_order.each found.0 found.1) ∙ ap (λ m. get_or ordered m None) found.2 ∙ get_or_default ordered k None d below in
-    subst P same (all n None (omega (arith, counted, tree_number_inside domain turned names found.0 along axes found.1)))
+pub ordered_all : (P : Option ℤ → Type 0) (domain : Domain) (turned : Turned) (names : List RangeAxis) (values : List (Option ℤ))
+    → AreRangeAxes domain names → length values ≡ count_of domain → All P values → All P (ordered domain turned names values)
+ordered_all P domain turned names values axes counted all k d below =
+    let inside : k < count_of domain = omega (arith, ordered_length domain turned names values) in
+    let places = places_at domain k in
+    let n = tree_number domain turned names places in
+    let same : get_or values n None ≡ get_or (ordered domain turned names values) k d =
+    sym (ordered_at domain turned names values k inside) ∙ get_or_default (ordered domain turned names values) k None d below in
+    subst P same (all n None (omega (arith, counted, tree_number_inside domain turned names places axes (places_at_inside domain k inside))))

@@ -1,51 +1,24 @@
 -- Values in equal steps, and the spans that they make.
-use Rattle.std.proofs.Common.{◌≡◌, ◌+ℤ◌, ◌*ℤ◌, ◌*◌, ◌-ℤ◌, unsigned_abs, inl, inr, ℕ, suc, zero, ◌-◌, ◌+◌, ◌<◌, ◌≤◌, ℤ, pos, negsuc, neg_ℤ, FitsSigned, List, [], ◌∷◌, ◌++◌, length, All, arith, ap, ◌∙◌, refl, sym, of_z, ◌≤ℤ◌}
+use Rattle.std.proofs.Common.{◌≡◌, ◌∙◌, inl, inr, FitsSigned, of_z, sym, ◌+ℤ◌, ◌*ℤ◌, ◌-ℤ◌, unsigned_abs, ℕ, suc, zero, ◌==◌, ◌-◌, ◌*◌, ◌<◌, ◌≤◌, ℤ, pos, negsuc, true, false, int_lt, int_le, ◌≤ℤ◌, ◌&&◌, [], ◌∷◌, ◌++◌, arith, ap, refl}
 use Rattle.std.specs.Prelude.{int_div, int_rem}
-use Rattle.std.proofs.lemmas.Bool.{cases_lt}
-use Rattle.std.proofs.lemmas.Int.{ints, quot-rem, rem_below, unsigned_abs-mul, fits_signed_from_abs}
-use Rattle.std.proofs.lemmas.List.{ext_get_or, get_or_append_left, get_or_push, length_push}
-use Rattle.std.proofs.lemmas.List.Elements.{All-push}
-use Rattle.std.proofs.Math.Nat.{mul-le-mul_left, eq_of_mul-eq-mul_right}
-use borrow.Author.Differences.{up, down, same_in}
+use Rattle.std.proofs.lemmas.Bool.{eqb-true, eqb-false, eq-eqb, ne_eqb, leb-true, and_parts, cases_Bool}
+use Rattle.std.proofs.lemmas.Int.{ints, quot-rem, unsigned_abs-mul}
+use Rattle.std.proofs.Math.Nat.{mul-le-mul_left}
 use mir.Syntax.{w128}
-use Rattle.edr_axes.specs.Axes.{value_at}
 use Rattle.covjson_value.specs.declared.limits.TheConstants.{COORDINATE_LIMIT}
 use Rattle.covjson_value.specs.Coverages.{IsCoordinate}
-use Rattle.covjson_read.specs.Axes.{AreSteps, IsRegular}
-
--- ---- the size of a step
-
--- what is left of no remainder
-none_left : (z : ℤ) → FitsSigned w128 z → of_z w128 z ≡ 0 → z ≡ pos 0
-none_left (pos n) fits h = omega (arith, ints)
-none_left (negsuc n) fits h = absurd (omega (arith, ints))
-
--- a whole quotient, times its divisor
-pub quotient_reaches : (first between steps : ℤ) → FitsSigned w128 steps → 0 < unsigned_abs steps → of_z w128 (int_rem between steps) ≡ 0
-    → first +ℤ int_div between steps *ℤ steps ≡ first +ℤ between
-quotient_reaches first between steps fits some h =
-    let rest = int_rem between steps in
-    let rest_fits = fits_signed_from_abs w128 rest (omega (arith, ints, rem_below between steps some)) in
-    let none : rest ≡ pos 0 = none_left rest rest_fits h in
-    let whole = quot-rem between steps in
-    omega (arith, ints)
-
--- and the quotient is no farther from 0 than what was divided
-pub quotient_short : (between steps : ℤ) → FitsSigned w128 steps → 0 < unsigned_abs steps → of_z w128 (int_rem between steps) ≡ 0
-    → unsigned_abs (int_div between steps) ≤ unsigned_abs between
-quotient_short between steps fits some h =
-    let quotient = int_div between steps in
-    let whole : quotient *ℤ steps ≡ between = omega (arith, ints, quotient_reaches (pos 0) between steps fits some h) in
-    let sizes : unsigned_abs quotient * unsigned_abs steps ≡ unsigned_abs between = sym (unsigned_abs-mul quotient steps) ∙ ap unsigned_abs whole in
-    omega (arith, sizes, mul-le-mul_left (unsigned_abs quotient) some)
+use Rattle.covjson_read.specs.Members.{is_within}
+use Rattle.covjson_read.specs.AxisAnswers.{has_whole_steps, is_span_within, stepped, regular}
 
 -- ---- values between the first and the last
 
+-- a place between the first and the last has a value between theirs
 within_ends : (first step : ℤ) (place most : ℕ) → place ≤ most → IsCoordinate first → IsCoordinate (first +ℤ step *ℤ pos most) → IsCoordinate (first +ℤ pos place *ℤ step)
 within_ends first (pos s) place most h a b = grind (arith, ints, mul-le-mul_left s h)
 within_ends first (negsuc s) place most h a b = grind (arith, ints, mul-le-mul_left s h)
 
-one_less : (count : ℕ) → 0 < count → pos count -ℤ pos 1 ≡ pos (count - 1)
+-- one less than a count that isn't 0
+pub one_less : (count : ℕ) → 0 < count → pos count -ℤ pos 1 ≡ pos (count - 1)
 one_less count some = omega (arith, ints)
 
 -- a value in steps from one coordinate to another is a coordinate
@@ -62,79 +35,145 @@ step_size first step place count h a b =
 
 -- ---- values in steps
 
--- the first values of a span
-pub record AreFirst (first step : ℤ) (place : ℕ) (values : List ℤ) : Type 0 where
-  pub counted : length values ≡ place
-  pub each : (k : ℕ) → k < place → value_at values k ≡ first +ℤ pos k *ℤ step
-  pub in_range : All IsCoordinate values
+-- one step more
+next_step : (first step : ℤ) (place : ℕ) → (first +ℤ step) +ℤ pos place *ℤ step ≡ first +ℤ pos (suc place) *ℤ step
+next_step first (pos s) place = omega (arith, ints)
+next_step first (negsuc s) place = omega (arith, ints)
 
--- and one more
-pub first_more : (first step : ℤ) (place : ℕ) (values : List ℤ) (v : ℤ) → v ≡ first +ℤ pos place *ℤ step → IsCoordinate v
-    → AreFirst first step place values → AreFirst first step (place + 1) (values ++ v ∷ [])
-first_more first step place values v e inside h = record {
-  counted = omega (arith, length_push values v, h.counted);
-  each = λ k below. elim (cases_lt k place) [
-    | inl before ↦ get_or_append_left values (v ∷ []) (pos 0) k (omega (arith, h.counted)) ∙ h.each k before
-    | inr here ↦ (let same : k ≡ place = omega arith in rw same (get_or_push values v (pos 0) place h.counted ∙ e))
-  ];
-  in_range = All-push IsCoordinate values v h.in_range inside;
-}
+no_step : (first step : ℤ) → first ≡ first +ℤ pos 0 *ℤ step
+no_step first (pos s) = omega (arith, ints)
+no_step first (negsuc s) = omega (arith, ints)
 
-neg_mul : (m n : ℕ) → neg_ℤ (pos m) *ℤ pos n ≡ neg_ℤ (pos (m * n))
-neg_mul zero n = omega (arith, ints)
-neg_mul (suc m) n = omega (arith, ints)
+-- one value more is the first and all steps before it
+pub stepped_more : (first step : ℤ) (place : ℕ) → stepped first step (suc place) ≡ stepped first step place ++ (first +ℤ pos place *ℤ step) ∷ []
+stepped_more first step zero = ap (λ v. v ∷ []) (no_step first step)
+stepped_more first step (suc place) =
+    ap (λ vs. first ∷ vs) (stepped_more (first +ℤ step) step place)
+    ∙ ap (λ v. first ∷ (stepped (first +ℤ step) step place ++ v ∷ [])) (next_step first step place)
 
-mul_neg : (a m : ℕ) → pos a *ℤ neg_ℤ (pos m) ≡ neg_ℤ (pos (a * m))
-mul_neg a zero = omega (arith, ints)
-mul_neg a (suc m) = omega (arith, ints)
+-- ---- the size of a step
 
-product_assoc : (a : ℕ) (s : ℤ) (n : ℕ) → (pos a *ℤ s) *ℤ pos n ≡ pos a *ℤ (s *ℤ pos n)
-product_assoc a (pos s) n = omega (arith, ints)
-product_assoc a (negsuc s) n =
-    let same : a * suc s * n ≡ a * (suc s * n) = omega arith in
-    neg_mul (a * suc s) n ∙ ap (λ (k : ℕ). neg_ℤ (pos k)) same ∙ sym (mul_neg a (suc s * n))
+-- a number that is held as 0 is 0
+held_zero : (z : ℤ) → FitsSigned w128 z → of_z w128 z ≡ 0 → z ≡ pos 0
+held_zero (pos n) fits h = omega (arith, ints)
+held_zero (negsuc n) fits h = absurd (omega (arith, ints))
 
--- values in steps from the first to the last are regular
-pub steps_regular : (first step last : ℤ) (count : ℕ) (values : List ℤ) → 0 < count → first +ℤ step *ℤ (pos count -ℤ pos 1) ≡ last
-    → AreSteps first step count values → IsRegular first last count values
-steps_regular first step last count values some e h =
-    let less = one_less count some in
-    let reached : first +ℤ step *ℤ pos (count - 1) ≡ last = rw less at e in
+-- and 0 is held as 0
+zero_held : (z : ℤ) → z ≡ pos 0 → of_z w128 z ≡ 0
+zero_held z h = rw h refl
+
+-- two numbers of which each is 0 where the other is answer the same test
+same_test : (m n : ℕ) → (m ≡ 0 → n ≡ 0) → (n ≡ 0 → m ≡ 0) → (m == 0) ≡ (n == 0)
+same_test m n there back = elim (cases_Bool (m == 0)) [
+  | inl is ↦ is ∙ sym (eq-eqb n 0 (there (eqb-true m 0 is)))
+  | inr other ↦ other ∙ sym (ne_eqb n 0 (λ e. eqb-false m 0 other (back e)))
+]
+
+-- what is left over is 0 as it is held where its size is
+pub same_rest : (z : ℤ) → FitsSigned w128 z → (of_z w128 z == 0) ≡ (unsigned_abs z == 0)
+same_rest z fits = same_test (of_z w128 z) (unsigned_abs z) (λ h. ap unsigned_abs (held_zero z fits h)) (λ h. zero_held z (omega (arith, ints)))
+
+-- several values lie in whole steps where nothing is left over
+pub several_steps : (first last count : ℤ) → int_lt count (pos 1) ≡ false → int_le count (pos 1) ≡ false
+    → has_whole_steps first last count ≡ (unsigned_abs (int_rem (last -ℤ first) (count -ℤ pos 1)) == 0)
+several_steps first last count some more = rw (some, more) refl
+
+-- the bounds of a span that passes its test
+pub record IsSpan (first last count : ℤ) : Type 0 where
+  pub first_in : IsCoordinate first
+  pub last_in : IsCoordinate last
+  pub some : pos 1 ≤ℤ count
+  pub few : count ≤ℤ pos 4_000_000
+
+-- a number that is tested to be at most another is
+at_most : (a b : ℤ) → int_le a b ≡ true → a ≤ℤ b
+at_most a b h = grind (arith, ints)
+
+pub span_tells : (first last count : ℤ) → is_span_within first last count ≡ true → IsSpan first last count
+span_tells first last count h =
+    let a = and_parts (is_within COORDINATE_LIMIT first && is_within COORDINATE_LIMIT last && int_le (pos 1) count) (int_le count (pos 4_000_000)) h in
+    let b = and_parts (is_within COORDINATE_LIMIT first && is_within COORDINATE_LIMIT last) (int_le (pos 1) count) a.0 in
+    let c = and_parts (is_within COORDINATE_LIMIT first) (is_within COORDINATE_LIMIT last) b.0 in
     record {
-      counted = h.counted;
-      starts = rw (h.each 0 some) (omega (arith, ints));
-      ends = rw (h.each (count - 1) (omega arith)) (omega (arith, ints));
-      even = λ place inside.
-          let here : value_at values place -ℤ first ≡ pos place *ℤ step = omega (arith, ints, h.each place inside) in
-          let far : last -ℤ first ≡ step *ℤ pos (count - 1) = omega (arith, ints) in
-          rw (here, far) (product_assoc place step (count - 1));
+      first_in = leb-true (unsigned_abs first) COORDINATE_LIMIT c.0;
+      last_in = leb-true (unsigned_abs last) COORDINATE_LIMIT c.1;
+      some = at_most (pos 1) count b.1;
+      few = at_most count (pos 4_000_000) a.1;
     }
 
--- the last value, where the count is a natural number
-pub last_reached : (first step last count : ℤ) → pos 1 ≤ℤ count → first +ℤ step *ℤ (count -ℤ pos 1) ≡ last → first +ℤ step *ℤ (pos (unsigned_abs count) -ℤ pos 1) ≡ last
-last_reached first step last (pos n) some h = h
-last_reached first step last (negsuc n) some h = absurd (omega (arith, ints, some))
-
+-- a count above 0 is a natural number
 pub whole_count : (count : ℤ) → pos 1 ≤ℤ count → pos (unsigned_abs count) ≡ count
 whole_count (pos n) some = refl
 whole_count (negsuc n) some = absurd (omega (arith, ints, some))
 
--- ---- at most one list is regular
+-- and it isn't below 1
+pub some_counted : (count : ℤ) → pos 1 ≤ℤ count → int_lt count (pos 1) ≡ false
+some_counted count some = grind (arith, ints)
 
--- equal products with a number above 0
-cancel : (a b : ℤ) (n : ℕ) → 0 < n → a *ℤ pos n ≡ b *ℤ pos n → a ≡ b
-cancel a b n some h =
-    let same : (up a + down b) * n ≡ (up b + down a) * n = omega (arith, ints) in
-    same_in a b (eq_of_mul-eq-mul_right n some (up a + down b) (up b + down a) same)
+-- the last value is reached in as many steps where the count is a natural number
+pub last_reached : (first step last count : ℤ) → pos 1 ≤ℤ count → first +ℤ step *ℤ (count -ℤ pos 1) ≡ last
+    → first +ℤ step *ℤ (pos (unsigned_abs count) -ℤ pos 1) ≡ last
+last_reached first step last (pos n) some h = h
+last_reached first step last (negsuc n) some h = absurd (omega (arith, ints, some))
 
-module _ (first last : ℤ) (count : ℕ) (v w : List ℤ) (a : IsRegular first last count v) (b : IsRegular first last count w) where
-  same_at : (place : ℕ) → place < count → value_at v place ≡ value_at w place
-  same_at place inside =
-      elim (cases_lt 1 count) [
-        | inl several ↦ (let same = cancel (value_at v place -ℤ first) (value_at w place -ℤ first) (count - 1) (omega arith) (a.even place inside ∙ sym (b.even place inside)) in
-            omega (arith, ints))
-        | inr one ↦ (let start : place ≡ 0 = omega arith in rw start (a.starts ∙ sym b.starts))
-      ]
+-- ---- one value
 
-  pub regular_one : v ≡ w
-  regular_one = ext_get_or (pos 0) v w (omega (arith, a.counted, b.counted)) (λ place inside. same_at place (omega (arith, a.counted)))
+-- a count of at most 1 that is above 0 is 1
+count_one : (count : ℤ) → pos 1 ≤ℤ count → int_le count (pos 1) ≡ true → count ≡ pos 1
+count_one count some h = let most = at_most count (pos 1) h in omega (arith, ints, some, most)
+
+-- one value is the first and the last
+one_is : (first last : ℤ) → has_whole_steps first last (pos 1) ≡ true → first ≡ last
+one_is first last h = let none = eqb-true (unsigned_abs (last -ℤ first)) 0 h in omega (arith, ints, none)
+
+-- so no step reaches from the one to the other
+pub one_reached : (first last count : ℤ) → pos 1 ≤ℤ count → int_le count (pos 1) ≡ true → has_whole_steps first last count ≡ true
+    → first +ℤ pos 0 *ℤ (count -ℤ pos 1) ≡ last
+one_reached first last count some most h =
+    let one = count_one count some most in
+    let same = one_is first last (rw one at h) in
+    rw one (omega (arith, ints, same))
+
+-- and it is the list of its values
+pub one_regular : (first last count : ℤ) → pos 1 ≤ℤ count → int_le count (pos 1) ≡ true
+    → stepped first (pos 0) (unsigned_abs count) ≡ regular first last (unsigned_abs count)
+one_regular first last count some most = rw (count_one count some most) refl
+
+-- ---- several values
+
+-- of several values in whole steps, nothing is left over
+none_left : (first last count : ℤ) → int_lt count (pos 1) ≡ false → int_le count (pos 1) ≡ false → has_whole_steps first last count ≡ true
+    → int_rem (last -ℤ first) (count -ℤ pos 1) ≡ pos 0
+none_left first last count some more h =
+    let none = eqb-true (unsigned_abs (int_rem (last -ℤ first) (count -ℤ pos 1))) 0 (sym (several_steps first last count some more) ∙ h) in
+    omega (arith, ints, none)
+
+-- the quotient, times its divisor, is what was divided
+whole_quotient : (first last count : ℤ) → int_lt count (pos 1) ≡ false → int_le count (pos 1) ≡ false → has_whole_steps first last count ≡ true
+    → int_div (last -ℤ first) (count -ℤ pos 1) *ℤ (count -ℤ pos 1) ≡ last -ℤ first
+whole_quotient first last count some more h =
+    let none = none_left first last count some more h in
+    let whole = quot-rem (last -ℤ first) (count -ℤ pos 1) in
+    omega (arith, ints, whole, none)
+
+-- as many whole steps as there are values after the first reach from it to the last
+pub several_reached : (first last count : ℤ) → int_lt count (pos 1) ≡ false → int_le count (pos 1) ≡ false → has_whole_steps first last count ≡ true
+    → first +ℤ int_div (last -ℤ first) (count -ℤ pos 1) *ℤ (count -ℤ pos 1) ≡ last
+several_reached first last count some more h = let whole = whole_quotient first last count some more h in omega (arith, ints, whole)
+
+-- they are those of the list of values
+pub several_regular : (first last count : ℤ) → pos 1 ≤ℤ count
+    → stepped first (int_div (last -ℤ first) (count -ℤ pos 1)) (unsigned_abs count) ≡ regular first last (unsigned_abs count)
+several_regular first last count some =
+    let whole = whole_count count some in
+    let less : count -ℤ pos 1 ≡ pos (unsigned_abs count - 1) = omega (arith, ints, whole, some) in
+    ap (λ d. stepped first (int_div (last -ℤ first) d) (unsigned_abs count)) less
+
+-- and none is longer than the way from the first to the last
+pub several_short : (first last count : ℤ) → int_lt count (pos 1) ≡ false → int_le count (pos 1) ≡ false → has_whole_steps first last count ≡ true
+    → 0 < unsigned_abs (count -ℤ pos 1) → unsigned_abs (int_div (last -ℤ first) (count -ℤ pos 1)) ≤ unsigned_abs (last -ℤ first)
+several_short first last count some more h steps =
+    let quotient = int_div (last -ℤ first) (count -ℤ pos 1) in
+    let sizes : unsigned_abs quotient * unsigned_abs (count -ℤ pos 1) ≡ unsigned_abs (last -ℤ first) =
+    sym (unsigned_abs-mul quotient (count -ℤ pos 1)) ∙ ap unsigned_abs (whole_quotient first last count some more h) in
+    omega (arith, sizes, mul-le-mul_left (unsigned_abs quotient) steps)

@@ -1,8 +1,16 @@
 pub mod Answers
 pub mod Members
+pub mod Instants
 pub mod Axes
+pub mod AxisAnswers
+pub mod Tuples
+pub mod TupleAnswers
+pub mod Domains
+pub mod DomainAnswers
 pub mod Systems
 pub mod Parameters
 pub mod Ranges
 pub mod Orders
+pub mod RangeAnswers
 pub mod Standing
+pub mod CoverageAnswers

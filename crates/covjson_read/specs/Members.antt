@@ -1,6 +1,6 @@
 -- Members of objects, and what each has to be.
 use Rattle.std.specs.Prelude.{ℕ, ℤ, unsigned_abs, nat_le, List, Bool, true, is_some, ◌||◌, ◌&&◌, if◌then◌else◌, codes, ⊤, Option, Some, None, option_and_then, Ok, Err}
-use Rattle.serde_json.specs.Data.{Data, null, boolean, number, string, array, object, Items, no_items, item, Members}
+use Rattle.serde_json.specs.Data.{Data, null, boolean, number, string, array, object, Items, no_items, item, Members, Num}
 use Rattle.serde_json.specs.Find.{get, as_object, as_array, as_number, as_str, as_null, as_integer, as_u64}
 use Rattle.covjson_read.specs.declared.faults.Member.{Member}
 use Rattle.covjson_read.specs.declared.faults.CovFault.{CovFault}
@@ -17,6 +17,15 @@ need name m d = or_fault (get name d) (Missing m)
 abbrev pub part : List ℕ → Member → Data → Answer Data
 part name m d = or_fault (get name d) (WrongType m)
 
+-- the one, or else the other
+abbrev pub either : Option Data → Option Data → Option Data
+either (Some d) other = Some d
+either None other = other
+
+-- the member of a tree, else of the collection that it is in, which is null where it is in none
+abbrev pub lent : List ℕ → Data → Data → Option Data
+lent name d collection = either (get name d) (get name collection)
+
 -- an object, or WrongType
 abbrev pub object_at : Member → Data → Answer Members
 object_at m d = or_fault (as_object d) (WrongType m)
@@ -29,7 +38,7 @@ list_at m d = or_fault (as_array d) (WrongType m)
 abbrev pub text_at : Member → Data → Answer (List ℕ)
 text_at m d = or_fault (as_str d) (WrongType m)
 
--- the text of the member of that name, or the empty text
+-- the text of what was found, or the empty text
 abbrev pub text_or_empty : Option Data → List ℕ
 text_or_empty None = codes ""
 text_or_empty (Some null) = codes ""
@@ -47,12 +56,24 @@ whole_of d = option_and_then as_integer (as_number d)
 abbrev pub natural_of : Data → Option ℕ
 natural_of d = option_and_then as_u64 (as_number d)
 
+-- a number, or WrongType
+abbrev pub number_at : Member → Data → Answer Num
+number_at m d = or_fault (as_number d) (WrongType m)
+
+-- the number as it is held whole, or NotWhole
+abbrev pub held_whole : Member → Num → Answer ℤ
+held_whole m n = or_fault (as_integer n) (NotWhole m)
+
+-- the size is at most that
+abbrev pub is_within : ℕ → ℤ → Bool
+is_within limit value = nat_le (unsigned_abs value) limit
+
 -- a number, held whole, of at most that size
 abbrev pub whole_within : Member → ℕ → Data → Answer ℤ
 whole_within m limit d =
-    and_then (or_fault (as_number d) (WrongType m)) (λ n.
-    and_then (or_fault (as_integer n) (NotWhole m)) (λ z.
-    if nat_le (unsigned_abs z) limit then Ok z else Err (OutOfRange m)))
+    and_then (number_at m d) (λ n.
+    and_then (held_whole m n) (λ z.
+    if is_within limit z then Ok z else Err (OutOfRange m)))
 
 -- the same, where null stands for an absent number
 abbrev pub whole_or_null : Member → ℕ → Data → Answer (Option ℤ)

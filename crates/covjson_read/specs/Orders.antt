@@ -1,25 +1,50 @@
--- For private clauses: values of a tree in the order of the domain's axes.
-use Rattle.std.specs.Prelude.{◌≡◌, ◌⊎◌, ℕ, ◌<◌, ℤ, Bool, false, List, [], ◌∷◌, length, Option, None}
+-- The values of a range in the order of the domain's axes.
+use Rattle.std.specs.Prelude.{◌≡◌, ◌⊎◌, ℕ, zero, suc, ◌/◌, ◌%◌, ℤ, false, List, [], ◌∷◌, ◌++◌, map, length, Option, None}
 use Rattle.std.specs.List.{slice_index_or}
-use Rattle.covjson_value.specs.declared.domains.AxisName.{AxisName}
-use Rattle.covjson_value.specs.declared.domains.AxisName.TheVariants.{T, Z, Y, X}
 use Rattle.covjson_value.specs.declared.domains.Domain.{Domain}
 use Rattle.covjson_value.specs.Domains.{count_of}
 use Rattle.covjson_read.specs.declared.axes.Turned.{Turned}
 use Rattle.covjson_read.specs.declared.places.Places.{Places}
-use Rattle.covjson_read.specs.Axes.{is_turned}
-use Rattle.covjson_read.specs.Ranges.{AreInside, number_of, tree_number}
+use Rattle.covjson_read.specs.declared.places.RangeAxis.{RangeAxis}
+use Rattle.covjson_read.specs.declared.places.RangeAxis.TheVariants.{T, Z, Y, X, Composite}
+use Rattle.covjson_read.specs.Ranges.{length_of, is_range_turned, AreInside, number_of, tree_number}
+
+-- the numbers below a bound, ascending
+abbrev pub below : ℕ → List ℕ
+below zero = []
+below (suc n) = below n ++ n ∷ []
+
+-- the places whose value has that number in row-major order
+abbrev pub places_at : Domain → ℕ → Places
+places_at domain number = record {
+  tuple = number % length_of domain Composite;
+  x = number / length_of domain Composite % length_of domain X;
+  y = number / length_of domain Composite / length_of domain X % length_of domain Y;
+  z = number / length_of domain Composite / length_of domain X / length_of domain Y % length_of domain Z;
+  t = number / length_of domain Composite / length_of domain X / length_of domain Y / length_of domain Z;
+}
+
+-- the value that a tree has at some places of the domain
+abbrev pub value_in_tree : Domain → Turned → List RangeAxis → List (Option ℤ) → Places → Option ℤ
+value_in_tree domain turned names values places = slice_index_or values (tree_number domain turned names places) None
+
+-- the values of a tree at the places of the domain in turn
+abbrev pub ordered : Domain → Turned → List RangeAxis → List (Option ℤ) → List (Option ℤ)
+ordered domain turned names values = map (λ number. value_in_tree domain turned names values (places_at domain number)) (below (count_of domain))
+
+-- ---- for private clauses
 
 -- the value at each place of the domain is the tree's value at that place
-pub record AreInOrder (domain : Domain) (turned : Turned) (names : List AxisName) (values ordered : List (Option ℤ)) : Type 0 where
+pub record AreInOrder (domain : Domain) (turned : Turned) (names : List RangeAxis) (values ordered : List (Option ℤ)) : Type 0 where
   pub counted : length ordered ≡ count_of domain
   pub each : (places : Places) → AreInside domain places
       → slice_index_or ordered (number_of domain places) None ≡ slice_index_or values (tree_number domain turned names places) None
 
--- the domain's own order
-abbrev pub IsUsual : List AxisName → Type 0
+-- the domain's own order, with or without axes of one value
+abbrev pub IsUsual : List RangeAxis → Type 0
 IsUsual names =
-    (names ≡ T ∷ Z ∷ Y ∷ X ∷ []) ⊎ ((names ≡ T ∷ Y ∷ X ∷ []) ⊎ ((names ≡ Z ∷ Y ∷ X ∷ []) ⊎ (names ≡ Y ∷ X ∷ [])))
+    (names ≡ T ∷ Z ∷ Y ∷ X ∷ []) ⊎ ((names ≡ T ∷ Y ∷ X ∷ []) ⊎ ((names ≡ Z ∷ Y ∷ X ∷ []) ⊎ ((names ≡ Y ∷ X ∷ [])
+    ⊎ ((names ≡ T ∷ []) ⊎ ((names ≡ Z ∷ []) ⊎ ((names ≡ Composite ∷ []) ⊎ (names ≡ [])))))))
 
 abbrev pub IsUnturned : Turned → Type 0
-IsUnturned turned = (name : AxisName) → is_turned turned name ≡ false
+IsUnturned turned = (name : RangeAxis) → is_range_turned turned name ≡ false

@@ -1,12 +1,12 @@
 -- The parameters of a tree (OGC 21-069r2, Parameter objects), and what they stand for.
-use Rattle.std.specs.Prelude.{◌≡◌, ℕ, List, codes, Bool, true, not, ◌&&◌, is_some, ⊤, Option, Some, None, Ok}
+use Rattle.std.specs.Prelude.{◌≡◌, ℕ, ◌≤◌, ◌==◌, nat_le, List, [], ◌∷◌, length, All, codes, Bool, true, not, ◌&&◌, is_some, ⊤, Option, Some, None, Ok}
 use Rattle.serde_json.specs.Data.{Data, null, boolean, number, string, array, object, Members, no_members, member}
 use Rattle.serde_json.specs.Find.{get, get_member, as_str, as_object}
 use Rattle.covjson_value.specs.declared.coverages.Parameter.{Parameter}
-use Rattle.covjson_value.specs.Coverages.{IsName}
+use Rattle.covjson_value.specs.Coverages.{IsNameByte}
 use Rattle.covjson_read.specs.declared.faults.Member.{Member}
-use Rattle.covjson_read.specs.declared.faults.Member.TheVariants.{ObservedProperty, Unit}
-use Rattle.covjson_read.specs.declared.faults.CovFault.TheVariants.{WrongType}
+use Rattle.covjson_read.specs.declared.faults.Member.TheVariants.{ObservedProperty, Unit, Parameters as ParametersMember}
+use Rattle.covjson_read.specs.declared.faults.CovFault.TheVariants.{Missing, WrongType}
 use Rattle.covjson_read.specs.Answers.{Answer, and_then, or_fault, check}
 use Rattle.covjson_read.specs.Members.{need, part, object_at, text_at}
 
@@ -15,10 +15,22 @@ abbrev pub all_texts : Members → Bool
 all_texts no_members = true
 all_texts (member key d members) = is_some (as_str d) && all_texts members
 
+-- a byte of a name: no control byte, and no comma
+abbrev pub is_name_byte : ℕ → Bool
+is_name_byte byte = nat_le 32 byte && not (byte == 127) && not (byte == 44)
+
+abbrev pub all_name_bytes : List ℕ → Bool
+all_name_bytes [] = true
+all_name_bytes (byte ∷ bytes) = is_name_byte byte && all_name_bytes bytes
+
+-- a name, such as the id of a parameter; the texts of JSON are UTF-8
+abbrev pub has_name_form : List ℕ → Bool
+has_name_form text = nat_le 1 (length text) && nat_le (length text) 128 && all_name_bytes text
+
 -- each member is an object by a name
-abbrev pub AreNamedObjects : Members → Type 0
-AreNamedObjects no_members = ⊤
-AreNamedObjects (member name d members) = IsName name × (is_some (as_object d) ≡ true) × AreNamedObjects members
+abbrev pub all_named_objects : Members → Bool
+all_named_objects no_members = true
+all_named_objects (member name d members) = has_name_form name && is_some (as_object d) && all_named_objects members
 
 -- of the members of a label, by their languages, that of English, else the first, which is of the least language
 abbrev pub said_in : Option Data → Members → Option (List ℕ × Data)
@@ -74,7 +86,27 @@ abbrev pub parameter_forms : Members → Answer ⊤
 parameter_forms no_members = Ok tt
 parameter_forms (member id d members) = and_then (parameter_form d) (λ _. parameter_forms members)
 
+-- the parameters, found in the coverage or elsewhere
+abbrev pub parameters_of : Option Data → Answer Data
+parameters_of found =
+    and_then (or_fault found (Missing ParametersMember)) (λ d.
+    and_then (object_at ParametersMember d) (λ members.
+    and_then (check (all_named_objects members) (WrongType ParametersMember)) (λ _.
+    and_then (parameter_forms members) (λ _. Ok d))))
+
+-- the parameter of an id
+abbrev pub parameter_of : List ℕ → Data → Answer Parameter
+parameter_of id d =
+    and_then (parameter_label d) (λ label.
+    and_then (parameter_unit d) (λ unit.
+    Ok (record { id = id; lang = label.0; label = label.1; unit = unit })))
+
 -- ---- what stands for what
+
+-- the form of a name
+pub record HasNameForm (text : List ℕ) : Type 0 where
+  pub length_in : (1 ≤ length text) × (length text ≤ 128)
+  pub bytes : All IsNameByte text
 
 -- each member is a text
 abbrev pub EachIsText : Members → Type 0
@@ -120,7 +152,7 @@ pub record StandsForParameter (d : Data) (parameter : Parameter) : Type 0 where
 -- each member stands for a parameter, by a name
 abbrev pub EachIsParameter : Members → Type 0
 EachIsParameter no_members = ⊤
-EachIsParameter (member name d members) = IsName name × ((parameter : Parameter) × StandsForParameter d parameter) × EachIsParameter members
+EachIsParameter (member name d members) = HasNameForm name × ((parameter : Parameter) × StandsForParameter d parameter) × EachIsParameter members
 
 -- an object of parameters by their names
 pub record HoldsParameters (d : Data) : Type 0 where
@@ -133,3 +165,11 @@ pub record StandsAmong (tree : Data) (parameter : Parameter) : Type 0 where
   pub d : Data
   pub named : get parameter.id tree ≡ Some d
   pub stands : StandsForParameter d parameter
+
+-- for private clauses: the members of an object have names
+abbrev pub EachHasName : Members → Type 0
+EachHasName no_members = ⊤
+EachHasName (member name d members) = HasNameForm name × EachHasName members
+
+abbrev pub HaveNames : Data → Type 0
+HaveNames d = (members : Members) × (d ≡ object members) × EachHasName members

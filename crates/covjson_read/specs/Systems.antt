@@ -1,9 +1,12 @@
 -- The reference systems of a tree (OGC 21-069r2, reference system objects), and what they stand for.
-use Rattle.std.specs.Prelude.{◌≡◌, ℕ, List, codes, Bool, true, false, not, bytes_eq, ◌||◌, ◌&&◌, if◌then◌else◌, is_some, Option, Some, None, option_and_then}
+use Rattle.std.specs.Prelude.{◌≡◌, ℕ, List, codes, Bool, true, false, not, bytes_eq, ◌||◌, ◌&&◌, if◌then◌else◌, is_some, ⊤, Option, Some, None, option_and_then, Ok, Err}
 use Rattle.serde_json.specs.Data.{Data, array, Items, no_items, item}
 use Rattle.serde_json.specs.Find.{get, as_array, as_str}
 use Rattle.covjson_value.specs.declared.coverages.Referencing.{Referencing}
-use Rattle.covjson_read.specs.Members.{text_or_empty}
+use Rattle.covjson_read.specs.declared.faults.Member.TheVariants.{Referencing as SystemsMember}
+use Rattle.covjson_read.specs.declared.faults.CovFault.TheVariants.{Missing, WrongType, UnsupportedSystem}
+use Rattle.covjson_read.specs.Answers.{Answer, and_then, or_fault, check}
+use Rattle.covjson_read.specs.Members.{text_or_empty, list_at}
 
 -- the datum is that text
 abbrev pub is_text : List ℕ → Option (List ℕ) → Bool
@@ -53,14 +56,55 @@ abbrev pub first_other_calendar : Items → Option Data
 first_other_calendar no_items = None
 first_other_calendar (item d ds) = if is_other_calendar d then Some d else first_other_calendar ds
 
--- the systems of a domain: that of the plane is projected, and those of times are Gregorian
-pub record StandsForReferencing (tree : Data) (referencing : Referencing) : Type 0 where
+-- an entry of levels
+abbrev pub is_vertical : Data → Bool
+is_vertical entry = bytes_eq (system_text (codes "type") entry) (codes "VerticalCRS") && holds (codes "z") entry
+
+-- the first of these
+abbrev pub first_vertical : Items → Option Data
+first_vertical no_items = None
+first_vertical (item d ds) = if is_vertical d then Some d else first_vertical ds
+
+-- the name of an entry's system, where it is a text
+abbrev pub system_name : Data → Option (List ℕ)
+system_name entry = option_and_then as_str (option_and_then (get (codes "id")) (get (codes "system") entry))
+
+-- the name of the system of levels, where there are levels
+abbrev pub vertical_name : Bool → Items → Option (List ℕ)
+vertical_name has_z entries = if has_z then option_and_then system_name (first_vertical entries) else None
+
+-- the systems of a domain with or without levels: that of the plane is projected, and those of times are Gregorian
+pub record StandsForReferencing (has_z : Bool) (found : Option Data) (referencing : Referencing) : Type 0 where
   pub entries : Items
-  pub list : get (codes "referencing") tree ≡ Some (array entries)
+  pub list : found ≡ Some (array entries)
   pub connections : all_connections entries ≡ true
   pub plane : Data
   pub first : first_plane entries ≡ Some plane
   pub projected : system_text (codes "type") plane ≡ codes "ProjectedCRS"
   pub gregorian : first_other_calendar entries ≡ None
   pub crs : referencing.crs ≡ system_text (codes "id") plane
-  pub no_vertical : referencing.vertical ≡ None
+  pub vertical : referencing.vertical ≡ vertical_name has_z entries
+
+-- ---- the first check that fails
+
+-- no calendar but the Gregorian
+abbrev pub only_gregorian : Option Data → Answer ⊤
+only_gregorian None = Ok tt
+only_gregorian (Some entry) = Err (UnsupportedSystem (system_text (codes "calendar") entry))
+
+-- the entry of the plane, of a projected system
+abbrev pub plane_in : Items → Answer Data
+plane_in entries =
+    and_then (check (all_connections entries) (WrongType SystemsMember)) (λ _.
+    and_then (or_fault (first_plane entries) (Missing SystemsMember)) (λ plane.
+    and_then (check (bytes_eq (system_text (codes "type") plane) (codes "ProjectedCRS")) (UnsupportedSystem (system_text (codes "type") plane))) (λ _.
+    Ok plane)))
+
+-- the reference systems, found in the domain or elsewhere
+abbrev pub referencing_of : Bool → Option Data → Answer Referencing
+referencing_of has_z found =
+    and_then (or_fault found (Missing SystemsMember)) (λ list.
+    and_then (list_at SystemsMember list) (λ entries.
+    and_then (plane_in entries) (λ plane.
+    and_then (only_gregorian (first_other_calendar entries)) (λ _.
+    Ok (record { crs = system_text (codes "id") plane; vertical = vertical_name has_z entries })))))

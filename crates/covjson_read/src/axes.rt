@@ -1,23 +1,19 @@
 //! Axes of a domain (OGC 21-069r2, Axis objects).
-ghost use Rattle.std.specs.Prelude.{◌≡◌, ◌≤◌, ◌<◌, IfOk, All, length, Some, true, reverse};
-ghost use Rattle.serde_json.specs.View.{view, items_view, members_view};
-ghost use Rattle.serde_json.specs.Find.{get};
-ghost use Rattle.edr_axes.specs.Instants.{IsTime};
-ghost use Rattle.covjson_value.specs.declared.domains.AxisName.TheVariants.{T, X};
-ghost use Rattle.covjson_value.specs.Coverages.{IsCoordinate, IsAxisValue, IsNamedAxis, HasAxes, HasTuples};
+ghost use Rattle.std.specs.Prelude.{◌≡◌, option_map, false};
+ghost use Rattle.serde_json.specs.View.{view, items_view};
 ghost use Rattle.covjson_value.specs.Domains.{axis_key};
 ghost use Rattle.covjson_read.specs.Answers.{Gives, GivesUnlessMemory};
-ghost use Rattle.covjson_read.specs.Axes.{EachStands, StandsForTime, HoldsValues, turned_if, HasSameAxis, StandsForDomain, IsGridOfTimes, is_axis_key, all_axis_keys};
-ghost use Rattle.covjson_read.specs.Axes as axes;
+ghost use Rattle.covjson_read.specs.AxisAnswers.{times_from};
+ghost use Rattle.covjson_read.specs.AxisAnswers as axes;
 
-use crate::faults::{CovFault, Member, unsupported_domain};
+use crate::faults::{CovFault, Member};
 use crate::members::{
     Wanted, list_at, need, need_form, need_wholes, object_at, part, text_at, wholes,
 };
 use crate::spans::spanned;
-use covjson_value::{AxisName, COORDINATE_LIMIT, Domain};
+use covjson_value::{AxisName, COORDINATE_LIMIT};
 use edr_axes::{Axis, AxisFault, read_instant};
-use serde_json::{Map, Value};
+use serde_json::Value;
 use std::alloc::Global;
 
 /// Which axes of a tree descend, so that they and the values over them are turned round.
@@ -54,7 +50,9 @@ pub fn key_of(name: AxisName) -> &'static str
     }
 }
 
-fn member_of(name: AxisName) -> Member {
+fn member_of(name: AxisName) -> Member
+    ensures { result ≡ axes.member_of name }
+{
     match name {
         AxisName::T => Member::T,
         AxisName::Z => Member::Z,
@@ -72,11 +70,10 @@ fn has_some(items: &Vec<Value>) -> bool
     true
 }
 
-// The items of the values of an axis, of which there are some.
-fn axis_items(axis: &Value, member: Member) -> Result<&Vec<Value>, CovFault>
-    ensures { Gives (λ v. items_view v.now.items) result (axes.axis_items member (view axis.now)) }
+/// The items of the member `values`, of which there are some: WrongType.
+pub fn value_items(axis: &Value, member: Member) -> Result<&Vec<Value>, CovFault>
+    ensures { Gives (λ v. items_view v.now.items) result (axes.value_items member (view axis.now)) }
 {
-    let _members = object_at(axis, member)?;
     let list = part(axis, "values", member)?;
     let items = list_at(list, member)?;
     if !has_some(items) {
@@ -85,37 +82,36 @@ fn axis_items(axis: &Value, member: Member) -> Result<&Vec<Value>, CovFault>
     Ok(items)
 }
 
-// The values of an axis of numbers.
+// Listed numbers.
 fn coordinates(alloc: Global, axis: &Value, member: Member) -> Result<Vec<i64>, CovFault>
     ensures { GivesUnlessMemory (λ v. v.items) result (axes.coordinates member (view axis.now)) }
 {
-    let items = axis_items(axis, member)?;
+    let items = value_items(axis, member)?;
     need_form(items, Wanted::Numbers, member)?;
     need_wholes(items, Wanted::Wholes, member)?;
     wholes(alloc, items, member, COORDINATE_LIMIT)
 }
 
-// The time that a text tells, at that place.
-fn time_at(item: &Value, place: usize) -> Result<i64, CovFault>
-    ensures stands { IfOk result (λ time. StandsForTime (view item.now) time × IsTime time) }
+/// The time of a text, of which the place is that: WrongType, BadTime.
+pub fn time_at(item: &Value, member: Member, place: usize) -> Result<i64, CovFault>
+    ensures { result ≡ axes.time_at member place (view item.now) }
 {
-    let text = text_at(item, Member::T)?;
+    let text = text_at(item, member)?;
     match read_instant(text.as_bytes()) {
         Some(time) => Ok(time),
         None => Err(CovFault::BadTime(place)),
     }
 }
 
-// The times that the texts of a list tell.
+// The times of the texts of a list.
 fn times(alloc: Global, items: &Vec<Value>) -> Result<Vec<i64>, CovFault>
-    ensures stands { IfOk result (λ v. EachStands StandsForTime (items_view items.now.items) v.items) }
-    ensures in_range { IfOk result (λ v. All IsTime v.items) }
+    ensures { GivesUnlessMemory (λ v. v.items) result (times_from 0 (items_view items.now.items)) }
 {
     let Ok(mut found) = Vec::with_capacity(alloc, items.len()) else {
         return Err(CovFault::OutOfMemory);
     };
     for (place, item) in items.iter().enumerate() {
-        let time = time_at(item, place)?;
+        let time = time_at(item, Member::T, place)?;
         if found.push(time).is_err() {
             return Err(CovFault::OutOfMemory);
         }
@@ -123,20 +119,19 @@ fn times(alloc: Global, items: &Vec<Value>) -> Result<Vec<i64>, CovFault>
     Ok(found)
 }
 
-// The times of an axis.
+// Listed times.
 fn axis_times(alloc: Global, axis: &Value) -> Result<Vec<i64>, CovFault>
-    ensures stands { IfOk result (λ v. HoldsValues T (view axis.now) v.items) }
-    ensures in_range { IfOk result (λ v. All IsTime v.items) }
+    ensures { GivesUnlessMemory (λ v. v.items) result (axes.axis_times (view axis.now)) }
 {
-    let items = axis_items(axis, Member::T)?;
+    let _members = object_at(axis, Member::T)?;
+    let items = value_items(axis, Member::T)?;
     need_form(items, Wanted::Texts, Member::T)?;
     times(alloc, items)
 }
 
-// The numbers of an axis: listed, or spanned where they aren't listed.
+// Numbers: listed where `values` is there, else spanned.
 fn axis_numbers(alloc: Global, axis: &Value, member: Member) -> Result<Vec<i64>, CovFault>
-    ensures stands { IfOk result (λ v. HoldsValues X (view axis.now) v.items) }
-    ensures in_range { IfOk result (λ v. All IsCoordinate v.items) }
+    ensures { GivesUnlessMemory (λ v. v.items) result (axes.axis_numbers member (view axis.now)) }
 {
     let _members = object_at(axis, member)?;
     if axis.get("values").is_some() {
@@ -148,8 +143,7 @@ fn axis_numbers(alloc: Global, axis: &Value, member: Member) -> Result<Vec<i64>,
 
 // The values of an axis as the tree has them.
 fn axis_values(alloc: Global, axis: &Value, name: AxisName) -> Result<Vec<i64>, CovFault>
-    ensures stands { IfOk result (λ v. HoldsValues name (view axis.now) v.items) }
-    ensures in_range { IfOk result (λ v. All (IsAxisValue name) v.items) }
+    ensures { GivesUnlessMemory (λ v. v.items) result (axes.axis_values name (view axis.now)) }
 {
     match name {
         AxisName::T => axis_times(alloc, axis),
@@ -159,23 +153,21 @@ fn axis_values(alloc: Global, axis: &Value, name: AxisName) -> Result<Vec<i64>, 
 
 // Descending values, turned round.
 fn turned_round(alloc: Global, values: Vec<i64>, member: Member) -> Result<ReadAxis, CovFault>
-    requires { 1 < length values.items }
-    ensures turned { IfOk result (λ r. r.turned ≡ true) }
-    ensures values { IfOk result (λ r. r.axis ≡ reverse values.items) }
+    requires { axes.ascends values.items ≡ false }
+    ensures { GivesUnlessMemory (λ r. r) result (axes.in_direction member values.items) }
 {
     let mut ascending = values;
     ascending.reverse();
     match Axis::of(alloc, &ascending) {
         Ok(axis) => Ok(ReadAxis { axis, turned: true }),
-        Err(AxisFault::OutOfMemory) => Err(CovFault::OutOfMemory),
-        Err(_) => Err(CovFault::NotMonotonic(member)),
+        Err(AxisFault::NotAscending(_)) => Err(CovFault::NotMonotonic(member)),
+        Err(_) => Err(CovFault::OutOfMemory),
     }
 }
 
-// Values in ascending order: as they stand, or turned round.
+// Ascending values as they stand, and descending ones turned round: NotMonotonic.
 fn in_direction(alloc: Global, values: Vec<i64>, member: Member) -> Result<ReadAxis, CovFault>
-    ensures held { IfOk result (λ r. turned_if r.turned r.axis ≡ values.items) }
-    ensures several { IfOk result (λ r. r.turned ≡ true → 1 < length r.axis) }
+    ensures { GivesUnlessMemory (λ r. r) result (axes.in_direction member values.items) }
 {
     match Axis::of(alloc, &values) {
         Ok(axis) => Ok(ReadAxis {
@@ -183,74 +175,77 @@ fn in_direction(alloc: Global, values: Vec<i64>, member: Member) -> Result<ReadA
             turned: false,
         }),
         Err(AxisFault::NotAscending(_)) => turned_round(alloc, values, member),
-        Err(AxisFault::Empty) => Err(CovFault::WrongType(member)),
-        Err(AxisFault::OutOfMemory) => Err(CovFault::OutOfMemory),
+        Err(_) => Err(CovFault::OutOfMemory),
     }
 }
 
-/// The axis of a name: Missing, then its form, its values and their order.
-pub fn axis_at(alloc: Global, tree: &Value, name: AxisName) -> Result<ReadAxis, CovFault>
-    ensures stands { IfOk result (λ r. HasSameAxis name (get (axis_key name) (view tree.now)) r.turned (Some r.axis)) }
-    ensures named { IfOk result (λ r. IsNamedAxis name r.axis) }
+// An axis: its form, its values and their order.
+fn axis_read(alloc: Global, axis: &Value, name: AxisName) -> Result<ReadAxis, CovFault>
+    ensures { GivesUnlessMemory (λ r. r) result (axes.axis_read name (view axis.now)) }
 {
-    let axis = need(tree, key_of(name), member_of(name))?;
     let values = axis_values(alloc, axis, name)?;
     in_direction(alloc, values, member_of(name))
 }
 
-fn is_axis_key(key: &str) -> bool
-    ensures { result ≡ is_axis_key key.now }
+// The one value of an axis: WrongCount.
+fn one_value(read: &ReadAxis, name: AxisName) -> Result<i64, CovFault>
+    ensures { result ≡ axes.one_value name read.now }
 {
-    key == "t" || key == "z" || key == "y" || key == "x"
+    match read.axis.values() {
+        [value] => Ok(*value),
+        values => Err(CovFault::WrongCount(member_of(name), 1, values.len() as u128)),
+    }
 }
 
-/// Each member has the name of an axis.
-pub fn all_axis_keys(members: &Map<String, Value>) -> bool
-    ensures { result ≡ all_axis_keys (members_view members.now.entries) }
+fn value_read(alloc: Global, axis: &Value, name: AxisName) -> Result<i64, CovFault>
+    ensures { GivesUnlessMemory (λ v. v) result (axes.value_read name (view axis.now)) }
 {
-    for (key, _) in members.iter() {
-        if !is_axis_key(key) {
-            return false;
+    let read = axis_read(alloc, axis, name)?;
+    one_value(&read, name)
+}
+
+/// The axis of a name: Missing, then its form, its values and their order.
+pub fn axis_at(alloc: Global, tree: &Value, name: AxisName) -> Result<ReadAxis, CovFault>
+    ensures { GivesUnlessMemory (λ r. r) result (axes.axis_at name (view tree.now)) }
+{
+    let axis = need(tree, key_of(name), member_of(name))?;
+    axis_read(alloc, axis, name)
+}
+
+/// The axis of a name, where it is there.
+pub fn axis_if_given(
+    alloc: Global,
+    tree: &Value,
+    name: AxisName,
+) -> Result<Option<ReadAxis>, CovFault>
+    ensures { GivesUnlessMemory (λ r. r) result (axes.axis_if_given name (view tree.now)) }
+{
+    match tree.get(key_of(name)) {
+        Some(axis) => {
+            let read = axis_read(alloc, axis, name)?;
+            Ok(Some(read))
         }
+        None => Ok(None),
     }
-    true
 }
 
-/// The Grid of a tree, with times and without levels: its type, its axes' names, and then axis by axis; and which of its
-/// axes were turned round.
-pub fn grid_of(alloc: Global, tree: &Value) -> Result<(Domain, Turned), CovFault>
-    ensures stands { IfOk result (λ p. StandsForDomain (view tree.now) p.1 p.0) }
-    ensures axes { IfOk result (λ p. HasAxes p.0) }
-    ensures tuples { IfOk result (λ p. HasTuples p.0) }
-    ensures grid { IfOk result (λ p. IsGridOfTimes p.0) }
+/// The single value of the axis of a name: as for an axis, and then WrongCount.
+pub fn single_at(alloc: Global, tree: &Value, name: AxisName) -> Result<i64, CovFault>
+    ensures { GivesUnlessMemory (λ v. v) result (axes.single_at name (view tree.now)) }
 {
-    let kind = need(tree, "domainType", Member::DomainType)?;
-    let kind = text_at(kind, Member::DomainType)?;
-    if kind != "Grid" {
-        return Err(unsupported_domain(alloc, kind));
+    let axis = need(tree, key_of(name), member_of(name))?;
+    value_read(alloc, axis, name)
+}
+
+/// The single value of the axis of a name, where it is there.
+pub fn single_if_given(alloc: Global, tree: &Value, name: AxisName) -> Result<Option<i64>, CovFault>
+    ensures { GivesUnlessMemory (λ v. v) result (axes.single_if_given name (view tree.now)) }
+{
+    match tree.get(key_of(name)) {
+        Some(axis) => {
+            let value = value_read(alloc, axis, name)?;
+            Ok(Some(value))
+        }
+        None => Ok(None),
     }
-    let axes = need(tree, "axes", Member::Axes)?;
-    let members = object_at(axes, Member::Axes)?;
-    if !all_axis_keys(members) {
-        return Err(CovFault::WrongType(Member::Axes));
-    }
-    let t = axis_at(alloc, axes, AxisName::T)?;
-    if axes.get("z").is_some() {
-        return Err(unsupported_domain(alloc, kind));
-    }
-    let y = axis_at(alloc, axes, AxisName::Y)?;
-    let x = axis_at(alloc, axes, AxisName::X)?;
-    let turned = Turned {
-        t: t.turned,
-        z: false,
-        y: y.turned,
-        x: x.turned,
-    };
-    let domain = Domain::Grid {
-        t: Some(t.axis),
-        z: None,
-        y: y.axis,
-        x: x.axis,
-    };
-    Ok((domain, turned))
 }

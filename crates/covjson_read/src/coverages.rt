@@ -1,59 +1,28 @@
 //! Coverages (OGC 21-069r2, Coverage objects).
-ghost use Rattle.std.specs.Prelude.{◌≡◌, IfOk, IfSome, IsUtf8, option_and_then, codes};
-ghost use Rattle.serde_json.specs.View.{view, members_view};
+ghost use Rattle.std.specs.Prelude.{◌≡◌, IfOk, IfSome, IsUtf8, Ok, option_and_then, option_map, codes};
+ghost use Rattle.serde_json.specs.Data.{null};
+ghost use Rattle.serde_json.specs.View.{view};
 ghost use Rattle.serde_json.specs.Find.{get, as_str};
-ghost use Rattle.covjson_value.specs.Coverages.{IsValid};
-ghost use Rattle.covjson_read.specs.Axes.{IsGridOfTimes};
-ghost use Rattle.covjson_read.specs.Parameters.{HoldsParameters};
-ghost use Rattle.covjson_read.specs.Standing.{StandsForRanges, AreValid, Stands, TreesStandForOne};
+ghost use Rattle.covjson_value.specs.Coverages.{HasAxes, HasTuples, IsValid};
+ghost use Rattle.covjson_read.specs.Answers.{Gives, GivesUnlessMemory};
+ghost use Rattle.covjson_read.specs.CoverageAnswers.{over_domain, AnswersAreWhatStands, TreesStandForOne};
+ghost use Rattle.covjson_read.specs.CoverageAnswers as answers;
 
-use crate::axes::{Turned, grid_of};
+use crate::domains::{ReadDomain, domain_of};
 use crate::faults::{CovFault, Member};
-use crate::members::{need, object_at, text_or_empty};
-use crate::parameters::{parameter_of, parameters_of, text_where_given};
-use crate::ranges::range_of;
+use crate::members::{lent, need, object_at, text_or_empty};
+use crate::parameters::parameters_of;
+use crate::ranges::ranges_in;
 use crate::systems::referencing_of;
-use covjson_value::{Coverage, Domain, NdArray, Parameter};
-use edr_axes::instants_are_unique;
-use edr_base::{Items, Text};
-use serde_json::{Map, Value};
+use crate::texts::text_where_given;
+use covjson_value::{AxisName, Coverage};
+use edr_base::Text;
+use serde_json::Value;
 use std::alloc::Global;
-
-// The ranges in ascending order of their names, each with the parameter of its name.
-fn ranges_of(
-    alloc: Global,
-    ranges: &Map<String, Value>,
-    parameters: &Value,
-    domain: &Domain,
-    turned: Turned,
-) -> Result<(Vec<Parameter>, Vec<NdArray>), CovFault>
-    requires grid { IsGridOfTimes domain.now }
-    requires named { HoldsParameters (view parameters.now) }
-    ensures stands { IfOk result (λ p. StandsForRanges domain.now turned (view parameters.now) (members_view ranges.now.entries) p.0.items p.1.items) }
-    ensures valid { IfOk result (λ p. AreValid domain.now p.0.items p.1.items) }
-{
-    if ranges.is_empty() {
-        return Err(CovFault::WrongCount(Member::Ranges, 1, 0));
-    }
-    let mut kept = Vec::new(alloc);
-    let mut read = Vec::new(alloc);
-    for (id, range) in ranges.iter() {
-        let tree = need(parameters, id, Member::Parameters)?;
-        let parameter = parameter_of(alloc, id, tree)?;
-        let array = range_of(alloc, range, domain, turned)?;
-        if kept.push(parameter).is_err() {
-            return Err(CovFault::OutOfMemory);
-        }
-        if read.push(array).is_err() {
-            return Err(CovFault::OutOfMemory);
-        }
-    }
-    Ok((kept, read))
-}
 
 // Its name, where it is a text.
 fn id_of(alloc: Global, tree: &Value) -> Result<Option<Text>, CovFault>
-    ensures value { IfOk result (λ id. id ≡ option_and_then as_str (get (codes "id") (view tree.now))) }
+    ensures value { GivesUnlessMemory (λ id. id) result (Ok (option_and_then as_str (get (codes "id") (view tree.now)))) }
     ensures utf8 { IfOk result (λ id. IfSome id IsUtf8) }
 {
     match tree.get("id") {
@@ -62,43 +31,96 @@ fn id_of(alloc: Global, tree: &Value) -> Result<Option<Text>, CovFault>
     }
 }
 
-/// The coverage that a tree of JSON stands for (OGC 21-069r2, CoverageJSON objects), or the first check that it fails.
-///
-/// It is read where its domain is a Grid with an axis `t` of times and without an axis of levels. An axis has its values
-/// in a list, or of x and y by `start`, `stop` and `num`; they ascend or descend, and descending ones are turned round with
-/// the samples over them. A range may have its axes in any order. Other coverages are refused. Members that aren't needed
-/// are passed over, and parameters without a range too.
-pub fn coverage_of(alloc: Global, tree: &Value) -> Result<Coverage, CovFault>
-    ensures stands { IfOk result (Stands (view tree.now)) }
-    ensures valid { IfOk result IsValid }
-    ensures grid { IfOk result (λ coverage. IsGridOfTimes coverage.domain) }
+// An object of type Coverage: WrongType, Missing.
+fn is_coverage(tree: &Value) -> Result<&Value, CovFault>
+    ensures { Gives (λ v. view v.now) result (answers.is_coverage (view tree.now)) }
 {
-    let _members = object_at(tree, Member::Document)?;
+    let _members = object_at(tree, Member::Coverages)?;
     let _kind = need(tree, "type", Member::Kind)?;
     if text_or_empty(tree, "type") != "Coverage" {
         return Err(CovFault::WrongType(Member::Kind));
     }
+    Ok(tree)
+}
+
+// The domain of a coverage, an object: Missing, WrongType.
+fn domain_at(tree: &Value) -> Result<&Value, CovFault>
+    ensures { Gives (λ v. view v.now) result (answers.domain_at (view tree.now)) }
+{
+    let domain = need(tree, "domain", Member::Domain)?;
+    let _members = object_at(domain, Member::Domain)?;
+    Ok(domain)
+}
+
+// The type of a domain: its own, else that of the coverage, else that of the collection.
+fn type_of<'a>(domain: &'a Value, tree: &'a Value, collection: &'a Value) -> Option<&'a Value>
+    ensures { option_map (λ v. view v.now) result ≡ answers.type_of (view domain.now) (view tree.now) (view collection.now) }
+{
+    match domain.get("domainType") {
+        Some(found) => Some(found),
+        None => lent(tree, collection, "domainType"),
+    }
+}
+
+// The coverage over a domain that was read: its systems, its parameters and its ranges.
+fn over_domain(
+    alloc: Global,
+    tree: &Value,
+    collection: &Value,
+    domain: &Value,
+    read: ReadDomain,
+) -> Result<Coverage, CovFault>
+    requires axes { HasAxes read.domain }
+    requires tuples { HasTuples read.domain }
+    ensures answer { GivesUnlessMemory (λ c. c) result (over_domain (view collection.now) (view tree.now) (view domain.now) read) }
+    ensures valid { IfOk result IsValid }
+{
+    let levels = read.domain.has(AxisName::Z);
+    let referencing = referencing_of(alloc, lent(domain, collection, "referencing"), levels)?;
+    let parameters = parameters_of(lent(tree, collection, "parameters"))?;
+    let ranges = ranges_in(alloc, tree, parameters, &read)?;
     let id = id_of(alloc, tree)?;
-    let place = need(tree, "domain", Member::Domain)?;
-    let _members = object_at(place, Member::Domain)?;
-    let (domain, turned) = grid_of(alloc, place)?;
-    let referencing = referencing_of(alloc, place)?;
-    let parameters = parameters_of(tree)?;
-    let ranges = need(tree, "ranges", Member::Ranges)?;
-    let ranges = object_at(ranges, Member::Ranges)?;
-    let (kept, read) = ranges_of(alloc, ranges, parameters, &domain, turned)?;
     Ok(Coverage {
         id,
-        domain,
+        domain: read.domain,
         referencing,
-        parameters: Items::of(kept),
-        ranges: Items::of(read),
+        parameters: ranges.parameters,
+        ranges: ranges.ranges,
     })
 }
+
+/// The coverage that a tree of JSON stands for within a collection, which lends it what it lacks: its type of domain, its
+/// systems and its parameters. The collection is null where there is none.
+pub fn coverage_in(alloc: Global, tree: &Value, collection: &Value) -> Result<Coverage, CovFault>
+    ensures answer { GivesUnlessMemory (λ c. c) result (answers.coverage_in (view collection.now) (view tree.now)) }
+    ensures valid { IfOk result IsValid }
+{
+    let _tree = is_coverage(tree)?;
+    let domain = domain_at(tree)?;
+    let read = domain_of(alloc, domain, type_of(domain, tree, collection))?;
+    over_domain(alloc, tree, collection, domain, read)
+}
+
+/// The coverage that a tree of JSON stands for (OGC 21-069r2, CoverageJSON objects), or the first check that it fails.
+///
+/// The checks go in this order: the object and its type, the domain and its type, the axes t, z, y, x and composite, the
+/// reference systems, the parameters, and the ranges, parameters and ranges in ascending order of their ids. An axis has its
+/// values in a list, or one of numbers has them by `start`, `stop` and `num`; descending values are turned round with the
+/// samples over them. A range may have its axes in any order. Members that aren't needed are passed over, and parameters
+/// without a range are dropped.
+pub fn coverage_of(alloc: Global, tree: &Value) -> Result<Coverage, CovFault>
+    ensures answer { GivesUnlessMemory (λ c. c) result (answers.coverage_in null (view tree.now)) }
+    ensures valid { IfOk result IsValid }
+{
+    coverage_in(alloc, tree, &Value::Null)
+}
+
+/// The answer to a tree is a coverage exactly where the tree stands for that coverage.
+pub fn answers_are_what_stands()
+    ensures { AnswersAreWhatStands }
+{}
 
 /// A tree stands for at most one coverage.
 pub fn trees_stand_for_one()
     ensures { TreesStandForOne }
-{
-    instants_are_unique();
-}
+{}

@@ -1,12 +1,12 @@
 //! Members of objects and items of lists, each with the fault where it isn't as it has to be.
-ghost use Rattle.std.specs.Prelude.{◌≡◌, ◌<◌, ◌^◌, is_some};
-ghost use Rattle.serde_json.specs.View.{view, items_view, members_view};
+ghost use Rattle.std.specs.Prelude.{◌≡◌, ◌<◌, ◌^◌, is_some, option_map};
+ghost use Rattle.serde_json.specs.View.{view, items_view, members_view, number_view};
 ghost use Rattle.serde_json.specs.Find.{get};
-ghost use Rattle.covjson_read.specs.Answers.{Gives, GivesUnlessMemory, each};
+ghost use Rattle.covjson_read.specs.Answers.{Gives, GivesUnlessMemory, or_fault, each};
 ghost use Rattle.covjson_read.specs.Members as members;
 
 use crate::faults::{CovFault, Member};
-use serde_json::{Map, Value};
+use serde_json::{Map, Number, Value};
 use std::alloc::Global;
 
 /// What each item of a list has to be.
@@ -37,6 +37,26 @@ pub fn part<'a>(tree: &'a Value, name: &str, member: Member) -> Result<&'a Value
     match tree.get(name) {
         Some(found) => Ok(found),
         None => Err(CovFault::WrongType(member)),
+    }
+}
+
+/// What was found of a member, or Missing.
+pub fn found_or_missing(found: Option<&Value>, member: Member) -> Result<&Value, CovFault>
+    ensures { Gives (λ v. view v.now) result (or_fault (option_map (λ v. view v.now) found.entry) (CovFault.Missing member)) }
+{
+    match found {
+        Some(value) => Ok(value),
+        None => Err(CovFault::Missing(member)),
+    }
+}
+
+/// The member of a tree, else of the collection that it is in.
+pub fn lent<'a>(tree: &'a Value, collection: &'a Value, name: &str) -> Option<&'a Value>
+    ensures { option_map (λ v. view v.now) result ≡ members.lent name.now (view tree.now) (view collection.now) }
+{
+    match tree.get(name) {
+        Some(found) => Some(found),
+        None => collection.get(name),
     }
 }
 
@@ -83,18 +103,41 @@ pub fn text_or_empty<'a>(tree: &'a Value, name: &str) -> &'a str
     }
 }
 
+/// A number, or WrongType.
+pub fn number_at(tree: &Value, member: Member) -> Result<&Number, CovFault>
+    ensures { Gives (λ n. number_view n.now) result (members.number_at member (view tree.now)) }
+{
+    match tree.as_number() {
+        Some(number) => Ok(number),
+        None => Err(CovFault::WrongType(member)),
+    }
+}
+
+/// The number as it is held whole, or NotWhole.
+pub fn held_whole(number: &Number, member: Member) -> Result<i128, CovFault>
+    ensures { result ≡ members.held_whole member (number_view number.now) }
+{
+    match number.as_i128() {
+        Some(whole) => Ok(whole),
+        None => Err(CovFault::NotWhole(member)),
+    }
+}
+
+/// The size is at most that.
+pub fn is_within(value: i128, limit: u64) -> bool
+    ensures { result ≡ members.is_within limit value }
+{
+    value.unsigned_abs() <= limit as u128
+}
+
 /// A whole number of at most that size: WrongType, NotWhole, OutOfRange.
 pub fn whole_within(tree: &Value, member: Member, limit: u64) -> Result<i64, CovFault>
     requires { limit < 2 ^ 63 }
     ensures { result ≡ members.whole_within member limit (view tree.now) }
 {
-    let Some(number) = tree.as_number() else {
-        return Err(CovFault::WrongType(member));
-    };
-    let Some(whole) = number.as_i128() else {
-        return Err(CovFault::NotWhole(member));
-    };
-    if whole.unsigned_abs() > limit as u128 {
+    let number = number_at(tree, member)?;
+    let whole = held_whole(number, member)?;
+    if !is_within(whole, limit) {
         return Err(CovFault::OutOfRange(member));
     }
     Ok(whole as i64)
@@ -112,13 +155,20 @@ pub fn whole_or_null(tree: &Value, member: Member, limit: u64) -> Result<Option<
     Ok(Some(whole))
 }
 
+/// The number that is held as a whole number, where the item is one.
+pub fn whole_of(item: &Value) -> Option<i128>
+    ensures { result ≡ members.whole_of (view item.now) }
+{
+    match item.as_number() {
+        Some(number) => number.as_i128(),
+        None => None,
+    }
+}
+
 fn is_whole(item: &Value) -> bool
     ensures { result ≡ is_some (members.whole_of (view item.now)) }
 {
-    match item.as_number() {
-        Some(number) => number.as_i128().is_some(),
-        None => false,
-    }
+    whole_of(item).is_some()
 }
 
 fn is_wanted(item: &Value, wanted: Wanted) -> bool

@@ -1,25 +1,30 @@
 //! Values of a tree in the order of the domain's axes.
-ghost use Rattle.std.specs.Prelude.{◌≡◌, ◌<◌, ◌^◌, IfOk, All, None, length, true};
+ghost use Rattle.std.specs.Prelude.{◌≡◌, ◌<◌, ◌^◌, Ok, length, true};
 ghost use Rattle.std.specs.Bool.{OnTrue};
-ghost use Rattle.covjson_value.specs.Domains.{tuples_of, count_of};
+ghost use Rattle.covjson_value.specs.Domains.{count_of};
+ghost use Rattle.covjson_read.specs.Answers.{GivesUnlessMemory};
 ghost use Rattle.covjson_read.specs.Ranges.{AreRangeAxes};
-ghost use Rattle.covjson_read.specs.Orders.{AreInOrder, IsUsual, IsUnturned};
+ghost use Rattle.covjson_read.specs.Orders.{ordered, IsUsual, IsUnturned};
 
 use crate::axes::Turned;
 use crate::faults::CovFault;
-use crate::places::{places_of, tree_number};
-use covjson_value::{AxisName, Domain};
+use crate::places::{RangeAxis, places_of, tree_number};
+use covjson_value::Domain;
 use std::alloc::Global;
 
 // Whether the axes stand in the domain's own order.
-fn is_usual(names: &[AxisName]) -> bool
+fn is_usual(names: &[RangeAxis]) -> bool
     ensures { OnTrue result (IsUsual names.now) }
 {
     match names {
-        [AxisName::T, AxisName::Z, AxisName::Y, AxisName::X] => true,
-        [AxisName::T, AxisName::Y, AxisName::X] => true,
-        [AxisName::Z, AxisName::Y, AxisName::X] => true,
-        [AxisName::Y, AxisName::X] => true,
+        [RangeAxis::T, RangeAxis::Z, RangeAxis::Y, RangeAxis::X] => true,
+        [RangeAxis::T, RangeAxis::Y, RangeAxis::X] => true,
+        [RangeAxis::Z, RangeAxis::Y, RangeAxis::X] => true,
+        [RangeAxis::Y, RangeAxis::X] => true,
+        [RangeAxis::T] => true,
+        [RangeAxis::Z] => true,
+        [RangeAxis::Composite] => true,
+        [] => true,
         _ => false,
     }
 }
@@ -36,12 +41,11 @@ fn arranged(
     values: &[Option<i64>],
     domain: &Domain,
     turned: Turned,
-    names: &[AxisName],
+    names: &[RangeAxis],
 ) -> Result<Vec<Option<i64>>, CovFault>
-    requires along { tuples_of domain.now ≡ None }
     requires axes { AreRangeAxes domain.now names.now }
     requires counted { length values.now ≡ count_of domain.now }
-    ensures { IfOk result (λ v. AreInOrder domain.now turned names.now values.now v.items) }
+    ensures { GivesUnlessMemory (λ v. v.items) result (Ok (ordered domain.now turned names.now values.now)) }
 {
     let Ok(mut found) = Vec::with_capacity(alloc, values.len()) else {
         return Err(CovFault::OutOfMemory);
@@ -56,19 +60,18 @@ fn arranged(
     Ok(found)
 }
 
-/// The values of a range in the order of the domain's axes, t, z, y, x, the last fastest: those of the tree where it has
-/// its axes in this order and ascending, else the value at each place in turn.
+/// The values of a range in the order of the domain's axes, t, z, y, x, or along its tuples, the last fastest: those of the
+/// tree where it has its axes in this order and ascending, else the value at each place in turn.
 pub fn in_order(
     alloc: Global,
     values: Vec<Option<i64>>,
     domain: &Domain,
     turned: Turned,
-    names: &[AxisName],
+    names: &[RangeAxis],
 ) -> Result<Vec<Option<i64>>, CovFault>
-    requires along { tuples_of domain.now ≡ None }
     requires axes { AreRangeAxes domain.now names.now }
     requires counted { length values.items ≡ count_of domain.now }
-    ensures { IfOk result (λ v. AreInOrder domain.now turned names.now values.items v.items) }
+    ensures { GivesUnlessMemory (λ v. v.items) result (Ok (ordered domain.now turned names.now values.items)) }
 {
     if is_usual(names) && is_unturned(turned) {
         Ok(values)

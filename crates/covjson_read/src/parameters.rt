@@ -1,16 +1,16 @@
 //! Parameters (OGC 21-069r2, Parameter objects).
-ghost use Rattle.std.specs.Prelude.{◌≡◌, ◌↔◌, IsTrue, option_map, IfOk, IfSome, IsUtf8, codes, None, Some};
+ghost use Rattle.std.specs.Prelude.{◌≡◌, option_map, IfOk, codes, None};
 ghost use Rattle.serde_json.specs.View.{view, members_view};
 ghost use Rattle.serde_json.specs.Find.{get};
-ghost use Rattle.covjson_value.specs.Coverages.{IsName, IsParameter};
-ghost use Rattle.covjson_read.specs.Answers.{Gives};
-ghost use Rattle.covjson_read.specs.Parameters.{StandsForParameter, AreNamedObjects, HoldsParameters};
+ghost use Rattle.covjson_value.specs.Coverages.{IsParameter};
+ghost use Rattle.covjson_read.specs.Answers.{Gives, GivesUnlessMemory};
+ghost use Rattle.covjson_read.specs.Parameters.{HasNameForm};
 ghost use Rattle.covjson_read.specs.Parameters as parameters;
 
 use crate::faults::{CovFault, Member};
-use crate::members::{need, object_at, part, text_at};
+use crate::members::{found_or_missing, need, object_at, part, text_at};
+use crate::texts::{text_of, text_where_given};
 use covjson_value::{Parameter, is_name};
-use edr_base::Text;
 use serde_json::{Map, Value};
 use std::alloc::Global;
 
@@ -122,23 +122,30 @@ fn parameter_forms(members: &Map<String, Value>) -> Result<(), CovFault>
     Ok(())
 }
 
+// A text is UTF-8, so that its form makes it a name.
+fn has_name_form(name: &str) -> bool
+    ensures { result ≡ parameters.has_name_form name.now }
+{
+    is_name(name.as_bytes())
+}
+
 fn all_named_objects(members: &Map<String, Value>) -> bool
-    ensures { IsTrue result ↔ AreNamedObjects (members_view members.now.entries) }
+    ensures { result ≡ parameters.all_named_objects (members_view members.now.entries) }
 {
     for (name, tree) in members.iter() {
-        if !is_name(name.as_bytes()) || !tree.is_object() {
+        if !has_name_form(name) || !tree.is_object() {
             return false;
         }
     }
     true
 }
 
-/// The parameters of a tree: an object of objects by names, each of which is as it has to be.
-pub fn parameters_of(tree: &Value) -> Result<&Value, CovFault>
-    ensures found { IfOk result (λ v. get (codes "parameters") (view tree.now) ≡ Some (view v.now)) }
-    ensures parameters { IfOk result (λ v. HoldsParameters (view v.now)) }
+/// The parameters, which were found in the coverage or elsewhere: an object of objects by names, each of which is as it has
+/// to be. Missing, WrongType.
+pub fn parameters_of(found: Option<&Value>) -> Result<&Value, CovFault>
+    ensures { Gives (λ v. view v.now) result (parameters.parameters_of (option_map (λ v. view v.now) found.entry)) }
 {
-    let found = need(tree, "parameters", Member::Parameters)?;
+    let found = found_or_missing(found, Member::Parameters)?;
     let members = object_at(found, Member::Parameters)?;
     if !all_named_objects(members) {
         return Err(CovFault::WrongType(Member::Parameters));
@@ -147,36 +154,10 @@ pub fn parameters_of(tree: &Value) -> Result<&Value, CovFault>
     Ok(found)
 }
 
-/// The text, where there is one.
-pub fn text_where_given(alloc: Global, text: Option<&str>) -> Result<Option<Text>, CovFault>
-    ensures value { IfOk result (λ t. t ≡ option_map (λ s. s.now) text.entry) }
-    ensures utf8 { IfOk result (λ t. IfSome t IsUtf8) }
-{
-    let Some(text) = text else {
-        return Ok(None);
-    };
-    let Ok(text) = Text::of(alloc, text.as_bytes()) else {
-        return Err(CovFault::OutOfMemory);
-    };
-    Ok(Some(text))
-}
-
-fn text_of(alloc: Global, text: &str) -> Result<Text, CovFault>
-    ensures value { IfOk result (λ t. t ≡ text.now) }
-    ensures utf8 { IfOk result IsUtf8 }
-{
-    match Text::of(alloc, text.as_bytes()) {
-        Ok(text) => Ok(text),
-        Err(_) => Err(CovFault::OutOfMemory),
-    }
-}
-
-/// The parameter of a name that a tree stands for.
+/// The parameter of an id that a tree stands for.
 pub fn parameter_of(alloc: Global, id: &str, tree: &Value) -> Result<Parameter, CovFault>
-    requires { IsName id.now }
-    ensures id { IfOk result (λ p. p.id ≡ id.now) }
-    ensures stands { IfOk result (StandsForParameter (view tree.now)) }
-    ensures valid { IfOk result IsParameter }
+    ensures answer { GivesUnlessMemory (λ p. p) result (parameters.parameter_of id.now (view tree.now)) }
+    ensures valid { IfOk result (λ p. HasNameForm id.now → IsParameter p) }
 {
     let (lang, label) = parameter_label(tree)?;
     let unit = parameter_unit(tree)?;

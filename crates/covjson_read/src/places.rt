@@ -1,13 +1,27 @@
 //! Places on the axes of a domain, and the numbers of values in row-major order.
-ghost use Rattle.std.specs.Prelude.{◌≡◌, ◌<◌, ◌^◌, None};
-ghost use Rattle.covjson_value.specs.Domains.{count_of};
-ghost use Rattle.covjson_value.specs.Domains as domains;
-ghost use Rattle.covjson_read.specs.Axes as axes;
-ghost use Rattle.covjson_read.specs.Ranges.{length_of, AreInside, AreRangeAxes, number_of};
+ghost use Rattle.std.specs.Prelude.{◌≡◌, ◌<◌, ◌^◌};
+ghost use Rattle.covjson_value.specs.Domains.{axis_of, axis_length, count_of};
+ghost use Rattle.covjson_read.specs.Ranges.{AreInside, AreRangeAxes, range_key};
 ghost use Rattle.covjson_read.specs.Ranges as ranges;
+ghost use Rattle.covjson_read.specs.Orders as orders;
 
 use crate::axes::Turned;
 use covjson_value::{AxisName, Domain};
+
+/// The name of an axis of a range (OGC 21-069r2, NdArray objects).
+#[derive(Clone, Copy, Debug, PartialEq, Eq)]
+pub enum RangeAxis {
+    /// Times.
+    T,
+    /// Levels.
+    Z,
+    /// Second coordinates.
+    Y,
+    /// First coordinates.
+    X,
+    /// Tuples.
+    Composite,
+}
 
 /// Places on the axes of a domain, each from 0. An axis that the domain hasn't has the place 0 alone.
 #[derive(Clone, Copy, Debug, PartialEq, Eq)]
@@ -20,11 +34,25 @@ pub struct Places {
     pub y: usize,
     /// The place of the first coordinate.
     pub x: usize,
+    /// The place of the tuple.
+    pub tuple: usize,
 }
 
-/// How many values the axis of a name has, and 1 where the domain hasn't it.
-pub fn axis_len(domain: &Domain, name: AxisName) -> usize
-    ensures length { result ≡ length_of domain.now name }
+/// The name of an axis of a range in CoverageJSON.
+pub fn range_key(name: RangeAxis) -> &'static str
+    ensures { result.now ≡ range_key name }
+{
+    match name {
+        RangeAxis::T => "t",
+        RangeAxis::Z => "z",
+        RangeAxis::Y => "y",
+        RangeAxis::X => "x",
+        RangeAxis::Composite => "composite",
+    }
+}
+
+fn values_len(domain: &Domain, name: AxisName) -> usize
+    ensures length { result ≡ axis_length (axis_of domain.now name) }
     ensures some { 0 < result }
 {
     match domain.axis(name) {
@@ -33,30 +61,61 @@ pub fn axis_len(domain: &Domain, name: AxisName) -> usize
     }
 }
 
-fn place_on(places: Places, name: AxisName) -> usize
-    ensures { result ≡ ranges.place_on places name }
+/// How many values the axis of a name has, and 1 where the domain hasn't it.
+pub fn axis_len(domain: &Domain, name: RangeAxis) -> usize
+    ensures { result ≡ ranges.length_of domain.now name }
 {
     match name {
-        AxisName::T => places.t,
-        AxisName::Z => places.z,
-        AxisName::Y => places.y,
-        AxisName::X => places.x,
+        RangeAxis::T => values_len(domain, AxisName::T),
+        RangeAxis::Z => values_len(domain, AxisName::Z),
+        RangeAxis::Y => values_len(domain, AxisName::Y),
+        RangeAxis::X => values_len(domain, AxisName::X),
+        RangeAxis::Composite => match domain.tuples() {
+            Some(tuples) => tuples.len(),
+            None => 1,
+        },
     }
 }
 
-fn is_turned(turned: Turned, name: AxisName) -> bool
-    ensures { result ≡ axes.is_turned turned name }
+/// Whether the domain has the axis of a name.
+pub fn has_axis(domain: &Domain, name: RangeAxis) -> bool
+    ensures { result ≡ ranges.has_range_axis domain.now name }
 {
     match name {
-        AxisName::T => turned.t,
-        AxisName::Z => turned.z,
-        AxisName::Y => turned.y,
-        AxisName::X => turned.x,
+        RangeAxis::T => domain.axis(AxisName::T).is_some(),
+        RangeAxis::Z => domain.axis(AxisName::Z).is_some(),
+        RangeAxis::Y => domain.axis(AxisName::Y).is_some(),
+        RangeAxis::X => domain.axis(AxisName::X).is_some(),
+        RangeAxis::Composite => domain.tuples().is_some(),
+    }
+}
+
+fn place_on(places: Places, name: RangeAxis) -> usize
+    ensures { result ≡ ranges.place_on places name }
+{
+    match name {
+        RangeAxis::T => places.t,
+        RangeAxis::Z => places.z,
+        RangeAxis::Y => places.y,
+        RangeAxis::X => places.x,
+        RangeAxis::Composite => places.tuple,
+    }
+}
+
+fn is_turned(turned: Turned, name: RangeAxis) -> bool
+    ensures { result ≡ ranges.is_range_turned turned name }
+{
+    match name {
+        RangeAxis::T => turned.t,
+        RangeAxis::Z => turned.z,
+        RangeAxis::Y => turned.y,
+        RangeAxis::X => turned.x,
+        RangeAxis::Composite => false,
     }
 }
 
 // The place on an axis as the tree has it.
-fn tree_place(domain: &Domain, turned: Turned, places: Places, name: AxisName) -> usize
+fn tree_place(domain: &Domain, turned: Turned, places: Places, name: RangeAxis) -> usize
     requires { AreInside domain.now places }
     ensures { result ≡ ranges.tree_place domain.now turned places name }
 {
@@ -69,11 +128,10 @@ fn tree_place(domain: &Domain, turned: Turned, places: Places, name: AxisName) -
 }
 
 /// The number, among the values of a tree with its axes in that order, of the value at some places of the domain.
-pub fn tree_number(domain: &Domain, turned: Turned, names: &[AxisName], places: Places) -> usize
+pub fn tree_number(domain: &Domain, turned: Turned, names: &[RangeAxis], places: Places) -> usize
     requires inside { AreInside domain.now places }
     requires axes { AreRangeAxes domain.now names.now }
     requires few { count_of domain.now < 2 ^ 64 }
-    requires along { domains.tuples_of domain.now ≡ None }
     ensures number { result ≡ ranges.tree_number domain.now turned names.now places }
     ensures inside { result < count_of domain.now }
 {
@@ -86,20 +144,23 @@ pub fn tree_number(domain: &Domain, turned: Turned, names: &[AxisName], places: 
 
 /// The places whose value has that number in the domain's own order.
 pub fn places_of(domain: &Domain, number: usize) -> Places
-    requires along { domains.tuples_of domain.now ≡ None }
-    requires inside { number < count_of domain.now }
+    requires { number < count_of domain.now }
+    ensures places { result ≡ orders.places_at domain.now number }
     ensures inside { AreInside domain.now result }
-    ensures number { number_of domain.now result ≡ number }
+    ensures number { ranges.number_of domain.now result ≡ number }
 {
-    let columns = axis_len(domain, AxisName::X);
-    let rows = axis_len(domain, AxisName::Y);
-    let levels = axis_len(domain, AxisName::Z);
-    let row = number / columns;
+    let tuples = axis_len(domain, RangeAxis::Composite);
+    let columns = axis_len(domain, RangeAxis::X);
+    let rows = axis_len(domain, RangeAxis::Y);
+    let levels = axis_len(domain, RangeAxis::Z);
+    let node = number / tuples;
+    let row = node / columns;
     let level = row / rows;
     Places {
         t: level / levels,
         z: level % levels,
         y: row % rows,
-        x: number % columns,
+        x: node % columns,
+        tuple: number % tuples,
     }
 }

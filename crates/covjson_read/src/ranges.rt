@@ -1,30 +1,41 @@
 //! Ranges (OGC 21-069r2, NdArray objects).
-ghost use Rattle.std.specs.Prelude.{◌≡◌, ◌<◌, IfOk, OnOk, IfSome, All, length, map, codes, true};
-ghost use Rattle.std.specs.Bool.{OnTrue};
-ghost use Rattle.serde_json.specs.View.{view, items_view};
+ghost use Rattle.std.specs.Prelude.{◌≡◌, IfOk, codes, length, map};
+ghost use Rattle.serde_json.specs.View.{view, items_view, members_view};
 ghost use Rattle.serde_json.specs.Find.{get};
-ghost use Rattle.covjson_value.specs.Domains.{has_axis, count_of};
-ghost use Rattle.covjson_value.specs.Domains as domains;
-ghost use Rattle.covjson_value.specs.Coverages.{IsRange, IsSample};
-ghost use Rattle.covjson_read.specs.Axes.{EachStands, IsGridOfTimes};
-ghost use Rattle.covjson_read.specs.Ranges.{HoldsIntegers, ListStands, StandsForName, StandsForLength, StandsForSample, length_of, AreDistinct, AreRangeAxes, IsOnePlace, NamesStand, ShapeStands, StandsForRange};
+ghost use Rattle.covjson_value.specs.Domains.{count_of};
+ghost use Rattle.covjson_value.specs.Coverages.{HasAxes, HasTuples, IsRange};
+ghost use Rattle.covjson_read.specs.Answers.{GivesUnlessMemory, each};
+ghost use Rattle.covjson_read.specs.Parameters.{HaveNames};
+ghost use Rattle.covjson_read.specs.Ranges.{AreValid};
+ghost use Rattle.covjson_read.specs.Ranges as axes;
+ghost use Rattle.covjson_read.specs.RangeAnswers as ranges;
 
-use crate::axes::Turned;
+use crate::domains::ReadDomain;
 use crate::faults::{CovFault, Member, unsupported_range};
 use crate::members::{
     Wanted, list_at, need, need_form, need_wholes, object_at, text_or_empty, wholes_or_nulls,
 };
 use crate::orders::in_order;
-use crate::places::axis_len;
+use crate::parameters::parameter_of;
+use crate::places::{RangeAxis, axis_len, has_axis};
 use crate::systems::is_text;
-use covjson_value::{AxisName, Domain, NdArray, SAMPLE_LIMIT};
+use covjson_value::{Domain, NdArray, Parameter, SAMPLE_LIMIT};
 use edr_base::Items;
-use serde_json::Value;
+use serde_json::{Map, Value};
 use std::alloc::Global;
+
+/// The ranges that were read, and the parameter of each.
+#[derive(Debug, Drop)]
+pub struct ReadRanges {
+    /// The parameters, in ascending order of their ids.
+    pub parameters: Items<Parameter>,
+    /// The range of each.
+    pub ranges: Items<NdArray>,
+}
 
 // An array of whole numbers.
 fn need_integers(alloc: Global, tree: &Value) -> Result<(), CovFault>
-    ensures { OnOk result (HoldsIntegers (view tree.now)) }
+    ensures { GivesUnlessMemory (λ u. u) result (ranges.are_integers (view tree.now)) }
 {
     let _members = object_at(tree, Member::Ranges)?;
     let kind = text_or_empty(tree, "type");
@@ -39,32 +50,32 @@ fn need_integers(alloc: Global, tree: &Value) -> Result<(), CovFault>
     Ok(())
 }
 
-// The axis of a name, where it is one.
-fn axis_named(item: &Value) -> Option<AxisName>
-    ensures { IfSome result (StandsForName (view item.now)) }
+// The axis that an item names: WrongType.
+fn axis_named(item: &Value) -> Result<RangeAxis, CovFault>
+    ensures { result ≡ ranges.axis_named (view item.now) }
 {
     if is_text(item, "t") {
-        Some(AxisName::T)
+        Ok(RangeAxis::T)
     } else if is_text(item, "z") {
-        Some(AxisName::Z)
+        Ok(RangeAxis::Z)
     } else if is_text(item, "y") {
-        Some(AxisName::Y)
+        Ok(RangeAxis::Y)
     } else if is_text(item, "x") {
-        Some(AxisName::X)
+        Ok(RangeAxis::X)
+    } else if is_text(item, "composite") {
+        Ok(RangeAxis::Composite)
     } else {
-        None
+        Err(CovFault::WrongType(Member::AxisNames))
     }
 }
 
-// The axes that a list names.
-fn axes_named(alloc: Global, items: &Vec<Value>) -> Result<Vec<AxisName>, CovFault>
-    ensures { IfOk result (λ v. EachStands StandsForName (items_view items.now.items) v.items) }
+// The axes that a list names: WrongType.
+fn axes_named(alloc: Global, items: &Vec<Value>) -> Result<Vec<RangeAxis>, CovFault>
+    ensures { GivesUnlessMemory (λ v. v.items) result (each ranges.axis_named (items_view items.now.items)) }
 {
     let mut names = Vec::new(alloc);
     for item in items {
-        let Some(name) = axis_named(item) else {
-            return Err(CovFault::WrongType(Member::AxisNames));
-        };
+        let name = axis_named(item)?;
         if names.push(name).is_err() {
             return Err(CovFault::OutOfMemory);
         }
@@ -72,8 +83,8 @@ fn axes_named(alloc: Global, items: &Vec<Value>) -> Result<Vec<AxisName>, CovFau
     Ok(names)
 }
 
-fn is_among(name: AxisName, names: &[AxisName]) -> bool
-    ensures { result ≡ domains.is_among name names.now }
+fn is_named(name: RangeAxis, names: &[RangeAxis]) -> bool
+    ensures { result ≡ axes.is_named name names.now }
 {
     for other in names {
         if *other == name {
@@ -83,22 +94,22 @@ fn is_among(name: AxisName, names: &[AxisName]) -> bool
     false
 }
 
-fn are_distinct(names: &[AxisName]) -> bool
-    ensures { OnTrue result (AreDistinct names.now) }
+fn are_distinct(names: &[RangeAxis]) -> bool
+    ensures { result ≡ ranges.are_distinct names.now }
 {
     for place in 0..names.len() {
-        if is_among(names[place], &names[place + 1..]) {
+        if is_named(names[place], &names[place + 1..]) {
             return false;
         }
     }
     true
 }
 
-fn are_owned(names: &[AxisName], domain: &Domain) -> bool
-    ensures { OnTrue result (All (λ name. has_axis domain.now name ≡ true) names.now) }
+fn are_owned(names: &[RangeAxis], domain: &Domain) -> bool
+    ensures { result ≡ ranges.are_owned domain.now names.now }
 {
     for name in names {
-        if domain.axis(*name).is_none() {
+        if !has_axis(domain, *name) {
             return false;
         }
     }
@@ -106,35 +117,37 @@ fn are_owned(names: &[AxisName], domain: &Domain) -> bool
 }
 
 // An axis of several values is among these.
-fn is_kept(name: AxisName, names: &[AxisName], domain: &Domain) -> bool
-    ensures { OnTrue result (1 < length_of domain.now name → domains.is_among name names.now ≡ true) }
+fn is_kept(name: RangeAxis, names: &[RangeAxis], domain: &Domain) -> bool
+    ensures { result ≡ ranges.is_kept domain.now names.now name }
 {
-    axis_len(domain, name) <= 1 || is_among(name, names)
+    axis_len(domain, name) <= 1 || is_named(name, names)
 }
 
-fn are_range_axes(names: &[AxisName], domain: &Domain) -> bool
-    ensures { OnTrue result (AreRangeAxes domain.now names.now) }
+fn are_range_axes(names: &[RangeAxis], domain: &Domain) -> bool
+    ensures { result ≡ ranges.are_range_axes domain.now names.now }
 {
     are_distinct(names)
         && are_owned(names, domain)
-        && is_kept(AxisName::T, names, domain)
-        && is_kept(AxisName::Z, names, domain)
-        && is_kept(AxisName::Y, names, domain)
-        && is_kept(AxisName::X, names, domain)
+        && is_kept(RangeAxis::T, names, domain)
+        && is_kept(RangeAxis::Z, names, domain)
+        && is_kept(RangeAxis::Y, names, domain)
+        && is_kept(RangeAxis::X, names, domain)
+        && is_kept(RangeAxis::Composite, names, domain)
 }
 
 fn is_one_place(domain: &Domain) -> bool
-    ensures { OnTrue result (IsOnePlace domain.now) }
+    ensures { result ≡ ranges.is_one_place domain.now }
 {
-    axis_len(domain, AxisName::T) <= 1
-        && axis_len(domain, AxisName::Z) <= 1
-        && axis_len(domain, AxisName::Y) <= 1
-        && axis_len(domain, AxisName::X) <= 1
+    axis_len(domain, RangeAxis::T) <= 1
+        && axis_len(domain, RangeAxis::Z) <= 1
+        && axis_len(domain, RangeAxis::Y) <= 1
+        && axis_len(domain, RangeAxis::X) <= 1
+        && axis_len(domain, RangeAxis::Composite) <= 1
 }
 
-// The names of a range's axes in their order; none where they are left out.
-fn names_at(alloc: Global, tree: &Value, domain: &Domain) -> Result<Vec<AxisName>, CovFault>
-    ensures { IfOk result (λ v. NamesStand domain.now (get (codes "axisNames") (view tree.now)) v.items) }
+// The names of a range's axes in their order; none where they are left out: Missing, WrongType.
+fn names_at(alloc: Global, tree: &Value, domain: &Domain) -> Result<Vec<RangeAxis>, CovFault>
+    ensures { GivesUnlessMemory (λ v. v.items) result (ranges.names_in domain.now (get (codes "axisNames") (view tree.now))) }
 {
     let Some(list) = tree.get("axisNames") else {
         return if is_one_place(domain) {
@@ -144,24 +157,16 @@ fn names_at(alloc: Global, tree: &Value, domain: &Domain) -> Result<Vec<AxisName
         };
     };
     let items = list_at(list, Member::AxisNames)?;
-    axes_named(alloc, items)
-}
-
-// The axes of a range.
-fn axes_of(alloc: Global, tree: &Value, domain: &Domain) -> Result<Vec<AxisName>, CovFault>
-    ensures stands { IfOk result (λ v. NamesStand domain.now (get (codes "axisNames") (view tree.now)) v.items) }
-    ensures axes { IfOk result (λ v. AreRangeAxes domain.now v.items) }
-{
-    let names = names_at(alloc, tree, domain)?;
+    let names = axes_named(alloc, items)?;
     if !are_range_axes(&names, domain) {
         return Err(CovFault::WrongType(Member::AxisNames));
     }
     Ok(names)
 }
 
-// A whole number from 0, which has to be that length.
+// A whole number from 0, which has to be that length: WrongType, WrongCount.
 fn need_length(item: &Value, length: usize) -> Result<(), CovFault>
-    ensures { OnOk result (StandsForLength (view item.now) length) }
+    ensures { result ≡ ranges.length_is length (view item.now) }
 {
     let Some(found) = item.as_u64() else {
         return Err(CovFault::WrongType(Member::Shape));
@@ -172,21 +177,20 @@ fn need_length(item: &Value, length: usize) -> Result<(), CovFault>
     Ok(())
 }
 
-// The lengths of these axes.
-fn need_lengths(items: &Vec<Value>, names: &[AxisName], domain: &Domain) -> Result<(), CovFault>
-    ensures { OnOk result (EachStands StandsForLength (items_view items.now.items) (map (length_of domain.now) names.now)) }
+// The lengths of these axes: WrongCount.
+fn need_lengths(items: &Vec<Value>, names: &[RangeAxis], domain: &Domain) -> Result<(), CovFault>
+    requires { length items.now.items ≡ length names.now }
+    ensures { result ≡ ranges.lengths_are (map (axes.length_of domain.now) names.now) (items_view items.now.items) }
 {
-    if items.len() != names.len() {
-        return Err(CovFault::WrongCount(Member::Shape, names.len() as u128, items.len() as u128));
-    }
     for place in 0..names.len() {
         need_length(&items[place], axis_len(domain, names[place]))?;
     }
     Ok(())
 }
 
-fn need_shape(tree: &Value, names: &[AxisName], domain: &Domain) -> Result<(), CovFault>
-    ensures { OnOk result (ShapeStands domain.now (get (codes "shape") (view tree.now)) names.now) }
+// The lengths of the axes, where they are given: Missing, WrongType, WrongCount.
+fn need_shape(tree: &Value, names: &[RangeAxis], domain: &Domain) -> Result<(), CovFault>
+    ensures { result ≡ ranges.shape_in domain.now names.now (get (codes "shape") (view tree.now)) }
 {
     let Some(list) = tree.get("shape") else {
         return if is_one_place(domain) {
@@ -197,63 +201,108 @@ fn need_shape(tree: &Value, names: &[AxisName], domain: &Domain) -> Result<(), C
     };
     let items = list_at(list, Member::Shape)?;
     need_form(items, Wanted::Naturals, Member::Shape)?;
+    if items.len() != names.len() {
+        return Err(CovFault::WrongCount(Member::Shape, names.len() as u128, items.len() as u128));
+    }
     need_lengths(items, names, domain)
 }
 
-// How many values a range has, or the greatest count where that is beyond it.
-fn wanted_count(domain: &Domain) -> u128 {
-    let columns = axis_len(domain, AxisName::X) as u128;
-    let rows = axis_len(domain, AxisName::Y) as u128;
-    let levels = axis_len(domain, AxisName::Z) as u128;
-    let times = axis_len(domain, AxisName::T) as u128;
-    columns
-        .saturating_mul(rows)
-        .saturating_mul(levels)
-        .saturating_mul(times)
-}
-
-// As many values as the domain has.
-fn need_count(found: usize, domain: &Domain) -> Result<(), CovFault>
-    ensures { OnOk result (found ≡ count_of domain.now) }
+// How many values a range has. Each axis has fewer values than its limits have numbers, so that no product is beyond its type.
+fn wanted_count(domain: &Domain) -> u128
+    requires axes { HasAxes domain.now }
+    requires tuples { HasTuples domain.now }
+    ensures { result ≡ count_of domain.now }
 {
-    if domain.count() != Some(found) {
-        return Err(CovFault::WrongCount(Member::Values, wanted_count(domain), found as u128));
-    }
-    Ok(())
+    let times = axis_len(domain, RangeAxis::T) as u128;
+    let levels = axis_len(domain, RangeAxis::Z) as u128;
+    let rows = axis_len(domain, RangeAxis::Y) as u128;
+    let columns = axis_len(domain, RangeAxis::X) as u128;
+    let tuples = axis_len(domain, RangeAxis::Composite) as u128;
+    times * (levels * (rows * (columns * tuples)))
 }
 
-// The values of a range, absent where they are null.
-fn samples(alloc: Global, tree: &Value, domain: &Domain) -> Result<Vec<Option<i64>>, CovFault>
-    ensures stands { IfOk result (λ v. ListStands (codes "values") StandsForSample (view tree.now) v.items) }
-    ensures count { IfOk result (λ v. length v.items ≡ count_of domain.now) }
-    ensures samples { IfOk result (λ v. All (λ s. IfSome s IsSample) v.items) }
+// The values of a range, absent where they are null: Missing, WrongType, WrongCount, NotWhole, OutOfRange.
+fn samples(alloc: Global, tree: &Value, wanted: u128) -> Result<Vec<Option<i64>>, CovFault>
+    ensures { GivesUnlessMemory (λ v. v.items) result (ranges.samples_in wanted (view tree.now)) }
 {
     let list = need(tree, "values", Member::Values)?;
     let items = list_at(list, Member::Values)?;
-    need_count(items.len(), domain)?;
+    let found = items.len() as u128;
+    if found != wanted {
+        return Err(CovFault::WrongCount(Member::Values, wanted, found));
+    }
     need_form(items, Wanted::NumbersOrNulls, Member::Values)?;
     need_wholes(items, Wanted::WholesOrNulls, Member::Values)?;
     wholes_or_nulls(alloc, items, Member::Values, SAMPLE_LIMIT)
 }
 
-/// The range over a Grid that a tree stands for: its values in row-major order t, y, x, whatever the order of its axes in the
-/// tree and whichever of them are turned round.
-pub fn range_of(
-    alloc: Global,
-    tree: &Value,
-    domain: &Domain,
-    turned: Turned,
-) -> Result<NdArray, CovFault>
-    requires { IsGridOfTimes domain.now }
-    ensures stands { IfOk result (StandsForRange domain.now turned (view tree.now)) }
-    ensures valid { IfOk result (IsRange domain.now) }
+/// The range over a domain that a tree stands for: its values in row-major order t, z, y, x or along the tuples, whatever the
+/// order of its axes in the tree and whichever of them are turned round.
+pub fn range_of(alloc: Global, tree: &Value, read: &ReadDomain) -> Result<NdArray, CovFault>
+    requires axes { HasAxes read.now.domain }
+    requires tuples { HasTuples read.now.domain }
+    ensures answer { GivesUnlessMemory (λ r. r) result (ranges.range_of read.now (view tree.now)) }
+    ensures valid { IfOk result (IsRange read.now.domain) }
 {
     need_integers(alloc, tree)?;
-    let names = axes_of(alloc, tree, domain)?;
-    need_shape(tree, &names, domain)?;
-    let values = samples(alloc, tree, domain)?;
-    let values = in_order(alloc, values, domain, turned, &names)?;
+    let names = names_at(alloc, tree, &read.domain)?;
+    need_shape(tree, &names, &read.domain)?;
+    let values = samples(alloc, tree, wanted_count(&read.domain))?;
+    let values = in_order(alloc, values, &read.domain, read.turned, &names)?;
     Ok(NdArray {
         values: Items::of(values),
     })
+}
+
+// Each range in turn, with the parameter of its name.
+fn ranges_from(
+    alloc: Global,
+    members: &Map<String, Value>,
+    parameters: &Value,
+    read: &ReadDomain,
+) -> Result<ReadRanges, CovFault>
+    requires axes { HasAxes read.now.domain }
+    requires tuples { HasTuples read.now.domain }
+    requires named { HaveNames (view parameters.now) }
+    ensures answer { GivesUnlessMemory (λ r. r) result (ranges.ranges_from read.now (view parameters.now) (members_view members.now.entries)) }
+    ensures valid { IfOk result (λ r. AreValid read.now.domain r.parameters r.ranges) }
+{
+    let mut kept = Vec::new(alloc);
+    let mut found = Vec::new(alloc);
+    for (id, range) in members.iter() {
+        let tree = need(parameters, id, Member::Parameters)?;
+        let parameter = parameter_of(alloc, id, tree)?;
+        let array = range_of(alloc, range, read)?;
+        if kept.push(parameter).is_err() {
+            return Err(CovFault::OutOfMemory);
+        }
+        if found.push(array).is_err() {
+            return Err(CovFault::OutOfMemory);
+        }
+    }
+    Ok(ReadRanges {
+        parameters: Items::of(kept),
+        ranges: Items::of(found),
+    })
+}
+
+/// The ranges of a coverage and their parameters: Missing, WrongType, WrongCount, and then range by range.
+pub fn ranges_in(
+    alloc: Global,
+    tree: &Value,
+    parameters: &Value,
+    read: &ReadDomain,
+) -> Result<ReadRanges, CovFault>
+    requires axes { HasAxes read.now.domain }
+    requires tuples { HasTuples read.now.domain }
+    requires named { HaveNames (view parameters.now) }
+    ensures answer { GivesUnlessMemory (λ r. r) result (ranges.ranges_in read.now (view parameters.now) (view tree.now)) }
+    ensures valid { IfOk result (λ r. AreValid read.now.domain r.parameters r.ranges) }
+{
+    let found = need(tree, "ranges", Member::Ranges)?;
+    let members = object_at(found, Member::Ranges)?;
+    if members.is_empty() {
+        return Err(CovFault::WrongCount(Member::Ranges, 1, 0));
+    }
+    ranges_from(alloc, members, parameters, read)
 }

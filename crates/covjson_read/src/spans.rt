@@ -1,64 +1,61 @@
 //! Axes of numbers by their first value, their last, and how many there are (OGC 21-069r2, regularly spaced axes).
-ghost use Rattle.std.specs.Prelude.{◌≡◌, ◌↔◌, ◌≤◌, ◌≤ℤ◌, ◌+ℤ◌, ◌-ℤ◌, ◌*ℤ◌, IfOk, IfSome, IsTrue, All, None, codes, pos, unsigned_abs};
-ghost use Rattle.serde_json.specs.View.{view};
-ghost use Rattle.serde_json.specs.Find.{get};
+ghost use Rattle.std.specs.Prelude.{◌≡◌, ◌≤◌, ◌<◌, ◌^◌, ◌+ℤ◌, ◌-ℤ◌, ◌*ℤ◌, IfOk, pos, unsigned_abs, true};
+ghost use Rattle.serde_json.specs.View.{view, number_view};
 ghost use Rattle.covjson_value.specs.Coverages.{IsCoordinate};
-ghost use Rattle.covjson_read.specs.Axes.{HasWhole, AreSteps, SpansValues};
+ghost use Rattle.covjson_read.specs.Answers.{Gives, GivesUnlessMemory};
+ghost use Rattle.covjson_read.specs.Members as members;
+ghost use Rattle.covjson_read.specs.AxisAnswers as axes;
 
 use crate::faults::{CovFault, Member};
-use crate::members::part;
+use crate::members::{is_within, number_at, part};
 use covjson_value::COORDINATE_LIMIT;
-use serde_json::Value;
+use serde_json::{Number, Value};
 use std::alloc::Global;
 
-/// The greatest number of values of a spanned axis.
-pub const SPAN_LIMIT: i128 = 4_000_000;
-
-// A member that is a number.
-fn need_number(axis: &Value, key: &str, member: Member) -> Result<(), CovFault> {
-    let found = part(axis, key, member)?;
-    if found.is_number() {
-        Ok(())
-    } else {
-        Err(CovFault::WrongType(member))
-    }
-}
-
-// A member that is held as a whole number.
-fn whole_member(axis: &Value, key: &str, member: Member) -> Result<i128, CovFault>
-    ensures { IfOk result (λ n. HasWhole key.now (view axis.now) n) }
+// A member that is a number: WrongType.
+fn number_in<'a>(axis: &'a Value, key: &str, member: Member) -> Result<&'a Number, CovFault>
+    ensures { Gives (λ n. number_view n.now) result (axes.number_in key.now member (view axis.now)) }
 {
     let found = part(axis, key, member)?;
-    let Some(number) = found.as_number() else {
-        return Err(CovFault::WrongType(member));
-    };
-    match number.as_i128() {
-        Some(whole) => Ok(whole),
-        None => Err(CovFault::NotWhole(member)),
+    number_at(found, member)
+}
+
+// The number as it is held whole, which is of 64 bits: NotWhole.
+fn whole_in(number: &Number, member: Member) -> Result<i128, CovFault>
+    ensures whole { result ≡ members.held_whole member (number_view number.now) }
+    ensures small { IfOk result (λ z. unsigned_abs z < 2 ^ 64) }
+{
+    match number.as_u64() {
+        Some(natural) => Ok(natural as i128),
+        None => match number.as_i64() {
+            Some(whole) => Ok(whole as i128),
+            None => Err(CovFault::NotWhole(member)),
+        },
     }
 }
 
-// How far each value is above the one before, where that is whole.
-fn step_of(first: i128, last: i128, count: i128) -> Option<i128>
-    requires { pos 1 ≤ℤ count }
-    ensures reaches { IfSome result (λ step. first +ℤ step *ℤ (count -ℤ pos 1) ≡ last) }
-    ensures short { IfSome result (λ step. unsigned_abs step ≤ unsigned_abs (last -ℤ first)) }
+// Whether so many values lie in equal whole steps from the first to the last.
+fn has_whole_steps(first: i128, last: i128, count: i128) -> bool
+    requires first { unsigned_abs first < 2 ^ 64 }
+    requires last { unsigned_abs last < 2 ^ 64 }
+    ensures { result ≡ axes.has_whole_steps first last count }
 {
-    let between = last.checked_sub(first)?;
-    if count == 1 {
-        return if between == 0 { Some(0) } else { None };
-    }
-    if between % (count - 1) == 0 {
-        Some(between / (count - 1))
+    if count < 1 {
+        true
+    } else if count <= 1 {
+        last == first
     } else {
-        None
+        (last - first) % (count - 1) == 0
     }
 }
 
-fn is_coordinate(value: i128) -> bool
-    ensures { IsTrue result ↔ IsCoordinate value }
+fn is_span_within(first: i128, last: i128, count: i128) -> bool
+    ensures { result ≡ axes.is_span_within first last count }
 {
-    value.unsigned_abs() <= COORDINATE_LIMIT as u128
+    is_within(first, COORDINATE_LIMIT)
+        && is_within(last, COORDINATE_LIMIT)
+        && 1 <= count
+        && count <= 4_000_000
 }
 
 // As many values as that from the first on, in steps of that size.
@@ -67,8 +64,7 @@ fn stepped(alloc: Global, first: i64, step: i64, count: usize) -> Result<Vec<i64
     requires few { count ≤ 4000000 }
     requires first { IsCoordinate first }
     requires last { IsCoordinate (first +ℤ step *ℤ (pos count -ℤ pos 1)) }
-    ensures steps { IfOk result (λ v. AreSteps first step count v.items) }
-    ensures in_range { IfOk result (λ v. All IsCoordinate v.items) }
+    ensures { GivesUnlessMemory (λ v. v.items) result (Ok (axes.stepped first step count)) }
 {
     let Ok(mut values) = Vec::with_capacity(alloc, count) else {
         return Err(CovFault::OutOfMemory);
@@ -81,27 +77,47 @@ fn stepped(alloc: Global, first: i64, step: i64, count: usize) -> Result<Vec<i64
     Ok(values)
 }
 
+// How far each value is above the one before.
+fn step_of(first: i128, last: i128, count: i128) -> i128
+    requires even { axes.has_whole_steps first last count ≡ true }
+    requires within { axes.is_span_within first last count ≡ true }
+    ensures regular { axes.stepped first result (unsigned_abs count) ≡ axes.regular first last (unsigned_abs count) }
+    ensures reaches { first +ℤ result *ℤ (count -ℤ pos 1) ≡ last }
+    ensures short { unsigned_abs result ≤ 200000000 }
+{
+    if count <= 1 {
+        0
+    } else {
+        (last - first) / (count - 1)
+    }
+}
+
+// The values from the first to the last.
+fn regular(alloc: Global, first: i128, last: i128, count: i128) -> Result<Vec<i64>, CovFault>
+    requires even { axes.has_whole_steps first last count ≡ true }
+    requires within { axes.is_span_within first last count ≡ true }
+    ensures { GivesUnlessMemory (λ v. v.items) result (Ok (axes.regular first last (unsigned_abs count))) }
+{
+    let step = step_of(first, last, count);
+    stepped(alloc, first as i64, step as i64, count as usize)
+}
+
 /// The values of an axis of numbers by `start`, `stop` and `num`: WrongType, then NotWhole where one of them or the step
 /// isn't whole, then OutOfRange.
 pub fn spanned(alloc: Global, axis: &Value, member: Member) -> Result<Vec<i64>, CovFault>
-    requires { get (codes "values") (view axis.now) ≡ None }
-    ensures stands { IfOk result (λ v. SpansValues (view axis.now) v.items) }
-    ensures in_range { IfOk result (λ v. All IsCoordinate v.items) }
+    ensures { GivesUnlessMemory (λ v. v.items) result (axes.spanned member (view axis.now)) }
 {
-    need_number(axis, "start", member)?;
-    need_number(axis, "stop", member)?;
-    need_number(axis, "num", member)?;
-    let first = whole_member(axis, "start", member)?;
-    let last = whole_member(axis, "stop", member)?;
-    let count = whole_member(axis, "num", member)?;
-    if count < 1 {
-        return Err(CovFault::OutOfRange(member));
-    }
-    let Some(step) = step_of(first, last, count) else {
+    let start = number_in(axis, "start", member)?;
+    let stop = number_in(axis, "stop", member)?;
+    let num = number_in(axis, "num", member)?;
+    let first = whole_in(start, member)?;
+    let last = whole_in(stop, member)?;
+    let count = whole_in(num, member)?;
+    if !has_whole_steps(first, last, count) {
         return Err(CovFault::NotWhole(member));
-    };
-    if !is_coordinate(first) || !is_coordinate(last) || count > SPAN_LIMIT {
+    }
+    if !is_span_within(first, last, count) {
         return Err(CovFault::OutOfRange(member));
     }
-    stepped(alloc, first as i64, step as i64, count as usize)
+    regular(alloc, first, last, count)
 }

@@ -1,15 +1,15 @@
 //! The reference systems of a domain (OGC 21-069r2, reference system objects).
-ghost use Rattle.std.specs.Prelude.{◌≡◌, IfOk, IsUtf8, option_map, true};
+ghost use Rattle.std.specs.Prelude.{◌≡◌, IfOk, IsSome, option_map, true};
 ghost use Rattle.serde_json.specs.View.{view, items_view};
-ghost use Rattle.serde_json.specs.Find.{get, as_str};
+ghost use Rattle.serde_json.specs.Find.{as_str};
 ghost use Rattle.covjson_value.specs.Coverages.{IsReferencing};
-ghost use Rattle.covjson_read.specs.Systems.{StandsForReferencing};
+ghost use Rattle.covjson_read.specs.Answers.{GivesUnlessMemory};
 ghost use Rattle.covjson_read.specs.Systems as systems;
 
 use crate::faults::{CovFault, Member, unsupported_system};
-use crate::members::{list_at, need, text_or_empty};
+use crate::members::{found_or_missing, list_at, text_or_empty};
+use crate::texts::{text_of, text_where_given};
 use covjson_value::Referencing;
-use edr_base::Text;
 use serde_json::Value;
 use std::alloc::Global;
 
@@ -110,13 +110,64 @@ fn first_other_calendar(entries: &Vec<Value>) -> Option<&Value>
     None
 }
 
-/// The systems of a domain: the plane's is a projected one, and those of times are Gregorian.
-pub fn referencing_of(alloc: Global, tree: &Value) -> Result<Referencing, CovFault>
-    ensures stands { IfOk result (StandsForReferencing (view tree.now)) }
-    ensures utf8 { IfOk result (λ r. IsUtf8 r.crs) }
+fn is_vertical(entry: &Value) -> bool
+    ensures { result ≡ systems.is_vertical (view entry.now) }
 {
-    let list = need(tree, "referencing", Member::Referencing)?;
-    let entries = list_at(list, Member::Referencing)?;
+    system_text(entry, "type") == "VerticalCRS" && holds(entry, "z")
+}
+
+// The first entry of levels.
+fn first_vertical(entries: &Vec<Value>) -> Option<&Value>
+    ensures { option_map (λ v. view v.now) result ≡ systems.first_vertical (items_view entries.now.items) }
+{
+    for entry in entries {
+        if is_vertical(entry) {
+            return Some(entry);
+        }
+    }
+    None
+}
+
+// The name of an entry's system, where it is a text.
+fn system_name(entry: &Value) -> Option<&str>
+    ensures { option_map (λ s. s.now) result ≡ systems.system_name (view entry.now) }
+{
+    match entry.get("system") {
+        Some(system) => match system.get("id") {
+            Some(id) => id.as_str(),
+            None => None,
+        },
+        None => None,
+    }
+}
+
+// The name of the system of levels, where there are levels.
+fn vertical_name(has_z: bool, entries: &Vec<Value>) -> Option<&str>
+    ensures { option_map (λ s. s.now) result ≡ systems.vertical_name has_z (items_view entries.now.items) }
+{
+    if !has_z {
+        return None;
+    }
+    match first_vertical(entries) {
+        Some(entry) => system_name(entry),
+        None => None,
+    }
+}
+
+// No calendar but the Gregorian: UnsupportedSystem.
+fn only_gregorian(alloc: Global, entries: &Vec<Value>) -> Result<(), CovFault>
+    ensures { GivesUnlessMemory (λ u. u) result (systems.only_gregorian (systems.first_other_calendar (items_view entries.now.items))) }
+{
+    match first_other_calendar(entries) {
+        Some(entry) => Err(unsupported_system(alloc, system_text(entry, "calendar"))),
+        None => Ok(()),
+    }
+}
+
+// The entry of the plane, of a projected system: WrongType, Missing, UnsupportedSystem.
+fn plane_in(alloc: Global, entries: &Vec<Value>) -> Result<&Value, CovFault>
+    ensures { GivesUnlessMemory (λ v. view v.now) result (systems.plane_in (items_view entries.now.items)) }
+{
     if !all_connections(entries) {
         return Err(CovFault::WrongType(Member::Referencing));
     }
@@ -127,14 +178,25 @@ pub fn referencing_of(alloc: Global, tree: &Value) -> Result<Referencing, CovFau
     if kind != "ProjectedCRS" {
         return Err(unsupported_system(alloc, kind));
     }
-    if let Some(entry) = first_other_calendar(entries) {
-        return Err(unsupported_system(alloc, system_text(entry, "calendar")));
-    }
-    let Ok(crs) = Text::of(alloc, system_text(plane, "id").as_bytes()) else {
-        return Err(CovFault::OutOfMemory);
-    };
-    Ok(Referencing {
-        crs,
-        vertical: None,
-    })
+    Ok(plane)
+}
+
+/// The systems of a domain with or without levels, which were found there or elsewhere: the plane's is a projected one, and
+/// those of times are Gregorian.
+pub fn referencing_of(
+    alloc: Global,
+    found: Option<&Value>,
+    has_z: bool,
+) -> Result<Referencing, CovFault>
+    ensures answer { GivesUnlessMemory (λ r. r) result (systems.referencing_of has_z (option_map (λ v. view v.now) found.entry)) }
+    ensures valid { IfOk result IsReferencing }
+    ensures vertical { IfOk result (λ r. IsSome r.vertical → has_z ≡ true) }
+{
+    let list = found_or_missing(found, Member::Referencing)?;
+    let entries = list_at(list, Member::Referencing)?;
+    let plane = plane_in(alloc, entries)?;
+    only_gregorian(alloc, entries)?;
+    let crs = text_of(alloc, system_text(plane, "id"))?;
+    let vertical = text_where_given(alloc, vertical_name(has_z, entries))?;
+    Ok(Referencing { crs, vertical })
 }

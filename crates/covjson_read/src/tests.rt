@@ -1,433 +1,427 @@
-//! A small Grid as a person reads it, and what broken forms of it are refused with.
-use crate::axes::axis_at;
-use crate::{CovFault, coverage_of};
-use covjson_value::AxisName;
+//! What texts are read as, and what broken ones are refused with: the first check that fails.
+use crate::{CovFault, coverage_of, read_document};
+use covjson_value::document_tree;
+use edr_base::Text;
 use serde_json::Value;
 use std::alloc::Global;
 use std::rt::HostRuntime;
+use std::string::String;
 use std::test::Fail;
 
-// Parts of a text of a Grid, of 3 columns, 2 rows and 2 times.
-#[derive(Clone, Copy)]
-struct Parts {
-    kind: &'static str,
-    t: &'static str,
-    y: &'static str,
-    x: &'static str,
-    system: &'static str,
-    data_type: &'static str,
-    names: &'static str,
-    shape: &'static str,
-    values: &'static str,
-}
+// A Grid of 3 columns, 2 rows and 2 times.
+const GRID: &str = r#"{"type":"Coverage",
+"domain":{"type":"Domain","domainType":"Grid",
+"axes":{"x":{"values":[0,100,200]},"y":{"values":[0,100]},"t":{"values":["2024-01-01T00:00:00Z","2024-01-01T01:00:00Z"]}},
+"referencing":[{"coordinates":["x","y"],"system":{"type":"ProjectedCRS","id":"m"}},
+{"coordinates":["t"],"system":{"type":"TemporalRS","calendar":"Gregorian"}}]},
+"parameters":{"temp":{"type":"Parameter","unit":{"symbol":"Cel"},"observedProperty":{"label":{"en":"Temperature"}}}},
+"ranges":{"temp":{"type":"NdArray","dataType":"integer","axisNames":["t","y","x"],"shape":[2,2,3],
+"values":[10,11,12,13,null,15,20,21,22,23,24,25]}}}"#;
 
-const GRID: Parts = Parts {
-    kind: "Grid",
-    t: "[\"2024-01-01T00:00:00Z\",\"2024-01-01T01:00:00Z\"]",
-    y: "[0,100]",
-    x: "[0,100,200]",
-    system: "ProjectedCRS",
-    data_type: "integer",
-    names: "\"axisNames\":[\"t\",\"y\",\"x\"],",
-    shape: "\"shape\":[2,2,3],",
-    values: "[10,11,12,13,null,15,20,21,22,23,24,25]",
-};
+// One place, with two parameters.
+const POINT: &str = r#"{"type":"Coverage","id":"A",
+"domain":{"type":"Domain","domainType":"Point",
+"axes":{"x":{"values":[5]},"y":{"values":[6]},"z":{"values":[7]},"t":{"values":["2024-01-01T00:00:00Z"]}},
+"referencing":[{"coordinates":["x","y"],"system":{"type":"ProjectedCRS"}},
+{"coordinates":["z"],"system":{"type":"VerticalCRS","id":"up"}},
+{"coordinates":["t"],"system":{"type":"TemporalRS","calendar":"Gregorian"}}]},
+"parameters":{"a":{"observedProperty":{"label":{"en":"A"}}},"b":{"observedProperty":{"label":{"en":"B"}}}},
+"ranges":{"a":{"type":"NdArray","dataType":"integer","values":[1]},"b":{"type":"NdArray","dataType":"integer","values":[null]}}}"#;
 
-fn tree_of(alloc: Global, parts: Parts) -> Result<Value, Fail> {
-    let Parts {
-        kind,
-        t,
-        y,
-        x,
-        system,
-        data_type,
-        names,
-        shape,
-        values,
-    } = parts;
-    let axes = format!(in alloc;
-        "\"x\":{{\"values\":{x}}},\"y\":{{\"values\":{y}}},\"t\":{{\"values\":{t}}}"
-    )?;
-    let plane = format!(in alloc;
-        "{{\"coordinates\":[\"x\",\"y\"],\"system\":{{\"type\":\"{system}\",\"id\":\"http://www.opengis.net/def/crs/EPSG/0/32633\"}}}}"
-    )?;
-    let times =
-        "{\"coordinates\":[\"t\"],\"system\":{\"type\":\"TemporalRS\",\"calendar\":\"Gregorian\"}}";
-    let domain = format!(in alloc;
-        "{{\"type\":\"Domain\",\"domainType\":\"{kind}\",\"axes\":{{{axes}}},\"referencing\":[{plane},{times}]}}"
-    )?;
-    let parameters =
-        "{\"temp\":{\"type\":\"Parameter\",\"unit\":{\"symbol\":\"Cel\"},\"observedProperty\":{\"label\":{\"en\":\"Temperature\"}}}}";
-    let range = format!(in alloc;
-        "{{\"type\":\"NdArray\",\"dataType\":\"{data_type}\",{names}{shape}\"values\":{values}}}"
-    )?;
-    let text = format!(in alloc;
-        "{{\"type\":\"Coverage\",\"domain\":{domain},\"parameters\":{parameters},\"ranges\":{{\"temp\":{range}}}}}"
-    )?;
-    Ok(Value::from_str(alloc, text.as_str())?)
-}
+// Several times at one place.
+const SERIES: &str = r#"{"type":"Coverage",
+"domain":{"type":"Domain","domainType":"PointSeries",
+"axes":{"x":{"values":[5]},"y":{"values":[6]},"t":{"values":["2024-01-01T00:00:00Z","2024-01-01T01:00:00Z"]}},
+"referencing":[{"coordinates":["x","y"],"system":{"type":"ProjectedCRS"}},
+{"coordinates":["t"],"system":{"type":"TemporalRS","calendar":"Gregorian"}}]},
+"parameters":{"a":{"observedProperty":{"label":{"en":"A"}}}},
+"ranges":{"a":{"type":"NdArray","dataType":"integer","axisNames":["t"],"shape":[2],"values":[1,2]}}}"#;
 
-#[test]
-fn reads_a_grid(rt: HostRuntime) -> Result<(), Fail> {
-    let tree = tree_of(rt.alloc(), GRID)?;
-    let coverage = coverage_of(rt.alloc(), &tree)?;
-    assert!(rt; coverage.id.is_none());
-    let times = [1_704_067_200, 1_704_070_800];
-    assert!(rt; coverage.domain.axis(AxisName::T) == Some(times.as_slice()));
-    assert!(rt; coverage.domain.axis(AxisName::Z).is_none());
-    assert!(rt; coverage.domain.axis(AxisName::Y) == Some([0, 100].as_slice()));
-    assert!(rt; coverage.domain.axis(AxisName::X) == Some([0, 100, 200].as_slice()));
-    let crs = b"http://www.opengis.net/def/crs/EPSG/0/32633";
-    assert!(rt; coverage.referencing.crs.bytes() == crs.as_slice());
-    let parameter = &coverage.parameters.items()[0];
-    assert!(rt; parameter.id.bytes() == b"temp".as_slice());
-    assert!(rt; parameter.lang.bytes() == b"en".as_slice());
-    assert!(rt; parameter.label.bytes() == b"Temperature".as_slice());
-    assert!(rt; matches!(&parameter.unit, Some(unit) if unit.bytes() == b"Cel".as_slice()));
-    let values = coverage.ranges.items()[0].values.items();
-    assert!(rt; values.len() == 12);
-    assert!(rt; values[0] == Some(10) && values[4].is_none() && values[11] == Some(25));
-    Ok(())
-}
+// Several levels at one place.
+const PROFILE: &str = r#"{"type":"Coverage",
+"domain":{"type":"Domain","domainType":"VerticalProfile",
+"axes":{"x":{"values":[5]},"y":{"values":[6]},"z":{"values":[0,10,20]}},
+"referencing":[{"coordinates":["x","y"],"system":{"type":"ProjectedCRS"}},
+{"coordinates":["z"],"system":{"type":"VerticalCRS"}}]},
+"parameters":{"a":{"observedProperty":{"label":{"en":"A"}}}},
+"ranges":{"a":{"type":"NdArray","dataType":"integer","axisNames":["z"],"shape":[3],"values":[1,2,3]}}}"#;
 
-// The values of the small Grid, t, y, x.
-const VALUES: [Option<i64>; 12] = [
-    Some(10),
-    Some(11),
-    Some(12),
-    Some(13),
-    None,
-    Some(15),
-    Some(20),
-    Some(21),
-    Some(22),
-    Some(23),
-    Some(24),
-    Some(25),
-];
+// Several places.
+const PLACES: &str = r#"{"type":"Coverage",
+"domain":{"type":"Domain","domainType":"MultiPoint",
+"axes":{"composite":{"dataType":"tuple","coordinates":["x","y","z"],"values":[[1,2,3],[4,5,6]]}},
+"referencing":[{"coordinates":["x","y"],"system":{"type":"ProjectedCRS"}},
+{"coordinates":["z"],"system":{"type":"VerticalCRS"}}]},
+"parameters":{"a":{"observedProperty":{"label":{"en":"A"}}}},
+"ranges":{"a":{"type":"NdArray","dataType":"integer","axisNames":["composite"],"shape":[2],"values":[1,2]}}}"#;
 
-#[test]
-fn reads_axes_in_any_order_and_direction(rt: HostRuntime) -> Result<(), Fail> {
-    for parts in [
-        Parts {
-            names: "\"axisNames\":[\"x\",\"y\",\"t\"],",
-            shape: "\"shape\":[3,2,2],",
-            values: "[10,20,13,23,11,21,null,24,12,22,15,25]",
-            ..GRID
-        },
-        Parts {
-            names: "\"axisNames\":[\"y\",\"t\",\"x\"],",
-            values: "[10,11,12,20,21,22,13,null,15,23,24,25]",
-            ..GRID
-        },
-        Parts {
-            y: "[100,0]",
-            values: "[13,null,15,10,11,12,23,24,25,20,21,22]",
-            ..GRID
-        },
-        Parts {
-            x: "[200,100,0]",
-            names: "\"axisNames\":[\"x\",\"y\",\"t\"],",
-            shape: "\"shape\":[3,2,2],",
-            values: "[12,22,15,25,11,21,null,24,10,20,13,23]",
-            ..GRID
-        },
-    ] {
-        let tree = tree_of(rt.alloc(), parts)?;
-        let coverage = coverage_of(rt.alloc(), &tree)?;
-        assert!(rt; coverage.domain.axis(AxisName::Y) == Some([0, 100].as_slice()));
-        assert!(rt; coverage.domain.axis(AxisName::X) == Some([0, 100, 200].as_slice()));
-        assert!(rt; coverage.ranges.items()[0].values.items() == VALUES.as_slice());
+// Several places, each at its time.
+const STEPS: &str = r#"{"type":"Coverage",
+"domain":{"type":"Domain","domainType":"Trajectory",
+"axes":{"composite":{"dataType":"tuple","coordinates":["t","x","y"],"values":[["2024-01-01T00:00:00Z",1,2],["2024-01-01T00:00:00Z",3,4]]},
+"z":{"values":[9]}},
+"referencing":[{"coordinates":["x","y"],"system":{"type":"ProjectedCRS"}},
+{"coordinates":["z"],"system":{"type":"VerticalCRS"}},
+{"coordinates":["t"],"system":{"type":"TemporalRS","calendar":"Gregorian"}}]},
+"parameters":{"a":{"observedProperty":{"label":{"en":"A"}}}},
+"ranges":{"a":{"type":"NdArray","dataType":"integer","axisNames":["composite"],"shape":[2],"values":[1,2]}}}"#;
+
+// A collection that lends its coverages what they lack.
+const LENT: &str = r#"{"type":"CoverageCollection","domainType":"Point",
+"referencing":[{"coordinates":["x","y"],"system":{"type":"ProjectedCRS"}}],
+"parameters":{"a":{"observedProperty":{"label":{"en":"A"}}}},
+"coverages":[{"type":"Coverage","domain":{"axes":{"x":{"values":[1]},"y":{"values":[2]}}},
+"ranges":{"a":{"type":"NdArray","dataType":"integer","values":[3]}}},
+{"type":"Coverage","id":"B","domainType":"Grid","domain":{"axes":{"x":{"values":[1]},"y":{"values":[2]}}},
+"ranges":{"a":{"type":"NdArray","dataType":"integer","values":[4]}}}]}"#;
+
+// The documents, in the form that is written.
+const WRITTEN: &str =
+    r#"GRID => {"domain":{"axes":{"t":{"values":["2024-01-01T00:00:00Z","2024-01-01T01:00:00Z"]},"x":{"values":[0,100,200]},"y":{"values":[0,100]}},"domainType":"Grid","referencing":[{"coordinates":["x","y"],"system":{"id":"m","type":"ProjectedCRS"}},{"coordinates":["t"],"system":{"calendar":"Gregorian","type":"TemporalRS"}}],"type":"Domain"},"parameters":{"temp":{"observedProperty":{"label":{"en":"Temperature"}},"type":"Parameter","unit":{"symbol":"Cel"}}},"ranges":{"temp":{"axisNames":["t","y","x"],"dataType":"integer","shape":[2,2,3],"type":"NdArray","values":[10,11,12,13,null,15,20,21,22,23,24,25]}},"type":"Coverage"}
+POINT => {"domain":{"axes":{"t":{"values":["2024-01-01T00:00:00Z"]},"x":{"values":[5]},"y":{"values":[6]},"z":{"values":[7]}},"domainType":"Point","referencing":[{"coordinates":["x","y"],"system":{"type":"ProjectedCRS"}},{"coordinates":["z"],"system":{"id":"up","type":"VerticalCRS"}},{"coordinates":["t"],"system":{"calendar":"Gregorian","type":"TemporalRS"}}],"type":"Domain"},"id":"A","parameters":{"a":{"observedProperty":{"label":{"en":"A"}},"type":"Parameter"},"b":{"observedProperty":{"label":{"en":"B"}},"type":"Parameter"}},"ranges":{"a":{"dataType":"integer","type":"NdArray","values":[1]},"b":{"dataType":"integer","type":"NdArray","values":[null]}},"type":"Coverage"}
+SERIES => {"domain":{"axes":{"t":{"values":["2024-01-01T00:00:00Z","2024-01-01T01:00:00Z"]},"x":{"values":[5]},"y":{"values":[6]}},"domainType":"PointSeries","referencing":[{"coordinates":["x","y"],"system":{"type":"ProjectedCRS"}},{"coordinates":["t"],"system":{"calendar":"Gregorian","type":"TemporalRS"}}],"type":"Domain"},"parameters":{"a":{"observedProperty":{"label":{"en":"A"}},"type":"Parameter"}},"ranges":{"a":{"axisNames":["t"],"dataType":"integer","shape":[2],"type":"NdArray","values":[1,2]}},"type":"Coverage"}
+PROFILE => {"domain":{"axes":{"x":{"values":[5]},"y":{"values":[6]},"z":{"values":[0,10,20]}},"domainType":"VerticalProfile","referencing":[{"coordinates":["x","y"],"system":{"type":"ProjectedCRS"}},{"coordinates":["z"],"system":{"type":"VerticalCRS"}}],"type":"Domain"},"parameters":{"a":{"observedProperty":{"label":{"en":"A"}},"type":"Parameter"}},"ranges":{"a":{"axisNames":["z"],"dataType":"integer","shape":[3],"type":"NdArray","values":[1,2,3]}},"type":"Coverage"}
+PLACES => {"domain":{"axes":{"composite":{"coordinates":["x","y","z"],"dataType":"tuple","values":[[1,2,3],[4,5,6]]}},"domainType":"MultiPoint","referencing":[{"coordinates":["x","y"],"system":{"type":"ProjectedCRS"}},{"coordinates":["z"],"system":{"type":"VerticalCRS"}}],"type":"Domain"},"parameters":{"a":{"observedProperty":{"label":{"en":"A"}},"type":"Parameter"}},"ranges":{"a":{"axisNames":["composite"],"dataType":"integer","shape":[2],"type":"NdArray","values":[1,2]}},"type":"Coverage"}
+STEPS => {"domain":{"axes":{"composite":{"coordinates":["t","x","y"],"dataType":"tuple","values":[["2024-01-01T00:00:00Z",1,2],["2024-01-01T00:00:00Z",3,4]]},"z":{"values":[9]}},"domainType":"Trajectory","referencing":[{"coordinates":["x","y"],"system":{"type":"ProjectedCRS"}},{"coordinates":["z"],"system":{"type":"VerticalCRS"}},{"coordinates":["t"],"system":{"calendar":"Gregorian","type":"TemporalRS"}}],"type":"Domain"},"parameters":{"a":{"observedProperty":{"label":{"en":"A"}},"type":"Parameter"}},"ranges":{"a":{"axisNames":["composite"],"dataType":"integer","shape":[2],"type":"NdArray","values":[1,2]}},"type":"Coverage"}
+LENT => {"coverages":[{"domain":{"axes":{"x":{"values":[1]},"y":{"values":[2]}},"domainType":"Point","referencing":[{"coordinates":["x","y"],"system":{"type":"ProjectedCRS"}}],"type":"Domain"},"parameters":{"a":{"observedProperty":{"label":{"en":"A"}},"type":"Parameter"}},"ranges":{"a":{"dataType":"integer","type":"NdArray","values":[3]}},"type":"Coverage"},{"domain":{"axes":{"x":{"values":[1]},"y":{"values":[2]}},"domainType":"Grid","referencing":[{"coordinates":["x","y"],"system":{"type":"ProjectedCRS"}}],"type":"Domain"},"id":"B","parameters":{"a":{"observedProperty":{"label":{"en":"A"}},"type":"Parameter"}},"ranges":{"a":{"axisNames":["y","x"],"dataType":"integer","shape":[1,1],"type":"NdArray","values":[4]}},"type":"Coverage"}],"type":"CoverageCollection"}"#;
+
+// A document a line: a text after `: `, or the name of one above, in which texts are exchanged; and what it is refused with,
+// or another document that is read as the same.
+const TABLE: &str = r#"# the text and its kind
+: [ => NotJson
+: {"type":"Coverage"} x => NotJson
+: [1e999] => NotJson
+: [] => WrongType(Document)
+: "Coverage" => WrongType(Document)
+: {} => Missing(Kind)
+: {"type":5} => WrongType(Kind)
+: {"type":"Domain"} => WrongType(Kind)
+: {"type":"Coverage"} => Missing(Domain)
+: {"type":"Coverage","type":"Domain"} => WrongType(Kind)
+# collections
+: {"type":"CoverageCollection"} => Missing(Coverages)
+: {"type":"CoverageCollection","coverages":{}} => WrongType(Coverages)
+: {"type":"CoverageCollection","coverages":[5]} => WrongType(Coverages)
+: {"type":"CoverageCollection","coverages":[{}]} => Missing(Kind)
+: {"type":"CoverageCollection","coverages":[{"type":"CoverageCollection","coverages":[]}]} => WrongType(Kind)
+: {"type":"CoverageCollection","coverages":[],"id":7} == : {"coverages":[],"type":"CoverageCollection"}
+LENT ~ "domainType":"Point", >>  => Missing(DomainType)
+LENT ~ "domainType":"Point" >> "domainType":"Polygon" => UnsupportedDomain: Polygon
+LENT ~ "domainType":"Grid", >>  ~ "ranges":{"a":{"type":"NdArray","dataType":"integer","values":[4] >> "domain":{"domainType":"Grid","axes":{"x":{"values":[1]},"y":{"values":[2]}}},"ranges":{"a":{"type":"NdArray","dataType":"integer","values":[4] == LENT
+LENT ~ "referencing" >> "references" => Missing(Referencing)
+LENT ~ "parameters" >> "parameter" => Missing(Parameters)
+LENT ~ "id":"B", >> "id":"B","parameters":{}, => Missing(Parameters)
+LENT ~ "id":"B", >> "id":"B","referencing":5, == LENT
+LENT ~ "values":[3] >> "values":["3"] => WrongType(Values)
+LENT ~ "values":[4] >> "values":[4,5] => WrongCount(Values, 1, 2)
+LENT ~ "values":[4] >> "values":[] ~ "values":[3] >> "values":[0.5] => NotWhole(Values)
+# the domain and its type
+: {"type":"Coverage","domain":[]} => WrongType(Domain)
+: {"type":"Coverage","domain":{}} => Missing(DomainType)
+GRID ~ "domainType":"Grid" >> "domainType":5 => WrongType(DomainType)
+GRID ~ "domainType":"Grid" >> "domainType":"Polygon" => UnsupportedDomain: Polygon
+GRID ~ "domainType":"Grid" >> "domainType":"grid" => UnsupportedDomain: grid
+GRID ~ "domainType":"Grid", >>  ~ {"type":"Coverage", >> {"type":"Coverage","domainType":"Grid", == GRID
+GRID ~ {"type":"Coverage", >> {"type":"Coverage","domainType":"Polygon", == GRID
+GRID ~ "domainType":"Grid" >> "domainType":"Polygon" ~ {"type":"Coverage", >> {"type":"Coverage","domainType":"Grid", => UnsupportedDomain: Polygon
+GRID ~ "axes" >> "axis" => Missing(Axes)
+: {"type":"Coverage","domain":{"domainType":"Point","axes":[]}} => WrongType(Axes)
+GRID ~ "axes":{ >> "axes":{"w":{}, => WrongType(Axes)
+GRID ~ "axes":{ >> "axes":{"composite":{}, => WrongType(Axes)
+PLACES ~ "axes":{ >> "axes":{"x":{"values":[1]}, => WrongType(Axes)
+PLACES ~ "axes":{ >> "axes":{"z":{"values":[1]}, => WrongType(Axes)
+STEPS ~ "axes":{ >> "axes":{"t":{"values":["2024-01-01T00:00:00Z"]}, => WrongType(Axes)
+# an axis that is wanted, and its form
+GRID ~ "x":{"values":[0,100,200]}, >>  => Missing(X)
+GRID ~ "x":{"values":[0,100,200]},"y":{"values":[0,100]}, >>  => Missing(Y)
+SERIES ~ ,"t":{"values":["2024-01-01T00:00:00Z","2024-01-01T01:00:00Z"]} >>  => Missing(T)
+PROFILE ~ ,"z":{"values":[0,10,20]} >>  => Missing(Z)
+: {"type":"Coverage","domain":{"domainType":"Trajectory","axes":{"z":{"values":[1]}}}} => Missing(Composite)
+GRID ~ "x":{"values":[0,100,200]} >> "x":[0,100,200] => WrongType(X)
+GRID ~ "x":{"values":[0,100,200]} >> "x":{"values":{}} => WrongType(X)
+GRID ~ "x":{"values":[0,100,200]} >> "x":{"values":[]} => WrongType(X)
+GRID ~ "x":{"values":[0,100,200]} >> "x":{"values":[0,"100",200.5]} => WrongType(X)
+GRID ~ "t":{"values":[" >> "t":{"values":[5," => WrongType(T)
+GRID ~ "t":{"values":["2024-01-01T00:00:00Z","2024-01-01T01:00:00Z"]} >> "t":{"start":0,"stop":1,"num":2} => WrongType(T)
+# whole numbers within their limits
+GRID ~ [0,100,200] >> [0,1.5,2] => NotWhole(X)
+GRID ~ [0,100,200] >> [0,100,2e2] => NotWhole(X)
+GRID ~ [0,100,200] >> [-0,100,200] => NotWhole(X)
+GRID ~ [0,100,200] >> [0,100,18446744073709551616] => NotWhole(X)
+GRID ~ [0,100,200] >> [0,100,18446744073709551615] => OutOfRange(X)
+GRID ~ [0,100,200] >> [0,100,9223372036854775808] => OutOfRange(X)
+GRID ~ [0,100,200] >> [-9223372036854775808,100,200] => OutOfRange(X)
+GRID ~ [0,100,200] >> [-9223372036854775809,100,200] => NotWhole(X)
+GRID ~ [0,100,200] >> [0,100,100000001] => OutOfRange(X)
+GRID ~ [0,100,200] >> [-100000001,100,200] => OutOfRange(X)
+GRID ~ [0,100,200] >> [-100000000,0,100000000] == GRID ~ "x":{"values":[0,100,200]} >> "x":{"start":-100000000,"stop":100000000,"num":3}
+GRID ~ [0,100,200] >> [100000001,1.5,0] => NotWhole(X)
+PROFILE ~ [0,10,20] >> [0,10,100000001] => OutOfRange(Z)
+# times
+GRID ~ "2024-01-01T00:00:00Z" >> "2024-06-15" => BadTime(0)
+GRID ~ "2024-01-01T01:00:00Z" >> "2024-02-30T00:00:00Z" => BadTime(1)
+GRID ~ "2024-01-01T00:00:00Z","2024-01-01T01:00:00Z" >> "2024-01-01t00:00Z","2024-01-01T02:00:00.0+01:00" == GRID
+GRID ~ "2024-01-01T01:00:00Z" >> "2024-01-01T00:00:00Z" => NotMonotonic(T)
+GRID ~ "2024-01-01T00:00:00Z" >> "0000-01-01T00:00:00+00:01" => BadTime(0)
+GRID ~ "2024-01-01T01:00:00Z" >> "2016-12-31T23:59:60Z" => BadTime(1)
+GRID ~ "2024-01-01T01:00:00Z" >> "2024-01-01T02:00:00 01:00" == GRID
+# order and direction
+GRID ~ [0,100,200] >> [0,0,1] => NotMonotonic(X)
+GRID ~ [0,100,200] >> [0,200,100] => NotMonotonic(X)
+GRID ~ [0,100,200] >> [200,0,100] => NotMonotonic(X)
+GRID ~ "y":{"values":[0,100]} >> "y":{"values":[100,0]} ~ [10,11,12,13,null,15,20,21,22,23,24,25] >> [13,null,15,10,11,12,23,24,25,20,21,22] == GRID
+GRID ~ [0,100,200] >> [200,100,0] ~ [10,11,12,13,null,15,20,21,22,23,24,25] >> [12,11,10,15,null,13,22,21,20,25,24,23] == GRID
+GRID ~ "2024-01-01T00:00:00Z","2024-01-01T01:00:00Z" >> "2024-01-01T01:00:00Z","2024-01-01T00:00:00Z" ~ [10,11,12,13,null,15,20,21,22,23,24,25] >> [20,21,22,23,24,25,10,11,12,13,null,15] == GRID
+SERIES ~ "2024-01-01T00:00:00Z","2024-01-01T01:00:00Z" >> "2024-01-01T01:00:00Z","2024-01-01T00:00:00Z" ~ [1,2] >> [2,1] == SERIES
+PROFILE ~ [0,10,20] >> [20,10,0] ~ [1,2,3] >> [3,2,1] == PROFILE
+# spans
+GRID ~ "x":{"values":[0,100,200]} >> "x":{"start":0,"stop":200,"num":3} == GRID
+GRID ~ "x":{"values":[0,100,200]} >> "x":{"start":200,"stop":0,"num":3} ~ [10,11,12,13,null,15,20,21,22,23,24,25] >> [12,11,10,15,null,13,22,21,20,25,24,23] == GRID
+GRID ~ "x":{"values":[0,100,200]} >> "x":{"start":"0","stop":0.5,"num":0,"values":[0,100,200]} == GRID
+PROFILE ~ "z":{"values":[0,10,20]} >> "z":{"start":0,"stop":20,"num":3} == PROFILE
+POINT ~ "x":{"values":[5]} >> "x":{"start":5,"stop":5,"num":1} == POINT
+GRID ~ "x":{"values":[0,100,200]} >> "x":{"stop":200,"num":3} => WrongType(X)
+GRID ~ "x":{"values":[0,100,200]} >> "x":{"start":0,"num":3} => WrongType(X)
+GRID ~ "x":{"values":[0,100,200]} >> "x":{"start":0.5,"stop":200,"num":"3"} => WrongType(X)
+GRID ~ "x":{"values":[0,100,200]} >> "x":{"start":0,"stop":100000001,"num":0.5} => NotWhole(X)
+GRID ~ "x":{"values":[0,100,200]} >> "x":{"start":0,"stop":200,"num":4} => NotWhole(X)
+GRID ~ "x":{"values":[0,100,200]} >> "x":{"start":0,"stop":200,"num":1} => NotWhole(X)
+GRID ~ "x":{"values":[0,100,200]} >> "x":{"start":0,"stop":100000001,"num":3} => NotWhole(X)
+GRID ~ "x":{"values":[0,100,200]} >> "x":{"start":0,"stop":100000001,"num":2} => OutOfRange(X)
+GRID ~ "x":{"values":[0,100,200]} >> "x":{"start":100000001,"stop":0,"num":2} => OutOfRange(X)
+GRID ~ "x":{"values":[0,100,200]} >> "x":{"start":0,"stop":200,"num":0} => OutOfRange(X)
+GRID ~ "x":{"values":[0,100,200]} >> "x":{"start":0,"stop":200,"num":-3} => OutOfRange(X)
+GRID ~ "x":{"values":[0,100,200]} >> "x":{"start":0,"stop":4000000,"num":4000001} => OutOfRange(X)
+GRID ~ "x":{"values":[0,100,200]} >> "x":{"start":0,"stop":0,"num":3} => NotMonotonic(X)
+# a single value
+POINT ~ "x":{"values":[5]} >> "x":{"values":[5,6]} => WrongCount(X, 1, 2)
+POINT ~ "x":{"values":[5]} >> "x":{"values":[5,5]} => NotMonotonic(X)
+POINT ~ "z":{"values":[7]} >> "z":{"values":[7,6,5]} => WrongCount(Z, 1, 3)
+PROFILE ~ "y":{"values":[6]} >> "y":{"start":1,"stop":4,"num":4} => WrongCount(Y, 1, 4)
+# one axis after the other
+GRID ~ [0,100,200] >> [0,0,1] ~ "y":{"values":[0,100]} >> "y":{"values":[0.5]} => NotWhole(Y)
+GRID ~ "2024-01-01T00:00:00Z" >> "x" ~ "y":{"values":[0,100]} >> "y":5 => BadTime(0)
+POINT ~ "2024-01-01T00:00:00Z" >> "x" ~ "z":{"values":[7]} >> "z":{"values":[0.5]} => BadTime(0)
+STEPS ~ "z":{"values":[9]} >> "z":{"values":[9,10]} => WrongCount(Z, 1, 2)
+POINT ~ "z":{"values":[7]} >> "z":{"values":[7,6]} ~ "y":{"values":[6]} >> "y":{} => WrongCount(Z, 1, 2)
+# tuples
+PLACES ~ "composite":{"dataType" >> "composite":{"datatype" => WrongType(Composite)
+PLACES ~ "dataType":"tuple" >> "dataType":"polygon" => WrongType(Composite)
+PLACES ~ "coordinates":["x","y","z"] >> "coordinates":["y","x","z"] => WrongType(Composite)
+PLACES ~ "coordinates":["x","y","z"] >> "coordinates":["x","y"] => WrongType(Composite)
+PLACES ~ "coordinates":["x","y","z"] >> "coordinates":"x" => WrongType(Composite)
+PLACES ~ [[1,2,3],[4,5,6]] >> [] => WrongType(Composite)
+PLACES ~ [[1,2,3],[4,5,6]] >> [[1,2,3],5] => WrongType(Composite)
+PLACES ~ [[1,2,3],[4,5,6]] >> [[1.5,2,3],[4,5]] => WrongType(Composite)
+PLACES ~ [[1,2,3],[4,5,6]] >> [[1,2,100000001],[4,5,0.5]] => NotWhole(Composite)
+PLACES ~ [[1,2,3],[4,5,6]] >> [[1,2,100000001],[4,5,6]] => OutOfRange(Composite)
+STEPS ~ "coordinates":["t","x","y"] >> "coordinates":["t","x","y","z"] => WrongType(Composite)
+STEPS ~ "coordinates":["t","x","y"] >> "coordinates":["t","x","y","z"] ~ Z",1,2] >> Z",1,2,5] ~ Z",3,4] >> Z",3,4,6] => WrongType(Composite)
+STEPS ~ ["2024-01-01T00:00:00Z",3,4] >> ["2024-06-15",3,4] => BadTime(1)
+STEPS ~ ["2024-01-01T00:00:00Z",1,2],["2024-01-01T00:00:00Z",3,4] >> ["2024-06-15",1,2],["2024-06-15",100000001,4] => OutOfRange(Composite)
+STEPS ~ ["2024-01-01T00:00:00Z",3,4] >> ["2023-12-31T23:59:59Z",3,4] => NotMonotonic(Composite)
+STEPS ~ ["2024-01-01T00:00:00Z",3,4] >> [5,3,4] => WrongType(Composite)
+# reference systems
+GRID ~ "referencing" >> "references" => Missing(Referencing)
+GRID ~ "referencing":[ >> "referencing":5,"other":[ => WrongType(Referencing)
+GRID ~ "referencing":[ >> "referencing":[5, => WrongType(Referencing)
+GRID ~ "referencing":[ >> "referencing":[{"coordinates":[]}, => WrongType(Referencing)
+GRID ~ "referencing":[ >> "referencing":[{"system":{}}, => WrongType(Referencing)
+GRID ~ "coordinates":["x","y"] >> "coordinates":["x"] => Missing(Referencing)
+GRID ~ "coordinates":["x","y"] >> "coordinates":"xy" => Missing(Referencing)
+GRID ~ "coordinates":["x","y"] >> "coordinates":["y","x","z"] == GRID
+GRID ~ "ProjectedCRS" >> "GeographicCRS" => UnsupportedSystem: GeographicCRS
+GRID ~ "type":"ProjectedCRS", >>  => UnsupportedSystem: 
+GRID ~ "Gregorian" >> "Julian" => UnsupportedSystem: Julian
+GRID ~ ,"calendar":"Gregorian" >>  => UnsupportedSystem: 
+GRID ~ "coordinates":["t"] >> "coordinates":[] ~ "Gregorian" >> "Julian" => UnsupportedSystem: Julian
+GRID ~ "ProjectedCRS" >> "GeographicCRS" ~ "Gregorian" >> "Julian" => UnsupportedSystem: GeographicCRS
+GRID ~ "referencing":[ >> "referencing":[{"coordinates":7,"system":7}, == GRID
+GRID ~ "referencing":[ >> "referencing":[{"coordinates":["z"],"system":{"type":"VerticalCRS","id":"up"}}, == GRID
+POINT ~ "referencing":[ >> "referencing":[{"coordinates":["z"],"system":{"type":"VerticalCRS"}}, == POINT ~ ,"id":"up" >> 
+POINT ~ {"type":"VerticalCRS","id":"up"} >> {"type":"VerticalCRS","id":5} ~ {"type":"ProjectedCRS"} >> {"type":"ProjectedCRS","id":5} == POINT ~ ,"id":"up" >> 
+# parameters
+GRID ~ "parameters" >> "parameter" => Missing(Parameters)
+GRID ~ "parameters":{ >> "parameters":[],"other":{ => WrongType(Parameters)
+GRID ~ "parameters":{ >> "parameters":{"":{}, => WrongType(Parameters)
+GRID ~ "parameters":{ >> "parameters":{"a,b":{}, => WrongType(Parameters)
+GRID ~ "parameters":{ >> "parameters":{"a\u007f":{}, => WrongType(Parameters)
+GRID ~ "parameters":{ >> "parameters":{"aaaaaaaaaaaaaaaaaaaaaaaaaaaaaaaaaaaaaaaaaaaaaaaaaaaaaaaaaaaaaaaaaaaaaaaaaaaaaaaaaaaaaaaaaaaaaaaaaaaaaaaaaaaaaaaaaaaaaaaaaaaaaaaaa":{}, => WrongType(Parameters)
+GRID ~ "parameters":{ >> "parameters":{"aaaaaaaaaaaaaaaaaaaaaaaaaaaaaaaaaaaaaaaaaaaaaaaaaaaaaaaaaaaaaaaaaaaaaaaaaaaaaaaaaaaaaaaaaaaaaaaaaaaaaaaaaaaaaaaaaaaaaaaaaaaaaaaa":{}, => Missing(ObservedProperty)
+GRID ~ "parameters":{ >> "parameters":{"a":{},"b":5, => WrongType(Parameters)
+GRID ~ "parameters":{ >> "parameters":{"a":{}, => Missing(ObservedProperty)
+GRID ~ "parameters":{ >> "parameters":{"a":{"observedProperty":5}, => WrongType(ObservedProperty)
+GRID ~ "label":{"en":"Temperature"} >> "label":{} => WrongType(ObservedProperty)
+GRID ~ "label":{"en":"Temperature"} >> "label":{} ~ "unit":{"symbol":"Cel"} >> "unit":5 => WrongType(ObservedProperty)
+GRID ~ "label":{"en":"Temperature"} >> "label":{"en":"Temperature","de":5} => WrongType(ObservedProperty)
+GRID ~ "label":{"en":"Temperature"} >> "label":{"en":"Temperature"},"categories":[] => WrongType(ObservedProperty)
+GRID ~ "label":{"en":"Temperature"} >> "label":{"de":"Temperatur","en":"Temperature","fr":"x"} == GRID
+GRID ~ "label":{"en":"Temperature"} >> "label":{"fr":"x","de":"Temperatur"} == GRID ~ "label":{"en":"Temperature"} >> "label":{"de":"Temperatur"}
+GRID ~ "parameters":{ >> "parameters":{"aa":{"observedProperty":{"label":{"en":"unread"}}}, == GRID
+GRID ~ {"symbol":"Cel"} >> {"symbol":{"value":"Cel","type":"x"}} == GRID
+GRID ~ {"symbol":"Cel"} >> {"symbol":5,"label":{"en":"Cel","aa":"x"}} == GRID
+GRID ~ {"symbol":"Cel"} >> {"label":{"en":"Cel"}} == GRID
+GRID ~ {"symbol":"Cel"} >> {"symbol":{},"label":{"en":"Cel"}} => WrongType(Unit)
+GRID ~ {"symbol":"Cel"} >> {} => WrongType(Unit)
+GRID ~ "unit":{"symbol":"Cel"} >> "unit":5 => WrongType(Unit)
+GRID ~ "parameters":{ >> "parameters":{"a":{"observedProperty":{"label":{"en":"A"}},"unit":5}, ~ "label":{"en":"Temperature"} >> "label":{} => WrongType(Unit)
+# ranges
+GRID ~ "ranges" >> "range" => Missing(Ranges)
+GRID ~ "ranges":{ >> "ranges":[],"other":{ => WrongType(Ranges)
+GRID ~ "ranges":{ >> "ranges":{},"other":{ => WrongCount(Ranges, 1, 0)
+GRID ~ "ranges":{ >> "ranges":{"rain":{}, => Missing(Parameters)
+POINT ~ "ranges":{"a" >> "ranges":{"c" => Missing(Parameters)
+GRID ~ "ranges":{ >> "ranges":{"temp":5},"other":{ => WrongType(Ranges)
+GRID ~ "NdArray" >> "TiledNdArray" => UnsupportedRange: TiledNdArray
+GRID ~ "type":"NdArray", >>  => UnsupportedRange: 
+GRID ~ "dataType":"integer", >>  => Missing(DataType)
+GRID ~ "dataType":"integer" >> "dataType":"float" => UnsupportedRange: float
+GRID ~ "dataType":"integer" >> "dataType":5 => UnsupportedRange: 
+POINT ~ "values":[1] >> "values":[] ~ "values":[null] >> "values":[0.5] => WrongCount(Values, 1, 0)
+# the axes of a range and their lengths
+GRID ~ "axisNames":["t","y","x"], >>  => Missing(AxisNames)
+GRID ~ "axisNames":["t","y","x"] >> "axisNames":"t" => WrongType(AxisNames)
+GRID ~ "axisNames":["t","y","x"] >> "axisNames":["t","y","lon"] => WrongType(AxisNames)
+GRID ~ "axisNames":["t","y","x"] >> "axisNames":["t","y",5] => WrongType(AxisNames)
+GRID ~ "axisNames":["t","y","x"] >> "axisNames":["t","y","x","x"] => WrongType(AxisNames)
+GRID ~ "axisNames":["t","y","x"] >> "axisNames":["y","x"] => WrongType(AxisNames)
+GRID ~ "axisNames":["t","y","x"] >> "axisNames":["t","z","y","x"] => WrongType(AxisNames)
+GRID ~ "shape":[2,2,3], >>  => Missing(Shape)
+GRID ~ "shape":[2,2,3] >> "shape":2 => WrongType(Shape)
+GRID ~ "shape":[2,2,3] >> "shape":[3,2,-3] => WrongType(Shape)
+GRID ~ "shape":[2,2,3] >> "shape":[2,2,3.0] => WrongType(Shape)
+GRID ~ "shape":[2,2,3] >> "shape":[9,2] => WrongCount(Shape, 3, 2)
+GRID ~ "shape":[2,2,3] >> "shape":[2,3,2] => WrongCount(Shape, 2, 3)
+GRID ~ "shape":[2,2,3] >> "shape":[2,2,18446744073709551615] => WrongCount(Shape, 3, 18446744073709551615)
+POINT ~ "values":[1] >> "shape":[1],"values":[1] => WrongCount(Shape, 0, 1)
+POINT ~ "values":[1] >> "axisNames":["y","t"],"shape":[1,1],"values":[1] == POINT
+POINT ~ "values":[1] >> "axisNames":["x"],"values":[1] == POINT
+PLACES ~ "axisNames":["composite"],"shape":[2], >>  => Missing(AxisNames)
+GRID ~ "axisNames":["t","y","x"],"shape":[2,2,3] >> "axisNames":["x","y","t"],"shape":[3,2,2] ~ [10,11,12,13,null,15,20,21,22,23,24,25] >> [10,20,13,23,11,21,null,24,12,22,15,25] == GRID
+GRID ~ "axisNames":["t","y","x"] >> "axisNames":["y","t","x"] ~ [10,11,12,13,null,15,20,21,22,23,24,25] >> [10,11,12,20,21,22,13,null,15,23,24,25] == GRID
+# values
+GRID ~ "values":[10 >> "value":[10 => Missing(Values)
+GRID ~ "values":[10 >> "values":5,"other":[10 => WrongType(Values)
+GRID ~ 24,25] >> 24] => WrongCount(Values, 12, 11)
+GRID ~ 24,25] >> 24,25,"26"] => WrongCount(Values, 12, 13)
+GRID ~ 24,25] >> 2.5,"25"] => WrongType(Values)
+GRID ~ 24,25] >> 9007199254740992,2.5] => NotWhole(Values)
+GRID ~ 24,25] >> 24,9007199254740992] => OutOfRange(Values)
+GRID ~ 24,25] >> 24,-9007199254740992] => OutOfRange(Values)
+GRID ~ 24,25] >> 24,18446744073709551615] => OutOfRange(Values)
+GRID ~ 24,25] >> 24,18446744073709551616] => NotWhole(Values)
+# members beside, and members twice
+GRID ~ {"type":"Coverage", >> {"type":"Coverage","id":5,"x-note":{"a":[1.5]}, == GRID
+GRID ~ {"type":"Coverage", >> {"type":"Domain","type":"Coverage", == GRID
+GRID ~ "shape":[2,2,3] >> "shape":5,"shape":[2,2,3] == GRID"#;
+
+fn named(name: &str) -> &'static str {
+    if name == "GRID" {
+        GRID
+    } else if name == "POINT" {
+        POINT
+    } else if name == "SERIES" {
+        SERIES
+    } else if name == "PROFILE" {
+        PROFILE
+    } else if name == "PLACES" {
+        PLACES
+    } else if name == "STEPS" {
+        STEPS
+    } else {
+        LENT
     }
-    Ok(())
 }
 
-#[test]
-fn reads_one_place_without_names_of_axes(rt: HostRuntime) -> Result<(), Fail> {
-    let parts = Parts {
-        t: "[\"2024-01-01T00:00:00Z\"]",
-        y: "[100]",
-        x: "[200]",
-        names: "",
-        shape: "",
-        values: "[7]",
-        ..GRID
-    };
-    let tree = tree_of(rt.alloc(), parts)?;
-    let coverage = coverage_of(rt.alloc(), &tree)?;
-    assert!(rt; coverage.ranges.items()[0].values.items() == [Some(7)].as_slice());
-    Ok(())
+// A text in which the first place of another is exchanged.
+fn exchanged(alloc: Global, text: &str, exchange: &str) -> Result<String, Fail> {
+    let (old, new) = exchange.split_once(" >> ").ok_or("no exchange")?;
+    let (before, after) = text.split_once(old).ok_or("nothing to exchange")?;
+    Ok(format!(in alloc; "{before}{new}{after}")?)
 }
 
-#[test]
-fn reads_axes(rt: HostRuntime) -> Result<(), Fail> {
-    let three = [0, 100, 200];
-    let one = [7];
-    for (text, wanted, turned) in [
-        ("{\"x\":{\"values\":[0,100,200]}}", three.as_slice(), false),
-        ("{\"x\":{\"values\":[200,100,0]}}", three.as_slice(), true),
-        (
-            "{\"x\":{\"start\":0,\"stop\":200,\"num\":3}}",
-            three.as_slice(),
-            false,
-        ),
-        (
-            "{\"x\":{\"start\":200,\"stop\":0,\"num\":3}}",
-            three.as_slice(),
-            true,
-        ),
-        (
-            "{\"x\":{\"start\":7,\"stop\":7,\"num\":1}}",
-            one.as_slice(),
-            false,
-        ),
-        (
-            "{\"x\":{\"start\":5,\"stop\":6,\"num\":2,\"values\":[0,100,200]}}",
-            three.as_slice(),
-            false,
-        ),
-    ] {
-        let tree = Value::from_str(rt.alloc(), text)?;
-        let read = axis_at(rt.alloc(), &tree, AxisName::X)?;
-        assert!(rt; read.axis.values() == wanted);
-        assert!(rt; read.turned == turned);
+// The text of a document of the table.
+fn text_of(alloc: Global, words: &str) -> Result<String, Fail> {
+    if let Some(text) = words.strip_prefix(": ") {
+        return Ok(String::from_str(alloc, text)?);
     }
-    Ok(())
-}
-
-#[test]
-fn refuses_axes(rt: HostRuntime) -> Result<(), Fail> {
-    for (text, wanted) in [
-        ("{}", "Missing(X)"),
-        ("{\"x\":{}}", "WrongType(X)"),
-        ("{\"x\":{\"start\":0,\"stop\":200}}", "WrongType(X)"),
-        (
-            "{\"x\":{\"start\":0.5,\"stop\":\"200\",\"num\":3}}",
-            "WrongType(X)",
-        ),
-        (
-            "{\"x\":{\"start\":0.5,\"stop\":200,\"num\":3}}",
-            "NotWhole(X)",
-        ),
-        (
-            "{\"x\":{\"start\":0,\"stop\":100,\"num\":4}}",
-            "NotWhole(X)",
-        ),
-        (
-            "{\"x\":{\"start\":0,\"stop\":100,\"num\":1}}",
-            "NotWhole(X)",
-        ),
-        (
-            "{\"x\":{\"start\":0,\"stop\":0,\"num\":0}}",
-            "OutOfRange(X)",
-        ),
-        (
-            "{\"x\":{\"start\":0,\"stop\":100000001,\"num\":2}}",
-            "OutOfRange(X)",
-        ),
-        (
-            "{\"x\":{\"start\":0,\"stop\":4000000,\"num\":4000001}}",
-            "OutOfRange(X)",
-        ),
-        (
-            "{\"x\":{\"start\":5,\"stop\":5,\"num\":2}}",
-            "NotMonotonic(X)",
-        ),
-        ("{\"x\":{\"values\":[0,200,100]}}", "NotMonotonic(X)"),
-    ] {
-        let tree = Value::from_str(rt.alloc(), text)?;
-        let Err(fault) = axis_at(rt.alloc(), &tree, AxisName::X) else {
-            return Err(Fail::new("read"));
-        };
-        let shown = format!(in rt.alloc(); "{fault:?}")?;
-        assert!(rt; shown.as_str() == wanted);
+    let mut parts = words.split(" ~ ");
+    let name = parts.next().ok_or("no document")?;
+    let mut text = String::from_str(alloc, named(name))?;
+    for exchange in parts {
+        text = exchanged(alloc, text.as_str(), exchange)?;
     }
-    Ok(())
+    Ok(text)
 }
 
-// What a tree is refused with.
-fn fault_of(alloc: Global, tree: &Value) -> Result<CovFault, Fail> {
-    match coverage_of(alloc, tree) {
-        Ok(_) => Err(Fail::new("read")),
-        Err(fault) => Ok(fault),
-    }
+fn with_text(alloc: Global, name: &str, text: &Text) -> Result<String, Fail> {
+    let shown = std::str::from_utf8(text.bytes()).or(Err("no text"))?;
+    Ok(format!(in alloc; "{name}: {shown}")?)
 }
 
-#[test]
-fn refuses_what_lacks_members(rt: HostRuntime) -> Result<(), Fail> {
-    for (text, wanted) in [
-        ("[]", "WrongType(Document)"),
-        ("{}", "Missing(Kind)"),
-        ("{\"type\":\"Domain\"}", "WrongType(Kind)"),
-        ("{\"type\":\"Coverage\"}", "Missing(Domain)"),
-        (
-            "{\"type\":\"Coverage\",\"domain\":{}}",
-            "Missing(DomainType)",
-        ),
-    ] {
-        let tree = Value::from_str(rt.alloc(), text)?;
-        let fault = fault_of(rt.alloc(), &tree)?;
-        let shown = format!(in rt.alloc(); "{fault:?}")?;
-        assert!(rt; shown.as_str() == wanted);
-    }
-    Ok(())
-}
-
-#[test]
-fn refuses_broken_parts(rt: HostRuntime) -> Result<(), Fail> {
-    for (parts, wanted) in [
-        (
-            Parts {
-                x: "[0,1.5,2]",
-                ..GRID
-            },
-            "NotWhole(X)",
-        ),
-        (
-            Parts {
-                x: "[0,1.5,\"2\"]",
-                ..GRID
-            },
-            "WrongType(X)",
-        ),
-        (Parts { x: "[]", ..GRID }, "WrongType(X)"),
-        (
-            Parts {
-                x: "[0,0,1]",
-                ..GRID
-            },
-            "NotMonotonic(X)",
-        ),
-        (
-            Parts {
-                x: "[0,100,100000001]",
-                ..GRID
-            },
-            "OutOfRange(X)",
-        ),
-        (
-            Parts {
-                t: "[\"2024-06-15\",\"2024-06-15T01:00:00Z\"]",
-                ..GRID
-            },
-            "BadTime(0)",
-        ),
-        (
-            Parts {
-                values: "[10,11,12,13,null,15,20,21,22,23,24]",
-                ..GRID
-            },
-            "WrongCount(Values, 12, 11)",
-        ),
-        (
-            Parts {
-                values: "[10,11,12,13,null,15,20,21,22,23,24,9007199254740992]",
-                ..GRID
-            },
-            "OutOfRange(Values)",
-        ),
-        (
-            Parts {
-                values: "[10,11,12,13,null,15,20,21,22,23,24,18446744073709551615]",
-                ..GRID
-            },
-            "OutOfRange(Values)",
-        ),
-        (
-            Parts {
-                values: "[10,11,12,13,null,15,20,21,22,23,24,2.0]",
-                ..GRID
-            },
-            "NotWhole(Values)",
-        ),
-    ] {
-        let tree = tree_of(rt.alloc(), parts)?;
-        let fault = fault_of(rt.alloc(), &tree)?;
-        let shown = format!(in rt.alloc(); "{fault:?}")?;
-        assert!(rt; shown.as_str() == wanted);
-    }
-    Ok(())
-}
-
-#[test]
-fn refuses_other_axes_of_ranges(rt: HostRuntime) -> Result<(), Fail> {
-    for (names, shape, wanted) in [
-        (
-            "\"axisNames\":[\"t\",\"y\",\"x\",\"x\"],",
-            "\"shape\":[2,2,3,3],",
-            "WrongType(AxisNames)",
-        ),
-        (
-            "\"axisNames\":[\"t\",\"y\",\"lon\"],",
-            "\"shape\":[2,2,3],",
-            "WrongType(AxisNames)",
-        ),
-        (
-            "\"axisNames\":[\"t\",\"z\",\"y\",\"x\"],",
-            "\"shape\":[2,1,2,3],",
-            "WrongType(AxisNames)",
-        ),
-        (
-            "\"axisNames\":[\"y\",\"x\"],",
-            "\"shape\":[2,3],",
-            "WrongType(AxisNames)",
-        ),
-        ("", "\"shape\":[2,2,3],", "Missing(AxisNames)"),
-        (GRID.names, "", "Missing(Shape)"),
-        (GRID.names, "\"shape\":[2,3,2],", "WrongCount(Shape, 2, 3)"),
-        (GRID.names, "\"shape\":[2,2],", "WrongCount(Shape, 3, 2)"),
-        (GRID.names, "\"shape\":[2,2,\"3\"],", "WrongType(Shape)"),
-    ] {
-        let parts = Parts {
-            names,
-            shape,
-            ..GRID
-        };
-        let tree = tree_of(rt.alloc(), parts)?;
-        let fault = fault_of(rt.alloc(), &tree)?;
-        let shown = format!(in rt.alloc(); "{fault:?}")?;
-        assert!(rt; shown.as_str() == wanted);
-    }
-    Ok(())
-}
-
-fn unsupported(fault: &CovFault) -> Option<&[u8]> {
+// A fault as the table has it.
+fn shown(alloc: Global, fault: &CovFault) -> Result<String, Fail> {
     match fault {
-        CovFault::UnsupportedDomain(text) => Some(text.bytes()),
-        CovFault::UnsupportedSystem(text) => Some(text.bytes()),
-        CovFault::UnsupportedRange(text) => Some(text.bytes()),
-        _ => None,
+        CovFault::UnsupportedDomain(text) => with_text(alloc, "UnsupportedDomain", text),
+        CovFault::UnsupportedSystem(text) => with_text(alloc, "UnsupportedSystem", text),
+        CovFault::UnsupportedRange(text) => with_text(alloc, "UnsupportedRange", text),
+        _ => Ok(format!(in alloc; "{fault:?}")?),
+    }
+}
+
+// What a document is read as, in the form that is written, or what it is refused with.
+fn read_as(alloc: Global, words: &str) -> Result<String, Fail> {
+    let text = text_of(alloc, words)?;
+    match read_document(alloc, text.as_bytes()) {
+        Ok(document) => {
+            let tree = document_tree(alloc, &document)?;
+            Ok(tree.to_string(alloc)?)
+        }
+        Err(fault) => shown(alloc, &fault),
     }
 }
 
 #[test]
-fn refuses_other_kinds(rt: HostRuntime) -> Result<(), Fail> {
-    for (parts, wanted) in [
-        (
-            Parts {
-                kind: "Polygon",
-                ..GRID
-            },
-            "Polygon",
-        ),
-        (
-            Parts {
-                system: "GeographicCRS",
-                ..GRID
-            },
-            "GeographicCRS",
-        ),
-        (
-            Parts {
-                data_type: "float",
-                ..GRID
-            },
-            "float",
-        ),
-    ] {
-        let tree = tree_of(rt.alloc(), parts)?;
-        let fault = fault_of(rt.alloc(), &tree)?;
-        assert!(rt; unsupported(&fault) == Some(wanted.as_bytes()));
+fn documents(rt: HostRuntime) -> Result<(), Fail> {
+    for line in TABLE.lines() {
+        if line.starts_with('#') {
+            continue;
+        }
+        if let Some((words, fault)) = line.split_once(" => ") {
+            let answer = read_as(rt.alloc(), words)?;
+            assert!(rt; answer.as_str() == fault, "{line} {answer}");
+        } else {
+            let (words, same) = line.split_once(" == ").ok_or("no answer")?;
+            let answer = read_as(rt.alloc(), words)?;
+            let wanted = read_as(rt.alloc(), same)?;
+            assert!(rt; answer.as_str() == wanted.as_str(), "{line} {answer}");
+            assert!(rt; answer.as_str().starts_with('{'), "{line} {answer}");
+        }
     }
+    Ok(())
+}
+
+#[test]
+fn written_documents(rt: HostRuntime) -> Result<(), Fail> {
+    for line in WRITTEN.lines() {
+        let (name, text) = line.split_once(" => ").ok_or("no text")?;
+        let answer = read_as(rt.alloc(), name)?;
+        assert!(rt; answer.as_str() == text, "{answer}");
+        let again = read_document(rt.alloc(), text.as_bytes())?;
+        let tree = document_tree(rt.alloc(), &again)?;
+        let written = tree.to_string(rt.alloc())?;
+        assert!(rt; written.as_str() == text, "{written}");
+    }
+    Ok(())
+}
+
+#[test]
+fn a_tree_that_is_no_coverage(rt: HostRuntime) -> Result<(), Fail> {
+    let tree = Value::from_str(rt.alloc(), "[]")?;
+    let Err(fault) = coverage_of(rt.alloc(), &tree) else {
+        return Err(Fail::new("read"));
+    };
+    let answer = shown(rt.alloc(), &fault)?;
+    assert!(rt; answer.as_str() == "WrongType(Coverages)");
     Ok(())
 }

@@ -5,23 +5,46 @@ use edr_base::{Items, OutOfMemory, Position, Text};
 use std::alloc::Global;
 use std::test::Fail;
 
-const CRS: &str = "http://www.opengis.net/def/crs/EPSG/0/32633";
-
-// 2024-01-01T00:00:00Z
-const NEW_YEAR: i64 = 1_704_067_200;
-
 fn parameter(alloc: Global, id: &[u8]) -> Result<Parameter, OutOfMemory> {
     Ok(Parameter {
         id: Text::of(alloc, id)?,
         lang: Text::of(alloc, b"en")?,
-        label: Text::of(alloc, b"Temperature")?,
-        unit: Some(Text::of(alloc, b"Cel")?),
+        label: Text::of(alloc, b"A")?,
+        unit: None,
     })
+}
+
+fn parameters(alloc: Global, ids: &[&[u8]]) -> Result<Items<Parameter>, OutOfMemory> {
+    let mut items = Vec::new(alloc);
+    for id in ids {
+        items.push(parameter(alloc, id)?)?;
+    }
+    Ok(Items::of(items))
 }
 
 fn range(alloc: Global, values: &[Option<i64>]) -> Result<NdArray, OutOfMemory> {
     Ok(NdArray {
         values: Items::of(Vec::from_slice(alloc, values)?),
+    })
+}
+
+// So many ranges of the same values.
+fn ranges(
+    alloc: Global,
+    count: usize,
+    values: &[Option<i64>],
+) -> Result<Items<NdArray>, OutOfMemory> {
+    let mut items = Vec::new(alloc);
+    for _ in 0..count {
+        items.push(range(alloc, values)?)?;
+    }
+    Ok(Items::of(items))
+}
+
+fn unnamed(alloc: Global) -> Result<Referencing, OutOfMemory> {
+    Ok(Referencing {
+        crs: Text::of(alloc, b"")?,
+        vertical: None,
     })
 }
 
@@ -32,32 +55,29 @@ fn coverage(
     ids: &[&[u8]],
     values: &[Option<i64>],
 ) -> Result<Coverage, OutOfMemory> {
-    let mut parameters = Vec::new(alloc);
-    let mut ranges = Vec::new(alloc);
-    for id in ids {
-        parameters.push(parameter(alloc, id)?)?;
-        ranges.push(range(alloc, values)?)?;
-    }
     Ok(Coverage {
         id: None,
         domain,
-        referencing: Referencing {
-            crs: Text::of(alloc, CRS.as_bytes())?,
-            vertical: None,
-        },
-        parameters: Items::of(parameters),
-        ranges: Items::of(ranges),
+        referencing: unnamed(alloc)?,
+        parameters: parameters(alloc, ids)?,
+        ranges: ranges(alloc, ids.len(), values)?,
     })
 }
 
-fn point() -> Domain {
-    Domain::Point {
-        t: Some(NEW_YEAR),
-        z: None,
-        y: 0,
-        x: 0,
-    }
+fn is_valid(
+    alloc: Global,
+    domain: Domain,
+    ids: &[&[u8]],
+    values: &[Option<i64>],
+) -> Result<bool, OutOfMemory> {
+    Ok(coverage(alloc, domain, ids, values)?.is_valid())
 }
+
+fn point(t: Option<i64>, z: Option<i64>) -> Domain {
+    Domain::Point { t, z, y: 0, x: 0 }
+}
+
+// ---- names, parameters and ranges
 
 #[test]
 fn names(rt: HostRuntime) {
@@ -78,366 +98,364 @@ fn names(rt: HostRuntime) {
     }
 }
 
-#[test]
-fn parameters_and_ranges(rt: HostRuntime) -> Result<(), Fail> {
-    let cases: [(&[&[u8]], &[Option<i64>], bool); 10] = [
-        (&[b"a"], &[Some(1)], true),
-        (&[b"a", b"b"], &[None], true),
-        (&[b"a", b"aa", b"b"], &[Some(0)], true),
-        (&[], &[Some(1)], false),
-        (&[b"b", b"a"], &[Some(1)], false),
-        (&[b"a", b"a"], &[Some(1)], false),
-        (&[b"a,"], &[Some(1)], false),
-        (&[b"a"], &[], false),
-        (&[b"a"], &[Some(1), Some(2)], false),
-        (&[b"a"], &[Some(-9_007_199_254_740_992)], false),
-    ];
-    for (place, (ids, values, valid)) in cases.iter().enumerate() {
-        let one = coverage(rt.alloc(), point(), ids, values)?;
-        assert_eq!(rt; one.is_valid(), *valid, "case {place}");
+// The ids of the parameters, the values of each, and whether that is valid.
+const PARTS: [(&[&[u8]], &[Option<i64>], bool); 10] = [
+    (&[b"a"], &[Some(1)], true),
+    (&[b"a", b"b"], &[None], true),
+    (&[b"a", b"aa", b"b"], &[Some(0)], true),
+    (&[], &[Some(1)], false),
+    (&[b"b", b"a"], &[Some(1)], false),
+    (&[b"a", b"a"], &[Some(1)], false),
+    (&[b"a,"], &[Some(1)], false),
+    (&[b"a"], &[], false),
+    (&[b"a"], &[Some(1), Some(2)], false),
+    (&[b"a"], &[Some(-9_007_199_254_740_992)], false),
+];
+
+// The first row that isn't as it has to be.
+fn first_wrong_part(alloc: Global) -> Result<Option<usize>, OutOfMemory> {
+    for (place, (ids, values, valid)) in PARTS.iter().enumerate() {
+        if is_valid(alloc, point(None, None), ids, values)? != *valid {
+            return Ok(Some(place));
+        }
     }
-    let mut one = coverage(rt.alloc(), point(), &[b"a"], &[None])?;
-    one.ranges = Items::of(Vec::new(rt.alloc()));
-    assert!(rt; !one.is_valid());
-    Ok(())
+    Ok(None)
+}
+
+fn is_valid_without_ranges(alloc: Global) -> Result<bool, OutOfMemory> {
+    let mut one = coverage(alloc, point(None, None), &[b"a"], &[None])?;
+    one.ranges = ranges(alloc, 0, &[])?;
+    Ok(one.is_valid())
 }
 
 #[test]
-fn places_and_times(rt: HostRuntime) -> Result<(), Fail> {
-    for (t, z, y, x, valid) in [
-        (None, None, 100_000_000, -100_000_000, true),
-        (Some(-62_167_219_200), Some(0), 0, 0, true),
-        (Some(-62_167_219_201), None, 0, 0, false),
-        (Some(253_402_300_799), None, 0, 0, true),
-        (Some(253_402_300_800), None, 0, 0, false),
-        (None, Some(100_000_001), 0, 0, false),
-        (None, None, i64::MIN, 0, false),
-        (None, None, 0, 100_000_001, false),
-    ] {
-        let domain = Domain::Point { t, z, y, x };
-        assert_eq!(rt; domain.count(), Some(1));
-        let one = coverage(rt.alloc(), domain, &[b"a"], &[None])?;
-        assert_eq!(rt; one.is_valid(), valid, "{t:?} {z:?} {y} {x}");
-    }
+fn parameters_and_ranges(rt: HostRuntime) -> Result<(), Fail> {
+    assert_eq!(rt; first_wrong_part(rt.alloc())?, None);
+    assert!(rt; !is_valid_without_ranges(rt.alloc())?);
     Ok(())
+}
+
+// ---- domains
+
+// The time, the level, y and x of a Point, and whether that is valid.
+const POINTS: [(Option<i64>, Option<i64>, i64, i64, bool); 8] = [
+    (None, None, 100_000_000, -100_000_000, true),
+    (Some(-62_167_219_200), Some(0), 0, 0, true),
+    (Some(-62_167_219_201), None, 0, 0, false),
+    (Some(253_402_300_799), None, 0, 0, true),
+    (Some(253_402_300_800), None, 0, 0, false),
+    (None, Some(100_000_001), 0, 0, false),
+    (None, None, i64::MIN, 0, false),
+    (None, None, 0, 100_000_001, false),
+];
+
+fn first_wrong_point(alloc: Global) -> Result<Option<usize>, OutOfMemory> {
+    for (place, (t, z, y, x, valid)) in POINTS.iter().enumerate() {
+        let domain = Domain::Point {
+            t: *t,
+            z: *z,
+            y: *y,
+            x: *x,
+        };
+        if is_valid(alloc, domain, &[b"a"], &[None])? != *valid {
+            return Ok(Some(place));
+        }
+    }
+    Ok(None)
+}
+
+// Tuples of x, y, z and m.
+fn tuples(alloc: Global, numbers: &[[i64; 4]]) -> Result<Items<Position>, OutOfMemory> {
+    let mut items = Vec::new(alloc);
+    for [x, y, z, m] in numbers {
+        items.push(Position {
+            x: *x,
+            y: *y,
+            z: *z,
+            m: *m,
+        })?;
+    }
+    Ok(Items::of(items))
+}
+
+// The time of a MultiPoint, whether its places have levels, the places, the values, and whether that is valid.
+const SPOTS: [(Option<i64>, bool, &[[i64; 4]], &[Option<i64>], bool); 14] = [
+    (None, false, &[[1, 2, 0, 0]], &[None], true),
+    (Some(0), true, &[[1, 2, 3, 0]], &[None], true),
+    // One place twice, and in any order.
+    (
+        None,
+        false,
+        &[[2, 2, 0, 0], [1, 1, 0, 0], [2, 2, 0, 0]],
+        &[None, None, None],
+        true,
+    ),
+    (None, false, &[], &[], false),
+    (None, true, &[], &[None], false),
+    // A level where there are none, and a time.
+    (None, false, &[[1, 2, 3, 0]], &[None], false),
+    (None, false, &[[1, 2, 0, 3]], &[None], false),
+    (None, true, &[[1, 2, 3, -1]], &[None], false),
+    (None, true, &[[1, 2, 100_000_001, 0]], &[None], false),
+    (
+        None,
+        false,
+        &[[0, 0, 0, 0], [1, -100_000_001, 0, 0]],
+        &[None, None],
+        false,
+    ),
+    (None, false, &[[i64::MIN, 0, 0, 0]], &[None], false),
+    (
+        Some(253_402_300_800),
+        false,
+        &[[1, 2, 0, 0]],
+        &[None],
+        false,
+    ),
+    // Too few values, and too many.
+    (None, false, &[[1, 2, 0, 0], [3, 4, 0, 0]], &[None], false),
+    (Some(0), false, &[[1, 2, 0, 0]], &[None, None], false),
+];
+
+fn first_wrong_spots(alloc: Global) -> Result<Option<usize>, OutOfMemory> {
+    for (place, (t, has_z, numbers, values, valid)) in SPOTS.iter().enumerate() {
+        let domain = Domain::MultiPoint {
+            t: *t,
+            has_z: *has_z,
+            spots: tuples(alloc, numbers)?,
+        };
+        if is_valid(alloc, domain, &[b"a"], values)? != *valid {
+            return Ok(Some(place));
+        }
+    }
+    Ok(None)
+}
+
+// The level of a Trajectory, whether its places have levels of their own, the places, the values, and whether that is valid.
+const STEPS: [(Option<i64>, bool, &[[i64; 4]], &[Option<i64>], bool); 16] = [
+    (None, false, &[[1, 2, 0, 7]], &[None], true),
+    (None, true, &[[1, 2, 3, 7]], &[None], true),
+    (Some(3), false, &[[1, 2, 0, 7]], &[None], true),
+    // A level of all and levels of their own.
+    (Some(3), true, &[[1, 2, 3, 7]], &[None], false),
+    (Some(100_000_001), false, &[[1, 2, 0, 7]], &[None], false),
+    (None, false, &[], &[], false),
+    (None, false, &[[1, 2, 3, 7]], &[None], false),
+    (None, true, &[[1, 2, -100_000_001, 7]], &[None], false),
+    (None, false, &[[100_000_001, 0, 0, 2]], &[None], false),
+    (None, false, &[[1, 2, 0, 253_402_300_800]], &[None], false),
+    (
+        None,
+        false,
+        &[[1, 2, 0, -62_167_219_200], [1, 2, 0, 253_402_300_799]],
+        &[None, None],
+        true,
+    ),
+    // Times that stand still, and times that fall.
+    (
+        None,
+        false,
+        &[[1, 2, 0, 7], [3, 4, 0, 7]],
+        &[None, None],
+        true,
+    ),
+    (
+        None,
+        false,
+        &[[1, 2, 0, 7], [1, 2, 0, 6]],
+        &[None, None],
+        false,
+    ),
+    (
+        None,
+        true,
+        &[[0, 0, 5, 1], [0, 0, 4, 3], [0, 0, 3, 3]],
+        &[None, None, None],
+        true,
+    ),
+    (
+        None,
+        true,
+        &[[0, 0, 5, 1], [0, 0, 4, 3], [0, 0, 3, 2]],
+        &[None, None, None],
+        false,
+    ),
+    (None, false, &[[1, 2, 0, 7], [3, 4, 0, 7]], &[None], false),
+];
+
+fn first_wrong_steps(alloc: Global) -> Result<Option<usize>, OutOfMemory> {
+    for (place, (z, has_z, numbers, values, valid)) in STEPS.iter().enumerate() {
+        let domain = Domain::Trajectory {
+            z: *z,
+            has_z: *has_z,
+            steps: tuples(alloc, numbers)?,
+        };
+        if is_valid(alloc, domain, &[b"a"], values)? != *valid {
+            return Ok(Some(place));
+        }
+    }
+    Ok(None)
+}
+
+// Whether a PointSeries of two times is valid with these values.
+fn series_is_valid(alloc: Global, values: &[Option<i64>]) -> Result<bool, Fail> {
+    let domain = Domain::PointSeries {
+        t: Axis::of(alloc, &[-1, 0])?,
+        z: Some(9),
+        y: 0,
+        x: 0,
+    };
+    Ok(is_valid(alloc, domain, &[b"a"], values)?)
+}
+
+// Whether a VerticalProfile of two levels is valid with these values.
+fn profile_is_valid(alloc: Global, values: &[Option<i64>]) -> Result<bool, Fail> {
+    let domain = Domain::VerticalProfile {
+        t: None,
+        z: Axis::of(alloc, &[-1, 0])?,
+        y: 0,
+        x: 0,
+    };
+    Ok(is_valid(alloc, domain, &[b"a"], values)?)
+}
+
+#[test]
+fn domains(rt: HostRuntime) -> Result<(), Fail> {
+    assert_eq!(rt; first_wrong_point(rt.alloc())?, None);
+    assert_eq!(rt; first_wrong_spots(rt.alloc())?, None);
+    assert_eq!(rt; first_wrong_steps(rt.alloc())?, None);
+    assert!(rt; series_is_valid(rt.alloc(), &[None, None])?);
+    assert!(rt; !series_is_valid(rt.alloc(), &[None])?);
+    assert!(rt; profile_is_valid(rt.alloc(), &[None, None])?);
+    assert!(rt; !profile_is_valid(rt.alloc(), &[None])?);
+    Ok(())
+}
+
+// ---- texts
+
+fn is_valid_with_id(alloc: Global, id: &[u8]) -> Result<bool, OutOfMemory> {
+    let mut one = coverage(alloc, point(None, None), &[b"a"], &[None])?;
+    one.id = Some(Text::of(alloc, id)?);
+    Ok(one.is_valid())
+}
+
+fn is_valid_with_systems(
+    alloc: Global,
+    domain: Domain,
+    crs: &[u8],
+    vertical: &[u8],
+) -> Result<bool, OutOfMemory> {
+    let mut one = coverage(alloc, domain, &[b"a"], &[None])?;
+    one.referencing = Referencing {
+        crs: Text::of(alloc, crs)?,
+        vertical: Some(Text::of(alloc, vertical)?),
+    };
+    Ok(one.is_valid())
+}
+
+// Whether a MultiPoint of one place is valid with a vertical system.
+fn spot_is_valid_with_vertical(alloc: Global, has_z: bool) -> Result<bool, OutOfMemory> {
+    let domain = Domain::MultiPoint {
+        t: None,
+        has_z,
+        spots: tuples(alloc, &[[1, 2, 0, 0]])?,
+    };
+    is_valid_with_systems(alloc, domain, b"m", b"depth")
 }
 
 #[test]
 fn texts(rt: HostRuntime) -> Result<(), Fail> {
-    for (text, valid) in [(b"a".as_slice(), true), (b"\xff", false)] {
-        let mut one = coverage(rt.alloc(), point(), &[b"a"], &[None])?;
-        one.id = Some(Text::of(rt.alloc(), text)?);
-        assert_eq!(rt; one.is_valid(), valid);
-        let mut one = coverage(rt.alloc(), point(), &[b"a"], &[None])?;
-        one.referencing.crs = Text::of(rt.alloc(), text)?;
-        assert_eq!(rt; one.is_valid(), valid);
-        // A vertical system wants levels.
-        let mut one = coverage(rt.alloc(), point(), &[b"a"], &[None])?;
-        one.referencing.vertical = Some(Text::of(rt.alloc(), text)?);
-        assert!(rt; !one.is_valid());
-        one.domain = Domain::Point {
-            t: None,
-            z: Some(1),
-            y: 0,
-            x: 0,
-        };
-        assert_eq!(rt; one.is_valid(), valid);
-    }
+    let alloc = rt.alloc();
+    assert!(rt; is_valid_with_id(alloc, b"a")? && !is_valid_with_id(alloc, b"\xff")?);
+    let level = Some(1);
+    assert!(rt; is_valid_with_systems(alloc, point(None, level), b"m", b"depth")?);
+    assert!(rt; !is_valid_with_systems(alloc, point(None, level), b"\xff", b"depth")?);
+    assert!(rt; !is_valid_with_systems(alloc, point(None, level), b"m", b"\xff")?);
+    // A vertical system wants levels, along an axis or in the tuples.
+    assert!(rt; !is_valid_with_systems(alloc, point(None, None), b"m", b"depth")?);
+    assert!(rt; spot_is_valid_with_vertical(alloc, true)?);
+    assert!(rt; !spot_is_valid_with_vertical(alloc, false)?);
     Ok(())
 }
 
-#[test]
-fn axes_of_domains(rt: HostRuntime) -> Result<(), Fail> {
-    let grid = Domain::Grid {
-        t: None,
-        z: Some(Axis::of(rt.alloc(), &[1, 2])?),
-        y: Axis::of(rt.alloc(), &[3])?,
-        x: Axis::of(rt.alloc(), &[4, 5, 6])?,
-    };
-    assert_eq!(rt; grid.count(), Some(6));
-    assert!(rt; grid.is_grid() && !point().is_grid());
-    assert_eq!(rt; grid.type_name(), "Grid");
-    for (name, has, stands) in [
-        (AxisName::T, false, false),
-        (AxisName::Z, true, true),
-        (AxisName::Y, true, true),
-        (AxisName::X, true, true),
-    ] {
-        assert_eq!(rt; grid.has(name), has, "{name:?}");
-        assert_eq!(rt; grid.range_axis(name).is_some(), stands, "{name:?}");
-        assert!(rt; point().range_axis(name).is_none());
+// ---- documents
+
+// A coverage that is valid, or one that isn't.
+fn coverage_for(alloc: Global, valid: bool) -> Result<Coverage, OutOfMemory> {
+    let id: &[u8] = if valid { b"a" } else { b"," };
+    coverage(alloc, point(None, None), &[id], &[None])
+}
+
+fn one_is_valid(alloc: Global, valid: bool) -> Result<bool, OutOfMemory> {
+    Ok(Document::One(coverage_for(alloc, valid)?).is_valid())
+}
+
+fn many_are_valid(alloc: Global, valid: &[bool]) -> Result<bool, OutOfMemory> {
+    let mut coverages = Vec::new(alloc);
+    for each in valid {
+        coverages.push(coverage_for(alloc, *each)?)?;
     }
-    assert_eq!(rt; AxisName::X.letter(), "x");
-    Ok(())
-}
-
-fn position(x: i64, y: i64, z: i64, m: i64) -> Position {
-    Position { x, y, z, m }
-}
-
-fn spots(
-    alloc: Global,
-    t: Option<i64>,
-    has_z: bool,
-    positions: &[Position],
-) -> Result<Domain, OutOfMemory> {
-    Ok(Domain::MultiPoint {
-        t,
-        has_z,
-        spots: Items::of(Vec::from_slice(alloc, positions)?),
-    })
-}
-
-fn steps(
-    alloc: Global,
-    z: Option<i64>,
-    has_z: bool,
-    positions: &[Position],
-) -> Result<Domain, OutOfMemory> {
-    Ok(Domain::Trajectory {
-        z,
-        has_z,
-        steps: Items::of(Vec::from_slice(alloc, positions)?),
-    })
-}
-
-#[test]
-fn places_of_a_multi_point(rt: HostRuntime) -> Result<(), Fail> {
-    let cases: [(Option<i64>, bool, &[Position], &[Option<i64>], bool); 14] = [
-        (None, false, &[position(1, 2, 0, 0)], &[None], true),
-        (Some(0), true, &[position(1, 2, 3, 0)], &[None], true),
-        // One place twice, and in any order.
-        (
-            None,
-            false,
-            &[
-                position(2, 2, 0, 0),
-                position(1, 1, 0, 0),
-                position(2, 2, 0, 0),
-            ],
-            &[None, None, None],
-            true,
-        ),
-        (None, false, &[], &[], false),
-        (None, true, &[], &[None], false),
-        (None, false, &[position(1, 2, 3, 0)], &[None], false),
-        (None, false, &[position(1, 2, 0, 3)], &[None], false),
-        (None, true, &[position(1, 2, 3, -1)], &[None], false),
-        (
-            None,
-            true,
-            &[position(1, 2, 100_000_001, 0)],
-            &[None],
-            false,
-        ),
-        (
-            None,
-            false,
-            &[position(0, 0, 0, 0), position(1, -100_000_001, 0, 0)],
-            &[None, None],
-            false,
-        ),
-        (None, false, &[position(i64::MIN, 0, 0, 0)], &[None], false),
-        (
-            Some(253_402_300_800),
-            false,
-            &[position(1, 2, 0, 0)],
-            &[None],
-            false,
-        ),
-        (
-            None,
-            false,
-            &[position(1, 2, 0, 0), position(3, 4, 0, 0)],
-            &[None],
-            false,
-        ),
-        (
-            Some(0),
-            false,
-            &[position(1, 2, 0, 0)],
-            &[None, None],
-            false,
-        ),
-    ];
-    for (place, (t, has_z, positions, values, valid)) in cases.iter().enumerate() {
-        let domain = spots(rt.alloc(), *t, *has_z, positions)?;
-        let one = coverage(rt.alloc(), domain, &[b"a"], values)?;
-        assert_eq!(rt; one.is_valid(), *valid, "case {place}");
-    }
-    Ok(())
-}
-
-#[test]
-fn steps_of_a_trajectory(rt: HostRuntime) -> Result<(), Fail> {
-    let cases: [(Option<i64>, bool, &[Position], bool); 15] = [
-        (None, false, &[position(1, 2, 0, 7)], true),
-        (None, true, &[position(1, 2, 3, 7)], true),
-        (Some(3), false, &[position(1, 2, 0, 7)], true),
-        // Both a level of all and a level of each.
-        (Some(3), true, &[position(1, 2, 3, 7)], false),
-        (Some(100_000_001), false, &[position(1, 2, 0, 7)], false),
-        (None, false, &[], false),
-        (None, false, &[position(1, 2, 3, 7)], false),
-        (None, true, &[position(1, 2, -100_000_001, 7)], false),
-        (
-            None,
-            false,
-            &[
-                position(1, 2, 0, -62_167_219_200),
-                position(1, 2, 0, 253_402_300_799),
-            ],
-            true,
-        ),
-        (None, false, &[position(1, 2, 0, 253_402_300_800)], false),
-        // Times that stand still, and times that fall.
-        (
-            None,
-            false,
-            &[position(1, 2, 0, 7), position(3, 4, 0, 7)],
-            true,
-        ),
-        (
-            None,
-            false,
-            &[position(1, 2, 0, 7), position(1, 2, 0, 6)],
-            false,
-        ),
-        (
-            None,
-            true,
-            &[
-                position(0, 0, 5, 1),
-                position(0, 0, 4, 3),
-                position(0, 0, 3, 2),
-            ],
-            false,
-        ),
-        (
-            None,
-            true,
-            &[
-                position(0, 0, 5, 1),
-                position(0, 0, 4, 3),
-                position(0, 0, 3, 3),
-            ],
-            true,
-        ),
-        (
-            None,
-            false,
-            &[position(0, 0, 0, 1), position(100_000_001, 0, 0, 2)],
-            false,
-        ),
-    ];
-    for (place, (z, has_z, positions, valid)) in cases.iter().enumerate() {
-        let values = [None; 3];
-        let domain = steps(rt.alloc(), *z, *has_z, positions)?;
-        let one = coverage(
-            rt.alloc(),
-            domain,
-            &[b"a"],
-            &values[..positions.len().min(3)],
-        )?;
-        assert_eq!(rt; one.is_valid(), *valid, "case {place}");
-    }
-    Ok(())
-}
-
-#[test]
-fn counts_of_series_and_profiles(rt: HostRuntime) -> Result<(), Fail> {
-    for (values, valid) in [
-        ([None, None].as_slice(), true),
-        (&[None], false),
-        (&[], false),
-    ] {
-        let domain = Domain::PointSeries {
-            t: Axis::of(rt.alloc(), &[-1, 0])?,
-            z: Some(9),
-            y: 0,
-            x: 0,
-        };
-        assert_eq!(rt;
-            coverage(rt.alloc(), domain, &[b"a"], values)?.is_valid(),
-            valid
-        );
-        let domain = Domain::VerticalProfile {
-            t: None,
-            z: Axis::of(rt.alloc(), &[-1, 0])?,
-            y: 0,
-            x: 0,
-        };
-        assert_eq!(rt;
-            coverage(rt.alloc(), domain, &[b"a"], values)?.is_valid(),
-            valid
-        );
-    }
-    Ok(())
-}
-
-#[test]
-fn vertical_systems_of_tuples(rt: HostRuntime) -> Result<(), Fail> {
-    for has_z in [true, false] {
-        let level = if has_z { 5 } else { 0 };
-        let domain = spots(rt.alloc(), None, has_z, &[position(1, 2, level, 0)])?;
-        let mut one = coverage(rt.alloc(), domain, &[b"a"], &[None])?;
-        one.referencing.vertical = Some(Text::of(rt.alloc(), b"depth")?);
-        assert_eq!(rt; one.is_valid(), has_z);
-    }
-    Ok(())
+    Ok(Document::Many(Items::of(coverages)).is_valid())
 }
 
 #[test]
 fn documents(rt: HostRuntime) -> Result<(), Fail> {
-    for ids in [
-        [true, true].as_slice(),
-        &[true, false],
-        &[false, true],
-        &[true],
-        &[false],
-        &[],
-    ] {
-        let mut coverages = Vec::new(rt.alloc());
-        for valid in ids {
-            let id: &[u8] = if *valid { b"a" } else { b"," };
-            let one = Document::One(coverage(rt.alloc(), point(), &[id], &[None])?);
-            assert_eq!(rt; one.is_valid(), *valid);
-            coverages.push(coverage(rt.alloc(), point(), &[id], &[None])?)?;
-        }
-        let many = Document::Many(Items::of(coverages));
-        assert_eq!(rt; many.is_valid(), ids.iter().all(|valid| *valid));
-    }
+    assert!(rt; one_is_valid(rt.alloc(), true)? && !one_is_valid(rt.alloc(), false)?);
+    assert!(rt; many_are_valid(rt.alloc(), &[])?);
+    assert!(rt; many_are_valid(rt.alloc(), &[true, true])?);
+    assert!(rt; !many_are_valid(rt.alloc(), &[true, false])?);
+    assert!(rt; !many_are_valid(rt.alloc(), &[false, true])?);
+    Ok(())
+}
+
+// ---- axes
+
+fn grid(alloc: Global) -> Result<Domain, Fail> {
+    Ok(Domain::Grid {
+        t: None,
+        z: Some(Axis::of(alloc, &[1, 2])?),
+        y: Axis::of(alloc, &[3])?,
+        x: Axis::of(alloc, &[4, 5, 6])?,
+    })
+}
+
+// Whether the domain has the coordinate, and whether its ranges have the axis.
+fn has_and_stands(domain: &Domain, name: AxisName) -> (bool, bool) {
+    (domain.has(name), domain.range_axis(name).is_some())
+}
+
+#[test]
+fn axes_of_a_grid(rt: HostRuntime) -> Result<(), Fail> {
+    let grid = grid(rt.alloc())?;
+    assert!(rt; grid.count() == Some(6) && grid.is_grid() && grid.type_name() == "Grid");
+    assert!(rt; has_and_stands(&grid, AxisName::T) == (false, false));
+    assert!(rt; has_and_stands(&grid, AxisName::Z) == (true, true));
+    assert!(rt; has_and_stands(&grid, AxisName::Y) == (true, true));
+    assert!(rt; has_and_stands(&grid, AxisName::X) == (true, true));
     Ok(())
 }
 
 #[test]
-fn coordinates_of_tuples(rt: HostRuntime) -> Result<(), Fail> {
-    let step = steps(rt.alloc(), Some(5), false, &[position(1, 2, 0, 3)])?;
-    let names = [AxisName::T, AxisName::X, AxisName::Y];
-    assert_eq!(rt; step.coordinates(), names.as_slice());
-    assert_eq!(rt; step.tuples().map(|tuples| tuples.len()), Some(1));
-    assert!(rt; step.range_tuples().is_none() && point().tuples().is_none());
-    for (name, among) in [
-        (AxisName::T, true),
-        (AxisName::Z, false),
-        (AxisName::Y, true),
-        (AxisName::X, true),
-    ] {
-        assert_eq!(rt; step.is_in_tuples(name), among, "{name:?}");
-        assert_eq!(rt; step.axis(name).is_some(), !among, "{name:?}");
-        assert!(rt; step.has(name) && step.range_axis(name).is_none());
-    }
-    let spot = spots(
-        rt.alloc(),
-        None,
-        true,
-        &[position(1, 2, 3, 0), position(1, 2, 4, 0)],
-    )?;
-    let names = [AxisName::X, AxisName::Y, AxisName::Z];
-    assert_eq!(rt; spot.coordinates(), names.as_slice());
-    assert_eq!(rt; spot.range_tuples().map(|tuples| tuples.len()), Some(2));
-    assert!(rt; !spot.has(AxisName::T) && spot.has(AxisName::Z));
-    assert_eq!(rt; spot.count(), Some(2));
-    assert_eq!(rt; spot.type_name(), "MultiPoint");
+fn axes_of_a_point(rt: HostRuntime) {
+    let point = point(Some(0), None);
+    assert!(rt; point.count() == Some(1) && !point.is_grid() && point.tuples().is_none());
+    assert!(rt; has_and_stands(&point, AxisName::T) == (true, false));
+    assert!(rt; has_and_stands(&point, AxisName::Z) == (false, false));
+    assert!(rt; AxisName::X.letter() == "x");
+}
+
+#[test]
+fn axes_of_a_trajectory(rt: HostRuntime) -> Result<(), Fail> {
+    let steps = tuples(rt.alloc(), &[[1, 2, 0, 3]])?;
+    let step = Domain::Trajectory {
+        z: Some(5),
+        has_z: false,
+        steps,
+    };
+    assert!(rt; step.coordinates() == [AxisName::T, AxisName::X, AxisName::Y].as_slice());
+    assert!(rt; step.tuples().is_some() && step.range_tuples().is_none());
+    assert!(rt; step.is_in_tuples(AxisName::T) && !step.is_in_tuples(AxisName::Z));
+    assert!(rt; has_and_stands(&step, AxisName::Z) == (true, false));
+    assert!(rt; has_and_stands(&step, AxisName::X) == (true, false));
     Ok(())
 }

@@ -3,6 +3,7 @@ use Rattle.std.specs.Prelude.{ℕ, List, [], ◌∷◌, codes, bytes_eq, if◌th
 use Rattle.std.specs.declared.option.Option.{Option}
 use Rattle.std.specs.Prelude.{None, Some}
 use Rattle.edr_base.specs.declared.refusals.Refusal.{Refusal}
+use Rattle.edr_serve.specs.Grids.{HoldsNoGridIn}
 use Rattle.edr_serve.specs.Answer.{IsReplyTo, IsRefusalOf}
 
 -- the target of `ask TARGET`, and None for any other words
@@ -16,6 +17,11 @@ target_asked (word ∷ target ∷ more ∷ words) = None
 abbrev pub IsOutput : Option (List ℕ) → Option (List ℕ) → List ℕ → Type 0
 IsOutput input None text = ⊥
 IsOutput input (Some target) text = IsReplyTo input target text
+
+-- the input holds nothing that answers what is asked for: no grid for a target
+abbrev pub IsNoInput : Option (List ℕ) → Option (List ℕ) → Type 0
+IsNoInput input None = ⊥
+IsNoInput input (Some target) = HoldsNoGridIn input
 
 -- the refusal of what is asked for
 abbrev pub IsRefused : Option (List ℕ) → Option (List ℕ) → Refusal → Type 0

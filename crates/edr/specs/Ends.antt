@@ -7,7 +7,7 @@ use Rattle.edr_base.specs.RefusalTable.{body_of}
 use Rattle.edr_base.specs.declared.sending.SendFault.{SendFault}
 use Rattle.edr_base.specs.declared.sending.SendFault.TheVariants.{WriteFault as ErrorsFault}
 use Rattle.edr_serve.specs.FirstReply.{WrittenWhole, WrittenInPart}
-use Rattle.edr.specs.Commands.{IsOutput, IsRefused}
+use Rattle.edr.specs.Commands.{IsOutput, IsNoInput, IsRefused}
 use Rattle.edr.specs.declared.endings.Ending.{Ending}
 use Rattle.edr.specs.declared.endings.Ending.TheVariants.{Done, Usage, NotFeedLine, ReadFault, WriteFault, OutOfMemory, Refused}
 
@@ -55,11 +55,11 @@ pub record Counts : Type 0 where
   pub input : ℕ
   pub output : ℕ
 
--- the cause of an ending: what is asked for, a count that rose, or the refusal of what is asked for
+-- the cause of an ending: no input for what is asked for, a count that rose, or the refusal of what is asked for
 abbrev pub HasCause : Ending → Option (List ℕ) → Option (List ℕ) → Counts → Counts → Type 0
 HasCause Done input asked before after = ⊤
 HasCause Usage input asked before after = IsNone asked
-HasCause NotFeedLine input asked before after = ⊤
+HasCause NotFeedLine input asked before after = IsNoInput input asked
 HasCause ReadFault input asked before after = Rose before.input after.input
 HasCause WriteFault input asked before after = Rose before.output after.output
 HasCause OutOfMemory input asked before after = ⊤

@@ -1,5 +1,5 @@
 //! Whole pieces to a sink.
-ghost use Rattle.std.specs.Prelude.{◌≡◌, OnOk, IsErrOf};
+ghost use Rattle.std.specs.Prelude.{◌≡◌, OnOk, OnErr, IsErrOf};
 ghost use Rattle.edr_base.specs.Outside.{Rose};
 ghost use Rattle.edr_base.specs.Calls.{SinkLent, Writes, IsFlushed};
 
@@ -33,10 +33,11 @@ pub fn send<K: Sink>(sink: &mut K, piece: &[u8]) -> Result<(), SendFault>
     Ok(())
 }
 
-/// Flushes a sink: after `Ok` all that was written is flushed.
+/// Flushes a sink: after `Ok` all that was written is flushed, and after a fault no more than before.
 pub fn settle<K: Sink>(sink: &mut K) -> Result<(), SendFault>
     ensures bytes { K.written sink.new ≡ K.written sink.old }
     ensures flushed { OnOk result (IsFlushed (K.written sink.new) (K.flushed sink.new)) }
+    ensures kept { OnErr result (K.flushed sink.new ≡ K.flushed sink.old) }
     ensures lent { SinkLent (K.beside sink.old) (K.beside sink.new) (K.faults sink.old) (K.faults sink.new) }
     ensures cause { IsErrOf result SendFault.WriteFault → Rose (K.faults sink.old) (K.faults sink.new) }
 {

@@ -7,7 +7,7 @@ use std::fmt;
 /// What a command that was done prints.
 #[derive(Clone, Copy, Debug, PartialEq, Eq)]
 pub enum Answer {
-    /// How many positions a geometry has, how many samples a grid, or how many bytes a text.
+    /// How many positions a geometry has, how many samples a grid, how many bytes a text, or how many members an object.
     Count(usize),
     /// Why a text is no geometry.
     NoGeometry(WktFault),
@@ -20,7 +20,7 @@ pub enum BenchFault {
     Usage,
     /// The input wasn't read whole: a read failed, or it has more than 64 MiB.
     Input,
-    /// The grid that was made isn't valid.
+    /// The grid that was made isn't valid, or the input is no document.
     NotValid,
     /// Memory was wanting.
     OutOfMemory,
@@ -53,11 +53,11 @@ impl fmt::Display for BenchFault {
             BenchFault::Usage => {
                 write!(
                     f,
-                    "usage: edr_bench wkt | make COUNT | write COUNT ROUNDS | tree COUNT ROUNDS"
+                    "usage: edr_bench wkt | make COUNT | write COUNT ROUNDS | tree COUNT ROUNDS | read ROUNDS | parse ROUNDS"
                 )
             }
             BenchFault::Input => write!(f, "input not read"),
-            BenchFault::NotValid => write!(f, "grid not valid"),
+            BenchFault::NotValid => write!(f, "not valid"),
             BenchFault::OutOfMemory => write!(f, "out of memory"),
         }
     }

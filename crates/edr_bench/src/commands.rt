@@ -12,6 +12,10 @@ pub enum Command {
     Write(Rows, u32),
     /// Makes a grid and its tree, and writes the tree so many times.
     Tree(Rows, u32),
+    /// Reads a document of CoverageJSON so many times.
+    Read(u32),
+    /// Reads a tree of JSON so many times.
+    Parse(u32),
 }
 
 fn rows_of(word: &String) -> Option<Rows> {
@@ -36,6 +40,8 @@ pub fn command_of(words: &[String]) -> Option<Command> {
         [name, count, rounds] if name.as_str() == "tree" => {
             Some(Command::Tree(rows_of(count)?, rounds_of(rounds)?))
         }
+        [name, rounds] if name.as_str() == "read" => Some(Command::Read(rounds_of(rounds)?)),
+        [name, rounds] if name.as_str() == "parse" => Some(Command::Parse(rounds_of(rounds)?)),
         _ => None,
     }
 }

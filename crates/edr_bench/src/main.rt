@@ -5,6 +5,9 @@
 //!   up to 4,000,000.
 //! - `write COUNT ROUNDS` makes that grid and writes it so many times, and prints the length of its text.
 //! - `tree COUNT ROUNDS` makes that grid and its tree of JSON and writes the tree so many times, and prints the length.
+//! - `read ROUNDS` reads standard input as a document of CoverageJSON so many times, and prints the number of its values, or
+//!   of its coverages.
+//! - `parse ROUNDS` reads it as a tree of JSON so many times, and prints the number of its members.
 #![tactic(auto)]
 
 mod answers;

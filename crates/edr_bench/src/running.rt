@@ -4,6 +4,7 @@ ghost use Rattle.covjson_value.specs.Coverages.{IsValidDocument};
 use crate::answers::{Answer, BenchFault};
 use crate::commands::Command;
 use crate::grids::{Rows, grid_of};
+use covjson_read::{CovFault, read_document};
 use covjson_value::{Document, document_tree};
 use covjson_write::write_whole;
 use edr_base::{Items, OutOfMemory, Position, ReadStop, Source, read_all};
@@ -38,12 +39,17 @@ fn count_positions(geometry: &Geometry) -> usize {
     }
 }
 
-fn read<S: Source>(alloc: Global, input: &mut S) -> Result<Answer, BenchFault> {
-    let text = match read_all(alloc, input, MOST_INPUT) {
-        Ok(text) => text,
-        Err(ReadStop::OutOfMemory) => return Err(BenchFault::OutOfMemory),
-        Err(ReadStop::ReadFault | ReadStop::TooLong) => return Err(BenchFault::Input),
-    };
+// The input, whole.
+fn text_of<S: Source>(alloc: Global, input: &mut S) -> Result<Vec<u8>, BenchFault> {
+    match read_all(alloc, input, MOST_INPUT) {
+        Ok(text) => Ok(text),
+        Err(ReadStop::OutOfMemory) => Err(BenchFault::OutOfMemory),
+        Err(ReadStop::ReadFault | ReadStop::TooLong) => Err(BenchFault::Input),
+    }
+}
+
+fn read_geometry<S: Source>(alloc: Global, input: &mut S) -> Result<Answer, BenchFault> {
+    let text = text_of(alloc, input)?;
     match read_wkt(alloc, &text) {
         Ok(geometry) => Ok(Answer::Count(count_positions(&geometry))),
         Err(WktFault::OutOfMemory) => Err(BenchFault::OutOfMemory),
@@ -104,16 +110,52 @@ fn write_tree(alloc: Global, rows: Rows, rounds: u32) -> Result<Answer, BenchFau
     Ok(Answer::Count(tree_rounds(alloc, &tree, rounds)?))
 }
 
-/// Does what a command asks for. Only `wkt` reads the input.
+// Reads a document so many times, and answers how many values or coverages it has.
+fn read_rounds(alloc: Global, text: &[u8], rounds: u32) -> Result<usize, BenchFault> {
+    let mut count = 0;
+    for _ in 0..rounds {
+        match read_document(alloc, text) {
+            Ok(document) => count = count_samples(&document),
+            Err(CovFault::OutOfMemory) => return Err(BenchFault::OutOfMemory),
+            Err(_) => return Err(BenchFault::NotValid),
+        }
+    }
+    Ok(count)
+}
+
+// Reads a tree so many times, and answers how many members it has.
+fn parse_rounds(alloc: Global, text: &[u8], rounds: u32) -> Result<usize, BenchFault> {
+    let mut count = 0;
+    for _ in 0..rounds {
+        match Value::from_slice(alloc, text) {
+            Ok(tree) => match tree.as_object() {
+                Some(members) => count = members.len(),
+                None => count = 0,
+            },
+            Err(_) => return Err(BenchFault::NotValid),
+        }
+    }
+    Ok(count)
+}
+
+/// Does what a command asks for. Only `wkt`, `read` and `parse` read the input.
 pub fn carry_out<S: Source>(
     alloc: Global,
     command: Command,
     input: &mut S,
 ) -> Result<Answer, BenchFault> {
     match command {
-        Command::Wkt => read(alloc, input),
+        Command::Wkt => read_geometry(alloc, input),
         Command::Make(rows) => make(alloc, rows),
         Command::Write(rows, rounds) => write(alloc, rows, rounds),
         Command::Tree(rows, rounds) => write_tree(alloc, rows, rounds),
+        Command::Read(rounds) => {
+            let text = text_of(alloc, input)?;
+            Ok(Answer::Count(read_rounds(alloc, &text, rounds)?))
+        }
+        Command::Parse(rounds) => {
+            let text = text_of(alloc, input)?;
+            Ok(Answer::Count(parse_rounds(alloc, &text, rounds)?))
+        }
     }
 }

@@ -8,3 +8,4 @@ pub mod NodePasses
 pub mod PointLaws
 pub mod PointValid
 pub mod LineLemmas
+pub mod NoGridLemmas

@@ -1,13 +1,14 @@
 -- The one grid that an input stands for.
 use Rattle.std.specs.Prelude.{◌≡◌, ◌≤◌, ℕ, ℤ, List}
-use Rattle.std.specs.Prelude.{None, Some}
+use Rattle.std.specs.Prelude.{Option, None, Some}
 use Rattle.serde_json.specs.Data.{Data}
 use Rattle.covjson_value.specs.declared.coverages.Coverage.{Coverage}
 use Rattle.covjson_value.specs.declared.domains.Domain.TheVariants.{Grid}
 use Rattle.covjson_value.specs.Domains.{count_of}
 use Rattle.covjson_value.specs.Coverages.{IsValid}
 use Rattle.covjson_read.specs.Standing.{Stands}
-use Rattle.edr_serve.specs.Line.{IsOneLine, IsJson}
+use Rattle.covjson_read.specs.CoverageAnswers.{IsJson}
+use Rattle.edr_serve.specs.Line.{IsOneLine}
 
 -- the coverage is a grid with times and without levels, of few enough nodes
 pub record IsTimedGrid (coverage : Coverage) : Type 0 where
@@ -30,3 +31,12 @@ pub record IsInput (input : List ℕ) (coverage : Coverage) : Type 0 where
   pub input_stands : InputStands input coverage
   pub valid : IsValid coverage
   pub grid : IsTimedGrid coverage
+
+-- the input stands for no such grid
+abbrev pub HoldsNoGrid : List ℕ → Type 0
+HoldsNoGrid input = (coverage : Coverage) → ¬ (IsInput input coverage)
+
+-- the same of an input that may not be told
+abbrev pub HoldsNoGridIn : Option (List ℕ) → Type 0
+HoldsNoGridIn None = (input : List ℕ) × HoldsNoGrid input
+HoldsNoGridIn (Some input) = HoldsNoGrid input

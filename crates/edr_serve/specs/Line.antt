@@ -1,7 +1,5 @@
 -- An input of one line, and the grid that it stands for.
-use Rattle.std.specs.Prelude.{◌≡◌, ◌⊎◌, ℕ, ◌≤◌, List, [], ◌∷◌, ◌++◌, length, Contains, IsUtf8, Some}
-use Rattle.serde_json.specs.Data.{Data}
-use Rattle.serde_json.specs.Read.{read}
+use Rattle.std.specs.Prelude.{◌≡◌, ◌⊎◌, ℕ, ◌≤◌, List, [], ◌∷◌, ◌++◌, length, Contains}
 
 -- the bytes are one line, with or without its line feed
 pub record IsOneLine (bytes line : List ℕ) : Type 0 where
@@ -12,8 +10,3 @@ pub record IsOneLine (bytes line : List ℕ) : Type 0 where
 -- bytes are at most one line
 abbrev pub LineIsOne : Type 0
 LineIsOne = (bytes line other : List ℕ) → IsOneLine bytes line → IsOneLine bytes other → line ≡ other
-
--- the text is JSON of this tree (RFC 8259)
-pub record IsJson (text : List ℕ) (tree : Data) : Type 0 where
-  pub utf8 : IsUtf8 text
-  pub tree_is : read text ≡ Some tree

@@ -8,7 +8,7 @@ ghost use Rattle.covjson_value.specs.Domains.{count_of};
 ghost use Rattle.covjson_value.specs.Samples.{point_at};
 ghost use Rattle.covjson_value.specs.Trees.{coverage_text};
 ghost use Rattle.edr_serve.specs.NodePlaces.{IsPlaceOn, node_at};
-ghost use Rattle.edr_serve.specs.Grids.{IsTimedGrid};
+ghost use Rattle.edr_serve.specs.Grids.{IsTimedGrid, HoldsNoGridIn};
 ghost use Rattle.edr_serve.specs.Answer.{IsAnswer, IsPlaceAsked, RefusedBy, IsReplyTo, IsRefusalOf};
 ghost use Rattle.edr_serve.specs.FirstReply.{ReplyEnds, IsAnswerFault, IsWritingFault};
 
@@ -133,6 +133,7 @@ pub fn ask_first<S: Source, K: Sink>(
     ensures reply { ReplyEnds result (IsReplyTo (S.left source.old) target.now) (K.written sink.old) (K.written sink.new) (K.flushed sink.new) }
     ensures refused { (refusal : TheRefusal) → result ≡ Err (FirstFault.Refused refusal)
         → IsRefusalOf (S.left source.old) target.now refusal }
+    ensures none { IsErrOf result FirstFault.NotFeedLine → HoldsNoGridIn (S.left source.old) }
     ensures source { SourceLent (S.aside source.old) (S.aside source.new) (S.faults source.old) (S.faults source.new) }
     ensures sink { SinkLent (K.beside sink.old) (K.beside sink.new) (K.faults sink.old) (K.faults sink.new) }
     ensures read { IsErrOf result FirstFault.ReadFault → Rose (S.faults source.old) (S.faults source.new) }

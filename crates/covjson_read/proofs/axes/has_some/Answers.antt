@@ -1,6 +1,6 @@
 use Rattle.std.proofs.Common.{arith, sym}
-use Rattle.covjson_read.proofs.AxisLemmas.{has_some-empty, has_some-more}
 use Rattle.std.proofs.lemmas.Bool.Decides.{nat_tests}
+use Rattle.covjson_read.proofs.AscendLemmas.{has_some-empty, has_some-more}
 use Rattle.covjson_read.proofs.axes.has_some.Goals as goal
 
 pub returns-then-is_empty : goal.returns-then-is_empty

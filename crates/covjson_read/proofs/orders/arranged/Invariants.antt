@@ -1,10 +1,8 @@
-use Rattle.std.proofs.Common.{◌≡◌, length}
-use Rattle.covjson_read.proofs.OrderLemmas.{AreFirst}
+use Rattle.std.proofs.Common.{◌≡◌, map}
+use Rattle.covjson_read.specs.Orders.{below, places_at, value_in_tree}
 use Rattle.covjson_read.proofs.orders.arranged.Given as goal
 
--- the values at the places that came before
+-- the values of the numbers that came before
 abbrev pub invariant-loop-number : goal.invariant-loop-number
-invariant-loop-number l = record {
-  counted : length l.found.items ≡ l.number;
-  each : AreFirst l.domain l.turned l.names l.values l.found.items l.number;
-}
+invariant-loop-number l =
+    l.found.items ≡ map (λ number. value_in_tree l.domain l.turned l.names l.values (places_at l.domain number)) (below l.number)

@@ -1,13 +1,13 @@
 use Rattle.std.proofs.Common.{◌≡◌, length, drop, map}
 use Rattle.serde_json.specs.View.{items_view}
-use Rattle.covjson_read.specs.Axes.{EachStands}
-use Rattle.covjson_read.specs.Ranges.{StandsForLength, length_of}
+use Rattle.covjson_read.specs.Ranges.{length_of}
+use Rattle.covjson_read.specs.RangeAnswers.{lengths_are}
 use Rattle.covjson_read.proofs.ranges.need_lengths.Given as goal
 
--- where the rest stands for the rest, all stands for all
+-- the answer of the rest is that of all
 abbrev pub invariant-loop-place : goal.invariant-loop-place
 invariant-loop-place l = record {
   as_many : length l.items.items ≡ length l.names;
-  stands : EachStands StandsForLength (items_view (drop l.place l.items.items)) (map (length_of l.domain) (drop l.place l.names))
-      → EachStands StandsForLength (items_view l.items.items) (map (length_of l.domain) l.names);
+  answer : lengths_are (map (length_of l.domain) (drop l.place l.names)) (items_view (drop l.place l.items.items))
+      ≡ lengths_are (map (length_of l.domain) l.names) (items_view l.items.items);
 }

@@ -1,49 +1,31 @@
-use Rattle.std.proofs.Common.{◌≡◌, List, length, Option, None, ℤ, codes, subst, sym, ◌∙◌}
-use Rattle.std.specs.Prelude.{IfSome}
+use Rattle.std.proofs.Common.{◌≡◌, List, codes, subst, sym, ◌∙◌}
 use Rattle.serde_json.specs.Find.{get}
 use Rattle.serde_json.specs.View.{view}
-use Rattle.covjson_value.specs.declared.domains.AxisName.{AxisName}
-use Rattle.covjson_value.specs.Domains.{tuples_of}
-use Rattle.covjson_value.specs.Coverages.{IsSample}
-use Rattle.covjson_read.specs.Ranges.{StandsForSample, ShapeStands}
-use Rattle.covjson_read.specs.Orders.{AreInOrder}
-use Rattle.covjson_read.proofs.OrderLemmas.{ordered_all}
-use Rattle.covjson_read.proofs.RangeLemmas.{grid_along, stands_count, ordered_samples}
+use Rattle.covjson_read.specs.declared.places.RangeAxis.{RangeAxis}
+use Rattle.covjson_read.specs.Ranges.{AreRangeAxes}
+use Rattle.covjson_read.specs.Orders.{ordered}
+use Rattle.covjson_read.proofs.ShapeParts.{names_stand}
+use Rattle.covjson_read.proofs.RangeLemmas.{read_counted, read_valid}
 use Rattle.covjson_read.proofs.ranges.range_of.Goals as goal
 
-pub returns-clause-stands : goal.returns-clause-stands
-returns-clause-stands c =
-    let domain = c.args.domain.now in
-    let turned = c.args.turned in
-    let names = c.in_ok-names.names.items in
-    let read = c.in_ok-values.values.items in
-    let listed = c.in_ok-values.ensures.stands in
-    let along = grid_along domain c.requires in
-    let in_order : AreInOrder domain turned names read c.in_ok-values-2.values.items =
-    subst (λ (ns : List AxisName). AreInOrder domain turned ns read c.in_ok-values-2.values.items) c.deref-2.ensures.value c.in_ok-values-2.ensures in
-    record {
-      integers = c.in_ok-need_integers.ensures;
-      names = names;
-      names_stand = c.in_ok-names.ensures.stands;
-      axes = c.in_ok-names.ensures.axes;
-      shape = subst (λ (ns : List AxisName). ShapeStands domain (get (codes "shape") (view c.args.tree.now)) ns) c.deref.ensures.value c.in_ok-need_shape.ensures;
-      items = listed.items;
-      list = listed.list;
-      as_many = stands_count StandsForSample listed.items read listed.each ∙ c.in_ok-values.ensures.count;
-      counted = rw c.of.ensures in_order.counted;
-      values = rw c.of.ensures (ordered_samples domain turned names listed.items read c.in_ok-values-2.values.items along c.in_ok-names.ensures.axes c.in_ok-values.ensures.count listed.each in_order);
-    }
+pub in_order-requires-clause-axes : goal.in_order-requires-clause-axes
+in_order-requires-clause-axes c =
+    let domain = c.args.read.now.domain in
+    let named = names_stand domain (get (codes "axisNames") (view c.args.tree.now)) c.in_ok-names.names.items c.in_ok-names.ensures in
+    subst (λ (names : List RangeAxis). AreRangeAxes domain names) (sym c.deref-2.ensures.value) named.1
+
+pub in_order-requires-clause-counted : goal.in_order-requires-clause-counted
+in_order-requires-clause-counted c =
+    read_counted c.args.read.now.domain (view c.args.tree.now) c.wanted_count.result c.in_ok-values.values.items c.in_ok-values.ensures c.wanted_count.ensures
 
 pub returns-clause-valid : goal.returns-clause-valid
 returns-clause-valid c =
-    let domain = c.args.domain.now in
-    let turned = c.args.turned in
+    let domain = c.args.read.now.domain in
+    let turned = c.args.read.now.turned in
     let names = c.in_ok-names.names.items in
-    let read = c.in_ok-values.values.items in
-    let in_order : AreInOrder domain turned names read c.in_ok-values-2.values.items =
-    subst (λ (ns : List AxisName). AreInOrder domain turned ns read c.in_ok-values-2.values.items) c.deref-2.ensures.value c.in_ok-values-2.ensures in
-    record {
-      count = rw c.of.ensures in_order.counted;
-      samples = rw c.of.ensures (ordered_all (λ (v : Option ℤ). IfSome v IsSample) domain turned names read c.in_ok-values-2.values.items (grid_along domain c.requires)
-          c.in_ok-names.ensures.axes c.in_ok-values.ensures.count in_order c.in_ok-values.ensures.samples);
-    }
+    let values = c.in_ok-values.values.items in
+    let named = names_stand domain (get (codes "axisNames") (view c.args.tree.now)) names c.in_ok-names.ensures in
+    let in_order : c.in_ok-values-2.values.items ≡ ordered domain turned c.deref-2.result.now values = cc (c.in_ok-values-2.ensures) in
+    let same : c.of.result ≡ ordered domain turned names values =
+    c.of.ensures ∙ subst (λ (ns : List RangeAxis). c.in_ok-values-2.values.items ≡ ordered domain turned ns values) c.deref-2.ensures.value in_order in
+    read_valid domain turned names (view c.args.tree.now) c.wanted_count.result values c.of.result named.1 c.in_ok-values.ensures c.wanted_count.ensures same

@@ -1,7 +1,8 @@
-use Rattle.std.proofs.Common.{rules, to_z, of_z, ◌≡◌, arith, pos, ◌+ℤ◌, ◌*ℤ◌, [], ◌∷◌, ◌++◌, refl}
+use Rattle.std.proofs.Common.{rules, to_z, of_z, ◌≡◌, ◌∙◌, arith, pos, ◌+ℤ◌, ◌*ℤ◌, [], ◌∷◌, ◌++◌, Ok, sym, ap, add-one}
 use Rattle.std.proofs.lemmas.Int.{to_z-of_z, to_z_pos, fits_signed_from_abs}
 use mir.Syntax.{w64}
-use Rattle.covjson_read.proofs.SpanLemmas.{AreFirst, between_ends, step_size, first_more}
+use Rattle.covjson_read.specs.AxisAnswers.{stepped}
+use Rattle.covjson_read.proofs.SpanLemmas.{between_ends, step_size, stepped_more}
 use Rattle.covjson_read.proofs.spans.stepped.Goals as goal
 
 pub overflow_mul-place : goal.overflow_mul-place
@@ -40,12 +41,14 @@ loop-place-preserved c =
     let old = c.loop-place.values.items in
     let given : c.push.new.self.items ≡ old ++ to_z w64 (of_z w64 (to_z w64 (of_z w64 a.first) +ℤ to_z w64 (of_z w64 (to_z w64 place *ℤ to_z w64 (of_z w64 a.step))))) ∷ [] = search rules in
     let pushed : c.push.new.self.items ≡ old ++ value ∷ [] = rw (place_is, step_is, first_is, far_is, value_is) at given in
-    let before : AreFirst a.first a.step place old = rw (step_is, first_is) at c.loop-place.invariant in
-    rw (step_is, first_is, pushed) (first_more a.first a.step place old value refl inside before)
+    let before : old ≡ stepped a.first a.step place = rw (step_is, first_is) at c.loop-place.invariant in
+    rw (step_is, first_is, pushed, add-one) (ap (λ vs. vs ++ value ∷ []) before ∙ sym (stepped_more a.first a.step place))
 
-pub returns-clause-steps : goal.returns-clause-steps
-returns-clause-steps c =
-    let step_is = to_z-of_z w64 c.args.step c.ranges.step in
-    let first_is = to_z-of_z w64 c.args.first c.ranges.first in
-    let all : AreFirst c.args.first c.args.step c.loop-place.place c.loop-place.values.items = rw (step_is, first_is) at c.loop-place.invariant in
-    record { counted = omega (arith, all.counted); each = λ place inside. all.each place (omega arith) }
+pub returns : goal.returns
+returns c =
+    let a = c.args in
+    let step_is = to_z-of_z w64 a.step c.ranges.step in
+    let first_is = to_z-of_z w64 a.first c.ranges.first in
+    let all : c.loop-place.values.items ≡ stepped a.first a.step c.loop-place.place = rw (step_is, first_is) at c.loop-place.invariant in
+    let ended : c.loop-place.place ≡ a.count = omega arith in
+    sym (ap Ok (all ∙ ap (λ n. stepped a.first a.step n) ended))

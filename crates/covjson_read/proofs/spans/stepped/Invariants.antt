@@ -1,5 +1,6 @@
-use Rattle.covjson_read.proofs.SpanLemmas.{AreFirst}
+use Rattle.std.proofs.Common.{◌≡◌}
+use Rattle.covjson_read.specs.AxisAnswers as axes
 use Rattle.covjson_read.proofs.spans.stepped.Given as goal
 
 abbrev pub invariant-loop-place : goal.invariant-loop-place
-invariant-loop-place l = AreFirst l.first l.step l.place l.values.items
+invariant-loop-place l = l.values.items ≡ axes.stepped l.first l.step l.place

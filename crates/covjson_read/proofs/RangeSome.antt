@@ -1,0 +1,31 @@
+-- The ranges that are answered are some.
+use Rattle.std.proofs.Common.{◌≡◌, ◌<◌, ◌∷◌, length, true, Ok, codes, subst, arith}
+use Rattle.serde_json.specs.Data.{Data, Members, no_members, member}
+use Rattle.covjson_read.specs.declared.faults.Member.TheVariants.{Parameters, Ranges}
+use Rattle.covjson_read.specs.declared.faults.CovFault.TheVariants.{WrongCount}
+use Rattle.covjson_read.specs.declared.domains.ReadDomain.{ReadDomain}
+use Rattle.covjson_read.specs.declared.ranges.ReadRanges.{ReadRanges}
+use Rattle.covjson_read.specs.Answers.{check}
+use Rattle.covjson_read.specs.Members.{need, object_at}
+use Rattle.covjson_read.specs.Parameters.{parameter_of}
+use Rattle.covjson_read.specs.RangeAnswers.{range_of, ranges_from, has_members, ranges_in}
+use Rattle.covjson_read.proofs.AnswerLemmas.{and_then_ok, check_ok}
+
+some_from : (read : ReadDomain) (parameters : Data) (ms : Members) (r : ReadRanges) → has_members ms ≡ true → ranges_from read parameters ms ≡ Ok r → 0 < length r.parameters
+some_from read parameters no_members r some h = cc
+some_from read parameters (member id d ms) r some h =
+    let f = and_then_ok (need id Parameters parameters) _ r h in
+    let p = and_then_ok (parameter_of id f.0) _ r f.2 in
+    let a = and_then_ok (range_of read d) _ r p.2 in
+    let o = and_then_ok (ranges_from read parameters ms) _ r a.2 in
+    let made : ReadRanges = record { parameters = p.0 ∷ o.0.parameters; ranges = a.0 ∷ o.0.ranges } in
+    let same : made ≡ r = cc in
+    subst (λ (q : ReadRanges). 0 < length q.parameters) same (omega arith)
+
+-- there is a parameter at least
+pub some_parameters : (read : ReadDomain) (parameters tree : Data) (r : ReadRanges) → ranges_in read parameters tree ≡ Ok r → 0 < length r.parameters
+some_parameters read parameters tree r h =
+    let a = and_then_ok (need (codes "ranges") Ranges tree) _ r h in
+    let b = and_then_ok (object_at Ranges a.0) _ r a.2 in
+    let k = and_then_ok (check (has_members b.0) (WrongCount Ranges 1 0)) _ r b.2 in
+    some_from read parameters b.0 r (check_ok (has_members b.0) _ _ k.1) k.2

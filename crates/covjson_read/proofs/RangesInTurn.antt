@@ -1,0 +1,98 @@
+-- The ranges of an object, one by one in ascending order of their names.
+use Rattle.std.proofs.Common.{◌≡◌, ℕ, List, [], ◌∷◌, ◌++◌, length, map, String, string_bytes, Global, Less, nat_cmp, Ok, Err, true, codes, refl, sym, ap, ◌∙◌, append_assoc, append-nil, subst}
+use Rattle.std.specs.List.{AllByRecursion}
+use Rattle.std.specs.List.Sorted.{IsStrictlySortedBy}
+use Rattle.std.specs.Cmp.Lexicographic.{slice_cmp}
+use Rattle.std.proofs.lemmas.List.{map-append}
+use Rattle.serde_json.specs.Data.{Data, Members}
+use Rattle.serde_json.specs.View.{view, members_view}
+use Rattle.serde_json.specs.declared.value.Value.{Value}
+use Rattle.covjson_value.specs.declared.coverages.NdArray.{NdArray}
+use Rattle.covjson_value.specs.declared.coverages.Parameter.{Parameter}
+use Rattle.covjson_value.specs.Coverages.{ids_of, AscendById}
+use Rattle.covjson_read.specs.declared.domains.ReadDomain.{ReadDomain}
+use Rattle.covjson_read.specs.declared.ranges.ReadRanges.{ReadRanges}
+use Rattle.covjson_read.specs.declared.faults.Member.TheVariants.{Parameters, Ranges}
+use Rattle.covjson_read.specs.Answers.{Answer, and_then}
+use Rattle.covjson_read.specs.Members.{need, object_at}
+use Rattle.covjson_read.specs.Parameters.{parameter_of}
+use Rattle.covjson_read.specs.Ranges.{names_of}
+use Rattle.covjson_read.specs.RangeAnswers.{range_of, ranges_from, has_members, ranges_in}
+
+-- the entries of an object
+abbrev pub Entries : Type 0
+Entries = List (String Global × Value)
+
+-- ---- the answer
+
+-- the answer's ranges, after those that were found before
+abbrev pub after_these : List Parameter → List NdArray → Answer ReadRanges → Answer ReadRanges
+after_these kept found answer = and_then answer (λ others. Ok (record { parameters = kept ++ others.parameters; ranges = found ++ others.ranges }))
+
+-- the answer of the entries that are left, after those that were read
+abbrev pub from_here : ReadDomain → Data → List Parameter → List NdArray → Entries → Answer ReadRanges
+from_here read parameters kept found es = after_these kept found (ranges_from read parameters (members_view es))
+
+-- ranges put before those that are put before others
+twice : (kept : List Parameter) (found : List NdArray) (p : Parameter) (r : NdArray) (answer : Answer ReadRanges)
+    → after_these kept found (and_then answer (λ others. Ok (record { parameters = p ∷ others.parameters; ranges = r ∷ others.ranges })))
+    ≡ after_these (kept ++ p ∷ []) (found ++ r ∷ []) answer
+twice kept found p r (Ok others) = rw (append_assoc kept (p ∷ []) others.parameters, append_assoc found (r ∷ []) others.ranges) refl
+twice kept found p r (Err f) = refl
+
+-- one range more, and one entry fewer that is left
+pub one_more : (read : ReadDomain) (parameters : Data) (kept all_kept : List Parameter) (found all_found : List NdArray) (es next : Entries) (k : String Global) (v : Value) (tree : Data) (p : Parameter)
+    (r : NdArray) (all : Answer ReadRanges) → es ≡ (k, v) ∷ next → from_here read parameters kept found es ≡ all
+    → need (string_bytes k) Parameters parameters ≡ Ok tree → parameter_of (string_bytes k) tree ≡ Ok p → range_of read (view v) ≡ Ok r
+    → all_kept ≡ kept ++ p ∷ [] → all_found ≡ found ++ r ∷ [] → from_here read parameters all_kept all_found next ≡ all
+one_more read parameters kept all_kept found all_found es next k v tree p r all is before needed parameter range pushed put =
+    let left = ranges_from read parameters (members_view next) in
+    let here : from_here read parameters kept found es
+    ≡ after_these kept found (and_then left (λ others. Ok (record { parameters = p ∷ others.parameters; ranges = r ∷ others.ranges }))) =
+    ap (from_here read parameters kept found) is ∙ rw (needed, parameter, range) refl in
+    rw (pushed, put) (sym (twice kept found p r left)) ∙ sym here ∙ before
+
+-- ---- the parameters' ids
+
+-- one more id, and one name fewer that is left
+pub ids_more : (kept all : List Parameter) (p : Parameter) (es next : Entries) (k : String Global) (v : Value) (names : List (List ℕ))
+    → es ≡ (k, v) ∷ next → p.id ≡ string_bytes k → all ≡ kept ++ p ∷ []
+    → ids_of kept ++ names_of (members_view es) ≡ names → ids_of all ++ names_of (members_view next) ≡ names
+ids_more kept all p es next k v names is named pushed before =
+    let left = names_of (members_view next) in
+    let taken : ids_of kept ++ string_bytes k ∷ left ≡ names = subst (λ (xs : Entries). ids_of kept ++ names_of (members_view xs) ≡ names) is before in
+    ap (λ (ps : List Parameter). ids_of ps ++ left) pushed
+    ∙ ap (λ (ids : List (List ℕ)). ids ++ left) (map-append (λ (q : Parameter). q.id) kept (p ∷ []))
+    ∙ append_assoc (ids_of kept) (p.id ∷ []) left ∙ ap (λ id. ids_of kept ++ id ∷ left) named ∙ taken
+
+ids_all : (kept : List Parameter) (es : Entries) (names : List (List ℕ)) → es ≡ [] → ids_of kept ++ names_of (members_view es) ≡ names → ids_of kept ≡ names
+ids_all kept es names is before =
+    sym (append-nil (ids_of kept)) ∙ subst (λ (xs : Entries). ids_of kept ++ names_of (members_view xs) ≡ names) is before
+
+names_above : (x : List ℕ) (es : Entries) → AllByRecursion (λ y. slice_cmp nat_cmp x (string_bytes y) ≡ Less) (map (λ e. e.0) es)
+    → AllByRecursion (λ y. slice_cmp nat_cmp x y ≡ Less) (names_of (members_view es))
+names_above x [] h = tt
+names_above x (e ∷ es) h = (h.0, names_above x es h.1)
+
+-- the names of an object's members ascend
+names_ascend : (es : Entries) → IsStrictlySortedBy (λ a b. slice_cmp nat_cmp (string_bytes a) (string_bytes b)) (map (λ e. e.0) es)
+    → IsStrictlySortedBy (slice_cmp nat_cmp) (names_of (members_view es))
+unfolding IsStrictlySortedBy
+names_ascend [] h = tt
+names_ascend (e ∷ es) h = (names_above (string_bytes e.0) es h.0, names_ascend es h.1)
+
+-- so do the ids of all parameters
+pub ids_ascend : (kept : List Parameter) (es all : Entries) → es ≡ [] → ids_of kept ++ names_of (members_view es) ≡ names_of (members_view all)
+    → IsStrictlySortedBy (λ a b. slice_cmp nat_cmp (string_bytes a) (string_bytes b)) (map (λ e. e.0) all) → AscendById kept
+ids_ascend kept es all is ids ordered =
+    subst (λ (names : List (List ℕ)). IsStrictlySortedBy (slice_cmp nat_cmp) names) (sym (ids_all kept es (names_of (members_view all)) is ids)) (names_ascend all ordered)
+
+-- ---- an object of some
+
+pub some_members : (es : Entries) → ¬ (length es ≡ 0) → has_members (members_view es) ≡ true
+some_members [] h = absurd (h refl)
+some_members (e ∷ es) h = refl
+
+pub some_ranges : (read : ReadDomain) (parameters tree d : Data) (ms : Members) → need (codes "ranges") Ranges tree ≡ Ok d → object_at Ranges d ≡ Ok ms
+    → has_members ms ≡ true → ranges_in read parameters tree ≡ ranges_from read parameters ms
+some_ranges read parameters tree d ms needed are some = rw (needed, are, some) refl

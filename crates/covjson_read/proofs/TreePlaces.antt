@@ -1,0 +1,162 @@
+-- Each number below the count is that of some places, in the tree's order too.
+use Rattle.std.proofs.Common.{◌≡◌, ℕ, ◌+◌, ◌-◌, ◌*◌, ◌/◌, ◌%◌, ◌<◌, ◌≤◌, if◌then◌else◌, Bool, true, false, bytes_eq, List, [], ◌∷◌, Option, Some, refl, sym, ap, ◌∙◌, subst, mul-pos, arith}
+use Rattle.std.proofs.lemmas.Bool.{or_parts}
+use Rattle.std.proofs.lemmas.Nat.{le-div, div_below, div-add-mod', mod_below}
+use Rattle.std.proofs.lemmas.Slice.Eq.{bytes_eq-Decides}
+use Rattle.covjson_value.specs.declared.domains.Domain.{Domain}
+use Rattle.covjson_value.specs.Domains.{count_of}
+use Rattle.covjson_read.specs.declared.axes.Turned.{Turned}
+use Rattle.covjson_read.specs.declared.places.Places.{Places}
+use Rattle.covjson_read.specs.declared.places.RangeAxis.{RangeAxis}
+use Rattle.covjson_read.specs.declared.places.RangeAxis.TheVariants.{T, Z, Y, X, Composite}
+use Rattle.covjson_read.specs.Ranges.{range_key, length_of, is_named, AreInside, AreDistinct, row_major, tree_place, tree_number, AreRangeAxes}
+use Rattle.covjson_read.specs.RangeAnswers.{axis_by_name}
+use Rattle.covjson_read.proofs.PlaceNumbers.{product, product_whole, row_major_same}
+use Rattle.covjson_read.proofs.PlaceLemmas.{count_whole, all_some}
+
+-- ---- a place for one axis more
+
+-- axes of one key are one
+named_back : (name : RangeAxis) → axis_by_name (range_key name) ≡ Some name
+named_back T = refl
+named_back Z = refl
+named_back Y = refl
+named_back X = refl
+named_back Composite = refl
+
+same_name : (name other : RangeAxis) → bytes_eq (range_key name) (range_key other) ≡ true → name ≡ other
+same_name name other h =
+    let keys : range_key name ≡ range_key other = (bytes_eq-Decides (range_key name) (range_key other)).0 h in
+    let found : ◌≡◌ {A = Option RangeAxis} (Some name) (Some other) = sym (named_back name) ∙ ap axis_by_name keys ∙ named_back other in
+    cc (found)
+
+named_self : (name : RangeAxis) → bytes_eq (range_key name) (range_key name) ≡ true
+named_self name = (bytes_eq-Decides (range_key name) (range_key name)).1 refl
+
+-- the place on one axis, and others on the others
+abbrev with_place : RangeAxis → ℕ → (RangeAxis → ℕ) → RangeAxis → ℕ
+with_place name place on other = if bytes_eq (range_key name) (range_key other) then place else on other
+
+-- its own place
+with_own : (name : RangeAxis) (place : ℕ) (on : RangeAxis → ℕ) → with_place name place on name ≡ place
+with_own name place on = ap (λ b. if b then place else on name) (named_self name)
+
+below_either : (lengths : RangeAxis → ℕ) (name other : RangeAxis) (place there : ℕ) → place < lengths name → there < lengths other
+    → (b : Bool) → b ≡ bytes_eq (range_key name) (range_key other) → (if b then place else there) < lengths other
+below_either lengths name other place there here before true is = subst (λ n. place < lengths n) (same_name name other (sym is)) here
+below_either lengths name other place there here before false is = before
+
+-- an axis that isn't among some leaves their number
+with_other : (lengths on : RangeAxis → ℕ) (name : RangeAxis) (place : ℕ) (names : List RangeAxis) (number : ℕ) → is_named name names ≡ false
+    → row_major lengths (with_place name place on) names number ≡ row_major lengths on names number
+with_other lengths on name place [] number h = refl
+with_other lengths on name place (other ∷ names) number h =
+    let out = or_parts (bytes_eq (range_key name) (range_key other)) (is_named name names) h in
+    ap (λ b. row_major lengths (with_place name place on) names (number * lengths other + (if b then place else on other))) out.0
+    ∙ with_other lengths on name place names (number * lengths other + on other) out.1
+
+-- ---- places of a number
+
+-- the next place on the way to a number: the numbers of the axes after it stay as far from it
+next_place : (number length after wanted : ℕ) → 0 < after → number * (length * after) ≤ wanted → wanted < (number + 1) * (length * after)
+    → (place : ℕ) × (place < length) × ((number * length + place) * after ≤ wanted) × (wanted < (number * length + place + 1) * after)
+next_place number length after wanted some low high =
+    let reached = wanted / after in
+    let above : number * length ≤ reached = le-div (number * length) wanted after some (omega arith) in
+    let below : reached < (number + 1) * length = div_below wanted after ((number + 1) * length) some (omega arith) in
+    let split : reached * after + wanted % after ≡ wanted = div-add-mod' wanted after in
+    let rest : wanted % after < after = mod_below wanted after some in
+    let is : number * length + (reached - number * length) ≡ reached = omega arith in (
+      reached - number * length,
+      omega arith,
+      subst (λ (n : ℕ). n * after ≤ wanted) (sym is) (omega arith),
+      subst (λ (n : ℕ). wanted < (n + 1) * after) (sym is) (omega arith),
+    )
+
+some_product : (lengths : RangeAxis → ℕ) → ((name : RangeAxis) → 0 < lengths name) → (names : List RangeAxis) → 0 < product lengths names
+some_product lengths some [] = omega arith
+some_product lengths some (name ∷ names) = mul-pos (some name) (some_product lengths some names)
+
+-- places on the axes whose number, after one before, is the wanted
+record HasNumber (lengths : RangeAxis → ℕ) (names : List RangeAxis) (number wanted : ℕ) : Type 0 where
+  on : RangeAxis → ℕ
+  inside : (name : RangeAxis) → on name < lengths name
+  reached : row_major lengths on names number ≡ wanted
+
+has_number : (lengths : RangeAxis → ℕ) → ((name : RangeAxis) → 0 < lengths name) → (names : List RangeAxis) → AreDistinct names → (number wanted : ℕ)
+    → number * product lengths names ≤ wanted → wanted < (number + 1) * product lengths names → HasNumber lengths names number wanted
+has_number lengths some [] distinct number wanted low high = record { on = λ name. 0; inside = some; reached = omega arith }
+has_number lengths some (name ∷ names) distinct number wanted low high =
+    let step = next_place number (lengths name) (product lengths names) wanted (some_product lengths some names) low high in
+    let place = step.0 in
+    let rest = has_number lengths some names distinct.1 (number * lengths name + place) wanted step.2 step.3 in
+    record {
+      on = with_place name place rest.on;
+      inside = λ other. below_either lengths name other place (rest.on other) step.1 (rest.inside other) (bytes_eq (range_key name) (range_key other)) refl;
+      reached =
+          ap (λ p. row_major lengths (with_place name place rest.on) names (number * lengths name + p)) (with_own name place rest.on)
+          ∙ with_other lengths rest.on name place names (number * lengths name + place) distinct.0
+          ∙ rest.reached;
+    }
+
+-- ---- places of the domain
+
+-- a place counted from the end, or from the start
+abbrev from_end : Bool → ℕ → ℕ → ℕ
+from_end turned length place = if turned then length - 1 - place else place
+
+from_end_inside : (turned : Bool) (length place : ℕ) → place < length → from_end turned length place < length
+from_end_inside true length place h = omega arith
+from_end_inside false length place h = h
+
+from_end_twice : (turned : Bool) (length place : ℕ) → place < length → from_end turned length (from_end turned length place) ≡ place
+from_end_twice true length place h = omega arith
+from_end_twice false length place h = refl
+
+-- the places of the domain that are these in the tree
+abbrev domain_places : Domain → Turned → (RangeAxis → ℕ) → Places
+domain_places domain turned on = record {
+  t = from_end turned.t (length_of domain T) (on T);
+  z = from_end turned.z (length_of domain Z) (on Z);
+  y = from_end turned.y (length_of domain Y) (on Y);
+  x = from_end turned.x (length_of domain X) (on X);
+  tuple = on Composite;
+}
+
+domain_places_inside : (domain : Domain) (turned : Turned) (on : RangeAxis → ℕ) → ((name : RangeAxis) → on name < length_of domain name)
+    → AreInside domain (domain_places domain turned on)
+domain_places_inside domain turned on inside T = from_end_inside turned.t (length_of domain T) (on T) (inside T)
+domain_places_inside domain turned on inside Z = from_end_inside turned.z (length_of domain Z) (on Z) (inside Z)
+domain_places_inside domain turned on inside Y = from_end_inside turned.y (length_of domain Y) (on Y) (inside Y)
+domain_places_inside domain turned on inside X = from_end_inside turned.x (length_of domain X) (on X) (inside X)
+domain_places_inside domain turned on inside Composite = inside Composite
+
+in_tree : (domain : Domain) (turned : Turned) (on : RangeAxis → ℕ) → ((name : RangeAxis) → on name < length_of domain name) → (name : RangeAxis)
+    → tree_place domain turned (domain_places domain turned on) name ≡ on name
+in_tree domain turned on inside T = from_end_twice turned.t (length_of domain T) (on T) (inside T)
+in_tree domain turned on inside Z = from_end_twice turned.z (length_of domain Z) (on Z) (inside Z)
+in_tree domain turned on inside Y = from_end_twice turned.y (length_of domain Y) (on Y) (inside Y)
+in_tree domain turned on inside X = from_end_twice turned.x (length_of domain X) (on X) (inside X)
+in_tree domain turned on inside Composite = refl
+
+-- where there is any place each axis has a value
+some_each : (domain : Domain) (number : ℕ) → number < count_of domain → (name : RangeAxis) → 0 < length_of domain name
+some_each domain number inside T = (all_some domain number inside).0
+some_each domain number inside Z = (all_some domain number inside).1
+some_each domain number inside Y = (all_some domain number inside).2
+some_each domain number inside X = (all_some domain number inside).3
+some_each domain number inside Composite = (all_some domain number inside).4
+
+-- each number is that of some places in the tree's order
+pub has_tree_places : (domain : Domain) (turned : Turned) (names : List RangeAxis) (number : ℕ) → AreRangeAxes domain names → number < count_of domain
+    → (places : Places) × AreInside domain places × (tree_number domain turned names places ≡ number)
+has_tree_places domain turned names number axes inside =
+    let lengths = length_of domain in
+    let some = some_each domain number inside in
+    let product_is : product lengths names ≡ count_of domain = product_whole lengths names some axes.distinct axes.all_long ∙ sym (count_whole domain) in
+    let found = has_number lengths some names axes.distinct 0 number (omega arith) (omega (arith, product_is)) in (
+      domain_places domain turned found.on,
+      domain_places_inside domain turned found.on found.inside,
+      row_major_same lengths (tree_place domain turned (domain_places domain turned found.on)) found.on (in_tree domain turned found.on found.inside) names 0
+          ∙ found.reached,
+    )
