@@ -8,6 +8,7 @@ use Rattle.edr_axes.specs.Axes.{value_at, IsAscending, IsFirstFall}
 use Rattle.covjson_read.specs.declared.faults.Member.{Member}
 use Rattle.covjson_read.specs.declared.faults.CovFault.TheVariants.{NotMonotonic}
 use Rattle.covjson_read.specs.AxisAnswers.{has_some, ascends, in_direction}
+use Rattle.covjson_read.proofs.OrderTests.{below_tells, below_given}
 
 -- no values make an empty list of items
 pub has_some-empty : (vs : List Value) → length vs ≡ 0 → has_some (items_view vs) ≡ false
@@ -19,29 +20,21 @@ pub has_some-more : (vs : List Value) → ¬ (length vs ≡ 0) → has_some (ite
 has_some-more [] h = absurd (h refl)
 has_some-more (v ∷ vs) h = refl
 
--- a value that is tested to be below another is below it
-is_below : (a b : ℤ) → int_lt a b ≡ true → a <ℤ b
-is_below a b h = grind (arith, ints)
-
--- and a value below another passes the test
-below_passes : (a b : ℤ) → a <ℤ b → int_lt a b ≡ true
-below_passes a b h = grind (arith, ints)
-
 -- values that are tested to ascend do
-pub ascends_is : (values : List ℤ) → ascends values ≡ true → IsAscending values
-ascends_is [] h place inside = absurd (omega arith)
-ascends_is (v ∷ []) h place inside = absurd (omega arith)
-ascends_is (v ∷ (w ∷ ws)) h zero inside = is_below v w (and_parts (int_lt v w) (ascends (w ∷ ws)) h).0
-ascends_is (v ∷ (w ∷ ws)) h (suc place) inside =
-    let up : value_at (w ∷ ws) place <ℤ value_at (w ∷ ws) (suc place) = rw add-one at (ascends_is (w ∷ ws) (and_parts (int_lt v w) (ascends (w ∷ ws)) h).1 place (omega arith)) in
+pub ascends_tells : (values : List ℤ) → ascends values ≡ true → IsAscending values
+ascends_tells [] h place inside = absurd (omega arith)
+ascends_tells (v ∷ []) h place inside = absurd (omega arith)
+ascends_tells (v ∷ (w ∷ ws)) h zero inside = below_tells v w (and_parts (int_lt v w) (ascends (w ∷ ws)) h).0
+ascends_tells (v ∷ (w ∷ ws)) h (suc place) inside =
+    let up : value_at (w ∷ ws) place <ℤ value_at (w ∷ ws) (suc place) = rw add-one at (ascends_tells (w ∷ ws) (and_parts (int_lt v w) (ascends (w ∷ ws)) h).1 place (omega arith)) in
     rw add-one up
 
 -- and ascending values pass the test
-pub is_ascends : (values : List ℤ) → IsAscending values → ascends values ≡ true
-is_ascends [] h = refl
-is_ascends (v ∷ []) h = refl
-is_ascends (v ∷ (w ∷ ws)) h =
-    and_from (int_lt v w) (ascends (w ∷ ws)) (below_passes v w (h 0 (omega arith))) (is_ascends (w ∷ ws) (λ place inside.
+pub ascends_given : (values : List ℤ) → IsAscending values → ascends values ≡ true
+ascends_given [] h = refl
+ascends_given (v ∷ []) h = refl
+ascends_given (v ∷ (w ∷ ws)) h =
+    and_from (int_lt v w) (ascends (w ∷ ws)) (below_given v w (h 0 (omega arith))) (ascends_given (w ∷ ws) (λ place inside.
     let up : value_at (w ∷ ws) place <ℤ value_at (w ∷ ws) (suc place) = rw add-one at (h (suc place) (omega arith)) in
     rw add-one up))
 
@@ -56,18 +49,18 @@ no_fall values (suc place) h fall =
 -- values of which one is at most the one before don't ascend
 pub fall_not : (values : List ℤ) (place : ℕ) → IsFirstFall values place → ascends values ≡ false
 fall_not values place fall = elim (cases_Bool (ascends values)) [
-  | inl up ↦ absurd (no_fall values place (ascends_is values up) fall)
+  | inl up ↦ absurd (no_fall values place (ascends_tells values up) fall)
   | inr other ↦ other
 ]
 
 -- ascending values are read as they stand
 pub read_ahead : (m : Member) (values : List ℤ) → IsAscending values → in_direction m values ≡ Ok (record { axis = values; turned = false })
-read_ahead m values h = rw (is_ascends values h) refl
+read_ahead m values h = rw (ascends_given values h) refl
 
 -- descending values are read turned round
 pub read_turned : (m : Member) (values : List ℤ) → ascends values ≡ false → IsAscending (reverse values)
     → in_direction m values ≡ Ok (record { axis = reverse values; turned = true })
-read_turned m values falls h = rw (falls, is_ascends (reverse values) h) refl
+read_turned m values falls h = rw (falls, ascends_given (reverse values) h) refl
 
 -- and of values that neither ascend nor descend that is said
 pub read_neither : (m : Member) (values : List ℤ) (place : ℕ) → ascends values ≡ false → IsFirstFall (reverse values) place

@@ -1,7 +1,6 @@
 -- Axes as they stand and turned round: the answer is the ascending one of the two.
-use Rattle.std.specs.Prelude.{int_lt}
-use Rattle.std.proofs.Common.{◌≡◌, ◌+◌, ◌-◌, if◌then◌else◌, ℕ, zero, suc, ◌<◌, ◌<ℤ◌, ℤ, pos, List, [], ◌∷◌, length, reverse, All, Bool, true, false, Ok, Err, refl, ap, ◌∙◌, subst, arith}
-use Rattle.std.proofs.lemmas.Bool.{and_parts, and_from, false_from_ne_true}
+use Rattle.std.proofs.Common.{◌≡◌, ◌+◌, ◌-◌, if◌then◌else◌, ◌<◌, ◌<ℤ◌, ℤ, pos, List, [], ◌∷◌, length, reverse, All, Bool, true, false, Ok, Err, refl, ap, ◌∙◌, subst, arith}
+use Rattle.std.proofs.lemmas.Bool.{false_from_ne_true}
 use Rattle.std.proofs.lemmas.Int.{ints}
 use Rattle.std.proofs.lemmas.List.{get_or-reverse, length-reverse, reverse-reverse}
 use Rattle.std.proofs.lemmas.List.Elements.{All-get_or, All-from_get_or}
@@ -11,39 +10,7 @@ use Rattle.covjson_read.specs.declared.faults.Member.{Member}
 use Rattle.covjson_read.specs.declared.faults.CovFault.TheVariants.{NotMonotonic}
 use Rattle.covjson_read.specs.Axes.{turned_if}
 use Rattle.covjson_read.specs.AxisAnswers.{ascends, in_direction}
-
--- ---- the test of ascending values
-
--- a value above the other
-lt_tells : (a b : ℤ) → int_lt a b ≡ true → a <ℤ b
-lt_tells a b h = grind (arith, ints)
-
--- and such a value passes the test
-lt_given : (a b : ℤ) → a <ℤ b → int_lt a b ≡ true
-lt_given a b h = grind (arith, ints)
-
--- at each place
-rises_at : (values : List ℤ) → ascends values ≡ true → (place : ℕ) → place + 1 < length values → value_at values place <ℤ value_at values (place + 1)
-rises_at [] h place inside = absurd (omega arith)
-rises_at (a ∷ []) h place inside = absurd (omega arith)
-rises_at (a ∷ (b ∷ values)) h zero inside = lt_tells a b (and_parts (int_lt a b) (ascends (b ∷ values)) h).0
-rises_at (a ∷ (b ∷ values)) h (suc place) inside =
-    let next : suc place + 1 ≡ suc (place + 1) = omega arith in
-    rw next (rises_at (b ∷ values) (and_parts (int_lt a b) (ascends (b ∷ values)) h).1 place (omega arith))
-
--- values that pass it ascend
-pub ascends_tells : (values : List ℤ) → ascends values ≡ true → IsAscending values
-ascends_tells values h place inside = rises_at values h place inside
-
--- and ascending values pass it
-pub ascends_given : (values : List ℤ) → IsAscending values → ascends values ≡ true
-ascends_given [] h = refl
-ascends_given (a ∷ []) h = refl
-ascends_given (a ∷ (b ∷ values)) h =
-    and_from (int_lt a b) (ascends (b ∷ values)) (lt_given a b (h 0 (omega arith)))
-    (ascends_given (b ∷ values) (λ place inside.
-    let next : suc place + 1 ≡ suc (place + 1) = omega arith in
-    rw next at (h (suc place) (omega arith))))
+use Rattle.covjson_read.proofs.AscendLemmas.{ascends_tells, ascends_given}
 
 -- ---- turned round
 

@@ -1,9 +1,9 @@
 -- The laws of axes: an axis is the answer exactly where the tree stands for it.
 use Rattle.std.specs.Prelude.{is_some, ◌==◌}
-use Rattle.std.proofs.Common.{◌≡◌, ◌⊎◌, inl, inr, if◌then◌else◌, ◌<◌, ℤ, List, [], ◌∷◌, length, All, Bool, true, false, Option, Some, None, Ok, Err, refl, sym, ap, ◌∙◌, subst, arith, codes}
+use Rattle.std.proofs.Common.{◌≡◌, ◌⊎◌, inl, inr, if◌then◌else◌, ◌<◌, ℤ, List, [], ◌∷◌, length, All, Bool, false, Option, Some, None, Ok, refl, sym, ap, ◌∙◌, subst, arith, codes}
 use Rattle.std.proofs.lemmas.Bool.{eqb-true, false_from_ne_true}
 use Rattle.serde_json.specs.Data.{Data, array}
-use Rattle.serde_json.specs.Find.{get, as_object}
+use Rattle.serde_json.specs.Find.{get}
 use Rattle.edr_axes.specs.Axes.{value_at}
 use Rattle.covjson_value.specs.declared.domains.AxisName.{AxisName}
 use Rattle.covjson_value.specs.declared.domains.AxisName.TheVariants.{T, Z, Y, X}
@@ -11,14 +11,13 @@ use Rattle.covjson_value.specs.Coverages.{IsCoordinate, IsAxisValue}
 use Rattle.covjson_read.specs.declared.axes.ReadAxis.{ReadAxis}
 use Rattle.covjson_read.specs.declared.faults.Member.{Member}
 use Rattle.covjson_read.specs.declared.faults.Member.TheVariants.{Z as LevelAxis, Y as RowAxis, X as ColumnAxis}
-use Rattle.covjson_read.specs.declared.faults.CovFault.{CovFault}
 use Rattle.covjson_read.specs.declared.faults.CovFault.TheVariants.{WrongCount}
 use Rattle.covjson_read.specs.Answers.{Answer}
 use Rattle.covjson_read.specs.Members.{object_at}
 use Rattle.covjson_read.specs.Axes.{EachStands, StandsForAxisValue, ListsValues, SpansValues, HoldsValues, turned_if, StandsForAxis}
 use Rattle.covjson_read.specs.AxisAnswers.{coordinates, spanned, axis_numbers, axis_values, in_direction, member_of, axis_read, one_value, value_read}
-use Rattle.covjson_read.proofs.AnswerLemmas.{and_then_ok}
-use Rattle.covjson_read.proofs.AxisSteps.{and_then_given, or_fault_given, member_of_object}
+use Rattle.covjson_read.proofs.AnswerLemmas.{and_then_ok, passed}
+use Rattle.covjson_read.proofs.AnswersGiven.{and_then_given, object_given}
 use Rattle.covjson_read.proofs.AxisLists.{coordinates_stand, coordinates_given, axis_times_stand, axis_times_given}
 use Rattle.covjson_read.proofs.AxisSpans.{spanned_stand, spanned_given, start_there}
 use Rattle.covjson_read.proofs.AxisDirections.{direction_tells, direction_given, all_turned, length_turned, turned_back}
@@ -50,13 +49,13 @@ else_given (Some e) a b vs h k = cc
 -- and those that it lists or spans are the answer
 numbers_given : (m : Member) (axis : Data) (vs : List ℤ) → ListsValues X axis vs ⊎ SpansValues axis vs → All IsCoordinate vs → 0 < length vs → axis_numbers m axis ≡ Ok vs
 numbers_given m axis vs (inl lists) all some =
-    let held = member_of_object (codes "values") axis (array lists.items) lists.list in
-    and_then_given (object_at m axis) _ held.0 vs (or_fault_given (as_object axis) _ held.0 held.1)
+    let held = object_given m (codes "values") axis (array lists.items) lists.list in
+    and_then_given (object_at m axis) _ held.0 _ held.1
     (then_given (get (codes "values") axis) (array lists.items) (coordinates m axis) (spanned m axis) vs lists.list (coordinates_given m axis vs lists all some))
 numbers_given m axis vs (inr spans) all some =
     let start = start_there axis vs spans in
-    let held = member_of_object (codes "start") axis start.0 start.1 in
-    and_then_given (object_at m axis) _ held.0 vs (or_fault_given (as_object axis) _ held.0 held.1)
+    let held = object_given m (codes "start") axis start.0 start.1 in
+    and_then_given (object_at m axis) _ held.0 _ held.1
     (else_given (get (codes "values") axis) (coordinates m axis) (spanned m axis) vs spans.unlisted (spanned_given m axis vs spans all some))
 
 -- ---- the values of an axis of any name
@@ -109,11 +108,6 @@ axis_answers name axis turned values s =
 
 -- ---- axes of a single value
 
--- a value that stands under a test is there only where the test is passed
-taken : (b : Bool) (x v : ℤ) (f : CovFault) → (if b then Ok x else Err f) ≡ Ok v → (b ≡ true) × (x ≡ v)
-taken true x v f h = (refl, cc)
-taken false x v f h = cc
-
 -- one value, counted
 only_value : (values : List ℤ) → length values ≡ 1 → values ≡ value_at values 0 ∷ []
 only_value [] h = absurd (omega arith)
@@ -123,7 +117,7 @@ only_value (v ∷ (w ∷ values)) h = absurd (omega arith)
 -- a single value is all of its axis
 one_stands : (name : AxisName) (r : ReadAxis) (v : ℤ) → one_value name r ≡ Ok v → r.axis ≡ v ∷ []
 one_stands name r v h =
-    let t = taken (length r.axis == 1) (value_at r.axis 0) v (WrongCount (member_of name) 1 (length r.axis)) h in
+    let t = passed (length r.axis == 1) (value_at r.axis 0) v (WrongCount (member_of name) 1 (length r.axis)) h in
     only_value r.axis (eqb-true (length r.axis) 1 t.0) ∙ ap (λ (w : ℤ). w ∷ []) t.1
 
 -- which is not turned round
@@ -143,5 +137,5 @@ single_stands name axis v h =
 pub single_answers : (name : AxisName) (axis : Data) (turned : Bool) (v : ℤ) → StandsForAxis name axis turned (v ∷ []) → (turned ≡ false) × (value_read name axis ≡ Ok v)
 single_answers name axis turned v s = (
   one_as_it_stands name axis turned v s,
-  and_then_given (axis_read name axis) (one_value name) (record { axis = v ∷ []; turned = turned }) v (axis_answers name axis turned (v ∷ []) s) refl,
+  and_then_given (axis_read name axis) (one_value name) (record { axis = v ∷ []; turned = turned }) _ (axis_answers name axis turned (v ∷ []) s) refl,
 )

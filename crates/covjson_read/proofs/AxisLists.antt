@@ -2,7 +2,7 @@
 use Rattle.std.proofs.Common.{◌≡◌, ℕ, suc, ◌<◌, ℤ, List, [], ◌∷◌, length, All, true, Some, Ok, refl, sym, ap, ◌∙◌, arith, codes}
 use Rattle.std.proofs.lemmas.List.Elements.{All-nil, All-cons}
 use Rattle.serde_json.specs.Data.{Data, array, Items, no_items, item}
-use Rattle.serde_json.specs.Find.{get, as_array, as_number, as_object, as_str}
+use Rattle.serde_json.specs.Find.{get, as_number}
 use Rattle.edr_axes.specs.Instants.{IsTime}
 use Rattle.covjson_value.specs.declared.limits.TheConstants.{COORDINATE_LIMIT}
 use Rattle.covjson_value.specs.declared.domains.AxisName.TheVariants.{T, X}
@@ -16,9 +16,9 @@ use Rattle.covjson_read.specs.Instants.{instant_of}
 use Rattle.covjson_read.specs.Members.{part, list_at, text_at, object_at, need_each, whole_of, whole_within, all_wanted, is_wanted}
 use Rattle.covjson_read.specs.Axes.{EachStands, StandsForWhole, StandsForTime, ListsValues}
 use Rattle.covjson_read.specs.AxisAnswers.{has_some, value_items, coordinates, time_at, times_from, axis_times}
-use Rattle.covjson_read.proofs.AnswerLemmas.{and_then_ok, or_fault_ok, check_ok, as_array_some, as_str_some, each_stands, each_all, whole_within_stands}
+use Rattle.covjson_read.proofs.AnswerLemmas.{and_then_ok, or_fault_ok, check_ok, list_ok, text_ok, each_stands, each_all, whole_within_stands}
 use Rattle.covjson_read.proofs.InstantLemmas.{instants_read}
-use Rattle.covjson_read.proofs.AxisSteps.{and_then_given, or_fault_given, check_given, member_of_object, whole_within_given, whole_is_number, each_given, all_wanted_given, some_is}
+use Rattle.covjson_read.proofs.AnswersGiven.{and_then_given, or_fault_given, check_given, object_given, whole_within_given, whole_is_number, each_given, all_wanted_given, some_is, first_given}
 
 -- ---- the items
 
@@ -29,24 +29,23 @@ value_items_stand m axis ds h =
     let l = and_then_ok (list_at m b.0) _ ds b.2 in
     let s = and_then_ok (check (has_some l.0) _) _ ds l.2 in
     let e : l.0 ≡ ds = cc (s.2) in
-    let is_list = as_array_some b.0 l.0 (or_fault_ok (as_array b.0) _ l.0 l.1) in
     let some = check_ok (has_some l.0) _ s.0 s.1 in
-    (or_fault_ok (get (codes "values") axis) _ b.0 b.1 ∙ ap Some (is_list ∙ ap array e), ap has_some (sym e) ∙ some)
+    (or_fault_ok (get (codes "values") axis) _ b.0 b.1 ∙ ap Some (list_ok m b.0 l.0 l.1 ∙ ap array e), ap has_some (sym e) ∙ some)
 
 -- and those of the member `values` are found, where there are some
 pub value_items_given : (m : Member) (axis : Data) (ds : Items) → get (codes "values") axis ≡ Some (array ds) → has_some ds ≡ true → value_items m axis ≡ Ok ds
 value_items_given m axis ds h some =
-    and_then_given (part (codes "values") m axis) _ (array ds) ds (or_fault_given (get (codes "values") axis) _ (array ds) h)
-    (and_then_given (check (has_some ds) _) _ tt ds (check_given (has_some ds) _ some) refl)
+    and_then_given (part (codes "values") m axis) _ (array ds) _ (or_fault_given (get (codes "values") axis) _ (array ds) h)
+    (and_then_given (check (has_some ds) _) _ tt _ (check_given (has_some ds) _ some) refl)
 
 -- items that stand for some values are some
-some_stand : {V : Type 0} (R : Data → V → Type 0) (ds : Items) (vs : List V) → EachStands R ds vs → 0 < length vs → has_some ds ≡ true
+pub some_stand : {V : Type 0} (R : Data → V → Type 0) (ds : Items) (vs : List V) → EachStands R ds vs → 0 < length vs → has_some ds ≡ true
 some_stand R no_items [] stand some = absurd (omega arith)
 some_stand R no_items (v ∷ vs) stand some = absurd stand
 some_stand R (item d ds) vs stand some = refl
 
 -- and some items stand for some values
-stand_some : {V : Type 0} (R : Data → V → Type 0) (ds : Items) (vs : List V) → EachStands R ds vs → has_some ds ≡ true → 0 < length vs
+pub stand_some : {V : Type 0} (R : Data → V → Type 0) (ds : Items) (vs : List V) → EachStands R ds vs → has_some ds ≡ true → 0 < length vs
 stand_some R no_items vs stand some = cc
 stand_some R (item d ds) [] stand some = absurd stand
 stand_some R (item d ds) (v ∷ vs) stand some = omega arith
@@ -72,7 +71,7 @@ whole_wanted : (d : Data) (v : ℤ) → StandsForWhole d v → is_wanted Wholes 
 whole_wanted d v h = some_is (whole_of d) v h
 
 -- and is a number
-number_wanted : (d : Data) (v : ℤ) → StandsForWhole d v → is_wanted Numbers d ≡ true
+pub number_wanted : (d : Data) (v : ℤ) → StandsForWhole d v → is_wanted Numbers d ≡ true
 number_wanted d v h = let n = whole_is_number d v h in some_is (as_number d) n.0 n.1
 
 -- and listed numbers within their limit are the answer
@@ -80,22 +79,22 @@ pub coordinates_given : (m : Member) (axis : Data) (vs : List ℤ) → ListsValu
 coordinates_given m axis vs lists within some =
     let ds = lists.items in
     let stand : EachStands StandsForWhole ds vs = lists.values_stand in
-    and_then_given (value_items m axis) _ ds vs (value_items_given m axis ds lists.list (some_stand StandsForWhole ds vs stand some))
-    (and_then_given (need_each Numbers (WrongType m) ds) _ tt vs (check_given (all_wanted Numbers ds) _ (all_wanted_given Numbers StandsForWhole number_wanted ds vs stand))
-    (and_then_given (need_each Wholes (NotWhole m) ds) _ tt vs (check_given (all_wanted Wholes ds) _ (all_wanted_given Wholes StandsForWhole whole_wanted ds vs stand))
+    and_then_given (value_items m axis) _ ds _ (value_items_given m axis ds lists.list (some_stand StandsForWhole ds vs stand some))
+    (and_then_given (need_each Numbers (WrongType m) ds) _ tt _ (check_given (all_wanted Numbers ds) _ (all_wanted_given Numbers StandsForWhole number_wanted ds vs stand))
+    (and_then_given (need_each Wholes (NotWhole m) ds) _ tt _ (check_given (all_wanted Wholes ds) _ (all_wanted_given Wholes StandsForWhole whole_wanted ds vs stand))
     (each_given (whole_within m COORDINATE_LIMIT) StandsForWhole IsCoordinate (whole_within_given m COORDINATE_LIMIT) ds vs stand within)))
 
 -- ---- times
 
 -- a text gives a time exactly where it is an instant
-time_stands : (m : Member) (place : ℕ) (d : Data) (t : ℤ) → time_at m place d ≡ Ok t → StandsForTime d t
+pub time_stands : (m : Member) (place : ℕ) (d : Data) (t : ℤ) → time_at m place d ≡ Ok t → StandsForTime d t
 time_stands m place d t h =
     let a = and_then_ok (text_at m d) _ t h in
-    let is_text = as_str_some d a.0 (or_fault_ok (as_str d) _ a.0 a.1) in
+    let is_text = text_ok m d a.0 a.1 in
     (a.0, is_text, (instants_read a.0 t).0 (or_fault_ok (instant_of a.0) _ t a.2))
 
 -- and an instant is taken
-time_given : (m : Member) (place : ℕ) (d : Data) (t : ℤ) → StandsForTime d t → time_at m place d ≡ Ok t
+pub time_given : (m : Member) (place : ℕ) (d : Data) (t : ℤ) → StandsForTime d t → time_at m place d ≡ Ok t
 time_given m place d t h =
     rw h.1 (or_fault_given (instant_of h.0) (BadTime place) t ((instants_read h.0 t).1 h.2))
 
@@ -115,8 +114,7 @@ times_given place no_items [] stand = refl
 times_given place no_items (t ∷ ts) stand = absurd stand
 times_given place (item d ds) [] stand = absurd stand
 times_given place (item d ds) (t ∷ ts) stand =
-    and_then_given (time_at TimeAxis place d) _ t (t ∷ ts) (time_given TimeAxis place d t stand.0)
-    (and_then_given (times_from (suc place) ds) _ ts (t ∷ ts) (times_given (suc place) ds ts stand.1) refl)
+    first_given (time_at TimeAxis place d) (times_from (suc place) ds) t ts (time_given TimeAxis place d t stand.0) (times_given (suc place) ds ts stand.1)
 
 -- each lies in the years of times
 times_within : (ds : Items) (ts : List ℤ) → EachStands StandsForTime ds ts → All IsTime ts
@@ -144,8 +142,8 @@ pub axis_times_given : (axis : Data) (ts : List ℤ) → ListsValues T axis ts �
 axis_times_given axis ts lists some =
     let ds = lists.items in
     let stand : EachStands StandsForTime ds ts = lists.values_stand in
-    let held = member_of_object (codes "values") axis (array ds) lists.list in
-    and_then_given (object_at TimeAxis axis) _ held.0 ts (or_fault_given (as_object axis) _ held.0 held.1)
-    (and_then_given (value_items TimeAxis axis) _ ds ts (value_items_given TimeAxis axis ds lists.list (some_stand StandsForTime ds ts stand some))
-    (and_then_given (need_each Texts (WrongType TimeAxis) ds) _ tt ts (check_given (all_wanted Texts ds) _ (all_wanted_given Texts StandsForTime text_wanted ds ts stand))
+    let held = object_given TimeAxis (codes "values") axis (array ds) lists.list in
+    and_then_given (object_at TimeAxis axis) _ held.0 _ held.1
+    (and_then_given (value_items TimeAxis axis) _ ds _ (value_items_given TimeAxis axis ds lists.list (some_stand StandsForTime ds ts stand some))
+    (and_then_given (need_each Texts (WrongType TimeAxis) ds) _ tt _ (check_given (all_wanted Texts ds) _ (all_wanted_given Texts StandsForTime text_wanted ds ts stand))
     (times_given 0 ds ts stand)))

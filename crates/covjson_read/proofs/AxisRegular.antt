@@ -1,17 +1,18 @@
 -- Values in equal steps: those that are computed are the regular ones.
 use Rattle.std.specs.Prelude.{int_div}
-use Rattle.std.proofs.Common.{◌≡◌, ◌+ℤ◌, ◌*ℤ◌, ◌-ℤ◌, ◌*◌, ◌+◌, ◌-◌, inl, inr, ℕ, zero, suc, ◌<◌, ◌≤◌, ℤ, pos, negsuc, neg_ℤ, List, length, All, true, refl, sym, ap, ◌∙◌, subst, arith}
+use Rattle.std.proofs.Common.{◌≡◌, ◌+ℤ◌, ◌*ℤ◌, ◌-ℤ◌, ◌*◌, ◌+◌, ◌-◌, inl, inr, ℕ, zero, suc, ◌<◌, ℤ, pos, negsuc, neg_ℤ, List, length, All, true, refl, sym, ap, ◌∙◌, subst, arith}
 use Rattle.std.proofs.lemmas.Bool.{cases_lt}
 use Rattle.std.proofs.lemmas.Int.{ints}
 use Rattle.std.proofs.lemmas.List.{ext_get_or}
 use Rattle.std.proofs.lemmas.List.Elements.{All-from_get_or}
 use Rattle.std.proofs.Math.IntN.{*ℤ_comm}
-use Rattle.std.proofs.Math.Nat.{mul-le-mul_left, eq_of_mul-eq-mul_right}
+use Rattle.std.proofs.Math.Nat.{eq_of_mul-eq-mul_right}
 use borrow.Author.Differences.{up, down, same_in}
 use Rattle.edr_axes.specs.Axes.{value_at}
 use Rattle.covjson_value.specs.Coverages.{IsCoordinate}
 use Rattle.covjson_read.specs.Axes.{IsRegular}
 use Rattle.covjson_read.specs.AxisAnswers.{has_whole_steps, stepped, regular}
+use Rattle.covjson_read.proofs.SpanLemmas.{within_ends}
 use Rattle.covjson_read.proofs.AxisWholeSteps.{reached, steps_given}
 
 -- ---- values in steps
@@ -34,6 +35,7 @@ neg_mul : (m n : ℕ) → neg_ℤ (pos m) *ℤ pos n ≡ neg_ℤ (pos (m * n))
 neg_mul zero n = omega (arith, ints)
 neg_mul (suc m) n = omega (arith, ints)
 
+-- and the other way round
 mul_neg : (a m : ℕ) → pos a *ℤ neg_ℤ (pos m) ≡ neg_ℤ (pos (a * m))
 mul_neg a zero = omega (arith, ints)
 mul_neg a (suc m) = omega (arith, ints)
@@ -61,12 +63,7 @@ regular_stands first last count some even =
           ap (λ (v : ℤ). v *ℤ pos (count - 1)) here ∙ product_assoc place step (count - 1) ∙ ap (λ (v : ℤ). pos place *ℤ v) far;
     }
 
--- a value in steps from one coordinate to another is a coordinate
-within_ends : (first step : ℤ) (place most : ℕ) → place ≤ most → IsCoordinate first → IsCoordinate (first +ℤ step *ℤ pos most) → IsCoordinate (first +ℤ pos place *ℤ step)
-within_ends first (pos s) place most h a b = grind (arith, ints, mul-le-mul_left s h)
-within_ends first (negsuc s) place most h a b = grind (arith, ints, mul-le-mul_left s h)
-
--- and so each of them is
+-- and each of them is a coordinate
 pub regular_within : (first last : ℤ) (count : ℕ) → 0 < count → has_whole_steps first last (pos count) ≡ true → IsCoordinate first → IsCoordinate last
     → All IsCoordinate (regular first last count)
 regular_within first last count some even a b =

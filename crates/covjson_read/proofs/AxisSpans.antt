@@ -1,7 +1,7 @@
 -- Axes by their first value, their last, and how many there are: the answer is the regular list exactly where the tree spans it.
 use Rattle.std.specs.Prelude.{int_le, option_and_then}
 use Rattle.std.proofs.Common.{◌≡◌, ◌-◌, unsigned_abs, ℕ, ◌<◌, ◌≤◌, ℤ, pos, negsuc, List, length, All, true, Option, Some, None, Ok, codes, refl, ap, subst, arith}
-use Rattle.std.proofs.lemmas.Bool.{and_parts, and_from, leb-true, le-leb}
+use Rattle.std.proofs.lemmas.Bool.{and_from, le-leb}
 use Rattle.std.proofs.lemmas.Int.{ints}
 use Rattle.std.proofs.lemmas.List.Elements.{All-get_or}
 use Rattle.serde_json.specs.Data.{Data, Num}
@@ -15,7 +15,8 @@ use Rattle.covjson_read.specs.Members.{part, held_whole, whole_of, is_within}
 use Rattle.covjson_read.specs.Axes.{HasWhole, IsRegular, SpansValues}
 use Rattle.covjson_read.specs.AxisAnswers.{number_in, has_whole_steps, regular, is_span_within, spanned}
 use Rattle.covjson_read.proofs.AnswerLemmas.{and_then_ok, or_fault_ok, check_ok}
-use Rattle.covjson_read.proofs.AxisSteps.{and_then_given, or_fault_given, check_given, whole_is_number}
+use Rattle.covjson_read.proofs.AnswersGiven.{and_then_given, or_fault_given, check_given, whole_is_number}
+use Rattle.covjson_read.proofs.SpanLemmas.{span_tells}
 use Rattle.covjson_read.proofs.AxisRegular.{regular_stands, regular_within, regular_is}
 
 -- ---- the members of a span
@@ -39,7 +40,7 @@ whole_given m key axis v h =
     let a = found_whole (get key axis) v h in
     let n = whole_is_number a.0 v a.2 in (
       n.0,
-      and_then_given (part key m axis) _ a.0 n.0 (or_fault_given (get key axis) _ a.0 a.1) (or_fault_given (as_number a.0) _ n.0 n.1),
+      and_then_given (part key m axis) _ a.0 _ (or_fault_given (get key axis) _ a.0 a.1) (or_fault_given (as_number a.0) _ n.0 n.1),
       or_fault_given (as_integer n.0) (NotWhole m) v n.2,
     )
 
@@ -48,10 +49,8 @@ whole_given m key axis v h =
 -- the bounds of a span
 span_within : (first last : ℤ) (count : ℕ) → is_span_within first last (pos count) ≡ true → IsCoordinate first × IsCoordinate last × (0 < count) × (count ≤ 4_000_000)
 span_within first last count h =
-    let c = and_parts _ (int_le (pos count) (pos 4_000_000)) h in
-    let b = and_parts _ (int_le (pos 1) (pos count)) c.0 in
-    let a = and_parts (is_within COORDINATE_LIMIT first) (is_within COORDINATE_LIMIT last) b.0 in
-    (leb-true (unsigned_abs first) COORDINATE_LIMIT a.0, leb-true (unsigned_abs last) COORDINATE_LIMIT a.1, leb-true 1 count b.1, leb-true count 4_000_000 c.1)
+    let bounds = span_tells first last (pos count) h in
+    (bounds.first_in, bounds.last_in, omega (arith, ints, bounds.some), omega (arith, ints, bounds.few))
 
 -- and bounds within their limits pass
 within_span : (first last : ℤ) (count : ℕ) → IsCoordinate first → IsCoordinate last → 0 < count → count ≤ 4_000_000 → is_span_within first last (pos count) ≡ true
@@ -126,14 +125,14 @@ spanned_given m axis vs s all some =
     let start = whole_given m (codes "start") axis s.first s.start in
     let stop = whole_given m (codes "stop") axis s.last s.stop in
     let num = whole_given m (codes "num") axis (pos s.count) s.num in
-    and_then_given (number_in (codes "start") m axis) _ start.0 vs start.1
-    (and_then_given (number_in (codes "stop") m axis) _ stop.0 vs stop.1
-    (and_then_given (number_in (codes "num") m axis) _ num.0 vs num.1
-    (and_then_given (held_whole m start.0) _ s.first vs start.2
-    (and_then_given (held_whole m stop.0) _ s.last vs stop.2
-    (and_then_given (held_whole m num.0) _ (pos s.count) vs num.2
-    (and_then_given (check (has_whole_steps s.first s.last (pos s.count)) (NotWhole m)) _ tt vs (check_given (has_whole_steps s.first s.last (pos s.count)) _ made.0)
-    (and_then_given (check (is_span_within s.first s.last (pos s.count)) (OutOfRange m)) _ tt vs
+    and_then_given (number_in (codes "start") m axis) _ start.0 _ start.1
+    (and_then_given (number_in (codes "stop") m axis) _ stop.0 _ stop.1
+    (and_then_given (number_in (codes "num") m axis) _ num.0 _ num.1
+    (and_then_given (held_whole m start.0) _ s.first _ start.2
+    (and_then_given (held_whole m stop.0) _ s.last _ stop.2
+    (and_then_given (held_whole m num.0) _ (pos s.count) _ num.2
+    (and_then_given (check (has_whole_steps s.first s.last (pos s.count)) (NotWhole m)) _ tt _ (check_given (has_whole_steps s.first s.last (pos s.count)) _ made.0)
+    (and_then_given (check (is_span_within s.first s.last (pos s.count)) (OutOfRange m)) _ tt _
     (check_given (is_span_within s.first s.last (pos s.count)) _ (within_span s.first s.last s.count first_in last_in positive s.few))
     (ap Ok made.1))))))))
 

@@ -1,44 +1,29 @@
 -- The test whether values lie in equal whole steps from the first to the last.
-use Rattle.std.specs.Prelude.{int_lt, int_le, int_div, int_rem, ◌==◌}
-use Rattle.std.proofs.Common.{◌≡◌, ◌+ℤ◌, ◌*ℤ◌, ◌-ℤ◌, ◌*◌, ◌+◌, ◌-◌, unsigned_abs, ℕ, zero, suc, ◌<◌, ℤ, pos, negsuc, true, false, sym, ap, ◌∙◌, arith}
-use Rattle.std.proofs.lemmas.Bool.{le-ltb, lt-leb, eqb-true, eq-eqb}
+use Rattle.std.specs.Prelude.{int_div, int_rem, ◌==◌}
+use Rattle.std.proofs.Common.{◌≡◌, ◌+ℤ◌, ◌*ℤ◌, ◌-ℤ◌, ◌*◌, ◌+◌, ◌-◌, unsigned_abs, ℕ, zero, suc, ◌<◌, ℤ, pos, true, ap, ◌∙◌, subst, arith}
+use Rattle.std.proofs.lemmas.Bool.{le-ltb, lt-leb, eq-eqb}
 use Rattle.std.proofs.lemmas.Int.{ints, quot-rem, rem_below, unsigned_abs-mul}
 use borrow.Author.Differences.{up, down}
 use Rattle.covjson_read.specs.AxisAnswers.{has_whole_steps}
-
--- a number of the size 0
-none_abs : (z : ℤ) → unsigned_abs z ≡ 0 → z ≡ pos 0
-none_abs (pos n) h = ap pos h
-none_abs (negsuc n) h = absurd (omega arith)
-
--- two numbers at no distance
-none_between : (first last : ℤ) → unsigned_abs (last -ℤ first) ≡ 0 → last ≡ first
-none_between first last h = let none = none_abs (last -ℤ first) h in omega (arith, ints)
+use Rattle.covjson_read.proofs.SpanLemmas.{one_less, several_steps, one_is, whole_quotient}
 
 -- what is tested of several values
 several_tested : (first last : ℤ) (count : ℕ) → 1 < count → has_whole_steps first last (pos count) ≡ (unsigned_abs (int_rem (last -ℤ first) (pos (count - 1))) == 0)
 several_tested first last count several =
-    let some : int_lt (pos count) (pos 1) ≡ false = le-ltb count 1 (omega arith) in
-    let more : int_le (pos count) (pos 1) ≡ false = lt-leb count 1 several in
-    rw (some, more)
+    several_steps first last (pos count) (le-ltb count 1 (omega arith)) (lt-leb count 1 several)
+    ∙ ap (λ (d : ℤ). unsigned_abs (int_rem (last -ℤ first) d) == 0) (one_less count (omega arith))
 
--- whole steps reach the last value
-several_reached : (first last : ℤ) (count : ℕ) → 1 < count → has_whole_steps first last (pos count) ≡ true
-    → int_div (last -ℤ first) (pos (count - 1)) *ℤ pos (count - 1) ≡ last -ℤ first
-several_reached first last count several h =
-    let rest = int_rem (last -ℤ first) (pos (count - 1)) in
-    let none : rest ≡ pos 0 = none_abs rest (eqb-true (unsigned_abs rest) 0 (sym (several_tested first last count several) ∙ h)) in
-    let whole = quot-rem (last -ℤ first) (pos (count - 1)) in
-    omega (arith, ints)
-
--- and so does the one value of a single one
+-- whole steps reach the last value, and so does the one value of a single one
 pub reached : (first last : ℤ) (count : ℕ) → 0 < count → has_whole_steps first last (pos count) ≡ true
     → int_div (last -ℤ first) (pos (count - 1)) *ℤ pos (count - 1) ≡ last -ℤ first
 reached first last zero some h = absurd (omega arith)
 reached first last (suc zero) some h =
-    let same = none_between first last (eqb-true (unsigned_abs (last -ℤ first)) 0 h) in
+    let same = one_is first last h in
     omega (arith, ints)
-reached first last (suc (suc more)) some h = several_reached first last (suc (suc more)) (omega arith) h
+reached first last (suc (suc more)) some h =
+    let count = suc (suc more) in
+    let whole = whole_quotient first last (pos count) (le-ltb count 1 (omega arith)) (lt-leb count 1 (omega arith)) h in
+    subst (λ (d : ℤ). int_div (last -ℤ first) d *ℤ d ≡ last -ℤ first) (one_less count some) whole
 
 -- a multiple below what it is a multiple of is none
 no_times : (k n rest : ℕ) → rest ≡ k * n → rest < n → rest ≡ 0

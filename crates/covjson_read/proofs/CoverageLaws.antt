@@ -1,17 +1,16 @@
 -- The answer to a tree is a coverage exactly where the tree stands for that coverage.
-use Rattle.std.proofs.Common.{◌≡◌, ℕ, List, ◌∷◌, Option, Some, None, Ok, option_and_then, bytes_eq, codes, refl, sym, ap, ◌∙◌, subst}
+use Rattle.std.proofs.Common.{◌≡◌, Some, Ok, option_and_then, bytes_eq, codes, refl, sym, ap, ◌∙◌, subst}
 use Rattle.std.proofs.lemmas.Slice.Eq.{bytes_eq-Decides}
-use Rattle.serde_json.specs.Data.{Data, null, boolean, number, string, array, object, Members}
+use Rattle.serde_json.specs.Data.{Data, string, object}
 use Rattle.serde_json.specs.Find.{get, as_str}
 use Rattle.covjson_value.specs.declared.domains.AxisName.TheVariants.{Z}
 use Rattle.covjson_value.specs.declared.coverages.Coverage.{Coverage}
 use Rattle.covjson_value.specs.Domains.{has_coordinate}
 use Rattle.covjson_read.specs.declared.domains.ReadDomain.{ReadDomain}
 use Rattle.covjson_read.specs.declared.ranges.ReadRanges.{ReadRanges}
-use Rattle.covjson_read.specs.declared.faults.Member.{Member}
 use Rattle.covjson_read.specs.declared.faults.Member.TheVariants.{Kind, Coverages, Domain as DomainMember}
 use Rattle.covjson_read.specs.declared.faults.CovFault.TheVariants.{Missing, WrongType}
-use Rattle.covjson_read.specs.Answers.{or_fault, check}
+use Rattle.covjson_read.specs.Answers.{check}
 use Rattle.covjson_read.specs.Members.{need, object_at, text_or_empty, lent}
 use Rattle.covjson_read.specs.DomainAnswers.{domain_of}
 use Rattle.covjson_read.specs.Systems.{referencing_of}
@@ -19,33 +18,16 @@ use Rattle.covjson_read.specs.Parameters.{parameters_of}
 use Rattle.covjson_read.specs.RangeAnswers.{ranges_in}
 use Rattle.covjson_read.specs.Standing.{StandsIn}
 use Rattle.covjson_read.specs.CoverageAnswers.{is_coverage, domain_at, type_of, coverage_in, AnswersAreWhatStands, TreesStandForOne}
-use Rattle.covjson_read.proofs.AnswerLemmas.{and_then_ok, or_fault_ok, check_ok}
+use Rattle.covjson_read.proofs.AnswerLemmas.{and_then_ok, or_fault_ok, check_ok, text_is}
 use Rattle.covjson_read.proofs.SystemLaws.{systems_stand, systems_answer}
-use Rattle.covjson_read.proofs.ParameterLaws.{and_then_is, parameters_stand, parameters_answer}
+use Rattle.covjson_read.proofs.AnswersGiven.{and_then_given, object_given, or_fault_given}
+use Rattle.covjson_read.proofs.ParameterLaws.{parameters_stand, parameters_answer}
 use Rattle.covjson_read.proofs.DomainLaws.{domain_stands, domain_answers}
 use Rattle.covjson_read.proofs.CoverageRanges.{ranges_stand, ranges_answer}
 
 -- ---- the object, its type and its domain
 
--- a text that isn't empty is that of a member
-text_is : (o : Option Data) (b : ℕ) (bs : List ℕ) → text_or_empty o ≡ b ∷ bs → o ≡ Some (string (b ∷ bs))
-text_is None b bs h = cc
-text_is (Some null) b bs h = cc
-text_is (Some (boolean x)) b bs h = cc
-text_is (Some (number n)) b bs h = cc
-text_is (Some (string s)) b bs h = cc
-text_is (Some (array ds)) b bs h = cc
-text_is (Some (object ms)) b bs h = cc
-
--- what has a member is an object
-is_object : (m : Member) (key : List ℕ) (d found : Data) → get key d ≡ Some found → (members : Members) × (object_at m d ≡ Ok members)
-is_object m key null found h = cc
-is_object m key (boolean b) found h = cc
-is_object m key (number n) found h = cc
-is_object m key (string s) found h = cc
-is_object m key (array ds) found h = cc
-is_object m key (object members) found h = (members, refl)
-
+-- the type that was checked
 kind_stands : (tree found : Data) → is_coverage tree ≡ Ok found → get (codes "type") tree ≡ Some (string (codes "Coverage"))
 kind_stands tree found h =
     let members = and_then_ok (object_at Coverages tree) _ found h in
@@ -55,12 +37,14 @@ kind_stands tree found h =
     let same = (bytes_eq-Decides (text_or_empty (Some kind.0)) (codes "Coverage")).0 (check_ok test _ _ checked.1) in
     or_fault_ok (get (codes "type") tree) _ kind.0 kind.1 ∙ text_is (Some kind.0) _ _ same
 
+-- and the type that passes the check
 kind_answers : (tree : Data) → get (codes "type") tree ≡ Some (string (codes "Coverage")) → is_coverage tree ≡ Ok tree
 kind_answers tree h =
-    let members = is_object Coverages (codes "type") tree (string (codes "Coverage")) h in
-    and_then_is (object_at Coverages tree) _ members.0 _ members.1
-    (and_then_is (need (codes "type") Kind tree) _ (string (codes "Coverage")) _ (ap (λ o. or_fault o (Missing Kind)) h) refl)
+    let members = object_given Coverages (codes "type") tree (string (codes "Coverage")) h in
+    and_then_given (object_at Coverages tree) _ members.0 _ members.1
+    (and_then_given (need (codes "type") Kind tree) _ (string (codes "Coverage")) _ (or_fault_given _ (Missing Kind) _ h) refl)
 
+-- the domain that was found
 place_stands : (tree domain : Data) → domain_at tree ≡ Ok domain → get (codes "domain") tree ≡ Some domain
 place_stands tree domain h =
     let d = and_then_ok (need (codes "domain") DomainMember tree) _ domain h in
@@ -68,14 +52,16 @@ place_stands tree domain h =
     let same : d.0 ≡ domain = let e = members.2 in cc in
     or_fault_ok (get (codes "domain") tree) _ d.0 d.1 ∙ ap Some same
 
+-- and the domain that is found
 place_answers : (tree domain axes : Data) → get (codes "domain") tree ≡ Some domain → get (codes "axes") domain ≡ Some axes → domain_at tree ≡ Ok domain
 place_answers tree domain axes h inside =
-    let members = is_object DomainMember (codes "axes") domain axes inside in
-    and_then_is (need (codes "domain") DomainMember tree) _ domain _ (ap (λ o. or_fault o (Missing DomainMember)) h)
-    (and_then_is (object_at DomainMember domain) _ members.0 _ members.1 refl)
+    let members = object_given DomainMember (codes "axes") domain axes inside in
+    and_then_given (need (codes "domain") DomainMember tree) _ domain _ (or_fault_given _ (Missing DomainMember) _ h)
+    (and_then_given (object_at DomainMember domain) _ members.0 _ members.1 refl)
 
 -- ---- the coverage
 
+-- the tree stands for the coverage that is the answer
 pub coverage_stands : (collection tree : Data) (coverage : Coverage) → coverage_in collection tree ≡ Ok coverage
     → StandsIn collection tree coverage
 coverage_stands collection tree coverage h =
@@ -112,6 +98,7 @@ coverage_stands collection tree coverage h =
       ranges_stand = stand.2;
     })
 
+-- and the coverage for which it stands is the answer
 pub coverage_answers : (collection tree : Data) (coverage : Coverage) → StandsIn collection tree coverage
     → coverage_in collection tree ≡ Ok coverage
 coverage_answers collection tree coverage s =
@@ -120,16 +107,17 @@ coverage_answers collection tree coverage s =
     let systems = lent (codes "referencing") s.domain collection in
     let has_z = has_coordinate coverage.domain Z in
     let id = s.id in
-    and_then_is (is_coverage tree) _ tree _ (kind_answers tree s.kind)
-    (and_then_is (domain_at tree) _ s.domain _ (place_answers tree s.domain (object s.domain_stands.members) s.domain_at s.domain_stands.axes)
-    (and_then_is (domain_of (type_of s.domain tree collection) s.domain) _ read _
+    and_then_given (is_coverage tree) _ tree _ (kind_answers tree s.kind)
+    (and_then_given (domain_at tree) _ s.domain _ (place_answers tree s.domain (object s.domain_stands.members) s.domain_at s.domain_stands.axes)
+    (and_then_given (domain_of (type_of s.domain tree collection) s.domain) _ read _
     (domain_answers (type_of s.domain tree collection) s.domain s.turned coverage.domain s.domain_stands)
-    (and_then_is (referencing_of has_z systems) _ coverage.referencing _ (systems_answer has_z systems coverage.referencing s.referencing_stands)
-    (and_then_is (parameters_of (lent (codes "parameters") tree collection)) _ s.parameters _
+    (and_then_given (referencing_of has_z systems) _ coverage.referencing _ (systems_answer has_z systems coverage.referencing s.referencing_stands)
+    (and_then_given (parameters_of (lent (codes "parameters") tree collection)) _ s.parameters _
     (ap parameters_of s.parameters_at ∙ parameters_answer s.parameters s.parameters_are)
-    (and_then_is (ranges_in read s.parameters tree) _ ranges _ (ranges_answer read s.parameters tree s.ranges ranges s.ranges_at s.ranges_stand)
+    (and_then_given (ranges_in read s.parameters tree) _ ranges _ (ranges_answer read s.parameters tree s.ranges ranges s.ranges_at s.ranges_stand)
     (λ i. Ok (record { id = sym id i; domain = coverage.domain; referencing = coverage.referencing; parameters = coverage.parameters; ranges = coverage.ranges })))))))
 
+-- so the answers are what stands
 pub answers_stand : AnswersAreWhatStands
 answers_stand collection tree coverage =
     (coverage_stands collection tree coverage, coverage_answers collection tree coverage)

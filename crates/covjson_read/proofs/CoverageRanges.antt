@@ -2,7 +2,7 @@
 use Rattle.std.proofs.Common.{◌≡◌, ◌<◌, ℕ, true, List, [], ◌∷◌, length, All, Some, Ok, codes, refl, sym, ap, ◌∙◌, subst, arith}
 use Rattle.std.proofs.lemmas.List.Elements.{All-nil, All-cons, All-head, All-tail}
 use Rattle.serde_json.specs.Data.{Data, object, Members, no_members, member}
-use Rattle.serde_json.specs.Find.{get, as_object}
+use Rattle.serde_json.specs.Find.{get}
 use Rattle.covjson_value.specs.declared.coverages.Parameter.{Parameter}
 use Rattle.covjson_value.specs.declared.coverages.NdArray.{NdArray}
 use Rattle.covjson_value.specs.Coverages.{ids_of}
@@ -10,15 +10,16 @@ use Rattle.covjson_read.specs.declared.domains.ReadDomain.{ReadDomain}
 use Rattle.covjson_read.specs.declared.ranges.ReadRanges.{ReadRanges}
 use Rattle.covjson_read.specs.declared.faults.Member.TheVariants.{Parameters, Ranges}
 use Rattle.covjson_read.specs.declared.faults.CovFault.TheVariants.{Missing, WrongCount}
-use Rattle.covjson_read.specs.Answers.{or_fault, check}
+use Rattle.covjson_read.specs.Answers.{check}
 use Rattle.covjson_read.specs.Members.{need, object_at}
 use Rattle.covjson_read.specs.Axes.{EachStands}
 use Rattle.covjson_read.specs.Parameters.{parameter_of, StandsAmong}
 use Rattle.covjson_read.specs.Ranges.{StandsForRange, names_of, values_of}
 use Rattle.covjson_read.specs.RangeAnswers.{range_of, ranges_from, has_members, ranges_in}
 use Rattle.covjson_read.specs.Standing.{StandsForRanges}
-use Rattle.covjson_read.proofs.AnswerLemmas.{and_then_ok, or_fault_ok, check_ok, as_object_some}
-use Rattle.covjson_read.proofs.ParameterLaws.{and_then_is, parameter_stands, parameter_answers}
+use Rattle.covjson_read.proofs.AnswerLemmas.{and_then_ok, or_fault_ok, check_ok, object_ok}
+use Rattle.covjson_read.proofs.AnswersGiven.{and_then_given, or_fault_given, check_given}
+use Rattle.covjson_read.proofs.ParameterLaws.{parameter_stands, parameter_answers}
 use Rattle.covjson_read.proofs.RangeLaws.{range_stands, range_answers}
 
 -- ---- an answer stands
@@ -29,6 +30,7 @@ record EachRange (read : ReadDomain) (parameters : Data) (members : Members) (ke
   parameters_stand : All (StandsAmong parameters) kept
   ranges_stand : EachStands (StandsForRange read.domain read.turned) (values_of members) ranges
 
+-- the members stand for the ranges that were read of them
 from_stands : (read : ReadDomain) (parameters : Data) (members : Members) (r : ReadRanges) → ranges_from read parameters members ≡ Ok r
     → EachRange read parameters members r.parameters r.ranges
 from_stands read parameters no_members r h =
@@ -60,13 +62,14 @@ some_stand R no_members values some h = cc
 some_stand R (member id d rest) [] some h = absurd h
 some_stand R (member id d rest) (value ∷ values) some h = omega arith
 
+-- the tree stands for the ranges that are the answer
 pub ranges_stand : (read : ReadDomain) (parameters tree : Data) (r : ReadRanges) → ranges_in read parameters tree ≡ Ok r
     → (ranges : Members) × (get (codes "ranges") tree ≡ Some (object ranges)) × StandsForRanges read.domain read.turned parameters ranges r.parameters r.ranges
 ranges_stand read parameters tree r h =
     let d = and_then_ok (need (codes "ranges") Ranges tree) _ r h in
     let members = and_then_ok (object_at Ranges d.0) _ r d.2 in
     let checked = and_then_ok (check (has_members members.0) (WrongCount Ranges 1 0)) _ r members.2 in
-    let is_object = as_object_some d.0 members.0 (or_fault_ok (as_object d.0) _ members.0 members.1) in
+    let is_object = object_ok _ d.0 members.0 members.1 in
     let stand = from_stands read parameters members.0 r checked.2 in
     let some = check_ok (has_members members.0) _ _ checked.1 in (
       members.0,
@@ -81,6 +84,7 @@ ranges_stand read parameters tree r h =
 
 -- ---- what stands is the answer
 
+-- the ranges for which the members stand are read of them
 from_answers : (read : ReadDomain) (parameters : Data) (members : Members) (kept : List Parameter) (ranges : List NdArray) → ids_of kept ≡ names_of members
     → All (StandsAmong parameters) kept → EachStands (StandsForRange read.domain read.turned) (values_of members) ranges
     → ranges_from read parameters members ≡ Ok (record { parameters = kept; ranges = ranges })
@@ -96,10 +100,10 @@ from_answers read parameters (member id d members) (p ∷ kept) (range ∷ range
     let found : get id parameters ≡ Some here.d = ap (λ k. get k parameters) (sym named) ∙ here.named in
     let answer : parameter_of id here.d ≡ Ok p = ap (λ k. parameter_of k here.d) (sym named) ∙ parameter_answers here.d p here.stands in
     let others = from_answers read parameters members kept ranges rest (All-tail (StandsAmong parameters) p kept among) stand.1 in
-    and_then_is (need id Parameters parameters) _ here.d _ (ap (λ o. or_fault o (Missing Parameters)) found)
-    (and_then_is (parameter_of id here.d) _ p _ answer
-    (and_then_is (range_of read d) _ range _ (range_answers read d range stand.0)
-    (and_then_is (ranges_from read parameters members) _ (record { parameters = kept; ranges = ranges }) _ others refl)))
+    and_then_given (need id Parameters parameters) _ here.d _ (or_fault_given _ (Missing Parameters) _ found)
+    (and_then_given (parameter_of id here.d) _ p _ answer
+    (and_then_given (range_of read d) _ range _ (range_answers read d range stand.0)
+    (and_then_given (ranges_from read parameters members) _ (record { parameters = kept; ranges = ranges }) _ others refl)))
 
 -- where ranges stand for some, there are members
 has_some : {V : Type 0} (R : Data → V → Type 0) (members : Members) (values : List V) → 0 < length values → EachStands R (values_of members) values → has_members members ≡ true
@@ -107,10 +111,11 @@ has_some R no_members [] some h = absurd (omega arith)
 has_some R no_members (value ∷ values) some h = absurd h
 has_some R (member id d rest) values some h = refl
 
+-- and the ranges for which the tree stands are the answer
 pub ranges_answer : (read : ReadDomain) (parameters tree : Data) (ranges : Members) (r : ReadRanges) → get (codes "ranges") tree ≡ Some (object ranges)
     → StandsForRanges read.domain read.turned parameters ranges r.parameters r.ranges → ranges_in read parameters tree ≡ Ok r
 ranges_answer read parameters tree ranges r found s =
-    and_then_is (need (codes "ranges") Ranges tree) _ (object ranges) _ (ap (λ o. or_fault o (Missing Ranges)) found)
-    (and_then_is (check (has_members ranges) (WrongCount Ranges 1 0)) _ tt _
-    (ap (λ b. check b (WrongCount Ranges 1 0)) (has_some (StandsForRange read.domain read.turned) ranges r.ranges s.some s.ranges_stand))
+    and_then_given (need (codes "ranges") Ranges tree) _ (object ranges) _ (or_fault_given _ (Missing Ranges) _ found)
+    (and_then_given (check (has_members ranges) (WrongCount Ranges 1 0)) _ tt _
+    (check_given _ (WrongCount Ranges 1 0) (has_some (StandsForRange read.domain read.turned) ranges r.ranges s.some s.ranges_stand))
     (from_answers read parameters ranges r.parameters r.ranges s.ids s.parameters_stand s.ranges_stand))

@@ -19,7 +19,7 @@ use Rattle.covjson_read.specs.Axes.{EachStands, HasSameAxis, is_turned}
 use Rattle.covjson_read.specs.Tuples.{StandsForTuple, HasSameTuples}
 use Rattle.covjson_read.specs.Domains.{all_axis_keys, StandsForDomain, AreCounted}
 use Rattle.covjson_read.specs.DomainAnswers.{keys_of, all_keys_among, domain_of_type, type_at, axes_at, domain_of}
-use Rattle.covjson_read.proofs.ParameterLaws.{and_then_is}
+use Rattle.covjson_read.proofs.AnswersGiven.{and_then_given}
 use Rattle.covjson_read.proofs.AnswerLemmas.{and_then_ok}
 use Rattle.covjson_read.proofs.DomainKeys.{all_axes, no_other, all_left}
 use Rattle.covjson_read.proofs.DomainAxes.{none_answers}
@@ -30,6 +30,7 @@ use Rattle.covjson_read.proofs.DomainTypes.{type_text, type_stands, type_of_doma
 
 -- ---- an answer stands
 
+-- the parts that were read by the type of a domain are those of the axes
 of_type_stands : (kind : DomainType) (members : Members) (r : ReadDomain) → all_keys_among (keys_of kind) members ≡ true
     → domain_of_type kind (object members) ≡ Ok r → HasParts kind (object members) r.turned r.domain
 of_type_stands OfGrid members r keys h = grid_stands (object members) r (no_other (keys_of OfGrid) (codes "composite") refl members keys) h
@@ -43,6 +44,7 @@ of_type_stands OfTrajectory members r keys h =
     trajectory_stands (object members) r (no_other (keys_of OfTrajectory) (axis_key T) refl members keys)
     (no_other (keys_of OfTrajectory) (axis_key Y) refl members keys) (no_other (keys_of OfTrajectory) (axis_key X) refl members keys) h
 
+-- the tree stands for the domain that is the answer
 pub domain_stands : (found : Option Data) (tree : Data) (r : ReadDomain) → domain_of found tree ≡ Ok r → StandsForDomain found tree r.turned r.domain
 domain_stands found tree r h =
     let kind = and_then_ok (type_at found) _ r h in
@@ -62,6 +64,7 @@ domain_stands found tree r h =
 
 -- ---- what stands is the answer
 
+-- the parts of a domain for which the tree stands
 parts_of_domain : (found : Option Data) (tree : Data) (turned : Turned) (domain : Domain) (s : StandsForDomain found tree turned domain) → HasParts (kind_of domain) (object s.members) turned domain
 parts_of_domain found tree turned domain s = record { is_of = refl; same_axes = s.same_axes; same_tuples = s.same_tuples; once = s.once }
 
@@ -92,6 +95,7 @@ keys_of_domain (Trajectory z has_z steps) turned members parts keys =
     all_left (keys_of OfTrajectory) (axis_key T ∷ axis_key Y ∷ axis_key X ∷ []) refl members keys
     (no_axis T (object members) turned.t (parts.same_axes T), (no_axis Y (object members) turned.y (parts.same_axes Y), (no_axis X (object members) turned.x (parts.same_axes X), tt)))
 
+-- the parts of a domain are read by its type
 of_type_answers : (domain : Domain) (turned : Turned) (axes : Data) → HasParts (kind_of domain) axes turned domain
     → domain_of_type (kind_of domain) axes ≡ Ok (record { domain = domain; turned = turned })
 of_type_answers (Grid t z y x) turned axes parts = grid_answers axes turned t z y x parts
@@ -101,36 +105,42 @@ of_type_answers (VerticalProfile t z y x) turned axes parts = profile_answers ax
 of_type_answers (MultiPoint t has_z spots) turned axes parts = multi_point_answers axes turned t has_z spots parts
 of_type_answers (Trajectory z has_z steps) turned axes parts = trajectory_answers axes turned z has_z steps parts
 
+-- and the domain for which the tree stands is the answer
 pub domain_answers : (found : Option Data) (tree : Data) (turned : Turned) (domain : Domain) → StandsForDomain found tree turned domain
     → domain_of found tree ≡ Ok (record { domain = domain; turned = turned })
 domain_answers found tree turned domain s =
     let parts = parts_of_domain found tree turned domain s in
     let kind = kind_of domain in
-    and_then_is (type_at found) _ kind _ (ap type_at s.kind_is ∙ type_of_domain domain)
-    (and_then_is (axes_at kind tree) _ (object s.members) _ (axes_answer kind tree s.members s.axes (keys_of_domain domain turned s.members parts s.no_others))
+    and_then_given (type_at found) _ kind _ (ap type_at s.kind_is ∙ type_of_domain domain)
+    (and_then_given (axes_at kind tree) _ (object s.members) _ (axes_answer kind tree s.members s.axes (keys_of_domain domain turned s.members parts s.no_others))
     (of_type_answers domain turned (object s.members) parts))
 
 -- ---- what the axes and the tuples of a domain are
 
+-- an axis that stands in the tree is one of its name
 axis_of_same : (name : AxisName) (o : Option Data) (turned : Bool) (values : Option (List ℤ)) → HasSameAxis name o turned values → IfSome values (IsNamedAxis name)
 axis_of_same name o turned None h = tt
 axis_of_same name None turned (Some values) h = absurd h
 axis_of_same name (Some axis) turned (Some values) h = record { ascending = h.ascending; within = h.within }
 
+-- so each axis of the domain is
 pub domain_axes : (found : Option Data) (tree : Data) (turned : Turned) (domain : Domain) → StandsForDomain found tree turned domain → HasAxes domain
 domain_axes found tree turned domain s name = axis_of_same name (get (axis_key name) (object s.members)) (is_turned turned name) (axis_of domain name) (s.same_axes name)
 
+-- each tuple that stands in the tree is one of these coordinates
 each_tuple : (names : List AxisName) (ds : Items) (tuples : List Position) → EachStands (StandsForTuple names) ds tuples → All (IsTuple names) tuples
 each_tuple names no_items [] h = All-nil (IsTuple names)
 each_tuple names no_items (tuple ∷ tuples) h = absurd h
 each_tuple names (item d ds) [] h = absurd h
 each_tuple names (item d ds) (tuple ∷ tuples) h = All-cons (IsTuple names) tuple tuples h.0.within (each_tuple names ds tuples h.1)
 
+-- tuples that stand in the tree are tuples of a domain
 tuples_of_same : (names : List AxisName) (o : Option Data) (tuples : Option (List Position)) → HasSameTuples names o tuples → IfSome tuples (λ ts. length ts < 2 ^ 64) → IfSome tuples (AreTuples names)
 tuples_of_same names o None h counted = tt
 tuples_of_same names None (Some tuples) h counted = absurd h
 tuples_of_same names (Some axis) (Some tuples) h counted = record { some = h.some; counted = counted; each = each_tuple names h.items tuples h.each; in_time = h.in_time }
 
+-- so those of the domain are
 pub domain_tuples : (found : Option Data) (tree : Data) (turned : Turned) (domain : Domain) → StandsForDomain found tree turned domain → AreCounted domain → HasTuples domain
 domain_tuples found tree turned domain s counted =
     record { tuples = tuples_of_same (coordinates_of domain) (get (codes "composite") (object s.members)) (tuples_of domain) s.same_tuples counted; once = s.once }

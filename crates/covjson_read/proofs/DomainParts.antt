@@ -49,6 +49,7 @@ each_axis axes turned domain t z y x Z = z
 each_axis axes turned domain t z y x Y = y
 each_axis axes turned domain t z y x X = x
 
+-- no tuples stand where none are
 no_tuples : (o : Option Data) → o ≡ None → HasSameTuples [] o None
 no_tuples o h = rw h tt
 

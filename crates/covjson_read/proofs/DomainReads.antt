@@ -18,7 +18,7 @@ use Rattle.covjson_read.specs.Tuples.{StandsForTuples, HasSameTuples}
 use Rattle.covjson_read.specs.AxisAnswers.{axis_at, axis_if_given, single_at, single_if_given}
 use Rattle.covjson_read.specs.TupleAnswers.{names_of, may_have_z, composite_at}
 use Rattle.covjson_read.specs.DomainAnswers.{axis_of_read, is_turned_round, none_turned, grid_of, point_of, series_of, profile_of, multi_point_of, kind_of_steps, trajectory_of}
-use Rattle.covjson_read.proofs.ParameterLaws.{and_then_is}
+use Rattle.covjson_read.proofs.AnswersGiven.{and_then_given}
 use Rattle.covjson_read.proofs.TupleLaws.{tuples_answer}
 use Rattle.covjson_read.proofs.DomainAxes.{axis_answers_at, axis_answers_if, single_answers_at, single_answers_if, none_answers}
 use Rattle.covjson_read.proofs.DomainParts.{HasParts}
@@ -40,10 +40,10 @@ grid_answers axes turned t z y x parts =
     let y_read = axis_answers_at Y axes turned.y y (parts.same_axes Y) in
     let x_read = axis_answers_at X axes turned.x x (parts.same_axes X) in
     let made : ReadDomain = record { domain = Grid (option_map axis_of_read t_read.read) (option_map axis_of_read z_read.read) y x; turned = record { t = is_turned_round t_read.read; z = is_turned_round z_read.read; y = turned.y; x = turned.x } } in
-    and_then_is (axis_if_given T axes) _ t_read.read _ t_read.answer (
-    and_then_is (axis_if_given Z axes) _ z_read.read _ z_read.answer (
-    and_then_is (axis_at Y axes) _ (record { axis = y; turned = turned.y }) _ y_read (
-    and_then_is (axis_at X axes) _ (record { axis = x; turned = turned.x }) _ x_read
+    and_then_given (axis_if_given T axes) _ t_read.read _ t_read.answer (
+    and_then_given (axis_if_given Z axes) _ z_read.read _ z_read.answer (
+    and_then_given (axis_at Y axes) _ (record { axis = y; turned = turned.y }) _ y_read (
+    and_then_given (axis_at X axes) _ (record { axis = x; turned = turned.x }) _ x_read
     (same_read made turned (Grid t z y x) (λ i. Grid (t_read.same_values i) (z_read.same_values i) y x) t_read.same_turned z_read.same_turned refl refl))))
 
 -- what is read of a place
@@ -55,10 +55,10 @@ point_answers axes turned t z y x parts =
     let y_read = single_answers_at Y axes turned.y y (parts.same_axes Y) in
     let x_read = single_answers_at X axes turned.x x (parts.same_axes X) in
     let made : ReadDomain = record { domain = Point t z y x; turned = none_turned } in
-    and_then_is (single_if_given T axes) _ t _ t_read.1 (
-    and_then_is (single_if_given Z axes) _ z _ z_read.1 (
-    and_then_is (single_at Y axes) _ y _ y_read.1 (
-    and_then_is (single_at X axes) _ x _ x_read.1
+    and_then_given (single_if_given T axes) _ t _ t_read.1 (
+    and_then_given (single_if_given Z axes) _ z _ z_read.1 (
+    and_then_given (single_at Y axes) _ y _ y_read.1 (
+    and_then_given (single_at X axes) _ x _ x_read.1
     (same_read made turned (Point t z y x) refl (sym t_read.0) (sym z_read.0) (sym y_read.0) (sym x_read.0)))))
 
 -- what is read of times at a place
@@ -70,10 +70,10 @@ series_answers axes turned t z y x parts =
     let y_read = single_answers_at Y axes turned.y y (parts.same_axes Y) in
     let x_read = single_answers_at X axes turned.x x (parts.same_axes X) in
     let made : ReadDomain = record { domain = PointSeries t z y x; turned = record { t = turned.t; z = false; y = false; x = false } } in
-    and_then_is (axis_at T axes) _ (record { axis = t; turned = turned.t }) _ t_read (
-    and_then_is (single_if_given Z axes) _ z _ z_read.1 (
-    and_then_is (single_at Y axes) _ y _ y_read.1 (
-    and_then_is (single_at X axes) _ x _ x_read.1
+    and_then_given (axis_at T axes) _ (record { axis = t; turned = turned.t }) _ t_read (
+    and_then_given (single_if_given Z axes) _ z _ z_read.1 (
+    and_then_given (single_at Y axes) _ y _ y_read.1 (
+    and_then_given (single_at X axes) _ x _ x_read.1
     (same_read made turned (PointSeries t z y x) refl refl (sym z_read.0) (sym y_read.0) (sym x_read.0)))))
 
 -- what is read of levels at a place
@@ -85,14 +85,15 @@ profile_answers axes turned t z y x parts =
     let y_read = single_answers_at Y axes turned.y y (parts.same_axes Y) in
     let x_read = single_answers_at X axes turned.x x (parts.same_axes X) in
     let made : ReadDomain = record { domain = VerticalProfile t z y x; turned = record { t = false; z = turned.z; y = false; x = false } } in
-    and_then_is (single_if_given T axes) _ t _ t_read.1 (
-    and_then_is (axis_at Z axes) _ (record { axis = z; turned = turned.z }) _ z_read (
-    and_then_is (single_at Y axes) _ y _ y_read.1 (
-    and_then_is (single_at X axes) _ x _ x_read.1
+    and_then_given (single_if_given T axes) _ t _ t_read.1 (
+    and_then_given (axis_at Z axes) _ (record { axis = z; turned = turned.z }) _ z_read (
+    and_then_given (single_at Y axes) _ y _ y_read.1 (
+    and_then_given (single_at X axes) _ x _ x_read.1
     (same_read made turned (VerticalProfile t z y x) refl (sym t_read.0) refl (sym y_read.0) (sym x_read.0)))))
 
 -- ---- tuples
 
+-- the axis of tuples that stand in the tree
 tuples_there : (names : List AxisName) (o : Option Data) (tuples : List Position) → HasSameTuples names o (Some tuples) → (axis : Data) × (o ≡ Some axis) × StandsForTuples names axis tuples
 tuples_there names None tuples h = absurd h
 tuples_there names (Some axis) tuples h = (axis, refl, h)
@@ -107,8 +108,8 @@ multi_point_answers axes turned t has_z spots parts =
     let x = none_answers X (get (axis_key X) axes) turned.x (parts.same_axes X) in
     let there = tuples_there (names_of Places has_z) (get (codes "composite") axes) spots parts.same_tuples in
     let made : ReadDomain = record { domain = MultiPoint t has_z spots; turned = none_turned } in
-    and_then_is (single_if_given T axes) _ t _ t_read.1 (
-    and_then_is (composite_at Places axes) _ (record { tuples = spots; has_z = has_z }) _ (tuples_answer Places axes there.0 has_z spots there.1 (λ h. refl) there.2)
+    and_then_given (single_if_given T axes) _ t _ t_read.1 (
+    and_then_given (composite_at Places axes) _ (record { tuples = spots; has_z = has_z }) _ (tuples_answer Places axes there.0 has_z spots there.1 (λ h. refl) there.2)
     (same_read made turned (MultiPoint t has_z spots) refl (sym t_read.0) (sym z.0) (sym y.0) (sym x.0)))
 
 -- steps of a trajectory at one level have none of their own
@@ -129,7 +130,7 @@ trajectory_answers axes turned z has_z steps parts =
     let there = tuples_there (T ∷ X ∷ Y ∷ level_if has_z) (get (codes "composite") axes) steps parts.same_tuples in
     let stand : StandsForTuples (names_of (kind_of_steps z) has_z) there.0 steps = subst (λ names. StandsForTuples names there.0 steps) (sym (step_names z has_z)) there.2 in
     let made : ReadDomain = record { domain = Trajectory z has_z steps; turned = none_turned } in
-    and_then_is (single_if_given Z axes) _ z _ z_read.1 (
-    and_then_is (composite_at (kind_of_steps z) axes) _ (record { tuples = steps; has_z = has_z }) _
+    and_then_given (single_if_given Z axes) _ z _ z_read.1 (
+    and_then_given (composite_at (kind_of_steps z) axes) _ (record { tuples = steps; has_z = has_z }) _
     (tuples_answer (kind_of_steps z) axes there.0 has_z steps there.1 (may_have z has_z steps (parts.once Z)) stand)
     (same_read made turned (Trajectory z has_z steps) refl (sym t.0) (sym z_read.0) (sym y.0) (sym x.0)))

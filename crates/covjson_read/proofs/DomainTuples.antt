@@ -20,9 +20,11 @@ use Rattle.covjson_read.proofs.TupleLaws.{tuples_stand}
 use Rattle.covjson_read.proofs.DomainAxes.{single_stands_if, none_stands}
 use Rattle.covjson_read.proofs.DomainParts.{HasParts, parts_of, each_axis}
 
+-- tuples that were found stand there
 has_tuples : (names : List AxisName) (o : Option Data) (axis : Data) (tuples : List Position) → o ≡ Some axis → StandsForTuples names axis tuples → HasSameTuples names o (Some tuples)
 has_tuples names o axis tuples found h = rw found h
 
+-- places have no axis of their coordinates beside them
 once_spots : (t : Option ℤ) (has_z : Bool) (spots : List Position) (name : AxisName) → is_among name (coordinates_of (MultiPoint t has_z spots)) ≡ true
     → IsNone (axis_of (MultiPoint t has_z spots) name)
 once_spots t true spots T among = cc
@@ -53,6 +55,7 @@ pub step_names : (z : Option ℤ) (has_z : Bool) → names_of (kind_of_steps z) 
 step_names None has_z = refl
 step_names (Some level) has_z = refl
 
+-- nor have steps
 once_steps : (z : Option ℤ) (has_z : Bool) (steps : List Position) → (has_z ≡ true → may_have_z (kind_of_steps z) ≡ true)
     → (name : AxisName) → is_among name (coordinates_of (Trajectory z has_z steps)) ≡ true → IsNone (axis_of (Trajectory z has_z steps) name)
 once_steps z has_z steps may T among = refl

@@ -1,8 +1,7 @@
 -- The type of a domain, and the names of the members of its axes.
-use Rattle.std.proofs.Common.{◌≡◌, ℕ, Bool, true, false, List, Option, Some, None, Ok, bytes_eq, codes, if◌then◌else◌, refl, sym, ap, ◌∙◌}
-use Rattle.std.proofs.lemmas.Slice.Eq.{bytes_eq-Decides}
+use Rattle.std.proofs.Common.{◌≡◌, ℕ, true, List, Option, Some, None, Ok, codes, refl, sym, ap, ◌∙◌}
 use Rattle.serde_json.specs.Data.{Data, string, object, Members}
-use Rattle.serde_json.specs.Find.{get, as_object, as_str}
+use Rattle.serde_json.specs.Find.{get}
 use Rattle.covjson_value.specs.declared.domains.Domain.{Domain}
 use Rattle.covjson_value.specs.declared.domains.Domain.TheVariants.{Grid, Point, PointSeries, VerticalProfile, MultiPoint, Trajectory}
 use Rattle.covjson_value.specs.Trees.{domain_type}
@@ -14,9 +13,9 @@ use Rattle.covjson_read.specs.Answers.{or_fault, check}
 use Rattle.covjson_read.specs.Members.{need, object_at, text_at}
 use Rattle.covjson_read.specs.Domains.{is_axis_key}
 use Rattle.covjson_read.specs.DomainAnswers.{type_named, keys_of, all_keys_among, type_at, axes_at}
-use Rattle.covjson_read.proofs.ParameterLaws.{and_then_is}
-use Rattle.covjson_read.proofs.AnswerLemmas.{and_then_ok, or_fault_ok, check_ok, as_object_some, as_str_some}
-use Rattle.covjson_read.proofs.DomainKeys.{all_pass}
+use Rattle.covjson_read.proofs.AnswersGiven.{and_then_given, or_fault_given, check_given}
+use Rattle.covjson_read.proofs.AnswerLemmas.{and_then_ok, or_fault_ok, check_ok, object_ok, text_ok}
+use Rattle.covjson_read.proofs.DomainKeys.{all_pass, named_one}
 use Rattle.covjson_read.proofs.DomainParts.{kind_of}
 
 -- ---- types
@@ -30,28 +29,21 @@ type_text OfVerticalProfile = codes "VerticalProfile"
 type_text OfMultiPoint = codes "MultiPoint"
 type_text OfTrajectory = codes "Trajectory"
 
-this_or_other : (b : Bool) (name : List ℕ) (this kind : DomainType) (others : Option DomainType) → (b ≡ true → name ≡ type_text this) → (others ≡ Some kind → name ≡ type_text kind)
-    → (if b then Some this else others) ≡ Some kind → name ≡ type_text kind
-this_or_other true name this kind others here later h = let same : this ≡ kind = cc in here refl ∙ ap type_text same
-this_or_other false name this kind others here later h = later h
-
-named_one : (name : List ℕ) (this kind : DomainType) (others : Option DomainType) → (others ≡ Some kind → name ≡ type_text kind)
-    → (if bytes_eq name (type_text this) then Some this else others) ≡ Some kind → name ≡ type_text kind
-named_one name this kind others later h = this_or_other (bytes_eq name (type_text this)) name this kind others ((bytes_eq-Decides name (type_text this)).0) later h
-
 -- a type is named by its text alone
 type_is_named : (name : List ℕ) (kind : DomainType) → type_named name ≡ Some kind → name ≡ type_text kind
 type_is_named name kind h =
-    named_one name OfGrid kind _ (named_one name OfPoint kind _ (named_one name OfPointSeries kind _ (named_one name OfVerticalProfile kind _
-    (named_one name OfMultiPoint kind _ (named_one name OfTrajectory kind None (λ none. cc)))))) h
+    named_one type_text name OfGrid kind _ (named_one type_text name OfPoint kind _ (named_one type_text name OfPointSeries kind _ (named_one type_text name OfVerticalProfile kind _
+    (named_one type_text name OfMultiPoint kind _ (named_one type_text name OfTrajectory kind None (λ none. cc)))))) h
 
+-- the type that was read is that of the tree
 pub type_stands : (found : Option Data) (kind : DomainType) → type_at found ≡ Ok kind → found ≡ Some (string (type_text kind))
 type_stands found kind h =
     let d = and_then_ok (or_fault found (Missing TypeMember)) _ kind h in
     let name = and_then_ok (text_at TypeMember d.0) _ kind d.2 in
-    or_fault_ok found _ d.0 d.1 ∙ ap Some (as_str_some d.0 name.0 (or_fault_ok (as_str d.0) _ name.0 name.1)
+    or_fault_ok found _ d.0 d.1 ∙ ap Some (text_ok _ d.0 name.0 name.1
     ∙ ap string (type_is_named name.0 kind (or_fault_ok (type_named name.0) (UnsupportedDomain name.0) kind name.2)))
 
+-- the type of a domain is read of its text
 pub type_of_domain : (domain : Domain) → type_at (Some (string (domain_type domain))) ≡ Ok (kind_of domain)
 type_of_domain (Grid t z y x) = refl
 type_of_domain (Point t z y x) = refl
@@ -60,6 +52,7 @@ type_of_domain (VerticalProfile t z y x) = refl
 type_of_domain (MultiPoint t has_z spots) = refl
 type_of_domain (Trajectory z has_z steps) = refl
 
+-- which is the text of that type
 pub text_of_domain : (domain : Domain) → type_text (kind_of domain) ≡ domain_type domain
 text_of_domain (Grid t z y x) = refl
 text_of_domain (Point t z y x) = refl
@@ -70,6 +63,7 @@ text_of_domain (Trajectory z has_z steps) = refl
 
 -- ---- the members of the axes
 
+-- the names of the axes of each type are names of axes
 pub keys_are_axes : (kind : DomainType) → all_pass is_axis_key (keys_of kind) ≡ true
 keys_are_axes OfGrid = refl
 keys_are_axes OfPoint = refl
@@ -85,12 +79,13 @@ pub record AreAxes (kind : DomainType) (tree axes : Data) : Type 0 where
   pub axes_at : get (codes "axes") tree ≡ Some (object members)
   pub keys : all_keys_among (keys_of kind) members ≡ true
 
+-- the axes that were found are those of the tree
 pub axes_stand : (kind : DomainType) (tree axes : Data) → axes_at kind tree ≡ Ok axes → AreAxes kind tree axes
 axes_stand kind tree axes h =
     let d = and_then_ok (need (codes "axes") Axes tree) _ axes h in
     let members = and_then_ok (object_at Axes d.0) _ axes d.2 in
     let checked = and_then_ok (check (all_keys_among (keys_of kind) members.0) (WrongType Axes)) _ axes members.2 in
-    let is_object = as_object_some d.0 members.0 (or_fault_ok (as_object d.0) _ members.0 members.1) in
+    let is_object = object_ok _ d.0 members.0 members.1 in
     let same : d.0 ≡ axes = let e = checked.2 in cc in
     record {
       members = members.0;
@@ -99,8 +94,9 @@ axes_stand kind tree axes h =
       keys = check_ok (all_keys_among (keys_of kind) members.0) _ _ checked.1;
     }
 
+-- and those of the tree are found
 pub axes_answer : (kind : DomainType) (tree : Data) (members : Members) → get (codes "axes") tree ≡ Some (object members) → all_keys_among (keys_of kind) members ≡ true
     → axes_at kind tree ≡ Ok (object members)
 axes_answer kind tree members found keys =
-    and_then_is (need (codes "axes") Axes tree) _ (object members) _ (ap (λ o. or_fault o (Missing Axes)) found)
-    (and_then_is (check (all_keys_among (keys_of kind) members) (WrongType Axes)) _ tt _ (ap (λ b. check b (WrongType Axes)) keys) refl)
+    and_then_given (need (codes "axes") Axes tree) _ (object members) _ (or_fault_given _ (Missing Axes) _ found)
+    (and_then_given (check (all_keys_among (keys_of kind) members) (WrongType Axes)) _ tt _ (check_given _ (WrongType Axes) keys) refl)

@@ -10,6 +10,7 @@ use Rattle.covjson_read.proofs.InstantSteps.{next_tells, next_given, when_tells,
 
 -- ---- fractions of zeros
 
+-- the byte `0`
 abbrev IsZero : ℕ → Type 0
 IsZero byte = byte ≡ 48
 

@@ -1,10 +1,11 @@
 pub mod AnswerLemmas
+pub mod AnswersGiven
+pub mod OrderTests
 pub mod InstantSteps
 pub mod InstantDates
 pub mod InstantZones
 pub mod InstantSeconds
 pub mod InstantLemmas
-pub mod AxisSteps
 pub mod AxisLists
 pub mod AxisWholeSteps
 pub mod AxisRegular
@@ -18,7 +19,6 @@ pub mod WrittenDomains
 pub mod WrittenSystems
 pub mod WrittenParameters
 pub mod WrittenRangeAxes
-pub mod WrittenPlaces
 pub mod WrittenRanges
 pub mod WrittenLaws
 pub mod WrittenDocuments
@@ -38,12 +38,14 @@ pub mod SampleLemmas
 pub mod RangeLaws
 pub mod PlaceNumbers
 pub mod PlaceLemmas
+pub mod KeptAxes
 pub mod OrderLemmas
 pub mod RangeCounts
 pub mod RangeSome
 pub mod RangeLemmas
 pub mod RangesInTurn
 pub mod ParameterNames
+pub mod LabelLaws
 pub mod ParameterLaws
 pub mod SystemLaws
 pub mod AscendLemmas

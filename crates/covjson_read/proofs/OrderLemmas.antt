@@ -1,5 +1,5 @@
 -- Values in the order of the domain's axes.
-use Rattle.std.proofs.Common.{◌≡◌, inl, inr, ℕ, zero, suc, add-one, ◌+◌, ◌-◌, ◌*◌, ◌<◌, ℤ, if◌then◌else◌, Bool, true, false, List, [], ◌∷◌, ◌++◌, length, map, get_or, All, Option, None, refl, sym, ap, ◌∙◌, subst, arith}
+use Rattle.std.proofs.Common.{◌≡◌, inl, inr, ℕ, zero, suc, add-one, ◌+◌, ◌<◌, ℤ, false, List, [], ◌∷◌, ◌++◌, length, map, get_or, All, Option, None, refl, sym, ap, ◌∙◌, subst, arith}
 use Rattle.std.proofs.lemmas.Bool.{cases_lt}
 use Rattle.std.proofs.lemmas.List.{get_or_append_left, get_or_push, get_or_default, get_or-map, ext_get_or, length-map, map-append, length_push}
 use Rattle.covjson_value.specs.declared.domains.Domain.{Domain}
@@ -7,18 +7,19 @@ use Rattle.covjson_value.specs.Domains.{count_of}
 use Rattle.covjson_read.specs.declared.axes.Turned.{Turned}
 use Rattle.covjson_read.specs.declared.places.Places.{Places}
 use Rattle.covjson_read.specs.declared.places.RangeAxis.{RangeAxis}
-use Rattle.covjson_read.specs.declared.places.RangeAxis.TheVariants.{T, Z, Y, X, Composite}
-use Rattle.covjson_read.specs.Ranges.{length_of, place_on, is_range_turned, is_named, AreInside, row_major, number_of, tree_place, tree_number, AreRangeAxes}
+use Rattle.covjson_read.specs.Ranges.{length_of, is_named, AreInside, number_of, tree_number, AreRangeAxes}
 use Rattle.covjson_read.specs.Orders.{below, places_at, value_in_tree, ordered, AreInOrder, IsUsual, IsUnturned}
-use Rattle.covjson_read.proofs.PlaceNumbers.{row_major_same, usual, passed_over}
+use Rattle.covjson_read.proofs.KeptAxes.{kept, kept_number_of}
 use Rattle.covjson_read.proofs.PlaceLemmas.{number_inside, tree_number_once, tree_number_inside, places_at_inside, places_at_number}
 
 -- ---- the numbers below a bound
 
+-- as many as that
 pub length-below : (n : ℕ) → length (below n) ≡ n
 length-below zero = refl
 length-below (suc n) = omega (arith, length_push (below n) n, length-below n)
 
+-- each at its own place
 pub get_or-below : (n k d : ℕ) → k < n → get_or (below n) k d ≡ k
 get_or-below zero k d h = absurd (omega arith)
 get_or-below (suc n) k d h =
@@ -31,6 +32,7 @@ get_or-below (suc n) k d h =
 
 -- ---- the values in order
 
+-- as many as the domain has places
 pub ordered_length : (domain : Domain) (turned : Turned) (names : List RangeAxis) (values : List (Option ℤ)) → length (ordered domain turned names values) ≡ count_of domain
 ordered_length domain turned names values =
     length-map (below (count_of domain)) (λ number. value_in_tree domain turned names values (places_at domain number)) ∙ length-below (count_of domain)
@@ -80,29 +82,20 @@ ordered_more domain turned names values found new number value here pushed is_he
 
 -- ---- the domain's own order
 
-straight : (domain : Domain) (turned : Turned) (places : Places) (name : RangeAxis) → is_range_turned turned name ≡ false → tree_place domain turned places name ≡ place_on places name
-straight domain turned places name h = ap (λ b. if b then length_of domain name - 1 - place_on places name else place_on places name) h
-
 -- an axis that is left out has one value
 left_out : (domain : Domain) (names : List RangeAxis) (places : Places) → AreRangeAxes domain names → AreInside domain places → (name : RangeAxis)
-    → is_named name names ≡ false → (length_of domain name ≡ 1) × (place_on places name ≡ 0)
+    → is_named name names ≡ false → length_of domain name ≡ 1
 left_out domain names places axes inside name out =
     elim (cases_lt 1 (length_of domain name)) [
       | inl long ↦ cc (axes.all_long name long)
-      | inr short ↦ (omega (arith, inside name), omega (arith, inside name))
+      | inr short ↦ omega (arith, inside name)
     ]
 
-abbrev keep : Bool → RangeAxis → List RangeAxis → List RangeAxis
-keep true name names = name ∷ names
-keep false name names = names
-
--- those of the axes that are among some, in the domain's own order
-abbrev kept : (RangeAxis → Bool) → List RangeAxis
-kept among = keep (among T) T (keep (among Z) Z (keep (among Y) Y (keep (among X) X (keep (among Composite) Composite []))))
-
+-- names are those that are kept of all, where names that are the same are
 is_kept : (names others : List RangeAxis) → names ≡ others → others ≡ kept (λ name. is_named name others) → names ≡ kept (λ name. is_named name names)
 is_kept names others same is = subst (λ (ns : List RangeAxis). ns ≡ kept (λ name. is_named name ns)) (sym same) is
 
+-- names in the usual order are those that are kept of all
 usual_kept : (names : List RangeAxis) → IsUsual names → names ≡ kept (λ name. is_named name names)
 usual_kept names (inl e) = is_kept names _ e refl
 usual_kept names (inr (inl e)) = is_kept names _ e refl
@@ -113,31 +106,12 @@ usual_kept names (inr (inr (inr (inr (inr (inl e)))))) = is_kept names _ e refl
 usual_kept names (inr (inr (inr (inr (inr (inr (inl e))))))) = is_kept names _ e refl
 usual_kept names (inr (inr (inr (inr (inr (inr (inr e))))))) = is_kept names _ e refl
 
--- an axis that is left out may as well be there
-kept_number : (lengths places : RangeAxis → ℕ) (b : Bool) (name : RangeAxis) (names : List RangeAxis) (number : ℕ)
-    → (b ≡ false → (lengths name ≡ 1) × (places name ≡ 0))
-    → row_major lengths places (keep b name names) number ≡ row_major lengths places names (number * lengths name + places name)
-kept_number lengths places true name names number out = refl
-kept_number lengths places false name names number out =
-    ap (row_major lengths places names) (sym (passed_over number (lengths name) (places name) (out refl).0 (out refl).1))
-
-all_kept : (lengths places : RangeAxis → ℕ) (among : RangeAxis → Bool) → ((name : RangeAxis) → among name ≡ false → (lengths name ≡ 1) × (places name ≡ 0))
-    → row_major lengths places (kept among) 0 ≡ usual lengths places
-all_kept lengths places among out =
-    kept_number lengths places (among T) T _ _ (out T)
-    ∙ kept_number lengths places (among Z) Z _ _ (out Z)
-    ∙ kept_number lengths places (among Y) Y _ _ (out Y)
-    ∙ kept_number lengths places (among X) X _ _ (out X)
-    ∙ kept_number lengths places (among Composite) Composite [] _ (out Composite)
-
+-- so that each value has its own number in the tree
 usual_number : (domain : Domain) (turned : Turned) (names : List RangeAxis) (places : Places) → AreRangeAxes domain names → IsUsual names → IsUnturned turned
     → AreInside domain places → number_of domain places ≡ tree_number domain turned names places
 usual_number domain turned names places axes in_order unturned inside =
-    let lengths = length_of domain in
-    let on = place_on places in
-    sym (row_major_same lengths (tree_place domain turned places) on (λ name. straight domain turned places name (unturned name)) names 0
-    ∙ ap (λ ns. row_major lengths on ns 0) (usual_kept names in_order)
-    ∙ all_kept lengths on (λ name. is_named name names) (left_out domain names places axes inside))
+    sym (ap (λ (ns : List RangeAxis). tree_number domain turned ns places) (usual_kept names in_order)
+    ∙ kept_number_of domain turned (λ name. is_named name names) places unturned (left_out domain names places axes inside) inside)
 
 -- values in that order stay as they are
 pub usual_ordered : (domain : Domain) (turned : Turned) (names : List RangeAxis) (values : List (Option ℤ)) → AreRangeAxes domain names
@@ -150,6 +124,7 @@ usual_ordered domain turned names values axes counted usual unturned =
 
 -- ---- what holds of each value
 
+-- what holds of each value of the tree holds of each in order
 pub ordered_all : (P : Option ℤ → Type 0) (domain : Domain) (turned : Turned) (names : List RangeAxis) (values : List (Option ℤ))
     → AreRangeAxes domain names → length values ≡ count_of domain → All P values → All P (ordered domain turned names values)
 ordered_all P domain turned names values axes counted all k d below =

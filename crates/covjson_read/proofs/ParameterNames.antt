@@ -31,12 +31,14 @@ byte_passes byte h =
     (and_from (nat_le 32 byte) (not (byte == 127)) (le-leb 32 byte h.printed.0) (not_from_false (byte == 127) (ne_eqb byte 127 h.printed.1)))
     (not_from_false (byte == 44) (ne_eqb byte 44 h.no_comma))
 
+-- bytes that pass the test are those of a name
 bytes_tell : (text : List ℕ) → all_name_bytes text ≡ true → All IsNameByte text
 bytes_tell [] h = All-nil IsNameByte
 bytes_tell (byte ∷ bytes) h =
     let p = and_parts (is_name_byte byte) (all_name_bytes bytes) h in
     All-cons IsNameByte byte bytes (byte_tells byte p.0) (bytes_tell bytes p.1)
 
+-- and those of a name pass it
 bytes_pass : (text : List ℕ) → All IsNameByte text → all_name_bytes text ≡ true
 bytes_pass [] h = refl
 bytes_pass (byte ∷ bytes) h =
@@ -60,18 +62,24 @@ form_passes text h =
 pub name_of_form : (text : List ℕ) → IsUtf8 text → HasNameForm text → IsName text
 name_of_form text utf8 form = record { length_in = form.length_in; bytes = form.bytes; utf8 = utf8 }
 
+-- and a name has that form
+pub form_of_name : (text : List ℕ) → IsName text → HasNameForm text
+form_of_name text name = record { length_in = name.length_in; bytes = name.bytes }
+
 -- the test of names and that of their form say the same of UTF-8
 pub same_test : (test : Bool) (text : List ℕ) → IsUtf8 text → (IsTrue test ↔ IsName text) → test ≡ has_name_form text
 same_test test text utf8 says =
     same_from_decides {P = IsName text} test (has_name_form text) (says.0, says.1)
-    (λ h. name_of_form text utf8 (form_tells text h), λ name. form_passes text (record { length_in = name.length_in; bytes = name.bytes }))
+    (λ h. name_of_form text utf8 (form_tells text h), λ name. form_passes text (form_of_name text name))
 
+-- a name found by comparison has the form of the member or of a later one
 name_by : (k l : List ℕ) (here : Data) (rest : Option Data) (d : Data) (o : Ordering) → slice_cmp nat_cmp k l ≡ o → HasNameForm l
     → (rest ≡ Some d → HasNameForm k) → match_ordering o rest (Some here) rest ≡ Some d → HasNameForm k
 name_by k l here rest d Less order name later h = later h
 name_by k l here rest d Equal order name later h = subst HasNameForm (sym (exact_bytes k l order)) name
 name_by k l here rest d Greater order name later h = later h
 
+-- what is found among members with names has one
 name_found : (k : List ℕ) (ms : Members) (d : Data) → EachHasName ms → get_member k ms ≡ Some d → HasNameForm k
 name_found k no_members d each h = cc
 name_found k (member l here ms) d each h =
@@ -81,6 +89,7 @@ name_found k (member l here ms) d each h =
 pub named_found : (id : List ℕ) (tree d : Data) → HaveNames tree → get id tree ≡ Some d → HasNameForm id
 named_found id tree d names h = name_found id names.0 d names.2 (ap (get id) (sym names.1) ∙ h)
 
+-- each parameter has a name
 each_has_name : (ms : Members) → EachIsParameter ms → EachHasName ms
 each_has_name no_members each = tt
 each_has_name (member name d ms) each = (each.0, each_has_name ms each.2)

@@ -11,7 +11,7 @@ use Rattle.covjson_read.specs.declared.places.RangeAxis.{RangeAxis}
 use Rattle.covjson_read.specs.declared.places.RangeAxis.TheVariants.{T, Z, Y, X, Composite}
 use Rattle.covjson_read.specs.Ranges.{length_of, place_on, is_range_turned, AreInside, row_major, number_of, tree_place, tree_number, AreRangeAxes}
 use Rattle.covjson_read.specs.Orders.{places_at}
-use Rattle.covjson_read.proofs.PlaceNumbers.{whole, row_major_below, row_major_above, row_major_same, product_whole, usual_once, usual_below, first_below, back, some_factors}
+use Rattle.covjson_read.proofs.PlaceNumbers.{whole, row_major_below, row_major_above, row_major_same, product_whole, usual_once, usual_below, first_below, back, some_factors, each_axis}
 
 -- the count is the product of the axes' lengths
 pub count_whole : (domain : Domain) → count_of domain ≡ whole (length_of domain)
@@ -19,6 +19,7 @@ count_whole domain = count_is domain
 
 -- ---- in the domain's order
 
+-- a number is below the count
 pub number_inside : (domain : Domain) (places : Places) → AreInside domain places → number_of domain places < count_of domain
 number_inside domain places inside = rw (count_whole domain) (usual_below (length_of domain) (place_on places) inside)
 
@@ -32,14 +33,17 @@ tree_number_once domain turned names places others inside in_others same =
 
 -- ---- in the tree's order
 
-mirrored : (b : Bool) (l p : ℕ) → p < l → (if b then l - 1 - p else p) < l
+-- a place counted from the end, or from the start, is on the axis
+pub mirrored : (b : Bool) (l p : ℕ) → p < l → (if b then l - 1 - p else p) < l
 mirrored true l p h = omega arith
 mirrored false l p h = h
 
+-- a place in the tree is on its axis
 pub tree_place_inside : (domain : Domain) (turned : Turned) (places : Places) → AreInside domain places → (name : RangeAxis)
     → tree_place domain turned places name < length_of domain name
 tree_place_inside domain turned places inside name = mirrored (is_range_turned turned name) (length_of domain name) (place_on places name) (inside name)
 
+-- and a number in the tree below the count
 pub tree_number_inside : (domain : Domain) (turned : Turned) (names : List RangeAxis) (places : Places) → AreRangeAxes domain names
     → AreInside domain places → tree_number domain turned names places < count_of domain
 tree_number_inside domain turned names places axes inside =
@@ -54,6 +58,7 @@ pub row_major_step : (lengths places : RangeAxis → ℕ) (names : List RangeAxi
     ≡ row_major lengths places (drop (i + 1) names) (number * lengths (get_or names i T) + places (get_or names i T))
 row_major_step lengths places names i number h = ap (λ rest. row_major lengths places rest number) (drop_more names i T h)
 
+-- no name more
 pub row_major_end : (lengths places : RangeAxis → ℕ) (names : List RangeAxis) (i number : ℕ) → length names ≤ i → row_major lengths places (drop i names) number ≡ number
 row_major_end lengths places names i number h = ap (λ rest. row_major lengths places rest number) (drop_all i names h)
 
@@ -79,14 +84,6 @@ step_inside domain turned names places axes inside i number len place h before i
 
 -- ---- by quotients and remainders
 
-inside_each : (domain : Domain) (places : Places) → places.t < length_of domain T → places.z < length_of domain Z → places.y < length_of domain Y → places.x < length_of domain X
-    → places.tuple < length_of domain Composite → AreInside domain places
-inside_each domain places t z y x tuple T = t
-inside_each domain places t z y x tuple Z = z
-inside_each domain places t z y x tuple Y = y
-inside_each domain places t z y x tuple X = x
-inside_each domain places t z y x tuple Composite = tuple
-
 -- no axis is without values where there are any places
 pub all_some : (domain : Domain) (number : ℕ) → number < count_of domain
     → (0 < length_of domain T) × (0 < length_of domain Z) × (0 < length_of domain Y) × (0 < length_of domain X) × (0 < length_of domain Composite)
@@ -94,6 +91,7 @@ all_some domain number inside =
     some_factors (length_of domain T) (length_of domain Z) (length_of domain Y) (length_of domain X) (length_of domain Composite) number
     (subst (λ (n : ℕ). number < n) (count_whole domain) inside)
 
+-- the places of a number are on their axes
 pub places_at_inside : (domain : Domain) (number : ℕ) → number < count_of domain → AreInside domain (places_at domain number)
 places_at_inside domain number inside =
     let t = length_of domain T in
@@ -102,12 +100,13 @@ places_at_inside domain number inside =
     let x = length_of domain X in
     let n = length_of domain Composite in
     let some = all_some domain number inside in
-    inside_each domain (places_at domain number)
+    each_axis (λ name. place_on (places_at domain number) name < length_of domain name)
     (first_below t z y x n number some.1 some.2 some.3 some.4 (subst (λ (m : ℕ). number < m) (count_whole domain) inside))
     (mod_below (number / n / x / y) z some.1)
     (mod_below (number / n / x) y some.2)
     (mod_below (number / n) x some.3)
     (mod_below number n some.4)
 
+-- and have that number
 pub places_at_number : (domain : Domain) (number : ℕ) → number_of domain (places_at domain number) ≡ number
 places_at_number domain number = back (length_of domain T) (length_of domain Z) (length_of domain Y) (length_of domain X) (length_of domain Composite) number

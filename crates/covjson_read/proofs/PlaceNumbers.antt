@@ -6,6 +6,14 @@ use Rattle.covjson_read.specs.declared.places.RangeAxis.{RangeAxis}
 use Rattle.covjson_read.specs.declared.places.RangeAxis.TheVariants.{T, Z, Y, X, Composite}
 use Rattle.covjson_read.specs.Ranges.{row_major, is_named, AreDistinct}
 
+-- what holds of each axis holds of all
+pub each_axis : (P : RangeAxis → Type 0) → P T → P Z → P Y → P X → P Composite → (name : RangeAxis) → P name
+each_axis P t z y x tuple T = t
+each_axis P t z y x tuple Z = z
+each_axis P t z y x tuple Y = y
+each_axis P t z y x tuple X = x
+each_axis P t z y x tuple Composite = tuple
+
 -- the product of the lengths of some axes
 abbrev pub product : (RangeAxis → ℕ) → List RangeAxis → ℕ
 product lengths [] = 1
@@ -17,9 +25,11 @@ whole lengths = lengths T * (lengths Z * (lengths Y * (lengths X * lengths Compo
 
 -- ---- within the product
 
+-- three factors in another order
 regroup : (a b c : ℕ) → (a * b) * c ≡ b * (a * c)
 regroup a b c = omega arith
 
+-- a number is below the product of the lengths
 pub row_major_below : (lengths places : RangeAxis → ℕ) → ((name : RangeAxis) → places name < lengths name) → (names : List RangeAxis) (number before : ℕ)
     → number < before → row_major lengths places names number < before * product lengths names
 row_major_below lengths places below [] number before h = omega arith
@@ -28,6 +38,7 @@ row_major_below lengths places below (name ∷ names) number before h =
     subst (λ (n : ℕ). row_major lengths places names (number * lengths name + places name) < n) (regroup (lengths name) before (product lengths names))
     (row_major_below lengths places below names (number * lengths name + places name) (lengths name * before) one)
 
+-- and not below the number that it goes on from
 pub row_major_above : (lengths places : RangeAxis → ℕ) → ((name : RangeAxis) → 0 < lengths name) → (names : List RangeAxis) (number : ℕ)
     → number ≤ row_major lengths places names number
 row_major_above lengths places some [] number = omega arith
@@ -39,23 +50,29 @@ abbrev share : Bool → ℕ → ℕ
 share true n = n
 share false n = 1
 
+-- the product of the shares of all axes
 abbrev shares : (RangeAxis → Bool) → (RangeAxis → ℕ) → ℕ
 shares among lengths =
     share (among T) (lengths T)
     * (share (among Z) (lengths Z) * (share (among Y) (lengths Y) * (share (among X) (lengths X) * share (among Composite) (lengths Composite))))
 
+-- the share of the first axis is its length, where that of another is 1
 first : (l p s r : ℕ) → s ≡ 1 → p ≡ s * r → l * p ≡ l * r
 first l p s r one is = rw (is, one) (omega arith)
 
+-- and that of the second
 second : (l p a s r : ℕ) → s ≡ 1 → p ≡ a * (s * r) → l * p ≡ a * (l * r)
 second l p a s r one is = rw (is, one) (omega arith)
 
+-- of the third
 third : (l p a b s r : ℕ) → s ≡ 1 → p ≡ a * (b * (s * r)) → l * p ≡ a * (b * (l * r))
 third l p a b s r one is = rw (is, one) (omega arith)
 
+-- of the fourth
 fourth : (l p a b c s r : ℕ) → s ≡ 1 → p ≡ a * (b * (c * (s * r))) → l * p ≡ a * (b * (c * (l * r)))
 fourth l p a b c s r one is = rw (is, one) (omega arith)
 
+-- of the fifth
 fifth : (l p a b c d s : ℕ) → s ≡ 1 → p ≡ a * (b * (c * (d * s))) → l * p ≡ a * (b * (c * (d * l)))
 fifth l p a b c d s one is = rw (is, one) (omega arith)
 
@@ -76,6 +93,7 @@ product_shares lengths (Composite ∷ names) h =
     fifth (lengths Composite) (product lengths names) (share (is_named T names) (lengths T)) (share (is_named Z names) (lengths Z)) (share (is_named Y names) (lengths Y)) (share (is_named X names) (lengths X))
     (share (is_named Composite names) (lengths Composite)) (ap (λ b. share b (lengths Composite)) h.0) (product_shares lengths names h.1)
 
+-- the share of an axis that is among some where it has several values
 share_long : (b : Bool) (n : ℕ) → 0 < n → (1 < n → b ≡ true) → share b n ≡ n
 share_long true n some long = refl
 share_long false zero some long = absurd (omega arith)
@@ -91,6 +109,7 @@ product_whole lengths names some distinct long =
 
 -- ---- one number, one place
 
+-- equal places have one number
 pub row_major_same : (lengths places others : RangeAxis → ℕ) → ((name : RangeAxis) → places name ≡ others name) → (names : List RangeAxis) (number : ℕ)
     → row_major lengths places names number ≡ row_major lengths others names number
 row_major_same lengths places others same [] number = refl
@@ -98,16 +117,9 @@ row_major_same lengths places others same (name ∷ names) number =
     row_major_same lengths places others same names (number * lengths name + places name)
     ∙ ap (λ p. row_major lengths others names (number * lengths name + p)) (same name)
 
+-- the number of places by all axes
 abbrev pub usual : (RangeAxis → ℕ) → (RangeAxis → ℕ) → ℕ
 usual lengths places = row_major lengths places (T ∷ Z ∷ Y ∷ X ∷ Composite ∷ []) 0
-
-at_each : (places others : RangeAxis → ℕ) → places T ≡ others T → places Z ≡ others Z → places Y ≡ others Y → places X ≡ others X
-    → places Composite ≡ others Composite → (name : RangeAxis) → places name ≡ others name
-at_each places others t z y x tuple T = t
-at_each places others t z y x tuple Z = z
-at_each places others t z y x tuple Y = y
-at_each places others t z y x tuple X = x
-at_each places others t z y x tuple Composite = tuple
 
 -- places of one number are one
 pub usual_once : (lengths places others : RangeAxis → ℕ) → ((name : RangeAxis) → places name < lengths name) → ((name : RangeAxis) → others name < lengths name)
@@ -117,11 +129,13 @@ usual_once lengths places others in_places in_others same =
     let columns = same_from_place _ (places X) _ (others X) (lengths X) (in_places X) (in_others X) tuples.0 in
     let rows = same_from_place _ (places Y) _ (others Y) (lengths Y) (in_places Y) (in_others Y) columns.0 in
     let levels = same_from_place _ (places Z) _ (others Z) (lengths Z) (in_places Z) (in_others Z) rows.0 in
-    at_each places others (omega (arith, levels.0)) levels.1 rows.1 columns.1 tuples.1
+    each_axis (λ name. places name ≡ others name) (omega (arith, levels.0)) levels.1 rows.1 columns.1 tuples.1
 
+-- factors of 1
 ones : (t z y x n : ℕ) → 1 * (t * (z * (y * (x * (n * 1))))) ≡ t * (z * (y * (x * n)))
 ones t z y x n = omega arith
 
+-- it is below the product of all lengths
 pub usual_below : (lengths places : RangeAxis → ℕ) → ((name : RangeAxis) → places name < lengths name) → usual lengths places < whole lengths
 usual_below lengths places below =
     let h = row_major_below lengths places below (T ∷ Z ∷ Y ∷ X ∷ Composite ∷ []) 0 1 (omega arith) in
@@ -129,23 +143,28 @@ usual_below lengths places below =
 
 -- ---- by quotients and remainders
 
+-- four factors in turn
 regroup_four : (t z y x : ℕ) → t * (z * (y * x)) ≡ t * z * y * x
 regroup_four t z y x = omega arith
 
+-- five factors in turn
 regroup_five : (t z y x n : ℕ) → t * (z * (y * (x * n))) ≡ t * (z * (y * x)) * n
 regroup_five t z y x n = omega arith
 
+-- the quotient by three lengths is below the fourth
 four_below : (t z y x k : ℕ) → 0 < z → 0 < y → 0 < x → k < t * (z * (y * x)) → k / x / y / z < t
 four_below t z y x k some_z some_y some_x h =
     div_below (k / x / y) z t some_z
     (div_below (k / x) y (t * z) some_y
     (div_below k x (t * z * y) some_x (subst (λ (n : ℕ). k < n) (regroup_four t z y x) h)))
 
+-- the quotient by four lengths is below the fifth
 pub first_below : (t z y x n k : ℕ) → 0 < z → 0 < y → 0 < x → 0 < n → k < t * (z * (y * (x * n))) → k / n / x / y / z < t
 first_below t z y x n k some_z some_y some_x some_n h =
     four_below t z y x (k / n) some_z some_y some_x
     (div_below k n (t * (z * (y * x))) some_n (subst (λ (m : ℕ). k < m) (regroup_five t z y x n) h))
 
+-- quotients and remainders give the number back
 pub back : (t z y x n k : ℕ)
     → ((((0 * t + k / n / x / y / z) * z + k / n / x / y % z) * y + k / n / x % y) * x + k / n % x) * n + k % n ≡ k
 back t z y x n k =

@@ -15,6 +15,7 @@ use Rattle.covjson_read.specs.Ranges.{length_of}
 
 -- ---- one axis
 
+-- in ascending whole numbers each value is at least as far above the first as its place
 rises : (values : List ℤ) → IsAscending values → (place : ℕ) → place < length values → (value_at values 0 +ℤ pos place) ≤ℤ value_at values place
 rises values ascends zero inside = omega (arith, ints)
 rises values ascends (suc place) inside =
@@ -25,6 +26,7 @@ rises values ascends (suc place) inside =
 abbrev AreBetween : ℤ → ℤ → List ℤ → Type 0
 AreBetween low high values = (place : ℕ) → place < length values → (low ≤ℤ value_at values place) × (value_at values place ≤ℤ high)
 
+-- so many values have room between two bounds
 length_between : (values : List ℤ) (low high : ℤ) (n : ℕ) → IsAxis values → AreBetween low high values → high ≤ℤ (low +ℤ pos n) → length values ≤ n + 1
 length_between values low high n axis between near =
     let some = axis.some in
@@ -33,9 +35,11 @@ length_between values low high n axis between near =
     let last_in = (between (length values - 1) (omega arith)).1 in
     omega (arith, ints, last, first_in, last_in, near)
 
+-- a coordinate lies between two bounds
 coordinate_between : (value : ℤ) → unsigned_abs value ≤ 100_000_000 → (neg_ℤ (pos 100_000_000) ≤ℤ value) × (value ≤ℤ pos 100_000_000)
 coordinate_between value h = (omega (arith, ints, h), omega (arith, ints, h))
 
+-- so an axis of coordinates has so many at most
 coordinates_few : (values : List ℤ) → IsAxis values → All (λ value. unsigned_abs value ≤ 100_000_000) values → length values ≤ 200_000_001
 coordinates_few values axis within =
     let between : AreBetween (neg_ℤ (pos 100_000_000)) (pos 100_000_000) values = λ place inside. coordinate_between (value_at values place) (within place (pos 0) inside) in
@@ -48,6 +52,7 @@ most Levels = 200_000_001
 most Rows = 200_000_001
 most Columns = 200_000_001
 
+-- an axis has no more than that
 named_few : (name : AxisName) (values : List ℤ) → IsNamedAxis name values → length values ≤ most name
 named_few Times values h =
     omega (arith, length_between values (neg_ℤ (pos 62_167_219_200)) (pos 253_402_300_799) 400_000_000_000 h.ascending (λ place inside. h.within place (pos 0) inside) (omega (arith, ints)))
@@ -55,12 +60,14 @@ named_few Levels values h = coordinates_few values h.ascending h.within
 named_few Rows values h = coordinates_few values h.ascending h.within
 named_few Columns values h = coordinates_few values h.ascending h.within
 
+-- which is one at least
 some_few : (name : AxisName) → 1 ≤ most name
 some_few Times = omega arith
 some_few Levels = omega arith
 some_few Rows = omega arith
 some_few Columns = omega arith
 
+-- also where there is none
 axis_few : (name : AxisName) (axis : Option (List ℤ)) → IfSome axis (IsNamedAxis name) → axis_length axis ≤ most name
 axis_few name None h = some_few name
 axis_few name (Some values) h = named_few name values h
@@ -72,9 +79,11 @@ pub record AreFew (t z y x n : ℕ) : Type 0 where
   pub levels : z * (y * (x * n)) < 2 ^ 128
   pub times : t * (z * (y * (x * n))) < 2 ^ 128
 
+-- a product of two bounded numbers
 product_few : (a b c d : ℕ) → a ≤ c → b ≤ d → a * b ≤ c * d
 product_few a b c d h k = mul-le-mul h k
 
+-- along axes
 few_along : (t z y x n : ℕ) → t ≤ 400_000_000_001 → z ≤ 200_000_001 → y ≤ 200_000_001 → x ≤ 200_000_001 → n ≡ 1 → AreFew t z y x n
 few_along t z y x n is_t is_z is_y is_x is_n =
     let columns : x * n ≤ 200_000_001 * 1 = product_few x n 200_000_001 1 is_x (omega arith) in
@@ -83,9 +92,11 @@ few_along t z y x n is_t is_z is_y is_x is_n =
     let times : t * (z * (y * (x * n))) ≤ 400_000_000_001 * (200_000_001 * (200_000_001 * (200_000_001 * 1))) = product_few t (z * (y * (x * n))) 400_000_000_001 _ is_t levels in
     record { levels = omega (arith, levels); times = omega (arith, times) }
 
+-- an axis of one value adds no places
 one_times : (a b : ℕ) → a ≡ 1 → a * b ≡ b
 one_times a b one = rw one (omega arith)
 
+-- along tuples, beside axes of one value
 few_tuples : (t z y x n : ℕ) → t ≡ 1 → z ≡ 1 → y ≡ 1 → x ≡ 1 → n < 2 ^ 64 → AreFew t z y x n
 few_tuples t z y x n is_t is_z is_y is_x few =
     let columns : x * n ≡ n = one_times x n is_x in
@@ -94,19 +105,23 @@ few_tuples t z y x n is_t is_z is_y is_x few =
     let times : t * (z * (y * (x * n))) ≡ z * (y * (x * n)) = one_times t (z * (y * (x * n))) is_t in
     record { levels = omega arith; times = omega arith }
 
+-- an axis of a single value has one, and is counted as one where it is left out
 single_length : (o : Option ℤ) → axis_length (option_map single o) ≡ 1
 single_length None = refl
 single_length (Some value) = refl
 
+-- the lengths of the axes of a domain
 abbrev FewValues : Domain → Type 0
 FewValues domain = AreFew (length_of domain T) (length_of domain Z) (length_of domain Y) (length_of domain X) (length_of domain Composite)
 
+-- a domain without tuples
 few_axes : (domain : Domain) → HasAxes domain → length_of domain Composite ≡ 1 → FewValues domain
 few_axes domain axes one =
     few_along (length_of domain T) (length_of domain Z) (length_of domain Y) (length_of domain X) (length_of domain Composite)
     (axis_few Times (axis_of domain Times) (axes Times)) (axis_few Levels (axis_of domain Levels) (axes Levels))
     (axis_few Rows (axis_of domain Rows) (axes Rows)) (axis_few Columns (axis_of domain Columns) (axes Columns)) one
 
+-- a domain of any type
 few_values : (domain : Domain) → HasAxes domain → HasTuples domain → FewValues domain
 few_values (Grid t z y x) axes tuples = few_axes (Grid t z y x) axes refl
 few_values (Point t z y x) axes tuples = few_axes (Point t z y x) axes refl

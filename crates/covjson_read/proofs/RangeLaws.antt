@@ -2,7 +2,6 @@
 use Rattle.std.proofs.Common.{◌≡◌, inl, inr, ℕ, ◌<◌, ℤ, codes, List, length, get_or, All, Option, None, Ok, sym, ap, ◌∙◌, subst, arith}
 use Rattle.std.proofs.lemmas.Bool.{cases_lt}
 use Rattle.std.proofs.lemmas.List.{get_or_past}
-use Rattle.std.proofs.lemmas.List.Elements.{All-map}
 use Rattle.serde_json.specs.Data.{Data}
 use Rattle.serde_json.specs.Find.{get}
 use Rattle.covjson_value.specs.declared.domains.Domain.{Domain}
@@ -12,17 +11,17 @@ use Rattle.covjson_value.specs.Domains.{count_of}
 use Rattle.covjson_read.specs.declared.axes.Turned.{Turned}
 use Rattle.covjson_read.specs.declared.places.RangeAxis.{RangeAxis}
 use Rattle.covjson_read.specs.declared.domains.ReadDomain.{ReadDomain}
-use Rattle.covjson_read.specs.Answers.{Answer, and_then}
 use Rattle.covjson_read.specs.Axes.{EachStands}
 use Rattle.covjson_read.specs.Ranges.{StandsForSample, HoldsIntegers, number_of, tree_number, AreRangeAxes, NamesStand, ShapeStands, count_items, item_at, HasSample, StandsForRange}
-use Rattle.covjson_read.specs.Orders.{below, places_at, value_in_tree, ordered}
+use Rattle.covjson_read.specs.Orders.{ordered}
 use Rattle.covjson_read.specs.RangeAnswers.{are_integers, names_in, shape_in, samples_in, range_of}
 use Rattle.covjson_read.proofs.AnswerLemmas.{and_then_ok}
+use Rattle.covjson_read.proofs.AnswersGiven.{and_then_given}
 use Rattle.covjson_read.proofs.RangeParts.{stands_count, integers_hold, integers_answer}
 use Rattle.covjson_read.proofs.ShapeParts.{names_stand, names_answer, shape_stands, shape_answers}
 use Rattle.covjson_read.proofs.SampleLemmas.{IsSampleOrNone, HasSamples, samples_stand, samples_answer, sample_at, has_sample_one, held, HasSomeSample, held_stand}
 use Rattle.covjson_read.proofs.PlaceLemmas.{tree_number_inside}
-use Rattle.covjson_read.proofs.OrderLemmas.{ordered_in_order, in_order_is_ordered}
+use Rattle.covjson_read.proofs.OrderLemmas.{ordered_in_order, in_order_is_ordered, ordered_all}
 use Rattle.covjson_read.proofs.TreePlaces.{has_tree_places}
 
 -- ---- what was read stands
@@ -34,12 +33,6 @@ or_none values n all =
       | inl inside ↦ all n None inside
       | inr past ↦ subst IsSampleOrNone (sym (get_or_past values n None past)) tt
     ]
-
-ordered_samples : (domain : Domain) (turned : Turned) (names : List RangeAxis) (values : List (Option ℤ)) → All IsSampleOrNone values
-    → All IsSampleOrNone (ordered domain turned names values)
-ordered_samples domain turned names values all =
-    let value = λ (number : ℕ). value_in_tree domain turned names values (places_at domain number) in
-    All-map IsSampleOrNone value (below (count_of domain)) (λ k d inside. or_none values (tree_number domain turned names (places_at domain (get_or (below (count_of domain)) k d))) all)
 
 -- values in the domain's order stand
 ordered_stands : (domain : Domain) (turned : Turned) (d : Data) (names : List RangeAxis) (values : List (Option ℤ)) → HoldsIntegers d
@@ -58,7 +51,7 @@ ordered_stands domain turned d names values integers named axes shaped samples =
       list = samples.list;
       as_many = samples.as_many;
       counted = in_order.counted;
-      samples = ordered_samples domain turned names values samples.short;
+      samples = ordered_all IsSampleOrNone domain turned names values axes counted samples.short;
       values = λ places inside.
           subst (HasSample (item_at samples.items (tree_number domain turned names places))) (sym (in_order.each places inside))
           (sample_at samples.items values (tree_number domain turned names places) samples.each_stand
@@ -79,10 +72,6 @@ range_stands read d r h =
     (shape_stands read.domain names.0 (get (codes "shape") d) shape.0 shape.1) (samples_stand (count_of read.domain) d values.0 values.1))
 
 -- ---- what stands is read
-
--- the next check, where this one passed
-passes : {T U : Type 0} (a : Answer T) (next : T → Answer U) (x : T) (y : Answer U) → a ≡ Ok x → next x ≡ y → and_then a next ≡ y
-passes a next x y h k = rw h k
 
 -- each item stands for a sample: it is at the number of some places
 each_item : (domain : Domain) (turned : Turned) (d : Data) (r : NdArray) (s : StandsForRange domain turned d r) (n : ℕ) → n < count_items s.items
@@ -116,13 +105,14 @@ range_answers read d r s =
     let each = held_stand s.items (each_item domain read.turned d r s) in
     let values = held s.items in
     let samples : HasSamples d (count_of domain) values = record { items = s.items; list = s.list; as_many = s.as_many; each_stand = each.0; short = each.1 } in
-    passes (are_integers d) _ tt (Ok r) (integers_answer d s.integers)
-    (passes (names_in domain (get (codes "axisNames") d)) _ s.names (Ok r) (names_answer domain (get (codes "axisNames") d) s.names s.names_stand s.axes)
-    (passes (shape_in domain s.names (get (codes "shape") d)) _ tt (Ok r) (shape_answers domain s.names (get (codes "shape") d) s.shape)
-    (passes (samples_in (count_of domain) d) _ values (Ok r) (samples_answer (count_of domain) d values samples)
+    and_then_given (are_integers d) _ tt _ (integers_answer d s.integers)
+    (and_then_given (names_in domain (get (codes "axisNames") d)) _ s.names _ (names_answer domain (get (codes "axisNames") d) s.names s.names_stand s.axes)
+    (and_then_given (shape_in domain s.names (get (codes "shape") d)) _ tt _ (shape_answers domain s.names (get (codes "shape") d) s.shape)
+    (and_then_given (samples_in (count_of domain) d) _ values _ (samples_answer (count_of domain) d values samples)
     (ap (λ vs. Ok (record { values = vs })) (sym (is_ordered domain read.turned d r s each.0))))))
 
 -- ---- what stands is valid
 
+-- a range that stands is valid
 pub range_valid : (domain : Domain) (turned : Turned) (d : Data) (r : NdArray) → StandsForRange domain turned d r → IsRange domain r
 range_valid domain turned d r s = record { count = s.counted; samples = s.samples }

@@ -18,7 +18,7 @@ use Rattle.covjson_read.specs.Answers.{and_then, each}
 use Rattle.covjson_read.specs.Members.{need, list_at, whole_or_null, need_each}
 use Rattle.covjson_read.specs.Ranges.{StandsForSample, length_of, AreRangeAxes, count_items}
 use Rattle.covjson_read.specs.Orders.{ordered}
-use Rattle.covjson_read.specs.RangeAnswers.{lengths_are, shape_in, samples_in}
+use Rattle.covjson_read.specs.RangeAnswers.{lengths_are, shape_in, samples_of, samples_in}
 use Rattle.covjson_read.proofs.OrderLemmas.{ordered_length, ordered_all}
 use Rattle.covjson_read.proofs.RangeParts.{stands_count}
 use Rattle.covjson_read.proofs.SampleLemmas.{IsSampleOrNone, samples_stand}
@@ -35,6 +35,7 @@ pub shape_counted : (domain : Domain) (names : List RangeAxis) (o : Option Data)
     → need_each Naturals (WrongType Shape) ds ≡ Ok x → count_items ds ≡ length names → shape_in domain names o ≡ lengths_are (map (length_of domain) names) ds
 shape_counted domain names o list ds x some listed form counted = rw (some, listed, form, eq-eqb (count_items ds) (length names) counted) refl
 
+-- with another count of lengths that is said
 pub shape_miscounted : (domain : Domain) (names : List RangeAxis) (o : Option Data) (list : Data) (ds : Items) (x : ⊤) (found : ℕ) → o ≡ Some list → list_at Shape list ≡ Ok ds
     → need_each Naturals (WrongType Shape) ds ≡ Ok x → found ≡ count_items ds → found ≢ length names → Err (WrongCount Shape (length names) found) ≡ shape_in domain names o
 shape_miscounted domain names o list ds x found some listed form is other =
@@ -45,10 +46,10 @@ shape_miscounted domain names o list ds x found some listed form is other =
 
 -- with as many values as are wanted they are read
 pub samples_counted : (wanted : ℕ) (d list : Data) (ds : Items) → need (codes "values") Values d ≡ Ok list → list_at Values list ≡ Ok ds → count_items ds ≡ wanted
-    → samples_in wanted d
-    ≡ and_then (need_each NumbersOrNulls (WrongType Values) ds) (λ _. and_then (need_each WholesOrNulls (NotWhole Values) ds) (λ _. each (whole_or_null Values SAMPLE_LIMIT) ds))
+    → samples_in wanted d ≡ samples_of ds
 samples_counted wanted d list ds needed listed counted = rw (needed, listed, eq-eqb (count_items ds) wanted counted) refl
 
+-- with another count of values that is said
 pub samples_miscounted : (wanted : ℕ) (d list : Data) (ds : Items) (found : ℕ) → need (codes "values") Values d ≡ Ok list → list_at Values list ≡ Ok ds
     → found ≡ count_items ds → found ≢ wanted → samples_in wanted d ≡ Err (WrongCount Values wanted found)
 samples_miscounted wanted d list ds found needed listed is other =
@@ -57,12 +58,14 @@ samples_miscounted wanted d list ds found needed listed is other =
 
 -- ---- what was read is valid
 
+-- as many values were read as the domain has places
 pub read_counted : (domain : Domain) (d : Data) (wanted : ℕ) (values : List (Option ℤ)) → samples_in wanted d ≡ Ok values → wanted ≡ count_of domain
     → length values ≡ count_of domain
 read_counted domain d wanted values read is =
     let samples = samples_stand wanted d values read in
     sym (stands_count StandsForSample samples.items values samples.each_stand) ∙ samples.as_many ∙ is
 
+-- a range of them is valid
 pub read_valid : (domain : Domain) (turned : Turned) (names : List RangeAxis) (d : Data) (wanted : ℕ) (values in_order : List (Option ℤ)) → AreRangeAxes domain names
     → samples_in wanted d ≡ Ok values → wanted ≡ count_of domain → in_order ≡ ordered domain turned names values → IsRange domain (record { values = in_order })
 read_valid domain turned names d wanted values in_order axes read is same =

@@ -1,30 +1,23 @@
 -- The kind of a range and its axes: what was checked of them, and what stands.
-use Rattle.std.proofs.Common.{◌≡◌, inl, inr, ℕ, suc, ◌<◌, ◌≤◌, Bool, true, false, not, nat_le, bytes_eq, codes, List, [], ◌∷◌, length, All, if◌then◌else◌, option_and_then, Option, Some, None, Ok, refl, sym, ap, ◌∙◌, arith}
+use Rattle.std.proofs.Common.{◌≡◌, inl, inr, ℕ, suc, ◌<◌, ◌≤◌, true, not, nat_le, bytes_eq, codes, List, [], ◌∷◌, length, All, option_and_then, Some, None, Ok, refl, ap, ◌∙◌, arith}
 use Rattle.std.specs.Prelude.{⊤}
 use Rattle.std.proofs.lemmas.Bool.{and_parts, and_from, or_right, or_left, not-true, not_from_false, leb-true, le-leb, cases_lt, or_cases}
 use Rattle.std.proofs.lemmas.List.Elements.{All-cons, All-nil, All-head, All-tail}
 use Rattle.std.proofs.lemmas.Slice.Eq.{bytes_eq-Decides}
 use Rattle.serde_json.specs.Data.{Data, null, boolean, number, string, array, object, Items, no_items, item}
-use Rattle.serde_json.specs.Find.{get, as_str, as_array}
+use Rattle.serde_json.specs.Find.{get, as_str}
 use Rattle.covjson_value.specs.declared.domains.Domain.{Domain}
 use Rattle.covjson_read.specs.declared.places.RangeAxis.{RangeAxis}
 use Rattle.covjson_read.specs.declared.places.RangeAxis.TheVariants.{T, Z, Y, X, Composite}
-use Rattle.covjson_read.specs.declared.faults.Member.{Member}
 use Rattle.covjson_read.specs.declared.faults.Member.TheVariants.{Ranges, DataType}
-use Rattle.covjson_read.specs.Answers.{Answer, check, each}
-use Rattle.covjson_read.specs.Members.{need, object_at, list_at, text_or_empty}
+use Rattle.covjson_read.specs.Answers.{check}
+use Rattle.covjson_read.specs.Members.{need, object_at, text_or_empty}
 use Rattle.covjson_read.specs.Axes.{EachStands}
 use Rattle.covjson_read.specs.Ranges.{range_key, StandsForName, HoldsIntegers, length_of, has_range_axis, is_named, AreDistinct, AreRangeAxes, IsOnePlace, count_items}
 use Rattle.covjson_read.specs.RangeAnswers.{axis_by_name, axis_named, are_distinct, are_owned, is_kept, are_range_axes, is_one_place, are_integers}
-use Rattle.covjson_read.proofs.AnswerLemmas.{and_then_ok, or_fault_ok, check_ok, as_array_some}
-
--- an answer for each item, where each item has one
-pub each_answers : {V : Type 0} (f : Data → Answer V) (R : Data → V → Type 0) → ((d : Data) (v : V) → R d v → f d ≡ Ok v)
-    → (ds : Items) (vs : List V) → EachStands R ds vs → each f ds ≡ Ok vs
-each_answers f R one no_items [] h = refl
-each_answers f R one no_items (v ∷ vs) h = absurd h
-each_answers f R one (item d ds) [] h = absurd h
-each_answers f R one (item d ds) (v ∷ vs) h = rw (one d v h.0, each_answers f R one ds vs h.1) refl
+use Rattle.covjson_read.proofs.AnswerLemmas.{and_then_ok, or_fault_ok, check_ok, text_is}
+use Rattle.covjson_read.proofs.DomainKeys.{named_one}
+use Rattle.covjson_read.proofs.PlaceNumbers.{each_axis}
 
 -- as many items as values
 pub stands_count : {V : Type 0} (R : Data → V → Type 0) (ds : Items) (vs : List V) → EachStands R ds vs → count_items ds ≡ length vs
@@ -33,21 +26,9 @@ stands_count R no_items (v ∷ vs) h = absurd h
 stands_count R (item d ds) [] h = absurd h
 stands_count R (item d ds) (v ∷ vs) h = ap suc (stands_count R ds vs h.1)
 
-pub list_ok : (m : Member) (d : Data) (ds : Items) → list_at m d ≡ Ok ds → d ≡ array ds
-list_ok m d ds h = as_array_some d ds (or_fault_ok (as_array d) _ ds h)
-
 -- ---- an array of whole numbers
 
--- a text that isn't empty is that of a member
-text_is : (o : Option Data) (b : ℕ) (bs : List ℕ) → text_or_empty o ≡ b ∷ bs → o ≡ Some (string (b ∷ bs))
-text_is None b bs h = cc
-text_is (Some null) b bs h = cc
-text_is (Some (boolean x)) b bs h = cc
-text_is (Some (number n)) b bs h = cc
-text_is (Some (string s)) b bs h = cc
-text_is (Some (array ds)) b bs h = cc
-text_is (Some (object ms)) b bs h = cc
-
+-- the checks of the kind tell that whole numbers are held
 pub integers_hold : (d : Data) (x : ⊤) → are_integers d ≡ Ok x → HoldsIntegers d
 integers_hold d x h =
     let members = and_then_ok (object_at Ranges d) _ x h in
@@ -60,6 +41,7 @@ integers_hold d x h =
       data_type = or_fault_ok (get (codes "dataType") d) _ data_type.0 data_type.1 ∙ text_is (Some data_type.0) _ _ is_type;
     }
 
+-- and where they are held the checks pass
 pub integers_answer : (d : Data) → HoldsIntegers d → are_integers d ≡ Ok tt
 integers_answer null h = cc (h.kind)
 integers_answer (boolean b) h = cc (h.kind)
@@ -70,22 +52,13 @@ integers_answer (object ms) h = rw (h.kind, h.data_type) refl
 
 -- ---- the names of axes
 
--- what holds of an axis found at a name, or later
-found_if : (text key : List ℕ) (here name : RangeAxis) (later : Option RangeAxis) → key ≡ range_key here → (later ≡ Some name → text ≡ range_key name)
-    → (b : Bool) → b ≡ bytes_eq text key → (if b then Some here else later) ≡ Some name → text ≡ range_key name
-found_if text key here name later is_key rest true b h =
-    let same : here ≡ name = cc in
-    (bytes_eq-Decides text key).0 (sym b) ∙ is_key ∙ ap range_key same
-found_if text key here name later is_key rest false b h = rest h
-
+-- an axis is found by its name alone
 key_is : (text : List ℕ) (name : RangeAxis) → axis_by_name text ≡ Some name → text ≡ range_key name
-key_is text name =
-    found_if text (range_key T) T name _ refl
-    (found_if text (range_key Z) Z name _ refl
-    (found_if text (range_key Y) Y name _ refl
-    (found_if text (range_key X) X name _ refl
-    (found_if text (range_key Composite) Composite name None refl (λ h. cc) _ refl) _ refl) _ refl) _ refl) _ refl
+key_is text name h =
+    named_one range_key text T name _ (named_one range_key text Z name _ (named_one range_key text Y name _ (named_one range_key text X name _
+    (named_one range_key text Composite name None (λ none. cc))))) h
 
+-- a datum that is found to be a name is the text of that name
 name_is : (d : Data) (name : RangeAxis) → option_and_then axis_by_name (as_str d) ≡ Some name → StandsForName d name
 name_is null name h = cc
 name_is (boolean b) name h = cc
@@ -94,9 +67,11 @@ name_is (string s) name h = ap string (key_is s name h)
 name_is (array ds) name h = cc
 name_is (object ms) name h = cc
 
+-- a name that was read stands there
 pub name_stands : (d : Data) (name : RangeAxis) → axis_named d ≡ Ok name → StandsForName d name
 name_stands d name h = name_is d name (or_fault_ok (option_and_then axis_by_name (as_str d)) _ name h)
 
+-- and a name that stands there is read
 pub name_answers : (d : Data) (name : RangeAxis) → StandsForName d name → axis_named d ≡ Ok name
 name_answers d T h = rw h refl
 name_answers d Z h = rw h refl
@@ -106,32 +81,38 @@ name_answers d Composite h = rw h refl
 
 -- ---- the axes
 
+-- names that pass the test are distinct
 distinct_stand : (names : List RangeAxis) → are_distinct names ≡ true → AreDistinct names
 distinct_stand [] h = tt
 distinct_stand (name ∷ names) h =
     let both = and_parts (not (is_named name names)) (are_distinct names) h in
     (not-true (is_named name names) both.0, distinct_stand names both.1)
 
+-- and distinct names pass it
 distinct_answer : (names : List RangeAxis) → AreDistinct names → are_distinct names ≡ true
 distinct_answer [] h = refl
 distinct_answer (name ∷ names) h =
     and_from (not (is_named name names)) (are_distinct names) (not_from_false (is_named name names) h.0) (distinct_answer names h.1)
 
+-- an axis of the domain
 abbrev pub IsOwned : Domain → RangeAxis → Type 0
 IsOwned domain name = has_range_axis domain name ≡ true
 
+-- names that pass the test are those of axes of the domain
 owned_stand : (domain : Domain) (names : List RangeAxis) → are_owned domain names ≡ true → All (IsOwned domain) names
 owned_stand domain [] h = All-nil (IsOwned domain)
 owned_stand domain (name ∷ names) h =
     let both = and_parts (has_range_axis domain name) (are_owned domain names) h in
     All-cons (IsOwned domain) name names both.0 (owned_stand domain names both.1)
 
+-- and such names pass it
 owned_answer : (domain : Domain) (names : List RangeAxis) → All (IsOwned domain) names → are_owned domain names ≡ true
 owned_answer domain [] h = refl
 owned_answer domain (name ∷ names) h =
     and_from (has_range_axis domain name) (are_owned domain names) (All-head (IsOwned domain) name names h)
     (owned_answer domain names (All-tail (IsOwned domain) name names h))
 
+-- an axis that passes the test is named where it has several values
 kept_long : (domain : Domain) (names : List RangeAxis) (name : RangeAxis) → is_kept domain names name ≡ true → 1 < length_of domain name → is_named name names ≡ true
 kept_long domain names name h long =
     elim (or_cases (nat_le (length_of domain name) 1) (is_named name names) h) [
@@ -139,6 +120,7 @@ kept_long domain names name h long =
       | inr named ↦ named
     ]
 
+-- and an axis of which that holds passes it
 long_kept : (domain : Domain) (names : List RangeAxis) (name : RangeAxis) → (1 < length_of domain name → is_named name names ≡ true) → is_kept domain names name ≡ true
 long_kept domain names name long =
     elim (cases_lt 1 (length_of domain name)) [
@@ -146,14 +128,7 @@ long_kept domain names name long =
       | inr short ↦ or_left (nat_le (length_of domain name) 1) (is_named name names) (le-leb (length_of domain name) 1 short)
     ]
 
--- what holds of each axis
-each_axis : (P : RangeAxis → Type 0) → P T → P Z → P Y → P X → P Composite → (name : RangeAxis) → P name
-each_axis P t z y x tuple T = t
-each_axis P t z y x tuple Z = z
-each_axis P t z y x tuple Y = y
-each_axis P t z y x tuple X = x
-each_axis P t z y x tuple Composite = tuple
-
+-- names that pass the test are the axes of a range
 pub axes_stand : (domain : Domain) (names : List RangeAxis) → are_range_axes domain names ≡ true → AreRangeAxes domain names
 axes_stand domain names h =
     let kept = is_kept domain names in
@@ -170,11 +145,13 @@ axes_stand domain names h =
       all_long = each_axis (λ name. 1 < length_of domain name → is_named name names ≡ true) (long T t.1) (long Z z.1) (long Y y.1) (long X x.1) (long Composite tuple.1);
     }
 
+-- and the axes of a range pass it
 pub axes_answer : (domain : Domain) (names : List RangeAxis) → AreRangeAxes domain names → are_range_axes domain names ≡ true
 axes_answer domain names h =
     let kept : (name : RangeAxis) → is_kept domain names name ≡ true = λ name. long_kept domain names name (h.all_long name) in
     rw (distinct_answer names h.distinct, owned_answer domain names h.owned, kept T, kept Z, kept Y, kept X, kept Composite) refl
 
+-- a domain that passes the test has one place
 pub one_place_stands : (domain : Domain) → is_one_place domain ≡ true → IsOnePlace domain
 one_place_stands domain h =
     let few = λ (name : RangeAxis). nat_le (length_of domain name) 1 in
@@ -185,6 +162,7 @@ one_place_stands domain h =
     let short : (name : RangeAxis) → few name ≡ true → length_of domain name ≤ 1 = λ name. leb-true (length_of domain name) 1 in
     each_axis (λ name. length_of domain name ≤ 1) (short T z.0) (short Z z.1) (short Y y.1) (short X x.1) (short Composite tuple.1)
 
+-- and a domain of one place passes it
 pub one_place_answers : (domain : Domain) → IsOnePlace domain → is_one_place domain ≡ true
 one_place_answers domain h =
     let few : (name : RangeAxis) → nat_le (length_of domain name) 1 ≡ true = λ name. le-leb (length_of domain name) 1 (h name) in

@@ -11,6 +11,7 @@ use Rattle.covjson_read.specs.Parameters.{parameter_of}
 use Rattle.covjson_read.specs.RangeAnswers.{range_of, ranges_from, has_members, ranges_in}
 use Rattle.covjson_read.proofs.AnswerLemmas.{and_then_ok, check_ok}
 
+-- where there are members there are parameters
 some_from : (read : ReadDomain) (parameters : Data) (ms : Members) (r : ReadRanges) → has_members ms ≡ true → ranges_from read parameters ms ≡ Ok r → 0 < length r.parameters
 some_from read parameters no_members r some h = cc
 some_from read parameters (member id d ms) r some h =

@@ -65,10 +65,12 @@ ids_more kept all p es next k v names is named pushed before =
     ∙ ap (λ (ids : List (List ℕ)). ids ++ left) (map-append (λ (q : Parameter). q.id) kept (p ∷ []))
     ∙ append_assoc (ids_of kept) (p.id ∷ []) left ∙ ap (λ id. ids_of kept ++ id ∷ left) named ∙ taken
 
+-- in the end the ids are all names
 ids_all : (kept : List Parameter) (es : Entries) (names : List (List ℕ)) → es ≡ [] → ids_of kept ++ names_of (members_view es) ≡ names → ids_of kept ≡ names
 ids_all kept es names is before =
     sym (append-nil (ids_of kept)) ∙ subst (λ (xs : Entries). ids_of kept ++ names_of (members_view xs) ≡ names) is before
 
+-- the names of the rest are above this one
 names_above : (x : List ℕ) (es : Entries) → AllByRecursion (λ y. slice_cmp nat_cmp x (string_bytes y) ≡ Less) (map (λ e. e.0) es)
     → AllByRecursion (λ y. slice_cmp nat_cmp x y ≡ Less) (names_of (members_view es))
 names_above x [] h = tt
@@ -89,10 +91,12 @@ ids_ascend kept es all is ids ordered =
 
 -- ---- an object of some
 
+-- a map that is not empty has members
 pub some_members : (es : Entries) → ¬ (length es ≡ 0) → has_members (members_view es) ≡ true
 some_members [] h = absurd (h refl)
 some_members (e ∷ es) h = refl
 
+-- so there are ranges
 pub some_ranges : (read : ReadDomain) (parameters tree d : Data) (ms : Members) → need (codes "ranges") Ranges tree ≡ Ok d → object_at Ranges d ≡ Ok ms
     → has_members ms ≡ true → ranges_in read parameters tree ≡ ranges_from read parameters ms
 some_ranges read parameters tree d ms needed are some = rw (needed, are, some) refl

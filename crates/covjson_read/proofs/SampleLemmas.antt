@@ -1,8 +1,8 @@
 -- The values of a range: what was checked of the items of a list, and the samples that they stand for.
 use Rattle.std.proofs.Common.{◌≡◌, ℕ, zero, suc, ◌<◌, ◌≤◌, ℤ, true, ◌||◌, ◌==◌, codes, List, [], ◌∷◌, length, get_or, All, Option, Some, None, Ok, refl, sym, ap, ◌∙◌, subst, unsigned_abs, arith}
 use Rattle.std.specs.Prelude.{IfSome, is_some}
-use Rattle.std.proofs.lemmas.Bool.{and_from, or_right, le-leb, eqb-true, eq-eqb}
-use Rattle.std.proofs.lemmas.List.Elements.{All-cons, All-nil, All-head, All-tail}
+use Rattle.std.proofs.lemmas.Bool.{or_right, le-leb, eqb-true, eq-eqb}
+use Rattle.std.proofs.lemmas.List.Elements.{All-cons, All-nil}
 use Rattle.serde_json.specs.Data.{Data, null, boolean, number, string, array, object, Items, no_items, item}
 use Rattle.serde_json.specs.Find.{get, as_null, as_number}
 use Rattle.covjson_value.specs.Coverages.{IsSample}
@@ -12,18 +12,20 @@ use Rattle.covjson_read.specs.declared.faults.Member.TheVariants.{Values}
 use Rattle.covjson_read.specs.declared.faults.CovFault.TheVariants.{WrongType, NotWhole, WrongCount}
 use Rattle.covjson_read.specs.declared.members.Wanted.TheVariants.{NumbersOrNulls, WholesOrNulls}
 use Rattle.covjson_read.specs.Answers.{Answer, and_then, check, each}
-use Rattle.covjson_read.specs.Members.{need, list_at, whole_of, whole_within, whole_or_null, all_wanted, need_each}
+use Rattle.covjson_read.specs.Members.{need, list_at, whole_of, whole_within, whole_or_null, need_each}
 use Rattle.covjson_read.specs.Axes.{EachStands}
 use Rattle.covjson_read.specs.Ranges.{StandsForSample, count_items, item_at, HasSample}
-use Rattle.covjson_read.specs.RangeAnswers.{samples_in}
-use Rattle.covjson_read.proofs.AnswerLemmas.{and_then_ok, or_fault_ok, check_ok, each_stands, each_all, whole_within_stands}
-use Rattle.covjson_read.proofs.RangeParts.{list_ok}
+use Rattle.covjson_read.specs.RangeAnswers.{samples_of, samples_in}
+use Rattle.covjson_read.proofs.AnswerLemmas.{and_then_ok, or_fault_ok, check_ok, list_ok, each_stands, each_all, whole_within_stands}
+use Rattle.covjson_read.proofs.AnswersGiven.{each_given, all_wanted_given}
 
 -- ---- one sample
 
+-- a value within a limit, or none
 abbrev IsShort : ℕ → Option ℤ → Type 0
 IsShort limit v = IfSome v (λ z. unsigned_abs z ≤ limit)
 
+-- a whole number that was read stands there, within the limit
 number_stands : (m : Member) (limit : ℕ) (d : Data) (v : Option ℤ) → and_then (whole_within m limit d) (λ z. Ok (Some z)) ≡ Ok v → StandsForSample d v × IsShort limit v
 number_stands m limit d None h =
     let a = and_then_ok (whole_within m limit d) _ None h in
@@ -33,10 +35,12 @@ number_stands m limit d (Some z) h =
     let same : a.0 ≡ z = cc in
     whole_within_stands m limit d z (a.1 ∙ ap Ok same)
 
+-- and so does no value
 null_stands : (limit : ℕ) (v : Option ℤ) → ◌≡◌ {A = Answer (Option ℤ)} (Ok None) (Ok v) → StandsForSample null v × IsShort limit v
 null_stands limit None h = (refl, tt)
 null_stands limit (Some z) h = cc
 
+-- the sample that was read stands there
 sample_stands : (m : Member) (limit : ℕ) (d : Data) (v : Option ℤ) → whole_or_null m limit d ≡ Ok v → StandsForSample d v × IsShort limit v
 sample_stands m limit null v h = null_stands limit v h
 sample_stands m limit (boolean b) v h = number_stands m limit (boolean b) v h
@@ -45,6 +49,7 @@ sample_stands m limit (string s) v h = number_stands m limit (string s) v h
 sample_stands m limit (array ds) v h = number_stands m limit (array ds) v h
 sample_stands m limit (object ms) v h = number_stands m limit (object ms) v h
 
+-- and a sample that stands there is read
 sample_answers : (m : Member) (limit : ℕ) (d : Data) (v : Option ℤ) → StandsForSample d v → IsShort limit v → whole_or_null m limit d ≡ Ok v
 sample_answers m limit d None h short = rw h refl
 sample_answers m limit null (Some z) h short = cc
@@ -60,6 +65,7 @@ sample_answers m limit (object ms) (Some z) h short = cc
 abbrev pub IsSampleOrNone : Option ℤ → Type 0
 IsSampleOrNone v = IfSome v IsSample
 
+-- a sample is a number or null
 number_or_null : (d : Data) (v : Option ℤ) → StandsForSample d v → (is_some (as_null d) || is_some (as_number d)) ≡ true
 number_or_null d None h = rw h refl
 number_or_null null (Some z) h = refl
@@ -69,29 +75,18 @@ number_or_null (string s) (Some z) h = cc
 number_or_null (array ds) (Some z) h = cc
 number_or_null (object ms) (Some z) h = cc
 
+-- and held whole where it is a number
 whole_or_null_is : (d : Data) (v : Option ℤ) → StandsForSample d v → (is_some (as_null d) || is_some (whole_of d)) ≡ true
 whole_or_null_is d None h = rw h refl
 whole_or_null_is d (Some z) h = or_right (is_some (as_null d)) (is_some (whole_of d)) (ap is_some h)
 
-all_numbers : (ds : Items) (vs : List (Option ℤ)) → EachStands StandsForSample ds vs → all_wanted NumbersOrNulls ds ≡ true
-all_numbers no_items vs h = refl
-all_numbers (item d ds) [] h = absurd h
-all_numbers (item d ds) (v ∷ vs) h = and_from (is_some (as_null d) || is_some (as_number d)) (all_wanted NumbersOrNulls ds) (number_or_null d v h.0) (all_numbers ds vs h.1)
-
-all_wholes : (ds : Items) (vs : List (Option ℤ)) → EachStands StandsForSample ds vs → all_wanted WholesOrNulls ds ≡ true
-all_wholes no_items vs h = refl
-all_wholes (item d ds) [] h = absurd h
-all_wholes (item d ds) (v ∷ vs) h = and_from (is_some (as_null d) || is_some (whole_of d)) (all_wanted WholesOrNulls ds) (whole_or_null_is d v h.0) (all_wholes ds vs h.1)
-
-each_sample : (ds : Items) (vs : List (Option ℤ)) → EachStands StandsForSample ds vs → All IsSampleOrNone vs → each (whole_or_null Values SAMPLE_LIMIT) ds ≡ Ok vs
-each_sample no_items [] h short = refl
-each_sample no_items (v ∷ vs) h short = absurd h
-each_sample (item d ds) [] h short = absurd h
-each_sample (item d ds) (v ∷ vs) h short =
-    rw (
-      sample_answers Values SAMPLE_LIMIT d v h.0 (All-head IsSampleOrNone v vs short),
-      each_sample ds vs h.1 (All-tail IsSampleOrNone v vs short),
-    ) refl
+-- items that were read one by one pass each check
+pub samples_read : (ds : Items) (values : List (Option ℤ)) → each (whole_or_null Values SAMPLE_LIMIT) ds ≡ Ok values → samples_of ds ≡ Ok values
+samples_read ds values h =
+    let stand = each_stands (whole_or_null Values SAMPLE_LIMIT) StandsForSample (λ d v g. (sample_stands Values SAMPLE_LIMIT d v g).0) ds values h in
+    let numbers = all_wanted_given NumbersOrNulls StandsForSample number_or_null ds values stand in
+    let wholes = all_wanted_given WholesOrNulls StandsForSample whole_or_null_is ds values stand in
+    rw (numbers, wholes) h
 
 -- a list of so many items that stand for these samples
 pub record HasSamples (d : Data) (count : ℕ) (values : List (Option ℤ)) : Type 0 where
@@ -101,6 +96,7 @@ pub record HasSamples (d : Data) (count : ℕ) (values : List (Option ℤ)) : Ty
   pub each_stand : EachStands StandsForSample items values
   pub short : All IsSampleOrNone values
 
+-- the samples that were read stand there
 pub samples_stand : (count : ℕ) (d : Data) (values : List (Option ℤ)) → samples_in count d ≡ Ok values → HasSamples d count values
 samples_stand count d values h =
     let a = and_then_ok (need (codes "values") Values d) _ values h in
@@ -117,10 +113,11 @@ samples_stand count d values h =
       short = each_all answer IsSampleOrNone (λ x v g. (sample_stands Values SAMPLE_LIMIT x v g).1) b.0 values f.2;
     }
 
+-- and samples that stand there are read
 pub samples_answer : (count : ℕ) (d : Data) (values : List (Option ℤ)) → HasSamples d count values → samples_in count d ≡ Ok values
 samples_answer count d values h =
-    rw (h.list, eq-eqb (count_items h.items) count h.as_many, all_numbers h.items values h.each_stand, all_wholes h.items values h.each_stand)
-    (each_sample h.items values h.each_stand h.short)
+    rw (h.list, eq-eqb (count_items h.items) count h.as_many)
+    (samples_read h.items values (each_given (whole_or_null Values SAMPLE_LIMIT) StandsForSample IsSampleOrNone (sample_answers Values SAMPLE_LIMIT) h.items values h.each_stand h.short))
 
 -- ---- samples by their places
 
@@ -132,6 +129,7 @@ sample_at (item d ds) [] n h below = absurd h
 sample_at (item d ds) (v ∷ vs) zero h below = h.0
 sample_at (item d ds) (v ∷ vs) (suc n) h below = sample_at ds vs n h.1 (omega arith)
 
+-- a datum stands for one sample
 sample_one : (d : Data) (v w : Option ℤ) → StandsForSample d v → StandsForSample d w → v ≡ w
 sample_one d None None a b = refl
 sample_one d None (Some w) a b = cc
@@ -152,6 +150,7 @@ held (item d ds) = whole_of d ∷ held ds
 abbrev pub HasSomeSample : Option Data → Type 0
 HasSomeSample o = (v : Option ℤ) × HasSample o v × IsSampleOrNone v
 
+-- that sample is the whole number that is held
 is_held : (d : Data) (v : Option ℤ) → StandsForSample d v → v ≡ whole_of d
 is_held d None h = rw h refl
 is_held d (Some z) h = sym h

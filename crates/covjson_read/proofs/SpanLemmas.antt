@@ -9,11 +9,12 @@ use Rattle.covjson_value.specs.declared.limits.TheConstants.{COORDINATE_LIMIT}
 use Rattle.covjson_value.specs.Coverages.{IsCoordinate}
 use Rattle.covjson_read.specs.Members.{is_within}
 use Rattle.covjson_read.specs.AxisAnswers.{has_whole_steps, is_span_within, stepped, regular}
+use Rattle.covjson_read.proofs.OrderTests.{at_most_tells}
 
 -- ---- values between the first and the last
 
 -- a place between the first and the last has a value between theirs
-within_ends : (first step : ℤ) (place most : ℕ) → place ≤ most → IsCoordinate first → IsCoordinate (first +ℤ step *ℤ pos most) → IsCoordinate (first +ℤ pos place *ℤ step)
+pub within_ends : (first step : ℤ) (place most : ℕ) → place ≤ most → IsCoordinate first → IsCoordinate (first +ℤ step *ℤ pos most) → IsCoordinate (first +ℤ pos place *ℤ step)
 within_ends first (pos s) place most h a b = grind (arith, ints, mul-le-mul_left s h)
 within_ends first (negsuc s) place most h a b = grind (arith, ints, mul-le-mul_left s h)
 
@@ -40,6 +41,7 @@ next_step : (first step : ℤ) (place : ℕ) → (first +ℤ step) +ℤ pos plac
 next_step first (pos s) place = omega (arith, ints)
 next_step first (negsuc s) place = omega (arith, ints)
 
+-- no step
 no_step : (first step : ℤ) → first ≡ first +ℤ pos 0 *ℤ step
 no_step first (pos s) = omega (arith, ints)
 no_step first (negsuc s) = omega (arith, ints)
@@ -85,10 +87,7 @@ pub record IsSpan (first last count : ℤ) : Type 0 where
   pub some : pos 1 ≤ℤ count
   pub few : count ≤ℤ pos 4_000_000
 
--- a number that is tested to be at most another is
-at_most : (a b : ℤ) → int_le a b ≡ true → a ≤ℤ b
-at_most a b h = grind (arith, ints)
-
+-- the test tells them
 pub span_tells : (first last count : ℤ) → is_span_within first last count ≡ true → IsSpan first last count
 span_tells first last count h =
     let a = and_parts (is_within COORDINATE_LIMIT first && is_within COORDINATE_LIMIT last && int_le (pos 1) count) (int_le count (pos 4_000_000)) h in
@@ -97,8 +96,8 @@ span_tells first last count h =
     record {
       first_in = leb-true (unsigned_abs first) COORDINATE_LIMIT c.0;
       last_in = leb-true (unsigned_abs last) COORDINATE_LIMIT c.1;
-      some = at_most (pos 1) count b.1;
-      few = at_most count (pos 4_000_000) a.1;
+      some = at_most_tells (pos 1) count b.1;
+      few = at_most_tells count (pos 4_000_000) a.1;
     }
 
 -- a count above 0 is a natural number
@@ -120,10 +119,10 @@ last_reached first step last (negsuc n) some h = absurd (omega (arith, ints, som
 
 -- a count of at most 1 that is above 0 is 1
 count_one : (count : ℤ) → pos 1 ≤ℤ count → int_le count (pos 1) ≡ true → count ≡ pos 1
-count_one count some h = let most = at_most count (pos 1) h in omega (arith, ints, some, most)
+count_one count some h = let most = at_most_tells count (pos 1) h in omega (arith, ints, some, most)
 
 -- one value is the first and the last
-one_is : (first last : ℤ) → has_whole_steps first last (pos 1) ≡ true → first ≡ last
+pub one_is : (first last : ℤ) → has_whole_steps first last (pos 1) ≡ true → first ≡ last
 one_is first last h = let none = eqb-true (unsigned_abs (last -ℤ first)) 0 h in omega (arith, ints, none)
 
 -- so no step reaches from the one to the other
@@ -149,7 +148,7 @@ none_left first last count some more h =
     omega (arith, ints, none)
 
 -- the quotient, times its divisor, is what was divided
-whole_quotient : (first last count : ℤ) → int_lt count (pos 1) ≡ false → int_le count (pos 1) ≡ false → has_whole_steps first last count ≡ true
+pub whole_quotient : (first last count : ℤ) → int_lt count (pos 1) ≡ false → int_le count (pos 1) ≡ false → has_whole_steps first last count ≡ true
     → int_div (last -ℤ first) (count -ℤ pos 1) *ℤ (count -ℤ pos 1) ≡ last -ℤ first
 whole_quotient first last count some more h =
     let none = none_left first last count some more h in

@@ -3,15 +3,14 @@ use Rattle.std.proofs.Common.{◌≡◌, ℕ, List, bytes_eq, Bool, true, Option
 use Rattle.std.specs.Prelude.{⊤}
 use Rattle.std.proofs.lemmas.Slice.Eq.{bytes_eq-Decides}
 use Rattle.serde_json.specs.Data.{Data, array, Items}
-use Rattle.serde_json.specs.Find.{as_array}
 use Rattle.covjson_value.specs.declared.coverages.Referencing.{Referencing}
 use Rattle.covjson_read.specs.declared.faults.Member.TheVariants.{Referencing as SystemsMember}
 use Rattle.covjson_read.specs.declared.faults.CovFault.TheVariants.{Missing, WrongType, UnsupportedSystem}
 use Rattle.covjson_read.specs.Answers.{Answer, or_fault, check}
 use Rattle.covjson_read.specs.Members.{list_at}
 use Rattle.covjson_read.specs.Systems.{all_connections, first_plane, first_other_calendar, system_text, vertical_name, only_gregorian, plane_in, referencing_of, StandsForReferencing}
-use Rattle.covjson_read.proofs.AnswerLemmas.{and_then_ok, or_fault_ok, as_array_some, check_ok}
-use Rattle.covjson_read.proofs.ParameterLaws.{and_then_is}
+use Rattle.covjson_read.proofs.AnswerLemmas.{and_then_ok, or_fault_ok, check_ok, list_ok}
+use Rattle.covjson_read.proofs.AnswersGiven.{and_then_given, or_fault_given, check_given}
 
 -- what is known of the entry of the plane that is answered
 record IsPlaneIn (entries : Items) (plane : Data) : Type 0 where
@@ -19,6 +18,7 @@ record IsPlaneIn (entries : Items) (plane : Data) : Type 0 where
   first : first_plane entries ≡ Some plane
   projected : system_text (codes "type") plane ≡ codes "ProjectedCRS"
 
+-- the plane that is answered is known
 plane_stands : (entries : Items) (plane : Data) → plane_in entries ≡ Ok plane → IsPlaneIn entries plane
 plane_stands entries plane h =
     let c = and_then_ok (check (all_connections entries) (WrongType SystemsMember)) _ plane h in
@@ -32,13 +32,14 @@ plane_stands entries plane h =
       projected = ap (system_text (codes "type")) (sym same) ∙ (bytes_eq-Decides kind (codes "ProjectedCRS")).0 (check_ok (bytes_eq kind (codes "ProjectedCRS")) _ _ k.1);
     }
 
+-- and the plane that is known is answered
 plane_answers : (entries : Items) (plane : Data) → IsPlaneIn entries plane → plane_in entries ≡ Ok plane
 plane_answers entries plane s =
     let kind = system_text (codes "type") plane in
-    and_then_is (check (all_connections entries) (WrongType SystemsMember)) _ tt (Ok plane) (ap (λ b. check b (WrongType SystemsMember)) s.connections)
-    (and_then_is (or_fault (first_plane entries) (Missing SystemsMember)) _ plane (Ok plane) (ap (λ o. or_fault o (Missing SystemsMember)) s.first)
-    (and_then_is (check (bytes_eq kind (codes "ProjectedCRS")) (UnsupportedSystem kind)) _ tt (Ok plane)
-    (ap (λ b. check b (UnsupportedSystem kind)) ((bytes_eq-Decides kind (codes "ProjectedCRS")).1 s.projected)) refl))
+    and_then_given (check (all_connections entries) (WrongType SystemsMember)) _ tt (Ok plane) (check_given _ (WrongType SystemsMember) s.connections)
+    (and_then_given (or_fault (first_plane entries) (Missing SystemsMember)) _ plane (Ok plane) (or_fault_given _ (Missing SystemsMember) _ s.first)
+    (and_then_given (check (bytes_eq kind (codes "ProjectedCRS")) (UnsupportedSystem kind)) _ tt (Ok plane)
+    (check_given _ (UnsupportedSystem kind) ((bytes_eq-Decides kind (codes "ProjectedCRS")).1 s.projected)) refl))
 
 -- no other calendar, where that check passes
 no_other : (o : Option Data) (x : ⊤) → only_gregorian o ≡ Ok x → o ≡ None
@@ -57,7 +58,7 @@ systems_stand has_z found r h =
     let same : made ≡ r = cc in
     record {
       entries = b.0;
-      list = or_fault_ok found _ a.0 a.1 ∙ ap Some (as_array_some a.0 b.0 (or_fault_ok (as_array a.0) _ b.0 b.1));
+      list = or_fault_ok found _ a.0 a.1 ∙ ap Some (list_ok _ a.0 b.0 b.1);
       connections = plane.connections;
       plane = p.0;
       first = plane.first;
@@ -67,9 +68,11 @@ systems_stand has_z found r h =
       vertical = ap (λ (q : Referencing). q.vertical) (sym same);
     }
 
+-- systems of these names
 abbrev referencing_made : List ℕ → Option (List ℕ) → Answer Referencing
 referencing_made crs vertical = Ok (record { crs = crs; vertical = vertical })
 
+-- those that stand there have the names of the entries
 made_so : (has_z : Bool) (found : Option Data) (r : Referencing) (s : StandsForReferencing has_z found r)
     → referencing_made (system_text (codes "id") s.plane) (vertical_name has_z s.entries) ≡ Ok r
 made_so has_z found r s = rw (← s.crs, ← s.vertical) refl
@@ -78,6 +81,6 @@ made_so has_z found r s = rw (← s.crs, ← s.vertical) refl
 pub systems_answer : (has_z : Bool) (found : Option Data) (r : Referencing) → StandsForReferencing has_z found r → referencing_of has_z found ≡ Ok r
 systems_answer has_z found r s =
     let plane : IsPlaneIn s.entries s.plane = record { connections = s.connections; first = s.first; projected = s.projected } in
-    and_then_is (or_fault found (Missing SystemsMember)) _ (array s.entries) (Ok r) (ap (λ o. or_fault o (Missing SystemsMember)) s.list)
-    (and_then_is (plane_in s.entries) _ s.plane (Ok r) (plane_answers s.entries s.plane plane)
-    (and_then_is (only_gregorian (first_other_calendar s.entries)) _ tt (Ok r) (ap only_gregorian s.gregorian) (made_so has_z found r s)))
+    and_then_given (or_fault found (Missing SystemsMember)) _ (array s.entries) (Ok r) (or_fault_given _ (Missing SystemsMember) _ s.list)
+    (and_then_given (plane_in s.entries) _ s.plane (Ok r) (plane_answers s.entries s.plane plane)
+    (and_then_given (only_gregorian (first_other_calendar s.entries)) _ tt (Ok r) (ap only_gregorian s.gregorian) (made_so has_z found r s)))

@@ -11,12 +11,12 @@ use Rattle.covjson_read.specs.declared.places.RangeAxis.{RangeAxis}
 use Rattle.covjson_read.specs.declared.places.RangeAxis.TheVariants.{T, Z, Y, X, Composite}
 use Rattle.covjson_read.specs.Ranges.{range_key, length_of, is_named, AreInside, AreDistinct, row_major, tree_place, tree_number, AreRangeAxes}
 use Rattle.covjson_read.specs.RangeAnswers.{axis_by_name}
-use Rattle.covjson_read.proofs.PlaceNumbers.{product, product_whole, row_major_same}
-use Rattle.covjson_read.proofs.PlaceLemmas.{count_whole, all_some}
+use Rattle.covjson_read.proofs.PlaceNumbers.{product, product_whole, row_major_same, each_axis}
+use Rattle.covjson_read.proofs.PlaceLemmas.{count_whole, all_some, mirrored}
 
 -- ---- a place for one axis more
 
--- axes of one key are one
+-- an axis is found by its key
 named_back : (name : RangeAxis) → axis_by_name (range_key name) ≡ Some name
 named_back T = refl
 named_back Z = refl
@@ -24,12 +24,14 @@ named_back Y = refl
 named_back X = refl
 named_back Composite = refl
 
+-- axes of one key are one
 same_name : (name other : RangeAxis) → bytes_eq (range_key name) (range_key other) ≡ true → name ≡ other
 same_name name other h =
     let keys : range_key name ≡ range_key other = (bytes_eq-Decides (range_key name) (range_key other)).0 h in
     let found : ◌≡◌ {A = Option RangeAxis} (Some name) (Some other) = sym (named_back name) ∙ ap axis_by_name keys ∙ named_back other in
     cc (found)
 
+-- an axis has its own key
 named_self : (name : RangeAxis) → bytes_eq (range_key name) (range_key name) ≡ true
 named_self name = (bytes_eq-Decides (range_key name) (range_key name)).1 refl
 
@@ -41,6 +43,7 @@ with_place name place on other = if bytes_eq (range_key name) (range_key other) 
 with_own : (name : RangeAxis) (place : ℕ) (on : RangeAxis → ℕ) → with_place name place on name ≡ place
 with_own name place on = ap (λ b. if b then place else on name) (named_self name)
 
+-- either place is on its axis
 below_either : (lengths : RangeAxis → ℕ) (name other : RangeAxis) (place there : ℕ) → place < lengths name → there < lengths other
     → (b : Bool) → b ≡ bytes_eq (range_key name) (range_key other) → (if b then place else there) < lengths other
 below_either lengths name other place there here before true is = subst (λ n. place < lengths n) (same_name name other (sym is)) here
@@ -73,6 +76,7 @@ next_place number length after wanted some low high =
       subst (λ (n : ℕ). wanted < (n + 1) * after) (sym is) (omega arith),
     )
 
+-- a product of lengths above 0 is above 0
 some_product : (lengths : RangeAxis → ℕ) → ((name : RangeAxis) → 0 < lengths name) → (names : List RangeAxis) → 0 < product lengths names
 some_product lengths some [] = omega arith
 some_product lengths some (name ∷ names) = mul-pos (some name) (some_product lengths some names)
@@ -83,6 +87,7 @@ record HasNumber (lengths : RangeAxis → ℕ) (names : List RangeAxis) (number 
   inside : (name : RangeAxis) → on name < lengths name
   reached : row_major lengths on names number ≡ wanted
 
+-- each number below the product is reached
 has_number : (lengths : RangeAxis → ℕ) → ((name : RangeAxis) → 0 < lengths name) → (names : List RangeAxis) → AreDistinct names → (number wanted : ℕ)
     → number * product lengths names ≤ wanted → wanted < (number + 1) * product lengths names → HasNumber lengths names number wanted
 has_number lengths some [] distinct number wanted low high = record { on = λ name. 0; inside = some; reached = omega arith }
@@ -105,10 +110,7 @@ has_number lengths some (name ∷ names) distinct number wanted low high =
 abbrev from_end : Bool → ℕ → ℕ → ℕ
 from_end turned length place = if turned then length - 1 - place else place
 
-from_end_inside : (turned : Bool) (length place : ℕ) → place < length → from_end turned length place < length
-from_end_inside true length place h = omega arith
-from_end_inside false length place h = h
-
+-- counted twice from the end it is the place
 from_end_twice : (turned : Bool) (length place : ℕ) → place < length → from_end turned length (from_end turned length place) ≡ place
 from_end_twice true length place h = omega arith
 from_end_twice false length place h = refl
@@ -123,14 +125,16 @@ domain_places domain turned on = record {
   tuple = on Composite;
 }
 
+-- they are on their axes
 domain_places_inside : (domain : Domain) (turned : Turned) (on : RangeAxis → ℕ) → ((name : RangeAxis) → on name < length_of domain name)
     → AreInside domain (domain_places domain turned on)
-domain_places_inside domain turned on inside T = from_end_inside turned.t (length_of domain T) (on T) (inside T)
-domain_places_inside domain turned on inside Z = from_end_inside turned.z (length_of domain Z) (on Z) (inside Z)
-domain_places_inside domain turned on inside Y = from_end_inside turned.y (length_of domain Y) (on Y) (inside Y)
-domain_places_inside domain turned on inside X = from_end_inside turned.x (length_of domain X) (on X) (inside X)
+domain_places_inside domain turned on inside T = mirrored turned.t (length_of domain T) (on T) (inside T)
+domain_places_inside domain turned on inside Z = mirrored turned.z (length_of domain Z) (on Z) (inside Z)
+domain_places_inside domain turned on inside Y = mirrored turned.y (length_of domain Y) (on Y) (inside Y)
+domain_places_inside domain turned on inside X = mirrored turned.x (length_of domain X) (on X) (inside X)
 domain_places_inside domain turned on inside Composite = inside Composite
 
+-- and are those places in the tree
 in_tree : (domain : Domain) (turned : Turned) (on : RangeAxis → ℕ) → ((name : RangeAxis) → on name < length_of domain name) → (name : RangeAxis)
     → tree_place domain turned (domain_places domain turned on) name ≡ on name
 in_tree domain turned on inside T = from_end_twice turned.t (length_of domain T) (on T) (inside T)
@@ -141,11 +145,7 @@ in_tree domain turned on inside Composite = refl
 
 -- where there is any place each axis has a value
 some_each : (domain : Domain) (number : ℕ) → number < count_of domain → (name : RangeAxis) → 0 < length_of domain name
-some_each domain number inside T = (all_some domain number inside).0
-some_each domain number inside Z = (all_some domain number inside).1
-some_each domain number inside Y = (all_some domain number inside).2
-some_each domain number inside X = (all_some domain number inside).3
-some_each domain number inside Composite = (all_some domain number inside).4
+some_each domain number inside = let some = all_some domain number inside in each_axis (λ name. 0 < length_of domain name) some.0 some.1 some.2 some.3 some.4
 
 -- each number is that of some places in the tree's order
 pub has_tree_places : (domain : Domain) (turned : Turned) (names : List RangeAxis) (number : ℕ) → AreRangeAxes domain names → number < count_of domain

@@ -1,6 +1,6 @@
 -- Tests along the items of tuples, and the values that are found there.
 use Rattle.std.specs.Prelude.{option_and_then, unsigned_abs, bytes_eq}
-use Rattle.std.proofs.Common.{◌≡◌, ℕ, suc, ◌+◌, ◌-◌, ◌<◌, ◌≤◌, ◌++◌, ℤ, List, [], ◌∷◌, length, get_or, drop, map, true, false, true≢false, Option, Some, Ok, Err, inl, inr, refl, sym, ap, ◌∙◌, subst, append_assoc, arith}
+use Rattle.std.proofs.Common.{◌≡◌, ℕ, suc, ◌+◌, ◌-◌, ◌<◌, ◌≤◌, ◌++◌, ℤ, List, [], ◌∷◌, length, get_or, drop, map, true, false, true≢false, Option, Some, Ok, inl, inr, refl, sym, ap, ◌∙◌, subst, arith}
 use Rattle.std.proofs.lemmas.Bool.{and_parts, cases_Bool, cond-true, cond-false}
 use Rattle.std.proofs.lemmas.List.{drop_more, length-drop}
 use Rattle.serde_json.specs.Data.{Data, Items, no_items, item}
@@ -19,6 +19,7 @@ use Rattle.covjson_read.specs.Members.{list_at, whole_of}
 use Rattle.covjson_read.specs.Systems.{is_text}
 use Rattle.covjson_read.specs.TupleAnswers.{are_keys, is_whole_within, passes, all_pass, list_passes, tuples_pass, value_of, whole_or_zero, number_of, tuple_at, tuples_from, never_falls}
 use Rattle.covjson_read.proofs.AnswerLemmas.{or_fault_ok}
+use Rattle.covjson_read.proofs.AnswersGiven.{onto_more}
 use Rattle.covjson_read.proofs.TupleReads.{within_tells}
 use Rattle.covjson_read.proofs.TupleValues.{same_name}
 
@@ -105,11 +106,6 @@ pass_rest names xs i x h pass =
     let begin = ap (λ (ys : List Value). tuples_pass Within names (items_view ys)) (drop_more xs i x h) in
     (and_parts (list_passes Within names (as_array (view (get_or xs i x)))) (tuples_pass Within names (items_view (drop (i + 1) xs))) (sym begin ∙ pass)).1
 
--- one tuple more is found before the rest
-onto_next : (found : List Position) (tuple : Position) (rest : Answer (List Position)) → onto found (and_then rest (λ tuples. Ok (tuple ∷ tuples))) ≡ onto (found ++ tuple ∷ []) rest
-onto_next found tuple (Ok tuples) = ap Ok (sym (append_assoc found (tuple ∷ []) tuples))
-onto_next found tuple (Err f) = refl
-
 -- the tuples of the rest, after one tuple more
 pub read_more : (names : List AxisName) (xs : List Value) (i : ℕ) (x : Value) (found new : List Position) (tuple : Position) → i < length xs → x ≡ get_or xs i x
     → tuple_at names i (view x) ≡ Ok tuple → new ≡ found ++ tuple ∷ []
@@ -121,7 +117,7 @@ read_more names xs i x found new tuple h is read pushed =
     let begin = ap (λ (ys : List Value). onto found (tuples_from names i (items_view ys))) (drop_more xs i x h) in
     let next = ap (λ (a : Answer Position). onto found (and_then a (λ t. and_then (tuples_from names (suc i) ds) (λ tuples. Ok (t ∷ tuples))))) here in
     let place = ap (λ (n : ℕ). onto found (and_then (tuples_from names n ds) (λ tuples. Ok (tuple ∷ tuples)))) after in
-    begin ∙ next ∙ place ∙ onto_next found tuple (tuples_from names (i + 1) ds) ∙ ap (λ (ts : List Position). onto ts (tuples_from names (i + 1) ds)) (sym pushed)
+    begin ∙ next ∙ place ∙ sym (onto_more found tuple (tuples_from names (i + 1) ds)) ∙ ap (λ (ts : List Position). onto ts (tuples_from names (i + 1) ds)) (sym pushed)
 
 -- one tuple or none never falls
 falls_not : (tuples : List Position) → length tuples ≤ 1 → never_falls (map (coordinate T) tuples) ≡ true

@@ -1,8 +1,7 @@
 -- The names of the coordinates of tuples, and the order of their times.
 use Rattle.std.specs.Prelude.{◌&&◌, if◌then◌else◌}
-use Rattle.std.proofs.Common.{◌≡◌, ℕ, zero, suc, ◌+◌, ◌<◌, ℤ, ◌≤ℤ◌, int_le, List, [], ◌∷◌, length, map, Bool, true, false, Option, Some, None, refl, sym, ap, ap₂, subst, arith}
+use Rattle.std.proofs.Common.{◌≡◌, ℕ, zero, suc, ◌+◌, ◌<◌, ℤ, ◌≤ℤ◌, List, [], ◌∷◌, length, map, Bool, true, false, Option, Some, None, refl, sym, ap, ap₂, subst, arith}
 use Rattle.std.proofs.lemmas.Bool.{true≢false, false≢true, and_parts, and_from}
-use Rattle.std.proofs.lemmas.Int.{ints}
 use Rattle.std.proofs.lemmas.Slice.Eq.{bytes_eq-Decides}
 use Rattle.serde_json.specs.Data.{Data, string, Items, no_items, item}
 use Rattle.serde_json.specs.Find.{as_str}
@@ -16,6 +15,7 @@ use Rattle.covjson_read.specs.declared.tuples.TupleKind.TheVariants.{Places, Ste
 use Rattle.covjson_read.specs.Systems.{is_text}
 use Rattle.covjson_read.specs.TupleAnswers.{names_of, may_have_z, are_keys, has_z_by_keys, is_at_most_first, never_falls}
 use Rattle.covjson_read.proofs.AnswerLemmas.{as_str_some}
+use Rattle.covjson_read.proofs.OrderTests.{at_most_tells, at_most_given}
 
 -- ---- names of coordinates
 
@@ -71,14 +71,6 @@ keys_chosen LevelSteps false may = refl
 keys_chosen LevelSteps true may = absurd (false≢true (may refl))
 
 -- ---- the order of times
-
--- a test of two values tells their order
-at_most_tells : (a b : ℤ) → int_le a b ≡ true → a ≤ℤ b
-at_most_tells a b h = grind (arith, ints)
-
--- and the order gives the test
-at_most_given : (a b : ℤ) → a ≤ℤ b → int_le a b ≡ true
-at_most_given a b h = grind (arith, ints)
 
 -- a value that passes the test isn't above the first
 first_tells : (value : ℤ) (values : List ℤ) → is_at_most_first value values ≡ true → 0 < length values → value ≤ℤ value_at values 0

@@ -8,17 +8,17 @@ use Rattle.covjson_value.specs.declared.domains.AxisName.{AxisName}
 use Rattle.covjson_value.specs.declared.domains.AxisName.TheVariants.{T, Z, Y, X}
 use Rattle.covjson_value.specs.Domains.{coordinate}
 use Rattle.covjson_value.specs.Coverages.{IsTupleValue, NeverFall}
-use Rattle.covjson_read.specs.declared.faults.CovFault.{CovFault}
 use Rattle.covjson_read.specs.declared.faults.CovFault.TheVariants.{WrongType, NotWhole, OutOfRange, NotMonotonic}
 use Rattle.covjson_read.specs.declared.faults.Member.TheVariants.{Composite}
 use Rattle.covjson_read.specs.declared.tuples.Test.{Test}
 use Rattle.covjson_read.specs.declared.tuples.Test.TheVariants.{Form, Whole, Within}
-use Rattle.covjson_read.specs.Answers.{Answer, and_then, check}
+use Rattle.covjson_read.specs.Answers.{check}
 use Rattle.covjson_read.specs.Members.{list_at}
 use Rattle.covjson_read.specs.Axes.{EachStands}
 use Rattle.covjson_read.specs.Tuples.{StandsForTuple}
 use Rattle.covjson_read.specs.TupleAnswers.{all_pass, list_passes, tuples_pass, value_of, number_of, time_if, tuple_at, tuples_from, never_falls, tuples_of_items}
 use Rattle.covjson_read.proofs.AnswerLemmas.{and_then_ok, or_fault_ok, as_array_some, check_ok}
+use Rattle.covjson_read.proofs.AnswersGiven.{and_then_given, check_given, first_given}
 use Rattle.covjson_read.proofs.TupleReads.{IsReadAs}
 use Rattle.covjson_read.proofs.TupleValues.{each_passes, tuple_read, tuple_within, each_stands_read}
 use Rattle.covjson_read.proofs.TupleNames.{Finds}
@@ -65,17 +65,13 @@ of_data_is place names ds tuple read =
     let level : ℤ → Position = λ z. record { x = tuple.x; y = tuple.y; z = z; m = tuple.m } in
     ap₂ plane (read X) (read Y) ∙ ap level (read Z)
 
--- where a check passes, the answer is the next
-pub and_then_given : {T U : Type 0} (a : Answer T) (next : T → Answer U) (x : T) (y : U) → a ≡ Ok x → next x ≡ Ok y → and_then a next ≡ Ok y
-and_then_given a next x y is h = ap (λ (b : Answer _). and_then b next) is ∙ h
-
 -- and a tuple that the tree stands for is read
 tuple_answers : (names : List AxisName) (place : ℕ) (d : Data) (tuple : Position) → StandsForTuple names d tuple → tuple_at names place d ≡ Ok tuple
 tuple_answers names place d tuple x =
     let ds = x.items in
     let read = tuple_read place names ds tuple x.each x.within in
     ap (tuple_at names place) x.list
-    ∙ and_then_given (time_if place (value_of T names ds)) (λ time. Ok (of_data names ds time)) tuple.m tuple (read T) (ap Ok (of_data_is place names ds tuple read))
+    ∙ and_then_given (time_if place (value_of T names ds)) (λ time. Ok (of_data names ds time)) tuple.m _ (read T) (ap Ok (of_data_is place names ds tuple read))
 
 -- a tuple that the tree stands for passes each test
 tuple_passes : (test : Test) (names : List AxisName) (d : Data) (tuple : Position) → StandsForTuple names d tuple → list_passes test names (as_array d) ≡ true
@@ -104,8 +100,7 @@ list_answers names place no_items [] h = refl
 list_answers names place no_items (tuple ∷ tuples) h = absurd h
 list_answers names place (item d ds) [] h = absurd h
 list_answers names place (item d ds) (tuple ∷ tuples) h =
-    and_then_given (tuple_at names place d) _ tuple (tuple ∷ tuples) (tuple_answers names place d tuple h.0)
-    (and_then_given (tuples_from names (suc place) ds) _ tuples (tuple ∷ tuples) (list_answers names (suc place) ds tuples h.1) refl)
+    first_given (tuple_at names place d) (tuples_from names (suc place) ds) tuple tuples (tuple_answers names place d tuple h.0) (list_answers names (suc place) ds tuples h.1)
 
 -- each of them passes each test
 list_passes_all : (test : Test) (names : List AxisName) (ds : Items) (tuples : List Position) → EachStands (StandsForTuple names) ds tuples → tuples_pass test names ds ≡ true
@@ -130,18 +125,14 @@ items_stand names finds ds tuples h =
     let in_time = never_falls_tells (map (coordinate T) t.0) (check_ok falls _ _ o.1) in
     subst (λ (ts : List Position). EachStands (StandsForTuple names) ds ts × NeverFall (map (coordinate T) ts)) same (stand, in_time)
 
--- a test that is passed is no fault
-pub check_given : (b : Bool) (f : CovFault) → b ≡ true → check b f ≡ Ok tt
-check_given b f h = ap (λ (c : Bool). check c f) h
-
 -- and the tuples that it stands for are read
 pub items_answer : (names : List AxisName) (ds : Items) (tuples : List Position) → EachStands (StandsForTuple names) ds tuples → NeverFall (map (coordinate T) tuples)
     → tuples_of_items names ds ≡ Ok tuples
 items_answer names ds tuples h in_time =
     let passes = λ (test : Test). list_passes_all test names ds tuples h in
     let falls = never_falls (map (coordinate T) tuples) in
-    and_then_given (check (tuples_pass Form names ds) (WrongType Composite)) _ tt tuples (check_given _ _ (passes Form))
-    (and_then_given (check (tuples_pass Whole names ds) (NotWhole Composite)) _ tt tuples (check_given _ _ (passes Whole))
-    (and_then_given (check (tuples_pass Within names ds) (OutOfRange Composite)) _ tt tuples (check_given _ _ (passes Within))
-    (and_then_given (tuples_from names 0 ds) _ tuples tuples (list_answers names 0 ds tuples h)
-    (and_then_given (check falls (NotMonotonic Composite)) _ tt tuples (check_given falls _ (never_falls_given (map (coordinate T) tuples) in_time)) refl))))
+    and_then_given (check (tuples_pass Form names ds) (WrongType Composite)) _ tt _ (check_given _ _ (passes Form))
+    (and_then_given (check (tuples_pass Whole names ds) (NotWhole Composite)) _ tt _ (check_given _ _ (passes Whole))
+    (and_then_given (check (tuples_pass Within names ds) (OutOfRange Composite)) _ tt _ (check_given _ _ (passes Within))
+    (and_then_given (tuples_from names 0 ds) _ tuples _ (list_answers names 0 ds tuples h)
+    (and_then_given (check falls (NotMonotonic Composite)) _ tt _ (check_given falls _ (never_falls_given (map (coordinate T) tuples) in_time)) refl))))

@@ -30,6 +30,7 @@ values_written name values h = record {
   values_stand = each_written (StandsForAxisValue name) (IsAxisValue name) (axis_value_data name) (axis_value_written name) values h.within;
 }
 
+-- a written axis lists its values
 values_held : (name : AxisName) (values : List ℤ) → IsNamedAxis name values → HoldsValues name (axis_data name values) values
 values_held T values h = values_written T values h
 values_held Z values h = inl (values_written Z values h)

@@ -15,6 +15,7 @@ use Rattle.covjson_read.specs.Answers.{Answer, and_then, or_fault, each}
 use Rattle.covjson_read.specs.Members.{text_or_empty}
 use Rattle.covjson_read.specs.Standing.{StandsIn}
 use Rattle.covjson_read.specs.CoverageAnswers.{coverage_in, document_of, document_of_type}
+use Rattle.covjson_read.proofs.AnswersGiven.{first_given}
 use Rattle.covjson_read.proofs.WrittenLaws.{coverage_members, kind_found, collected_stands_written}
 
 -- the answer is the coverage that a tree stands for
@@ -25,15 +26,11 @@ CoveragesAnswer = (collection tree : Data) (coverage : Coverage) → StandsIn co
 kind_read : (members : Members) (kind : List ℕ) → get (codes "type") (object members) ≡ Some (string kind) → document_of (object members) ≡ document_of_type kind (object members)
 kind_read members kind h = ap (λ found. and_then (or_fault found (Missing Kind)) (λ d. document_of_type (text_or_empty (Some d)) (object members))) h
 
--- a value before others
-value_first : {V : Type 0} (first : Answer V) (rest : Answer (List V)) (v : V) (vs : List V) → first ≡ Ok v → rest ≡ Ok vs → and_then first (λ x. and_then rest (λ xs. Ok (x ∷ xs))) ≡ Ok (v ∷ vs)
-value_first first rest v vs h k = rw (h, k) refl
-
 -- the coverages of a collection, in turn
 coverages_answer : CoveragesAnswer → (collection : Data) (coverages : List Coverage) → All IsValid coverages → each (coverage_in collection) (items_of (map coverage_data coverages)) ≡ Ok coverages
 coverages_answer answer collection [] h = refl
 coverages_answer answer collection (coverage ∷ coverages) h =
-    value_first (coverage_in collection (coverage_data coverage)) (each (coverage_in collection) (items_of (map coverage_data coverages))) coverage coverages
+    first_given (coverage_in collection (coverage_data coverage)) (each (coverage_in collection) (items_of (map coverage_data coverages))) coverage coverages
     (answer collection (coverage_data coverage) coverage (collected_stands_written collection coverage (All-head IsValid coverage coverages h)))
     (coverages_answer answer collection coverages (All-tail IsValid coverage coverages h))
 

@@ -23,21 +23,27 @@ unturned = record { t = false; z = false; y = false; x = false }
 
 -- ---- the members for the axes
 
+-- the members of written axes, each where it is given, from the last on
 abbrev levels : Option Data → Members
 levels z = member_if (codes "z") z no_members
 
+-- the axis y before them
 abbrev rows : Option Data → Option Data → Members
 rows y z = member_if (codes "y") y (levels z)
 
+-- the axis x before these
 abbrev columns : Option Data → Option Data → Option Data → Members
 columns x y z = member_if (codes "x") x (rows y z)
 
+-- the axis t before these
 abbrev times : Option Data → Option Data → Option Data → Option Data → Members
 times t x y z = member_if (codes "t") t (columns x y z)
 
+-- and the composite axis before all
 abbrev members : Option Data → Option Data → Option Data → Option Data → Option Data → Members
 members composite t x y z = member_if (codes "composite") composite (times t x y z)
 
+-- each axis is found where it is given
 composite_found : (composite t x y z : Option Data) → get_member (codes "composite") (members composite t x y z) ≡ composite
 composite_found composite t x y z =
     member_found (codes "composite") composite (times t x y z) (λ d. refl)
@@ -46,6 +52,7 @@ composite_found composite t x y z =
     ∙ (member_passed (codes "composite") (codes "y") y (levels z) (λ d. refl)
     ∙ member_passed (codes "composite") (codes "z") z no_members (λ d. refl))))
 
+-- the axis t
 t_found : (composite t x y z : Option Data) → get_member (codes "t") (members composite t x y z) ≡ t
 t_found composite t x y z =
     member_passed (codes "t") (codes "composite") composite (times t x y z) (λ d. refl)
@@ -54,6 +61,7 @@ t_found composite t x y z =
     ∙ (member_passed (codes "t") (codes "y") y (levels z) (λ d. refl)
     ∙ member_passed (codes "t") (codes "z") z no_members (λ d. refl)))
 
+-- the axis x
 x_found : (composite t x y z : Option Data) → get_member (codes "x") (members composite t x y z) ≡ x
 x_found composite t x y z =
     member_passed (codes "x") (codes "composite") composite (times t x y z) (λ d. refl)
@@ -62,6 +70,7 @@ x_found composite t x y z =
     (member_passed (codes "x") (codes "y") y (levels z) (λ d. refl)
     ∙ member_passed (codes "x") (codes "z") z no_members (λ d. refl)))
 
+-- the axis y
 y_found : (composite t x y z : Option Data) → get_member (codes "y") (members composite t x y z) ≡ y
 y_found composite t x y z =
     member_passed (codes "y") (codes "composite") composite (times t x y z) (λ d. refl)
@@ -70,6 +79,7 @@ y_found composite t x y z =
     ∙ member_found (codes "y") y (levels z) (λ d. refl)
     (member_passed (codes "y") (codes "z") z no_members (λ d. refl))))
 
+-- the axis z
 z_found : (composite t x y z : Option Data) → get_member (codes "z") (members composite t x y z) ≡ z
 z_found composite t x y z =
     member_passed (codes "z") (codes "composite") composite (times t x y z) (λ d. refl)
@@ -78,10 +88,12 @@ z_found composite t x y z =
     ∙ (member_passed (codes "z") (codes "y") y (levels z) (λ d. refl)
     ∙ member_found (codes "z") z no_members (λ d. refl) refl)))
 
+-- a member with the name of an axis before others
 key_if : (key : List ℕ) (given : Option Data) (rest : Members) → is_axis_key key ≡ true → all_axis_keys rest ≡ true → all_axis_keys (member_if key given rest) ≡ true
 key_if key None rest own all = all
 key_if key (Some d) rest own all = rw own all
 
+-- all written members have names of axes
 keys_are_axes : (composite t x y z : Option Data) → all_axis_keys (members composite t x y z) ≡ true
 keys_are_axes composite t x y z =
     key_if (codes "composite") composite (times t x y z) refl
@@ -92,12 +104,15 @@ keys_are_axes composite t x y z =
 
 -- ---- the axes of a domain
 
+-- the datum of an axis of a domain
 abbrev axis_given : Domain → AxisName → Option Data
 axis_given domain name = option_map (axis_data name) (axis_of domain name)
 
+-- the datum of its tuples
 abbrev tuples_given : Domain → Option Data
 tuples_given domain = option_map (composite_data (coordinates_of domain)) (tuples_of domain)
 
+-- all members of its axes
 abbrev members_of : Domain → Members
 members_of domain = members (tuples_given domain) (axis_given domain T) (axis_given domain X) (axis_given domain Y) (axis_given domain Z)
 
@@ -108,12 +123,14 @@ axis_found domain Z = z_found (tuples_given domain) (axis_given domain T) (axis_
 axis_found domain Y = y_found (tuples_given domain) (axis_given domain T) (axis_given domain X) (axis_given domain Y) (axis_given domain Z)
 axis_found domain X = x_found (tuples_given domain) (axis_given domain T) (axis_given domain X) (axis_given domain Y) (axis_given domain Z)
 
+-- no written axis is turned
 never_turned : (name : AxisName) → is_turned unturned name ≡ false
 never_turned T = refl
 never_turned Z = refl
 never_turned Y = refl
 never_turned X = refl
 
+-- each axis of the domain is in the tree
 axes_written : (domain : Domain) → HasAxes domain → (name : AxisName) → HasSameAxis name (get (axis_key name) (object (members_of domain))) (is_turned unturned name) (axis_of domain name)
 axes_written domain h name =
     let same = same_axis_written name (axis_of domain name) (h name) in

@@ -17,6 +17,7 @@ use Rattle.covjson_read.proofs.WrittenSystems.{systems_written}
 use Rattle.covjson_read.proofs.WrittenParameters.{parameters_written, parameters_stand_written}
 use Rattle.covjson_read.proofs.WrittenRanges.{range_names_written, ranges_written}
 
+-- a text that was given is read again
 text_back : (text : Option (List ℕ)) → text ≡ option_and_then as_str (option_map string text)
 text_back None = refl
 text_back (Some text) = refl
@@ -28,6 +29,7 @@ after_id coverage =
     (member (codes "ranges") (ranges_data coverage.domain coverage.parameters coverage.ranges)
     (member (codes "type") (string (codes "Coverage")) no_members))
 
+-- the datum of the id
 abbrev id_given : Coverage → Option Data
 id_given coverage = option_map string coverage.id
 
@@ -39,12 +41,15 @@ coverage_members coverage = member (codes "domain") (domain_data coverage.domain
 pub kind_found : (coverage : Coverage) → get (codes "type") (coverage_data coverage) ≡ Some (string (codes "Coverage"))
 kind_found coverage = member_passed (codes "type") (codes "id") (id_given coverage) (after_id coverage) (λ d. refl)
 
+-- it is found in the coverage
 id_found : (coverage : Coverage) → get (codes "id") (coverage_data coverage) ≡ id_given coverage
 id_found coverage = member_found (codes "id") (id_given coverage) (after_id coverage) (λ d. refl) refl
 
+-- so are the parameters
 parameters_found : (coverage : Coverage) → get (codes "parameters") (coverage_data coverage) ≡ Some (parameters_data coverage.parameters)
 parameters_found coverage = member_passed (codes "parameters") (codes "id") (id_given coverage) (after_id coverage) (λ d. refl)
 
+-- and the ranges
 ranges_found : (coverage : Coverage) → get (codes "ranges") (coverage_data coverage) ≡ Some (ranges_data coverage.domain coverage.parameters coverage.ranges)
 ranges_found coverage = member_passed (codes "ranges") (codes "id") (id_given coverage) (after_id coverage) (λ d. refl)
 

@@ -12,10 +12,11 @@ use Rattle.std.proofs.lemmas.List.Elements.{All-nil, All-cons, All-head, All-tai
 use Rattle.serde_json.specs.Data.{Data, string, Members, no_members, member}
 use Rattle.serde_json.specs.Find.{get_member}
 use Rattle.covjson_value.specs.declared.coverages.Parameter.{Parameter}
-use Rattle.covjson_value.specs.Coverages.{IsName, IsParameter, ids_of, AscendById}
+use Rattle.covjson_value.specs.Coverages.{IsParameter, ids_of, AscendById}
 use Rattle.covjson_value.specs.Trees.{members_in_order, property_data, unit_data, parameter_data, named_parameter, parameters_data}
-use Rattle.covjson_read.specs.Parameters.{said_in, HasNameForm, StandsForLabel, StandsForUnit, StandsForParameter, EachIsParameter, HoldsParameters, StandsAmong}
+use Rattle.covjson_read.specs.Parameters.{said_in, StandsForLabel, StandsForUnit, StandsForParameter, EachIsParameter, HoldsParameters, StandsAmong}
 use Rattle.covjson_read.proofs.WrittenMembers.{member_found}
+use Rattle.covjson_read.proofs.ParameterNames.{form_of_name}
 
 -- ---- one parameter
 
@@ -26,6 +27,7 @@ said_by lang d Less is = refl
 said_by lang d Equal is = ap (λ (text : List ℕ). Some (text, d)) (exact_bytes (codes "en") lang is)
 said_by lang d Greater is = refl
 
+-- a label
 label_written : (p : Parameter) → StandsForLabel (property_data p) p.lang p.label
 label_written p = record {
   members = member p.lang (string p.label) no_members;
@@ -34,10 +36,12 @@ label_written p = record {
   said = said_by p.lang (string p.label) (slice_cmp nat_cmp (codes "en") p.lang) refl;
 }
 
+-- a unit
 unit_written : (unit : Option (List ℕ)) → StandsForUnit (option_map unit_data unit) unit
 unit_written None = tt
 unit_written (Some text) = refl
 
+-- a parameter
 parameter_written : (p : Parameter) → StandsForParameter (parameter_data p) p
 parameter_written p =
     let P : Option Data → Type 0 = λ found. StandsForUnit found p.unit in
@@ -52,14 +56,13 @@ parameter_written p =
 
 -- ---- the parameters by their ids
 
-name_form : (text : List ℕ) → IsName text → HasNameForm text
-name_form text h = record { length_in = h.length_in; bytes = h.bytes }
-
+-- each is written as a parameter by its id
 each_parameter_written : (ps : List Parameter) → All IsParameter ps → EachIsParameter (members_in_order (map named_parameter ps))
 each_parameter_written [] h = tt
 each_parameter_written (p ∷ ps) h =
-    (name_form p.id (All-head IsParameter p ps h).id, (p, parameter_written p), each_parameter_written ps (All-tail IsParameter p ps h))
+    (form_of_name p.id (All-head IsParameter p ps h).id, (p, parameter_written p), each_parameter_written ps (All-tail IsParameter p ps h))
 
+-- and so all are parameters
 pub parameters_written : (ps : List Parameter) → All IsParameter ps → HoldsParameters (parameters_data ps)
 parameters_written ps h = record { members = members_in_order (map named_parameter ps); is = refl; each = each_parameter_written ps h }
 
@@ -73,6 +76,7 @@ found_above name key d ms below =
     let above : slice_cmp nat_cmp name key ≡ Greater = nat_list_cmp_total.antisymm name key ∙ ap ordering_reverse below in
     rw above refl
 
+-- a parameter is found behind a member of a lesser name
 found_behind : (key : List ℕ) (d : Data) (ms : Members) (qs : List Parameter) → AllByRecursion (λ y. slice_cmp nat_cmp key y ≡ Less) (ids_of qs)
     → All (IsFound ms) qs → All (IsFound (member key d ms)) qs
 found_behind key d ms [] below h = All-nil (IsFound (member key d ms))
@@ -80,6 +84,7 @@ found_behind key d ms (q ∷ qs) below h =
     All-cons (IsFound (member key d ms)) q qs (found_above q.id key d ms below.0 ∙ All-head (IsFound ms) q qs h)
     (found_behind key d ms qs below.1 (All-tail (IsFound ms) q qs h))
 
+-- a parameter is found first by its id
 found_first : (p : Parameter) (ms : Members) → IsFound (member p.id (parameter_data p) ms) p
 found_first p ms =
     let same : slice_cmp nat_cmp p.id p.id ≡ Equal = tied_itself nat_list_cmp_total p.id in

@@ -26,6 +26,7 @@ crs_written : (crs : List ℕ) → crs ≡ system_text (codes "id") (horizontal_
 crs_written [] = refl
 crs_written (byte ∷ bytes) = refl
 
+-- each written entry has coordinates and a system
 connections_written : (has_z has_t : Bool) (crs : List ℕ) (vertical : Option (List ℕ)) → all_connections (entries has_z has_t crs vertical) ≡ true
 connections_written true true crs vertical = refl
 connections_written true false crs vertical = refl
@@ -37,18 +38,22 @@ plane_without_calendar : (name : Option (List ℕ)) (coordinates : Data) → is_
 plane_without_calendar None coordinates = refl
 plane_without_calendar (Some name) coordinates = refl
 
+-- the system of levels has no calendar
 levels_without_calendar : (name : Option (List ℕ)) (coordinates : Data) → is_other_calendar (connection coordinates (system_data name (codes "VerticalCRS"))) ≡ false
 levels_without_calendar None coordinates = refl
 levels_without_calendar (Some name) coordinates = refl
 
+-- that of times is Gregorian
 calendars_of_times : (has_t : Bool) → first_other_calendar (item_if has_t temporal_data no_items) ≡ None
 calendars_of_times true = refl
 calendars_of_times false = refl
 
+-- so is every calendar of the entries after the plane
 calendars_of_rest : (has_z has_t : Bool) (vertical : Option (List ℕ)) → first_other_calendar (item_if has_z (vertical_data vertical) (item_if has_t temporal_data no_items)) ≡ None
 calendars_of_rest true has_t vertical = rw (levels_without_calendar vertical (keys_data (Z ∷ []))) (calendars_of_times has_t)
 calendars_of_rest false has_t vertical = calendars_of_times has_t
 
+-- and of all entries
 calendars_written : (has_z has_t : Bool) (crs : List ℕ) (vertical : Option (List ℕ)) → first_other_calendar (entries has_z has_t crs vertical) ≡ None
 calendars_written has_z has_t crs vertical = rw (plane_without_calendar (text_if_some crs) (keys_data (X ∷ Y ∷ []))) (calendars_of_rest has_z has_t vertical)
 
@@ -57,17 +62,21 @@ plane_not_vertical : (name : Option (List ℕ)) → is_vertical (connection_data
 plane_not_vertical None = refl
 plane_not_vertical (Some name) = refl
 
+-- the written system of levels is a vertical one
 levels_vertical : (name : Option (List ℕ)) → is_vertical (vertical_data name) ≡ true
 levels_vertical None = refl
 levels_vertical (Some name) = refl
 
+-- it is the first such
 vertical_found : (has_t : Bool) (crs : List ℕ) (vertical : Option (List ℕ)) → first_vertical (entries true has_t crs vertical) ≡ Some (vertical_data vertical)
 vertical_found has_t crs vertical = rw (plane_not_vertical (text_if_some crs), levels_vertical vertical) refl
 
+-- without levels no vertical name is given
 none_without_levels : (vertical : Option (List ℕ)) → (IsSome vertical → IsTrue false) → vertical ≡ None
 none_without_levels None h = refl
 none_without_levels (Some name) h = absurd (true≢false (sym (h refl)))
 
+-- the vertical name is read again
 vertical_written : (has_z has_t : Bool) (crs : List ℕ) (vertical : Option (List ℕ)) → (IsSome vertical → IsTrue has_z) → vertical ≡ vertical_name has_z (entries has_z has_t crs vertical)
 vertical_written true has_t crs vertical h = rw (vertical_found has_t crs vertical) (sym (name_written vertical (codes "VerticalCRS") (keys_data (Z ∷ []))))
 vertical_written false has_t crs vertical h = none_without_levels vertical h

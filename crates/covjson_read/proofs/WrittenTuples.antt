@@ -17,11 +17,13 @@ use Rattle.covjson_read.proofs.WrittenAxes.{axis_value_written}
 abbrev coordinate_data : Position → AxisName → Data
 coordinate_data tuple name = axis_value_data name (coordinate name tuple)
 
+-- the coordinates of a written tuple stand for its values
 coordinates_written : (names : List AxisName) (tuple : Position) → All (HasValue tuple) names → EachCoordinate names (items_of (map (coordinate_data tuple) names)) tuple
 coordinates_written [] tuple h = tt
 coordinates_written (name ∷ names) tuple h =
     (axis_value_written name (coordinate name tuple) (All-head (HasValue tuple) name names h), coordinates_written names tuple (All-tail (HasValue tuple) name names h))
 
+-- a written tuple stands for itself
 tuple_written : (names : List AxisName) (tuple : Position) → IsTuple names tuple → StandsForTuple names (tuple_data names tuple) tuple
 tuple_written names tuple h = record {
   items = items_of (map (coordinate_data tuple) names);
@@ -30,6 +32,7 @@ tuple_written names tuple h = record {
   within = h;
 }
 
+-- and so does the written composite axis
 tuples_written : (names : List AxisName) (tuples : List Position) → AreTuples names tuples → StandsForTuples names (composite_data names tuples) tuples
 tuples_written names tuples h = record {
   data_type = refl;

@@ -90,15 +90,20 @@ shape_in domain names (Some d) =
 
 -- ---- their values
 
--- so many values, each whole and within its limit, or null
+-- each item is whole and within its limit, or null
+abbrev pub samples_of : Items → Answer (List (Option ℤ))
+samples_of ds =
+    and_then (need_each NumbersOrNulls (WrongType Values) ds) (λ _.
+    and_then (need_each WholesOrNulls (NotWhole Values) ds) (λ _.
+    each (whole_or_null Values SAMPLE_LIMIT) ds))
+
+-- so many values, each a sample or null
 abbrev pub samples_in : ℕ → Data → Answer (List (Option ℤ))
 samples_in wanted d =
     and_then (need (codes "values") Values d) (λ list.
     and_then (list_at Values list) (λ ds.
     and_then (check (count_items ds == wanted) (WrongCount Values wanted (count_items ds))) (λ _.
-    and_then (need_each NumbersOrNulls (WrongType Values) ds) (λ _.
-    and_then (need_each WholesOrNulls (NotWhole Values) ds) (λ _.
-    each (whole_or_null Values SAMPLE_LIMIT) ds)))))
+    samples_of ds)))
 
 -- an array of whole numbers
 abbrev pub are_integers : Data → Answer ⊤

@@ -221,7 +221,22 @@ fn wanted_count(domain: &Domain) -> u128
     times * (levels * (rows * (columns * tuples)))
 }
 
-// The values of a range, absent where they are null: Missing, WrongType, WrongCount, NotWhole, OutOfRange.
+// The samples that items are, absent where they are null: WrongType, NotWhole, OutOfRange. They are read in one pass, and looked
+// at in the order of the checks only where one of them is none.
+fn samples_of(alloc: Global, items: &Vec<Value>) -> Result<Vec<Option<i64>>, CovFault>
+    ensures { GivesUnlessMemory (λ v. v.items) result (ranges.samples_of (items_view items.now.items)) }
+{
+    match wholes_or_nulls(alloc, items, Member::Values, SAMPLE_LIMIT) {
+        Ok(found) => Ok(found),
+        Err(fault) => {
+            need_form(items, Wanted::NumbersOrNulls, Member::Values)?;
+            need_wholes(items, Wanted::WholesOrNulls, Member::Values)?;
+            Err(fault)
+        }
+    }
+}
+
+// The values of a range: Missing, WrongType, WrongCount, and then sample by sample.
 fn samples(alloc: Global, tree: &Value, wanted: u128) -> Result<Vec<Option<i64>>, CovFault>
     ensures { GivesUnlessMemory (λ v. v.items) result (ranges.samples_in wanted (view tree.now)) }
 {
@@ -231,9 +246,7 @@ fn samples(alloc: Global, tree: &Value, wanted: u128) -> Result<Vec<Option<i64>>
     if found != wanted {
         return Err(CovFault::WrongCount(Member::Values, wanted, found));
     }
-    need_form(items, Wanted::NumbersOrNulls, Member::Values)?;
-    need_wholes(items, Wanted::WholesOrNulls, Member::Values)?;
-    wholes_or_nulls(alloc, items, Member::Values, SAMPLE_LIMIT)
+    samples_of(alloc, items)
 }
 
 /// The range over a domain that a tree stands for: its values in row-major order t, z, y, x or along the tuples, whatever the

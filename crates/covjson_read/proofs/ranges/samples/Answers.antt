@@ -15,24 +15,6 @@ returns-then-found-wanted c =
     let found : c.len-found.result ≡ count_items (items_view xs) = omega (arith, count_items_view xs, c.len-found.ensures, c.in_ok-items.items.now.ok) in
     inl (samples_miscounted c.args.wanted (view c.args.tree.now) list (items_view xs) c.len-found.result needed listed found c.if-found-wanted.true)
 
-pub returns-in_err-need_form : goal.returns-in_err-need_form
-returns-in_err-need_form c =
-    let xs = c.in_ok-items.items.now.items in
-    let list = view c.in_ok-list.list.now in
-    let needed : need (codes "values") Values (view c.args.tree.now) ≡ Ok list = search rules in
-    let listed : list_at Values list ≡ Ok (items_view xs) = search rules in
-    let counted : count_items (items_view xs) ≡ c.args.wanted = omega (arith, count_items_view xs, c.len-found.ensures, c.in_ok-items.items.now.ok, c.if-found-wanted.false) in
-    rw (samples_counted c.args.wanted (view c.args.tree.now) list (items_view xs) needed listed counted) (search rules)
-
-pub returns-in_err-need_wholes : goal.returns-in_err-need_wholes
-returns-in_err-need_wholes c =
-    let xs = c.in_ok-items.items.now.items in
-    let list = view c.in_ok-list.list.now in
-    let needed : need (codes "values") Values (view c.args.tree.now) ≡ Ok list = search rules in
-    let listed : list_at Values list ≡ Ok (items_view xs) = search rules in
-    let counted : count_items (items_view xs) ≡ c.args.wanted = omega (arith, count_items_view xs, c.len-found.ensures, c.in_ok-items.items.now.ok, c.if-found-wanted.false) in
-    rw (samples_counted c.args.wanted (view c.args.tree.now) list (items_view xs) needed listed counted) (search rules)
-
 pub returns : goal.returns
 returns c =
     let xs = c.in_ok-items.items.now.items in
@@ -40,4 +22,4 @@ returns c =
     let needed : need (codes "values") Values (view c.args.tree.now) ≡ Ok list = search rules in
     let listed : list_at Values list ≡ Ok (items_view xs) = search rules in
     let counted : count_items (items_view xs) ≡ c.args.wanted = omega (arith, count_items_view xs, c.len-found.ensures, c.in_ok-items.items.now.ok, c.if-found-wanted.false) in
-    rw (samples_counted c.args.wanted (view c.args.tree.now) list (items_view xs) needed listed counted) (search rules)
+    rw (samples_counted c.args.wanted (view c.args.tree.now) list (items_view xs) needed listed counted) c.samples_of.ensures

@@ -1,0 +1,142 @@
+-- Labels and units: what the answer tells of them, and the answer to those that stand for some.
+use Rattle.std.proofs.Common.{◌≡◌, ℕ, List, true, not, ◌&&◌, is_some, Option, Some, None, Ok, refl, sym, ap, ◌∙◌, subst, codes}
+use Rattle.serde_json.specs.Data.{Data, null, boolean, number, string, array, object, Members, no_members, member}
+use Rattle.serde_json.specs.Find.{get, get_member, as_str}
+use Rattle.covjson_value.specs.declared.coverages.Parameter.{Parameter}
+use Rattle.covjson_read.specs.declared.faults.Member.{Member}
+use Rattle.covjson_read.specs.declared.faults.Member.TheVariants.{ObservedProperty, Unit}
+use Rattle.covjson_read.specs.declared.faults.CovFault.TheVariants.{Missing, WrongType}
+use Rattle.covjson_read.specs.Answers.{or_fault, check}
+use Rattle.covjson_read.specs.Members.{need, part, object_at, text_at}
+use Rattle.covjson_read.specs.Parameters.{all_texts, EachIsText, said_in, label_at, parameter_label, unit_label, unit_by_symbol, unit_if, StandsForParameter, StandsForLabel, StandsForLabelText, StandsForSymbol, StandsForUnit}
+use Rattle.covjson_read.proofs.AnswerLemmas.{and_then_ok, or_fault_ok, check_ok, none_of, object_ok, text_ok}
+use Rattle.covjson_read.proofs.AnswersGiven.{and_then_given, or_fault_given, check_given}
+
+-- ---- labels
+
+-- one text more
+each_text : (d : Data) (lang : List ℕ) (ms : Members) → (all_texts ms ≡ true → EachIsText ms)
+    → is_some (as_str d) && all_texts ms ≡ true → EachIsText (member lang d ms)
+each_text null lang ms rest h = cc
+each_text (boolean b) lang ms rest h = cc
+each_text (number n) lang ms rest h = cc
+each_text (string s) lang ms rest h = ((s, refl), rest h)
+each_text (array ds) lang ms rest h = cc
+each_text (object ns) lang ms rest h = cc
+
+-- where all pass the test, each member is a text
+each_is_text : (ms : Members) → all_texts ms ≡ true → EachIsText ms
+each_is_text no_members h = tt
+each_is_text (member lang d ms) h = each_text d lang ms (each_is_text ms) h
+
+-- and texts pass it
+texts_pass : (ms : Members) → EachIsText ms → all_texts ms ≡ true
+texts_pass no_members each = refl
+texts_pass (member lang d ms) each = ap (λ x. is_some (as_str x) && all_texts ms) each.0.1 ∙ texts_pass ms each.1
+
+-- the text that is said of a label
+label_said : (l : Data) (ms : Members) (s : List ℕ × Data) (text : List ℕ) (p : List ℕ × List ℕ) → l ≡ object ms
+    → said_in (get (codes "en") l) ms ≡ Some s → s.1 ≡ string text → (s.0, text) ≡ p → said_in (get (codes "en") (object ms)) ms ≡ Some (p.0, string p.1)
+label_said l ms s text p is_object chosen is_text same =
+    ap (λ x. said_in (get (codes "en") x) ms) (sym is_object) ∙ chosen
+    ∙ ap (λ y. Some (s.0, y)) is_text ∙ ap (λ (x : List ℕ × List ℕ). Some (x.0, string x.1)) same
+
+-- the label that is answered stands there
+label_stands : (m : Member) (d : Data) (p : List ℕ × List ℕ) → label_at m d ≡ Ok p → StandsForLabel d p.0 p.1
+label_stands m d p h =
+    let a = and_then_ok (part (codes "label") m d) _ p h in
+    let b = and_then_ok (object_at m a.0) _ p a.2 in
+    let k = and_then_ok (check (all_texts b.0) (WrongType m)) _ p b.2 in
+    let chosen = said_in (get (codes "en") a.0) b.0 in
+    let s = and_then_ok (or_fault chosen (WrongType m)) _ p k.2 in
+    let t = and_then_ok (text_at m s.0.1) _ p s.2 in
+    let is_object = object_ok _ a.0 b.0 b.1 in
+    let is_text = text_ok _ s.0.1 t.0 t.1 in
+    let same : (s.0.0, t.0) ≡ p = cc in
+    record {
+      members = b.0;
+      label = or_fault_ok (get (codes "label") d) _ a.0 a.1 ∙ ap Some is_object;
+      texts = each_is_text b.0 (check_ok (all_texts b.0) _ _ k.1);
+      said = label_said a.0 b.0 s.0 t.0 p is_object (or_fault_ok chosen _ s.0 s.1) is_text same;
+    }
+
+-- and the label that stands there is answered
+label_answers : (m : Member) (d : Data) (lang text : List ℕ) → StandsForLabel d lang text → label_at m d ≡ Ok (lang, text)
+label_answers m d lang text s =
+    and_then_given (part (codes "label") m d) _ (object s.members) (Ok (lang, text)) (or_fault_given _ (WrongType m) _ s.label)
+    (and_then_given (check (all_texts s.members) (WrongType m)) _ tt (Ok (lang, text)) (check_given _ (WrongType m) (texts_pass s.members s.texts))
+    (and_then_given (or_fault (said_in (get (codes "en") (object s.members)) s.members) (WrongType m)) _ (lang, string text) (Ok (lang, text))
+    (or_fault_given _ (WrongType m) _ s.said) refl))
+
+-- the label of a parameter is that of its observed property
+pub parameter_label_stands : (d : Data) (p : List ℕ × List ℕ) → parameter_label d ≡ Ok p
+    → (property : Data) × (get (codes "observedProperty") d ≡ Some property) × (get (codes "categories") property ≡ None) × StandsForLabel property p.0 p.1
+parameter_label_stands d p h =
+    let a = and_then_ok (need (codes "observedProperty") ObservedProperty d) _ p h in
+    let none = not (is_some (get (codes "categories") a.0)) in
+    let k = and_then_ok (check none (WrongType ObservedProperty)) _ p a.2 in
+    (a.0, or_fault_ok (get (codes "observedProperty") d) _ a.0 a.1, none_of _ (check_ok none _ _ k.1), label_stands ObservedProperty a.0 p k.2)
+
+-- and that label is answered
+pub parameter_label_answers : (d : Data) (p : Parameter) → StandsForParameter d p → parameter_label d ≡ Ok (p.lang, p.label)
+parameter_label_answers d p s =
+    let none = not (is_some (get (codes "categories") s.property)) in
+    and_then_given (need (codes "observedProperty") ObservedProperty d) _ s.property (Ok (p.lang, p.label)) (or_fault_given _ (Missing ObservedProperty) _ s.observed)
+    (and_then_given (check none (WrongType ObservedProperty)) _ tt (Ok (p.lang, p.label)) (ap (λ (o : Option Data). check (not (is_some o)) (WrongType ObservedProperty)) s.no_categories)
+    (label_answers ObservedProperty s.property p.lang p.label s.label))
+
+-- ---- units
+
+-- the text of a unit's label
+label_text_stands : (unit : Data) (t : List ℕ) → unit_label unit ≡ Ok t → StandsForLabelText unit t
+label_text_stands unit t h =
+    let a = and_then_ok (label_at Unit unit) _ t h in
+    let same : a.0.1 ≡ t = cc in
+    (a.0.0, subst (λ x. StandsForLabel unit a.0.0 x) same (label_stands Unit unit a.0 a.1))
+
+-- and that text is answered
+label_text_answers : (unit : Data) (t : List ℕ) → StandsForLabelText unit t → unit_label unit ≡ Ok t
+label_text_answers unit t s = and_then_given (label_at Unit unit) _ (s.0, t) (Ok t) (label_answers Unit unit s.0 t s.1) refl
+
+-- the symbol of a unit, else its label
+symbol_stands : (unit : Data) (o : Option Data) (t : List ℕ) → unit_by_symbol unit o ≡ Ok t → StandsForSymbol unit o t
+symbol_stands unit None t h = label_text_stands unit t h
+symbol_stands unit (Some null) t h = label_text_stands unit t h
+symbol_stands unit (Some (boolean b)) t h = label_text_stands unit t h
+symbol_stands unit (Some (number n)) t h = label_text_stands unit t h
+symbol_stands unit (Some (string s)) t h = cc
+symbol_stands unit (Some (array ds)) t h = label_text_stands unit t h
+symbol_stands unit (Some (object ms)) t h =
+    let a = and_then_ok (part (codes "value") Unit (object ms)) _ t h in
+    or_fault_ok (get_member (codes "value") ms) _ a.0 a.1 ∙ ap Some (text_ok _ a.0 t a.2)
+
+-- and that one is answered
+symbol_answers : (unit : Data) (o : Option Data) (t : List ℕ) → StandsForSymbol unit o t → unit_by_symbol unit o ≡ Ok t
+symbol_answers unit None t s = label_text_answers unit t s
+symbol_answers unit (Some null) t s = label_text_answers unit t s
+symbol_answers unit (Some (boolean b)) t s = label_text_answers unit t s
+symbol_answers unit (Some (number n)) t s = label_text_answers unit t s
+symbol_answers unit (Some (string x)) t s = ap Ok s
+symbol_answers unit (Some (array ds)) t s = label_text_answers unit t s
+symbol_answers unit (Some (object ms)) t s =
+    and_then_given (part (codes "value") Unit (object ms)) _ (string t) (Ok t) (or_fault_given _ (WrongType Unit) _ s) refl
+
+-- the unit of a parameter that has one
+pub unit_if_stands : (o : Option Data) (u : Option (List ℕ)) → unit_if o ≡ Ok u → StandsForUnit o u
+unit_if_stands None None h = tt
+unit_if_stands None (Some t) h = cc
+unit_if_stands (Some unit) None h =
+    let a = and_then_ok (unit_by_symbol unit (get (codes "symbol") unit)) _ None h in
+    cc
+unit_if_stands (Some unit) (Some t) h =
+    let a = and_then_ok (unit_by_symbol unit (get (codes "symbol") unit)) _ (Some t) h in
+    let same : a.0 ≡ t = cc in
+    symbol_stands unit (get (codes "symbol") unit) t (a.1 ∙ ap Ok same)
+
+-- and that unit is answered
+pub unit_if_answers : (o : Option Data) (u : Option (List ℕ)) → StandsForUnit o u → unit_if o ≡ Ok u
+unit_if_answers None None s = refl
+unit_if_answers None (Some t) s = absurd s
+unit_if_answers (Some unit) None s = absurd s
+unit_if_answers (Some unit) (Some t) s =
+    and_then_given (unit_by_symbol unit (get (codes "symbol") unit)) _ t (Ok (Some t)) (symbol_answers unit (get (codes "symbol") unit) t s) refl
