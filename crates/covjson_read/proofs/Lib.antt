@@ -40,6 +40,7 @@ pub mod PlaceNumbers
 pub mod PlaceLemmas
 pub mod KeptAxes
 pub mod OrderLemmas
+pub mod RowLemmas
 pub mod RangeCounts
 pub mod RangeSome
 pub mod RangeLemmas

@@ -1,7 +1,7 @@
 -- Values in the order of the domain's axes.
-use Rattle.std.proofs.Common.{◌≡◌, inl, inr, ℕ, zero, suc, add-one, ◌+◌, ◌<◌, ℤ, false, List, [], ◌∷◌, ◌++◌, length, map, get_or, All, Option, None, refl, sym, ap, ◌∙◌, subst, arith}
+use Rattle.std.proofs.Common.{◌≡◌, inl, inr, ℕ, zero, suc, ◌<◌, ℤ, false, List, [], ◌∷◌, length, get_or, All, Option, None, refl, sym, ap, ◌∙◌, subst, arith}
 use Rattle.std.proofs.lemmas.Bool.{cases_lt}
-use Rattle.std.proofs.lemmas.List.{get_or_append_left, get_or_push, get_or_default, get_or-map, ext_get_or, length-map, map-append, length_push}
+use Rattle.std.proofs.lemmas.List.{get_or_append_left, get_or_push, get_or_default, get_or-map, ext_get_or, length-map, length_push}
 use Rattle.covjson_value.specs.declared.domains.Domain.{Domain}
 use Rattle.covjson_value.specs.Domains.{count_of}
 use Rattle.covjson_read.specs.declared.axes.Turned.{Turned}
@@ -68,17 +68,6 @@ in_order_is_ordered domain turned names values other in_order =
     ap (λ n. get_or other n None) (sym (places_at_number domain number))
     ∙ in_order.each (places_at domain number) (places_at_inside domain number inside)
     ∙ sym (ordered_at domain turned names values number inside))
-
--- one value more
-pub ordered_more : (domain : Domain) (turned : Turned) (names : List RangeAxis) (values found new : List (Option ℤ)) (number : ℕ) (value : Option ℤ) (here : Places)
-    → new ≡ found ++ value ∷ [] → here ≡ places_at domain number → value ≡ get_or values (tree_number domain turned names here) None
-    → found ≡ map (λ k. value_in_tree domain turned names values (places_at domain k)) (below number)
-    → new ≡ map (λ k. value_in_tree domain turned names values (places_at domain k)) (below (number + 1))
-ordered_more domain turned names values found new number value here pushed is_here is_value before =
-    let value_at = λ (k : ℕ). value_in_tree domain turned names values (places_at domain k) in
-    let last : value ≡ value_at number = is_value ∙ ap (value_in_tree domain turned names values) is_here in
-    pushed ∙ ap (λ (vs : List (Option ℤ)). vs ++ value ∷ []) before ∙ ap (λ v. map value_at (below number) ++ v ∷ []) last
-    ∙ sym (map-append value_at (below number) (number ∷ [])) ∙ ap (λ n. map value_at (below n)) (sym (add-one number))
 
 -- ---- the domain's own order
 

@@ -6,16 +6,14 @@ use Rattle.serde_json.specs.Data.{Data, Items}
 use Rattle.serde_json.specs.View.{items_view}
 use Rattle.serde_json.specs.declared.value.Value.{Value}
 use Rattle.covjson_value.specs.declared.domains.Domain.{Domain}
-use Rattle.covjson_value.specs.declared.limits.TheConstants.{SAMPLE_LIMIT}
 use Rattle.covjson_value.specs.Domains.{count_of}
 use Rattle.covjson_value.specs.Coverages.{IsRange}
 use Rattle.covjson_read.specs.declared.axes.Turned.{Turned}
 use Rattle.covjson_read.specs.declared.places.RangeAxis.{RangeAxis}
 use Rattle.covjson_read.specs.declared.faults.Member.TheVariants.{Shape, Values}
-use Rattle.covjson_read.specs.declared.faults.CovFault.TheVariants.{WrongType, NotWhole, WrongCount}
-use Rattle.covjson_read.specs.declared.members.Wanted.TheVariants.{Naturals, NumbersOrNulls, WholesOrNulls}
-use Rattle.covjson_read.specs.Answers.{and_then, each}
-use Rattle.covjson_read.specs.Members.{need, list_at, whole_or_null, need_each}
+use Rattle.covjson_read.specs.declared.faults.CovFault.TheVariants.{WrongType, WrongCount}
+use Rattle.covjson_read.specs.declared.members.Wanted.TheVariants.{Naturals}
+use Rattle.covjson_read.specs.Members.{need, list_at, need_each}
 use Rattle.covjson_read.specs.Ranges.{StandsForSample, length_of, AreRangeAxes, count_items}
 use Rattle.covjson_read.specs.Orders.{ordered}
 use Rattle.covjson_read.specs.RangeAnswers.{lengths_are, shape_in, samples_of, samples_in}

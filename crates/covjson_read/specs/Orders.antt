@@ -1,9 +1,10 @@
 -- The values of a range in the order of the domain's axes.
-use Rattle.std.specs.Prelude.{◌≡◌, ◌⊎◌, ℕ, zero, suc, ◌/◌, ◌%◌, ℤ, false, List, [], ◌∷◌, ◌++◌, map, length, Option, None}
+use Rattle.std.specs.Prelude.{◌≡◌, ◌⊎◌, ℕ, zero, suc, ◌+◌, ◌-◌, ◌*◌, ◌/◌, ◌%◌, ◌<◌, ◌≤◌, ℤ, true, false, if◌then◌else◌, List, [], ◌∷◌, ◌++◌, map, length, Option, None}
 use Rattle.std.specs.List.{slice_index_or}
 use Rattle.covjson_value.specs.declared.domains.Domain.{Domain}
 use Rattle.covjson_value.specs.Domains.{count_of}
 use Rattle.covjson_read.specs.declared.axes.Turned.{Turned}
+use Rattle.covjson_read.specs.declared.orders.Row.{Row}
 use Rattle.covjson_read.specs.declared.places.Places.{Places}
 use Rattle.covjson_read.specs.declared.places.RangeAxis.{RangeAxis}
 use Rattle.covjson_read.specs.declared.places.RangeAxis.TheVariants.{T, Z, Y, X, Composite}
@@ -48,3 +49,26 @@ IsUsual names =
 
 abbrev pub IsUnturned : Turned → Type 0
 IsUnturned turned = (name : RangeAxis) → is_range_turned turned name ≡ false
+
+-- no axis turned
+abbrev pub ascending : Turned
+ascending = record { t = false; z = false; y = false; x = false }
+
+-- the number in a tree of the value at a place in a row, by that of the row's first
+abbrev pub in_row : Row → ℕ → ℕ → ℕ
+in_row row first place = if row.turned then first - place * row.step else first + place * row.step
+
+-- a row goes back no further than 0, and nowhere as far as the count
+pub record StaysInside (row : Row) (first count : ℕ) : Type 0 where
+  pub back : (place : ℕ) → place < row.length → row.turned ≡ true → place * row.step ≤ first
+  pub inside : (place : ℕ) → place < row.length → in_row row first place < count
+
+-- the places of a domain in rows of one length, in each of which the values of a tree are a step from each other
+pub record AreRows (domain : Domain) (turned : Turned) (names : List RangeAxis) (row : Row) : Type 0 where
+  pub some : 0 < row.length
+  pub whole : count_of domain / row.length * row.length ≡ count_of domain
+  pub back : (number place : ℕ) → place < row.length → row.turned ≡ true
+      → place * row.step ≤ tree_number domain turned names (places_at domain (number * row.length))
+  pub steps : (number place : ℕ) → place < row.length
+      → tree_number domain turned names (places_at domain (number * row.length + place))
+      ≡ in_row row (tree_number domain turned names (places_at domain (number * row.length))) place

@@ -42,12 +42,6 @@ pub record HoldsIntegers (d : Data) : Type 0 where
   pub kind : get (codes "type") d ≡ Some (string (codes "NdArray"))
   pub data_type : get (codes "dataType") d ≡ Some (string (codes "integer"))
 
--- a member is a list whose items stand for these
-pub record ListStands {V : Type 0} (name : List ℕ) (R : Data → V → Type 0) (d : Data) (values : List V) : Type 0 where
-  pub items : Items
-  pub list : get name d ≡ Some (array items)
-  pub each : EachStands R items values
-
 -- ---- places
 
 -- how many values the axis of a name has, and 1 where the domain hasn't it

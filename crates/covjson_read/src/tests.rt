@@ -299,6 +299,8 @@ POINT ~ "values":[1] >> "axisNames":["x"],"values":[1] == POINT
 PLACES ~ "axisNames":["composite"],"shape":[2], >>  => Missing(AxisNames)
 GRID ~ "axisNames":["t","y","x"],"shape":[2,2,3] >> "axisNames":["x","y","t"],"shape":[3,2,2] ~ [10,11,12,13,null,15,20,21,22,23,24,25] >> [10,20,13,23,11,21,null,24,12,22,15,25] == GRID
 GRID ~ "axisNames":["t","y","x"] >> "axisNames":["y","t","x"] ~ [10,11,12,13,null,15,20,21,22,23,24,25] >> [10,11,12,20,21,22,13,null,15,23,24,25] == GRID
+GRID ~ [0,100,200] >> [200,100,0] ~ "y":{"values":[0,100]} >> "y":{"values":[100,0]} ~ "axisNames":["t","y","x"],"shape":[2,2,3] >> "axisNames":["x","t","y"],"shape":[3,2,2] ~ [10,11,12,13,null,15,20,21,22,23,24,25] >> [15,12,25,22,null,11,24,21,13,10,23,20] == GRID
+STEPS ~ "axisNames":["composite"],"shape":[2] >> "axisNames":["composite","z"],"shape":[2,1] == STEPS
 # values
 GRID ~ "values":[10 >> "value":[10 => Missing(Values)
 GRID ~ "values":[10 >> "values":5,"other":[10 => WrongType(Values)

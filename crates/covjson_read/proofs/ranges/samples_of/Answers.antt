@@ -1,4 +1,3 @@
-use Rattle.std.proofs.Common.{Ok}
 use Rattle.serde_json.specs.View.{items_view}
 use Rattle.covjson_read.proofs.SampleLemmas.{samples_read}
 use Rattle.covjson_read.proofs.ranges.samples_of.Goals as goal

@@ -1,0 +1,4 @@
+pub mod Values
+pub mod Instances
+pub mod Editions
+pub mod Changes

@@ -1,0 +1,63 @@
+//! Changes of a draft.
+
+use crate::kinds::Kind;
+use covjson_value::Coverage;
+use edr_base::Text;
+
+/// One change of the collections of a draft. Ids are names, other texts are UTF-8, and coverages are valid.
+#[derive(Debug, Drop)]
+pub enum Change {
+    /// A new empty collection.
+    Collection {
+        /// Its id.
+        id: Text,
+        /// What it has.
+        kind: Kind,
+        /// Its name, for people.
+        title: Text,
+        /// The coordinate reference system of x and y.
+        crs: Text,
+        /// The reference system of z, where there is one.
+        vertical: Option<Text>,
+    },
+    /// A grid becomes an instance of a collection, in place of one of that id.
+    Grid {
+        /// The collection's id.
+        collection: Text,
+        /// The instance's id.
+        instance: Text,
+        /// The grid.
+        coverage: Coverage,
+    },
+    /// A collection is dropped.
+    DropCollection(Text),
+    /// An instance of a collection is dropped.
+    DropInstance(Text, Text),
+    /// A grid becomes the instance `1` of the collection `grid`, which is made where it isn't there: of grids, with the title
+    /// `grid` and the coverage's systems.
+    Bare(Coverage),
+}
+
+/// Why a change isn't made: the first that applies, in this order.
+#[derive(Debug, Drop)]
+pub enum ChangeFault {
+    /// A collection of that id is there already.
+    SameCollection,
+    /// There is no collection of that id.
+    UnknownCollection,
+    /// The collection is of another kind, or the coverage's domain isn't a Grid.
+    WrongKind,
+    /// There is no instance of that id.
+    UnknownInstance,
+    /// The grid has no times.
+    NoTimes,
+    /// The coverage's coordinate reference system is given, and isn't the collection's.
+    CrsDiffers,
+    /// The grid has that many nodes, and more than `NODE_LIMIT`.
+    TooManyNodes(usize),
+    /// The parameters aren't those of the collection's other instances: the least id that only one side has, or at which the
+    /// two sides differ in language, label or unit.
+    ParametersDiffer(Text),
+    /// Memory was wanting.
+    OutOfMemory,
+}

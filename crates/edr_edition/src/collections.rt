@@ -1,0 +1,223 @@
+//! Collections.
+ghost use Rattle.std.specs.Prelude.{◌≡◌, ◌<◌, [], length, All, is_some, option_map, IfOk, OnOk, OnErr, MatchOption, IsUtf8};
+ghost use Rattle.std.specs.List.{slice_index_or};
+ghost use Rattle.covjson_value.specs.Coverages.{IsName, IsReferencing};
+ghost use Rattle.edr_ids.specs.Ids as ids;
+ghost use Rattle.edr_ids.specs.Ids.{with_item, without_id};
+ghost use Rattle.edr_edition.specs.Values.{InstanceValue, instance_id, parameters_of};
+ghost use Rattle.edr_edition.specs.Instances.{IsInstance};
+ghost use Rattle.edr_edition.specs.Editions.{IsCollection, IsNewest};
+ghost use Rattle.edr_edition.specs.Changes.{empty_collection, with_instances, first_of};
+ghost use Rattle.edr_edition.specs.declared.kinds.Kind.TheVariants.{Grid};
+
+use crate::instances::GridInstance;
+use crate::kinds::Kind;
+use covjson_value::{Parameter, Referencing};
+use edr_base::{OutOfMemory, Text};
+use edr_ids::{Identified, item_of, put_item, take_item};
+use std::alloc::Global;
+use std::marker::Model;
+use std::sync::Arc;
+
+// What a collection is called, and the systems of its coordinates.
+#[derive(Drop)]
+struct Head {
+    id: Text,
+    title: Text,
+    kind: Kind,
+    referencing: Referencing,
+}
+
+/// A collection of grids or of stations (OGC 19-086r6, collections).
+///
+/// Its instances stand in strictly ascending order of their ids, byte by byte, and have the same parameters.
+#[derive(Drop)]
+pub struct CollectionData {
+    head: Arc<Head>,
+    instances: Vec<Arc<GridInstance>>,
+}
+
+impl Model for CollectionData {
+    ghost use Rattle.std.specs.Prelude.{map};
+    ghost use Rattle.std.specs.Arc.{arc_value};
+    ghost use Rattle.edr_edition.specs.Values.{CollectionValue};
+    ghost use Rattle.edr_edition.specs.Editions.{IsCollection};
+
+    ghost Value = { CollectionValue };
+
+    ghost view = { λ c. record {
+      id = (arc_value c.head).id;
+      title = (arc_value c.head).title;
+      kind = (arc_value c.head).kind;
+      referencing = (arc_value c.head).referencing;
+      instances = map arc_value c.instances.items;
+    } };
+
+    ghost invariant = { λ c. IsCollection (record {
+      id = (arc_value c.head).id;
+      title = (arc_value c.head).title;
+      kind = (arc_value c.head).kind;
+      referencing = (arc_value c.head).referencing;
+      instances = map arc_value c.instances.items;
+    }) };
+}
+
+impl Identified for CollectionData {
+    ghost id_of = { λ collection. collection.id };
+
+    fn id(&self) -> &[u8] {
+        self.head.id.bytes()
+    }
+}
+
+impl CollectionData {
+    /// Its id, which is a name.
+    pub fn id(&self) -> &[u8]
+        ensures id { result.now ≡ self.now.id }
+        ensures collection { IsCollection self.now }
+    {
+        self.head.id.bytes()
+    }
+
+    /// Its title, for people; UTF-8.
+    pub fn title(&self) -> &[u8]
+        ensures title { result.now ≡ self.now.title }
+        ensures collection { IsCollection self.now }
+    {
+        self.head.title.bytes()
+    }
+
+    /// Whether it has grids or stations.
+    pub fn kind(&self) -> Kind
+        ensures kind { result ≡ self.now.kind }
+        ensures collection { IsCollection self.now }
+    {
+        self.head.kind
+    }
+
+    /// The systems of its coordinates.
+    pub fn referencing(&self) -> &Referencing
+        ensures { result.now ≡ self.now.referencing }
+    {
+        &self.head.referencing
+    }
+
+    /// The parameters of each of its instances, in strictly ascending order of ids; none where it has no instance.
+    pub fn parameters(&self) -> &[Parameter]
+        ensures { result.now ≡ parameters_of self.now.instances }
+    {
+        match self.instances.first() {
+            Some(instance) => instance.parameters(),
+            None => &[],
+        }
+    }
+
+    /// How many instances it has.
+    pub fn instances(&self) -> usize
+        ensures { result ≡ length self.now.instances }
+    {
+        self.instances.len()
+    }
+
+    /// The instance at a place, from 0, in ascending order of ids.
+    pub fn instance_at(&self, place: usize) -> &GridInstance
+        requires { place < length self.now.instances }
+        ensures { (d : InstanceValue) → result.now ≡ slice_index_or self.now.instances place d }
+    {
+        &self.instances[place]
+    }
+
+    /// The instance of an id, None exactly where there is none. It takes no memory.
+    pub fn instance(&self, id: &[u8]) -> Option<&GridInstance>
+        ensures { option_map (λ instance. instance.now) result ≡ ids.item_of instance_id id.now self.now.instances }
+    {
+        match item_of(&self.instances, id) {
+            Some(instance) => Some(instance),
+            None => None,
+        }
+    }
+
+    /// The instance with the greatest id, byte by byte; None exactly where there is no instance.
+    pub fn newest(&self) -> Option<&GridInstance>
+        ensures { MatchOption result (self.now.instances ≡ []) (λ instance. IsNewest self.now.instances instance.now) }
+    {
+        match self.instances.last() {
+            Some(instance) => Some(instance),
+            None => None,
+        }
+    }
+
+    // A collection without instances.
+    pub(crate) fn empty(
+        alloc: Global,
+        id: Text,
+        kind: Kind,
+        title: Text,
+        referencing: Referencing,
+    ) -> Result<CollectionData, OutOfMemory>
+        requires id { IsName id }
+        requires title { IsUtf8 title }
+        requires referencing { IsReferencing referencing }
+        ensures { IfOk result (λ collection. collection ≡ empty_collection id kind title referencing) }
+    {
+        let head = Arc::new(
+            alloc,
+            Head {
+                id,
+                title,
+                kind,
+                referencing,
+            },
+        )?;
+        Ok(CollectionData {
+            head,
+            instances: Vec::new(alloc),
+        })
+    }
+
+    // An equal collection, which shares its instances.
+    pub(crate) fn share(&self, alloc: Global) -> Result<CollectionData, OutOfMemory>
+        ensures { IfOk result (λ collection. collection ≡ self.now) }
+    {
+        let mut instances = Vec::with_capacity(alloc, self.instances.len())?;
+        for instance in &self.instances {
+            instances.push(Arc::try_clone(instance)?)?;
+        }
+        Ok(CollectionData {
+            head: Arc::try_clone(&self.head)?,
+            instances,
+        })
+    }
+
+    // An instance of another id, where there is one.
+    pub(crate) fn other_than(&self, id: &[u8]) -> Option<&GridInstance>
+        ensures { option_map (λ instance. instance.now) result ≡ first_of (without_id instance_id id.now self.now.instances) }
+    {
+        for instance in &self.instances {
+            if instance.id() != id {
+                return Some(instance);
+            }
+        }
+        None
+    }
+
+    // Sets an instance, in place of one of its id.
+    pub(crate) fn put(&mut self, alloc: Global, instance: GridInstance) -> Result<(), OutOfMemory>
+        requires kind { self.old.kind ≡ Grid }
+        requires instance { IsInstance instance }
+        requires same { All (λ (i : InstanceValue). i.parameters ≡ instance.parameters) (without_id instance_id instance.id self.old.instances) }
+        ensures set { OnOk result (self.new ≡ with_instances self.old (with_item instance_id instance self.old.instances)) }
+        ensures kept { OnErr result (self.new ≡ self.old) }
+    {
+        let shared = Arc::new(alloc, instance)?;
+        put_item(&mut self.instances, shared)
+    }
+
+    // Takes out the instance of an id, and says whether there was one.
+    pub(crate) fn take_out(&mut self, id: &[u8]) -> bool
+        ensures was { result ≡ is_some (ids.item_of instance_id id.now self.old.instances) }
+        ensures without { self.new ≡ with_instances self.old (without_id instance_id id.now self.old.instances) }
+    {
+        take_item(&mut self.instances, id).is_some()
+    }
+}

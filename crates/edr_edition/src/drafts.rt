@@ -1,0 +1,109 @@
+//! Drafts.
+ghost use Rattle.std.specs.Prelude.{◌≡◌, [], IfOk};
+ghost use Rattle.edr_edition.specs.Editions.{AreCollections};
+ghost use Rattle.edr_edition.specs.Changes.{IsChange, Made, changed};
+
+use crate::changes::{Change, ChangeFault};
+use crate::collections::CollectionData;
+use crate::editions::Edition;
+use crate::steps::{add, drop_collection, drop_instance, set_bare, set_instance};
+use covjson_value::Referencing;
+use edr_base::OutOfMemory;
+use std::alloc::Global;
+use std::marker::Model;
+
+/// The collections of the next edition, as changes make them. Contracts see the list.
+#[derive(Drop)]
+pub struct Draft {
+    alloc: Global,
+    collections: Vec<CollectionData>,
+}
+
+impl Model for Draft {
+    ghost use Rattle.std.specs.Prelude.{List};
+    ghost use Rattle.edr_edition.specs.Values.{CollectionValue};
+    ghost use Rattle.edr_edition.specs.Editions.{AreCollections};
+
+    ghost Value = { List CollectionValue };
+
+    ghost view = { λ draft. draft.collections.items };
+
+    ghost invariant = { λ draft. AreCollections draft.collections.items };
+}
+
+// One change of the collections.
+fn change_collections(
+    alloc: Global,
+    collections: &mut Vec<CollectionData>,
+    change: Change,
+) -> Result<(), ChangeFault>
+    requires collections { AreCollections collections.old.items }
+    requires change { IsChange change }
+    ensures made { Made result collections.old.items collections.new.items (changed collections.old.items change) }
+    ensures collections { AreCollections collections.new.items }
+{
+    match change {
+        Change::Collection {
+            id,
+            kind,
+            title,
+            crs,
+            vertical,
+        } => {
+            let referencing = Referencing { crs, vertical };
+            let collection = CollectionData::empty(alloc, id, kind, title, referencing)?;
+            add(collections, collection)
+        }
+        Change::Grid {
+            collection,
+            instance,
+            coverage,
+        } => set_instance(alloc, collections, collection.bytes(), instance, coverage),
+        Change::DropCollection(collection) => drop_collection(collections, collection.bytes()),
+        Change::DropInstance(collection, instance) => drop_instance(
+            collections,
+            collection.bytes(),
+            instance.bytes(),
+        ),
+        Change::Bare(coverage) => set_bare(alloc, collections, coverage),
+    }
+}
+
+impl Draft {
+    /// A draft without collections. It takes no memory.
+    pub fn empty(alloc: Global) -> Draft
+        ensures { result ≡ [] }
+    {
+        Draft {
+            alloc,
+            collections: Vec::new(alloc),
+        }
+    }
+
+    /// A draft with an edition's collections, whose instances it shares. Want of memory is the only error.
+    pub fn from_edition(alloc: Global, edition: &Edition) -> Result<Draft, OutOfMemory>
+        ensures { IfOk result (λ draft. draft ≡ edition.now.collections) }
+    {
+        let mut collections = Vec::with_capacity(alloc, edition.len())?;
+        for place in 0..edition.len() {
+            collections.push(edition.collection_at(place).share(alloc)?)?;
+        }
+        Ok(Draft { alloc, collections })
+    }
+
+    /// Makes a change, or answers the first fault that applies. That, and want of memory too, leaves the draft as it is, and
+    /// the change is given up.
+    pub fn apply(&mut self, change: Change) -> Result<(), ChangeFault>
+        requires { IsChange change }
+        ensures { Made result self.old self.new (changed self.old change) }
+    {
+        change_collections(self.alloc, &mut self.collections, change)
+    }
+
+    /// The edition of that number with the draft's collections. It takes no memory.
+    pub fn finish(self, number: u64) -> Edition
+        ensures { result ≡ record { number = number; collections = self } }
+    {
+        Edition::of(number, self.collections)
+    }
+}

@@ -1,0 +1,73 @@
+//! Editions.
+ghost use Rattle.std.specs.Prelude.{◌≡◌, ◌<◌, length, option_map};
+ghost use Rattle.std.specs.List.{slice_index_or};
+ghost use Rattle.edr_ids.specs.Ids as ids;
+ghost use Rattle.edr_edition.specs.Values.{CollectionValue, collection_id};
+ghost use Rattle.edr_edition.specs.Editions.{AreCollections};
+
+use crate::collections::CollectionData;
+use edr_ids::item_of;
+use std::marker::Model;
+
+/// The whole state of all collections after one publish. It never changes.
+///
+/// Its collections stand in strictly ascending order of their ids, byte by byte.
+#[derive(Drop)]
+pub struct Edition {
+    number: u64,
+    collections: Vec<CollectionData>,
+}
+
+impl Model for Edition {
+    ghost use Rattle.edr_edition.specs.Values.{EditionValue};
+    ghost use Rattle.edr_edition.specs.Editions.{AreCollections};
+
+    ghost Value = { EditionValue };
+
+    ghost view = { λ e. record { number = e.number; collections = e.collections.items } };
+
+    ghost invariant = { λ e. AreCollections e.collections.items };
+}
+
+impl Edition {
+    // The edition of that number of these collections.
+    pub(crate) fn of(number: u64, collections: Vec<CollectionData>) -> Edition
+        requires { AreCollections collections.items }
+        ensures { result ≡ record { number = number; collections = collections.items } }
+    {
+        Edition {
+            number,
+            collections,
+        }
+    }
+
+    /// The number that it was finished with.
+    pub fn number(&self) -> u64
+        ensures { result ≡ self.now.number }
+    {
+        self.number
+    }
+
+    /// How many collections it has.
+    pub fn len(&self) -> usize
+        ensures len { result ≡ length self.now.collections }
+        ensures collections { AreCollections self.now.collections }
+    {
+        self.collections.len()
+    }
+
+    /// The collection at a place, from 0, in ascending order of ids.
+    pub fn collection_at(&self, place: usize) -> &CollectionData
+        requires { place < length self.now.collections }
+        ensures { (d : CollectionValue) → result.now ≡ slice_index_or self.now.collections place d }
+    {
+        &self.collections[place]
+    }
+
+    /// The collection of an id, None exactly where there is none. It takes no memory.
+    pub fn collection(&self, id: &[u8]) -> Option<&CollectionData>
+        ensures { option_map (λ collection. collection.now) result ≡ ids.item_of collection_id id.now self.now.collections }
+    {
+        item_of(&self.collections, id)
+    }
+}

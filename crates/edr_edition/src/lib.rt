@@ -1,0 +1,24 @@
+//! Editions: the whole state of all collections after one publish, and the changes that lead from one to the next.
+#![tactic(auto)]
+
+mod changes;
+mod checks;
+mod collections;
+mod differences;
+mod drafts;
+mod editions;
+mod instances;
+mod kinds;
+mod limits;
+mod steps;
+
+pub use changes::{Change, ChangeFault};
+pub use collections::CollectionData;
+pub use drafts::Draft;
+pub use editions::Edition;
+pub use instances::GridInstance;
+pub use kinds::Kind;
+pub use limits::NODE_LIMIT;
+
+#[cfg(test)]
+mod tests;

@@ -1,0 +1,5 @@
+pub mod FormLemmas
+pub mod FeedLines
+pub mod FeedReadings
+pub mod KnownFeeds
+pub mod FeedLaws

@@ -1,0 +1,30 @@
+use Rattle.std.proofs.Common.{Ok, List, sym, subst}
+use Rattle.std.proofs.lemmas.Result.{err_from_is_err_and}
+use Rattle.edr_edition.specs.Values.{EditionValue}
+use Rattle.edr_feed.specs.Feeds.{FeedStandsIn, AreNumberedFrom}
+use Rattle.edr_feed.proofs.FeedLaws.{stands_numbered}
+use Rattle.edr_feed.proofs.KnownFeeds.{whole_stands, feed_fault, stands_no_read}
+use Rattle.edr_feed.proofs.feeds.read_feed.Goals as goal
+
+pub returns-in_err-editions-clause-fault : goal.returns-in_err-editions-clause-fault
+returns-in_err-editions-clause-fault g c =
+    let p = err_from_is_err_and c.from_residual-in_err-editions.result c.from_residual-in_err-editions.ensures.1 in
+    let r = c.in_ok-now.ensures.read in
+    rw (p.1, p.2) (λ is. whole_stands _ _ r.bytes _ r.told r.ended (feed_fault _ (c.in_err-editions.ensures.stands r.bytes r.read) is))
+
+pub returns-in_err-editions-clause-cause : goal.returns-in_err-editions-clause-cause
+returns-in_err-editions-clause-cause g c =
+    let p = err_from_is_err_and c.from_residual-in_err-editions.result c.from_residual-in_err-editions.ensures.1 in
+    let r = c.in_ok-now.ensures.read in
+    rw (p.1, p.2) (λ e. absurd (stands_no_read r.bytes _ (c.in_err-editions.ensures.stands r.bytes r.read) (cc e)))
+
+pub returns-clause-editions : goal.returns-clause-editions
+returns-clause-editions g c =
+    let r = c.in_ok-now.ensures.read in
+    let f = whole_stands (g.S.Source.left c.args.source.now) _ r.bytes (Ok c.in_ok-editions.editions.items) r.told r.ended (c.in_ok-editions.ensures.stands r.bytes r.read) in
+    subst (λ (es : List EditionValue). FeedStandsIn (g.S.Source.left c.args.source.now) (Ok es)) (sym c.of.ensures) f
+
+pub returns-clause-numbered : goal.returns-clause-numbered
+returns-clause-numbered g c =
+    let r = c.in_ok-now.ensures.read in
+    subst (AreNumberedFrom 1) (sym c.of.ensures) (stands_numbered r.bytes c.in_ok-editions.editions.items (c.in_ok-editions.ensures.stands r.bytes r.read))

@@ -1,0 +1,11 @@
+use Rattle.std.proofs.Common.{rules, ◌≡◌, ◌==◌, Some, ap}
+use Rattle.serde_json.specs.View.{view, members_view}
+use Rattle.serde_json.specs.Find.{as_object}
+use Rattle.edr_feed.proofs.FormLemmas.{count_members_view}
+use Rattle.edr_feed.proofs.forms.has_members.Goals as goal
+
+pub returns-in-Some : goal.returns-in-Some
+returns-in-Some c =
+    let entries = c.in-Some.members.now.entries in
+    let found : as_object (view c.args.tree.now) ≡ Some (members_view entries) = search rules in
+    rw (found, count_members_view entries) (ap (λ n. n == c.args.count) c.len.ensures.len)

@@ -1,0 +1,13 @@
+use Rattle.std.proofs.Common.{◌≡◌, ℕ, List, ◌++◌, length}
+use Rattle.edr_feed.specs.Makes.{HasRead}
+use Rattle.edr_feed.proofs.reading.read_on.Given as goal
+
+abbrev pub invariant-loop-part : goal.invariant-loop-part
+invariant-loop-part l = record {
+  front : List ℕ;
+  cut : l.piece ≡ front ++ l.rest;
+  read : (bytes : List ℕ) → HasRead bytes l.fn.now → HasRead (bytes ++ front) l.now;
+}
+
+abbrev pub decreases-loop-part : goal.decreases-loop-part
+decreases-loop-part l = length l.rest

@@ -1,0 +1,107 @@
+//! The reader of a feed, piece by piece.
+ghost use Rattle.std.specs.Prelude.{◌≡◌, ◌⊎◌, ◌<◌, ℕ, length, List, [], ◌∷◌, ◌++◌, MatchResult, Ok, Err, IfOk};
+ghost use Rattle.edr_feed.specs.Feeds.{FeedStands};
+ghost use Rattle.edr_feed.specs.Makes.{IsPlain, HasRead, IsReading, ReadsOn};
+
+use crate::faults::FeedFault;
+use crate::limits::{FEED_LIMIT, LINE_LIMIT};
+use crate::lines::line_says;
+use crate::steps::{Drafting, after_line};
+use edr_base::cut_at;
+use edr_edition::{Draft, Edition};
+use std::alloc::Global;
+
+/// How far a feed was read: what its lines made, and the line that goes on.
+#[derive(Drop)]
+pub struct Reading {
+    /// What the ended lines made.
+    pub made: Drafting,
+    /// The line that goes on, or its first `LINE_LIMIT + 1` bytes where it is longer.
+    pub line: Vec<u8>,
+    /// How many bytes that line has.
+    pub length: usize,
+    /// Its number, from 1.
+    pub number: usize,
+    /// How many bytes the ended lines have, with their line feeds.
+    pub ended: usize,
+}
+
+/// Nothing was read yet.
+pub fn begin(alloc: Global) -> Reading
+    ensures { HasRead [] result }
+{
+    Reading {
+        made: Drafting {
+            draft: Draft::empty(alloc),
+            editions: Vec::new(alloc),
+        },
+        line: Vec::new(alloc),
+        length: 0,
+        number: 1,
+        ended: 0,
+    }
+}
+
+// A part of a line.
+fn go_on(now: &mut Reading, part: &[u8]) -> Result<(), FeedFault>
+    requires reading { IsReading now.old }
+    requires plain { IsPlain part.now }
+    ensures { (bytes : List ℕ) → HasRead bytes now.old → ReadsOn result (bytes ++ part.now) now.new }
+{
+    if part.len() > FEED_LIMIT - now.ended - now.length {
+        return Err(FeedFault::TooLong);
+    }
+    let room = LINE_LIMIT + 1 - now.line.len();
+    let kept = &part[..part.len().min(room)];
+    if now.line.extend_from_slice(kept).is_err() {
+        return Err(FeedFault::OutOfMemory);
+    }
+    now.length += part.len();
+    Ok(())
+}
+
+// The line ends with a line feed.
+fn end_line(alloc: Global, now: &mut Reading) -> Result<(), FeedFault>
+    requires { IsReading now.old }
+    ensures { (bytes : List ℕ) → HasRead bytes now.old → ReadsOn result (bytes ++ 10 ∷ []) now.new }
+{
+    if now.ended + now.length == FEED_LIMIT {
+        return Err(FeedFault::TooLong);
+    }
+    let said = line_says(alloc, &now.line);
+    after_line(alloc, &mut now.made, now.number, said)?;
+    now.ended += now.length + 1;
+    now.number += 1;
+    now.line.clear();
+    now.length = 0;
+    Ok(())
+}
+
+/// Some more bytes.
+pub fn read_on(alloc: Global, now: &mut Reading, piece: &[u8]) -> Result<(), FeedFault>
+    requires { IsReading now.old }
+    ensures { (bytes : List ℕ) → HasRead bytes now.old → ReadsOn result (bytes ++ piece.now) now.new }
+{
+    let mut rest = piece;
+    while let Some((part, behind)) = cut_at(rest, b'\n') {
+        go_on(now, part)?;
+        end_line(alloc, now)?;
+        rest = behind;
+    }
+    go_on(now, rest)
+}
+
+/// The feed ends: the editions that it published.
+pub fn end(alloc: Global, now: Reading) -> Result<Vec<Edition>, FeedFault>
+    ensures stands { (bytes : List ℕ) → HasRead bytes now → MatchResult result (λ editions. FeedStands bytes (Ok editions.items))
+        (λ f. FeedStands bytes (Err f) ⊎ (f ≡ FeedFault.OutOfMemory)) }
+    ensures some { IfOk result (λ editions. 0 < length editions.items) }
+{
+    let said = line_says(alloc, &now.line);
+    let mut made = now.made;
+    after_line(alloc, &mut made, now.number, said)?;
+    if made.editions.is_empty() {
+        return Err(FeedFault::NothingPublished);
+    }
+    Ok(made.editions)
+}
