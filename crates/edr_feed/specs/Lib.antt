@@ -1,4 +1,5 @@
 pub mod Entries
+pub mod Forms
 pub mod Lines
 pub mod Feeds
 pub mod Steps

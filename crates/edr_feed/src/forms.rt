@@ -8,10 +8,11 @@ ghost use Rattle.covjson_read.specs.CoverageAnswers.{coverage_in};
 ghost use Rattle.covjson_read.specs.Members.{text_or_empty};
 ghost use Rattle.edr_feed.specs.Entries as entries;
 ghost use Rattle.edr_feed.specs.Entries.{Gives, GivesUnlessMemory, IsEntry};
+ghost use Rattle.edr_feed.specs.Forms.{FormsAreRead};
 
 use crate::entries::Entry;
 use crate::faults::LineFault;
-use covjson_read::{CovFault, coverage_of};
+use covjson_read::{CovFault, answers_are_what_stands, coverage_of};
 use covjson_value::{Coverage, is_name};
 use edr_base::Text;
 use edr_edition::{Change, Kind};
@@ -240,4 +241,11 @@ pub fn entry_of(alloc: Global, tree: &Value) -> Result<Entry, LineFault>
     } else {
         Err(LineFault::NotFeedLine)
     }
+}
+
+/// The tree of a line says an entry exactly where it stands for that entry.
+pub fn forms_are_read()
+    ensures { FormsAreRead }
+{
+    answers_are_what_stands();
 }

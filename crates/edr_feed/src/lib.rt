@@ -12,6 +12,7 @@ mod steps;
 
 pub use faults::FeedFault;
 pub use feeds::{Feed, feeds_have_one_answer, read_feed};
+pub use forms::forms_are_read;
 pub use limits::{FEED_LIMIT, LINE_LIMIT};
 
 #[cfg(test)]
