@@ -20,8 +20,9 @@ SEED = 7
 MOST_TIME, MOST_MEMORY = 1.3, 72
 
 
-def document(order):
-    """A grid of one time, with the axes of its range in that order."""
+def document(order, falls):
+    """A grid of one time, with the axes of its range in that order, and with its rows from north to south where y falls."""
+    ys = range(0, 100 * ROWS, 100)
     numbers = random.Random(SEED)
     lengths = {"t": 1, "y": ROWS, "x": COLUMNS}
     return json.dumps({
@@ -31,7 +32,7 @@ def document(order):
             "domainType": "Grid",
             "axes": {
                 "t": {"values": ["2024-01-01T00:00:00Z"]},
-                "y": {"values": list(range(0, 100 * ROWS, 100))},
+                "y": {"values": list(reversed(ys) if falls else ys)},
                 "x": {"start": 0, "stop": 100 * (COLUMNS - 1), "num": COLUMNS},
             },
             "referencing": [{"coordinates": ["x", "y"], "system": {"type": "ProjectedCRS", "id": "local"}}],
@@ -51,9 +52,9 @@ def main():
     print("| call | axes of the range | bytes | seconds a round | of from_slice | bytes a sample over the text |")
     print("|---|---|---|---|---|---|")
     missed = False
-    for order in [["t", "y", "x"], ["x", "y", "t"]]:
+    for order, falls in [(["t", "y", "x"], False), (["t", "y", "x"], True), (["x", "y", "t"], False)]:
         with tempfile.NamedTemporaryFile() as file:
-            text = document(order)
+            text = document(order, falls)
             file.write(text)
             file.flush()
             rows = []
@@ -63,8 +64,9 @@ def main():
                 rows.append((name, (took - none) / ROUNDS, (peak - held) / SAMPLES))
         for name, took, memory in rows:
             of_parse = took / rows[0][1]
-            print(f"| {name} | {', '.join(order)} | {len(text):,} | {took:.4f} | {of_parse:.2f} | {memory:.0f} |")
-        if order == ["t", "y", "x"]:
+            axes = ", ".join(order) + (", y falling" if falls else "")
+            print(f"| {name} | {axes} | {len(text):,} | {took:.4f} | {of_parse:.2f} | {memory:.0f} |")
+        if order == ["t", "y", "x"] and not falls:
             missed = rows[1][1] > MOST_TIME * rows[0][1] or rows[1][2] > MOST_MEMORY
     if missed:
         sys.exit(f"wanted: at most {MOST_TIME} of from_slice's time, and {MOST_MEMORY} bytes a sample")
