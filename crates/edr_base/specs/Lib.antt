@@ -8,3 +8,8 @@ pub mod RefusalTable
 pub mod Numbers
 pub mod NumberParts
 pub mod Cuts
+pub mod FirstThatApplies
+pub mod Limits
+pub mod Names
+pub mod KnownBytes
+pub mod Adapters

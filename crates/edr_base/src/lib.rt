@@ -2,13 +2,14 @@
 #![tactic(auto)]
 
 mod adapters;
-mod copying;
 mod cuts;
 mod fault_plan;
+mod limits;
 mod memory_files;
 mod memory_link;
 mod memory_sink;
 mod memory_source;
+mod names;
 mod numbers;
 mod outside;
 mod places;
@@ -18,13 +19,17 @@ mod sending;
 mod texts;
 
 pub use adapters::{RealSink, RealSource};
-pub use copying::{CopyFault, copy_all};
 pub use cuts::{cut_at, without_front};
 pub use fault_plan::FaultPlan;
+pub use limits::{
+    COORDINATE_LIMIT, EARLIEST_TIME, FEED_LIMIT, LATEST_TIME, LINE_LIMIT, NAME_LIMIT, NODE_LIMIT,
+    POSITION_LIMIT, SAMPLE_LIMIT,
+};
 pub use memory_files::MemoryFiles;
 pub use memory_link::MemoryLink;
 pub use memory_sink::MemorySink;
 pub use memory_source::MemorySource;
+pub use names::{is_blank, is_name, is_utf8, is_utf8_where_given};
 pub use numbers::{Whole, numeral, whole_number, whole_number_is_one, written_number_is_numeral};
 pub use outside::{Failed, Faults, Files, Link, Sink, Source, Stop};
 pub use places::{Position, Spot};

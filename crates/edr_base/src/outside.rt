@@ -3,7 +3,7 @@
 //! A meaning that is an `Option` is told only by some objects: those in memory tell their bytes,
 //! real files and sockets tell nothing. Every clause holds in both cases.
 ghost use Rattle.std.specs.Prelude.{◌≡◌, ◌≤◌, ◌<◌, ℕ, List, [], Bool, true, length, IfOk, OnErr, IsErrOf, IsOk, is_err, Some, Option, Ok, Err, IsUtf8};
-ghost use Rattle.edr_base.specs.Outside.{Aside, Beside, Rose, Ties};
+ghost use Rattle.edr_base.specs.Outside.{Aside, Beside, Rose, Ties, TellsBottom, KeptByOpen};
 ghost use Rattle.edr_base.specs.Calls.{SourceLent, SinkLent, Reads, Appended, Flushed, Opened, asked_after, Cause};
 
 /// A fault of the outside.
@@ -85,6 +85,9 @@ pub trait Sink: Faults {
         ensures cause { IsErrOf result Stop.Failed → Rose (Self.faults self.old) (Self.faults self.new) }
         ensures idle { (beside self.old).idle ≡ true
             → IsOk result × (Self.faults self.new ≡ Self.faults self.old) };
+
+    /// Where it is told what is written, it is told what stands below.
+    ghost bottomed: { (s : Self) → TellsBottom (written s) (beside s).bottom };
 }
 
 /// Files, of which one at a time is open for reading.
@@ -96,7 +99,7 @@ pub trait Files: Source {
         requires { IsUtf8 name.now }
         ensures ready { (Self.aside self.new).idle ≡ is_err result }
         ensures left { Opened ((Self.aside self.old).content name.now) (Self.left self.new) result }
-        ensures content { (Self.aside self.new).content ≡ (Self.aside self.old).content }
+        ensures kept { KeptByOpen (Self.aside self.old) (Self.aside self.new) }
         ensures asked { (Self.aside self.new).asked
             ≡ asked_after (Self.aside self.old).asked (name.now, 0) result }
         ensures cause { Cause result (Self.faults self.old) (Self.faults self.new) };

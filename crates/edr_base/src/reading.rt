@@ -1,7 +1,7 @@
 //! All that a source gives.
-ghost use Rattle.std.specs.Prelude.{◌<◌, ◌^◌, IfOk, IsErrOf};
+ghost use Rattle.std.specs.Prelude.{◌<◌, ◌+◌, ◌^◌, IfOk, IsErrOf};
 ghost use Rattle.edr_base.specs.Outside.{Rose};
-ghost use Rattle.edr_base.specs.Calls.{SourceLent, ReadsAll, ReadsMore};
+ghost use Rattle.edr_base.specs.Calls.{SourceLent, ReadsAll, ReadsMore, ReadsAtMost, buffer_size};
 
 use crate::outside::{Failed, Source};
 use std::alloc::Global;
@@ -18,11 +18,14 @@ pub enum ReadStop {
 }
 
 /// All that is left of a source, where that is at most `limit` bytes. Reading stops as soon as more has come.
-#[tactic(auto, using(crate::proofs::KnownBytes::took_on, crate::proofs::KnownBytes::prepend_nothing))]
+///
+/// Whatever is answered, at most `limit` and 16,384 bytes were taken from the source, and the others are left.
+#[tactic(auto, using(crate::specs::KnownBytes::took_on, crate::specs::KnownBytes::prepend_nothing))]
 pub fn read_all<S: Source>(alloc: Global, source: &mut S, limit: usize) -> Result<Vec<u8>, ReadStop>
     requires { limit < 2 ^ 63 }
     ensures all { IfOk result (λ bytes. ReadsAll bytes.items limit (S.left source.old) (S.left source.new)) }
     ensures too_long { IsErrOf result ReadStop.TooLong → ReadsMore limit (S.left source.old) (S.left source.new) }
+    ensures bounded { ReadsAtMost (limit + buffer_size) (S.left source.old) (S.left source.new) }
     ensures lent { SourceLent (S.aside source.old) (S.aside source.new) (S.faults source.old) (S.faults source.new) }
     ensures cause { IsErrOf result ReadStop.ReadFault → Rose (S.faults source.old) (S.faults source.new) }
 {

@@ -15,7 +15,7 @@ pub enum SendFault {
 }
 
 /// Writes a whole piece, by as many writes as the sink wants. After a fault a beginning of it was written.
-#[tactic(auto, using(crate::proofs::KnownBytes::sent_on, crate::proofs::KnownBytes::front_of, crate::proofs::KnownBytes::append_nothing))]
+#[tactic(auto, using(crate::proofs::KnownBytes::sent_on, crate::proofs::KnownBytes::front_of, crate::specs::KnownBytes::append_nothing))]
 pub fn send<K: Sink>(sink: &mut K, piece: &[u8]) -> Result<(), SendFault>
     ensures bytes { Writes result piece.now (K.written sink.old) (K.written sink.new) }
     ensures flushed { K.flushed sink.new ≡ K.flushed sink.old }
