@@ -3,26 +3,29 @@ use Rattle.std.proofs.Common.{◌≡◌, Some, Ok, option_and_then, bytes_eq, co
 use Rattle.std.proofs.lemmas.Slice.Eq.{bytes_eq-Decides}
 use Rattle.serde_json.specs.Data.{Data, string, object}
 use Rattle.serde_json.specs.Find.{get, as_str}
-use Rattle.covjson_value.specs.declared.domains.AxisName.TheVariants.{Z}
+use Rattle.covjson_value.specs.declared.domains.CoordinateName.TheVariants.{Z}
 use Rattle.covjson_value.specs.declared.coverages.Coverage.{Coverage}
 use Rattle.covjson_value.specs.Domains.{has_coordinate}
-use Rattle.covjson_read.specs.declared.domains.ReadDomain.{ReadDomain}
-use Rattle.covjson_read.specs.declared.ranges.ReadRanges.{ReadRanges}
-use Rattle.covjson_read.specs.declared.faults.Member.TheVariants.{Kind, Coverages, Domain as DomainMember}
-use Rattle.covjson_read.specs.declared.faults.CovFault.TheVariants.{Missing, WrongType}
-use Rattle.covjson_read.specs.Answers.{check}
-use Rattle.covjson_read.specs.Members.{need, object_at, text_or_empty, lent}
-use Rattle.covjson_read.specs.DomainAnswers.{domain_of}
+use Rattle.covjson_checks.specs.declared.turned.ReadDomain.{ReadDomain}
+use Rattle.covjson_read.specs.declared.collected.ReadRanges.{ReadRanges}
+use Rattle.covjson_checks.specs.declared.faults.Member.TheVariants.{Kind, Coverages, Domain as DomainMember}
+use Rattle.covjson_checks.specs.declared.faults.CovFault.TheVariants.{Missing, WrongType}
+use Rattle.edr_base.specs.FirstThatApplies.{check}
+use Rattle.covjson_checks.specs.Members.{need, object_at, lent}
+use Rattle.edr_json.specs.Trees.{text_or_empty}
+use Rattle.covjson_domains.specs.DomainAnswers.{domain_of}
 use Rattle.covjson_read.specs.Systems.{referencing_of}
 use Rattle.covjson_read.specs.Parameters.{parameters_of}
-use Rattle.covjson_read.specs.RangeAnswers.{ranges_in}
+use Rattle.covjson_read.specs.CollectedAnswers.{ranges_in}
 use Rattle.covjson_read.specs.Standing.{StandsIn}
 use Rattle.covjson_read.specs.CoverageAnswers.{is_coverage, domain_at, type_of, coverage_in, AnswersAreWhatStands, TreesStandForOne}
-use Rattle.covjson_read.proofs.AnswerLemmas.{and_then_ok, or_fault_ok, check_ok, text_is}
+use Rattle.edr_json.specs.AnswerLaws.{and_then_ok, or_fault_ok, check_ok}
+use Rattle.edr_json.specs.TreeLaws.{text_is}
 use Rattle.covjson_read.proofs.SystemLaws.{systems_stand, systems_answer}
-use Rattle.covjson_read.proofs.AnswersGiven.{and_then_given, object_given, or_fault_given}
+use Rattle.edr_json.specs.AnswerLaws.{and_then_given, or_fault_given}
+use Rattle.covjson_checks.specs.CheckLaws.{object_given}
 use Rattle.covjson_read.proofs.ParameterLaws.{parameters_stand, parameters_answer}
-use Rattle.covjson_read.proofs.DomainLaws.{domain_stands, domain_answers}
+use Rattle.covjson_domains.proofs.DomainLaws.{domain_stands, domain_answers}
 use Rattle.covjson_read.proofs.CoverageRanges.{ranges_stand, ranges_answer}
 
 -- ---- the object, its type and its domain

@@ -6,21 +6,24 @@ use Rattle.serde_json.specs.Find.{get}
 use Rattle.covjson_value.specs.declared.coverages.Parameter.{Parameter}
 use Rattle.covjson_value.specs.declared.coverages.NdArray.{NdArray}
 use Rattle.covjson_value.specs.Coverages.{ids_of}
-use Rattle.covjson_read.specs.declared.domains.ReadDomain.{ReadDomain}
-use Rattle.covjson_read.specs.declared.ranges.ReadRanges.{ReadRanges}
-use Rattle.covjson_read.specs.declared.faults.Member.TheVariants.{Parameters, Ranges}
-use Rattle.covjson_read.specs.declared.faults.CovFault.TheVariants.{Missing, WrongCount}
-use Rattle.covjson_read.specs.Answers.{check}
-use Rattle.covjson_read.specs.Members.{need, object_at}
-use Rattle.covjson_read.specs.Axes.{EachStands}
+use Rattle.covjson_checks.specs.declared.turned.ReadDomain.{ReadDomain}
+use Rattle.covjson_read.specs.declared.collected.ReadRanges.{ReadRanges}
+use Rattle.covjson_checks.specs.declared.faults.Member.TheVariants.{Parameters, Ranges}
+use Rattle.covjson_checks.specs.declared.faults.CovFault.TheVariants.{Missing, WrongCount}
+use Rattle.edr_base.specs.FirstThatApplies.{check}
+use Rattle.covjson_checks.specs.Members.{need, object_at}
+use Rattle.edr_json.specs.Trees.{EachStands}
 use Rattle.covjson_read.specs.Parameters.{parameter_of, StandsAmong}
-use Rattle.covjson_read.specs.Ranges.{StandsForRange, names_of, values_of}
-use Rattle.covjson_read.specs.RangeAnswers.{range_of, ranges_from, has_members, ranges_in}
+use Rattle.covjson_ranges.specs.Ranges.{StandsForRange}
+use Rattle.covjson_read.specs.Collected.{names_of, values_of}
+use Rattle.covjson_ranges.specs.RangeAnswers.{range_of}
+use Rattle.covjson_read.specs.CollectedAnswers.{ranges_from, has_members, ranges_in}
 use Rattle.covjson_read.specs.Standing.{StandsForRanges}
-use Rattle.covjson_read.proofs.AnswerLemmas.{and_then_ok, or_fault_ok, check_ok, object_ok}
-use Rattle.covjson_read.proofs.AnswersGiven.{and_then_given, or_fault_given, check_given}
+use Rattle.edr_json.specs.AnswerLaws.{and_then_ok, or_fault_ok, check_ok}
+use Rattle.covjson_checks.specs.CheckLaws.{object_ok}
+use Rattle.edr_json.specs.AnswerLaws.{and_then_given, or_fault_given, check_given}
 use Rattle.covjson_read.proofs.ParameterLaws.{parameter_stands, parameter_answers}
-use Rattle.covjson_read.proofs.RangeLaws.{range_stands, range_answers}
+use Rattle.covjson_ranges.proofs.RangeLaws.{range_stands, range_answers}
 
 -- ---- an answer stands
 

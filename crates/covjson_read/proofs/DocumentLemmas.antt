@@ -5,12 +5,13 @@ use Rattle.serde_json.specs.Data.{Data, Members}
 use Rattle.serde_json.specs.Find.{get}
 use Rattle.serde_json.specs.View.{view, items_view}
 use Rattle.serde_json.specs.declared.value.Value.{Value}
-use Rattle.covjson_read.specs.declared.faults.Member.TheVariants.{Document as TheDocument, Kind}
-use Rattle.covjson_read.specs.Answers.{Answer, each, onto}
-use Rattle.covjson_read.specs.Members.{need, object_at, text_or_empty}
+use Rattle.covjson_checks.specs.declared.faults.Member.TheVariants.{Document as TheDocument, Kind}
+use Rattle.covjson_checks.specs.Answers.{Answer, each, onto}
+use Rattle.covjson_checks.specs.Members.{need, object_at}
+use Rattle.edr_json.specs.Trees.{text_or_empty}
 use Rattle.covjson_read.specs.CoverageAnswers.{document_of_type, document_of}
-use Rattle.covjson_read.proofs.AnswerLemmas.{or_fault_ok}
-use Rattle.covjson_read.proofs.AnswersGiven.{and_then_given, onto_more}
+use Rattle.edr_json.specs.AnswerLaws.{or_fault_ok}
+use Rattle.edr_json.specs.AnswerLaws.{and_then_given, onto_more}
 
 -- one more answer is found, and one item fewer is left
 pub each_more : {V : Type 0} (answer_of : Data → Answer V) (items : List Value) (place : ℕ) (one : Value) (found new : List V) (v : V)

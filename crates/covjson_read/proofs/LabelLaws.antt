@@ -3,14 +3,15 @@ use Rattle.std.proofs.Common.{◌≡◌, ℕ, List, true, not, ◌&&◌, is_some
 use Rattle.serde_json.specs.Data.{Data, null, boolean, number, string, array, object, Members, no_members, member}
 use Rattle.serde_json.specs.Find.{get, get_member, as_str}
 use Rattle.covjson_value.specs.declared.coverages.Parameter.{Parameter}
-use Rattle.covjson_read.specs.declared.faults.Member.{Member}
-use Rattle.covjson_read.specs.declared.faults.Member.TheVariants.{ObservedProperty, Unit}
-use Rattle.covjson_read.specs.declared.faults.CovFault.TheVariants.{Missing, WrongType}
-use Rattle.covjson_read.specs.Answers.{or_fault, check}
-use Rattle.covjson_read.specs.Members.{need, part, object_at, text_at}
+use Rattle.covjson_checks.specs.declared.faults.Member.{Member}
+use Rattle.covjson_checks.specs.declared.faults.Member.TheVariants.{ObservedProperty, Unit}
+use Rattle.covjson_checks.specs.declared.faults.CovFault.TheVariants.{Missing, WrongType}
+use Rattle.edr_base.specs.FirstThatApplies.{or_fault, check}
+use Rattle.covjson_checks.specs.Members.{need, part, object_at, text_at}
 use Rattle.covjson_read.specs.Parameters.{all_texts, EachIsText, said_in, label_at, parameter_label, unit_label, unit_by_symbol, unit_if, StandsForParameter, StandsForLabel, StandsForLabelText, StandsForSymbol, StandsForUnit}
-use Rattle.covjson_read.proofs.AnswerLemmas.{and_then_ok, or_fault_ok, check_ok, none_of, object_ok, text_ok}
-use Rattle.covjson_read.proofs.AnswersGiven.{and_then_given, or_fault_given, check_given}
+use Rattle.edr_json.specs.AnswerLaws.{and_then_ok, or_fault_ok, check_ok, none_of}
+use Rattle.covjson_checks.specs.CheckLaws.{object_ok, text_ok}
+use Rattle.edr_json.specs.AnswerLaws.{and_then_given, or_fault_given, check_given}
 
 -- ---- labels
 

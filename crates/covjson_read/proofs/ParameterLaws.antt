@@ -5,13 +5,15 @@ use Rattle.std.proofs.lemmas.Bool.{and_parts, and_from}
 use Rattle.serde_json.specs.Data.{Data, Members, no_members, member}
 use Rattle.serde_json.specs.Find.{get, as_object}
 use Rattle.covjson_value.specs.declared.coverages.Parameter.{Parameter}
-use Rattle.covjson_read.specs.declared.faults.Member.TheVariants.{Parameters as ParametersMember}
-use Rattle.covjson_read.specs.declared.faults.CovFault.TheVariants.{Missing, WrongType}
-use Rattle.covjson_read.specs.Answers.{or_fault, check}
-use Rattle.covjson_read.specs.Members.{object_at}
+use Rattle.covjson_checks.specs.declared.faults.Member.TheVariants.{Parameters as ParametersMember}
+use Rattle.covjson_checks.specs.declared.faults.CovFault.TheVariants.{Missing, WrongType}
+use Rattle.edr_base.specs.FirstThatApplies.{or_fault, check}
+use Rattle.covjson_checks.specs.Members.{object_at}
 use Rattle.covjson_read.specs.Parameters.{has_name_form, all_named_objects, parameter_label, parameter_unit, parameter_form, parameter_forms, parameters_of, parameter_of, EachIsParameter, HoldsParameters, StandsForParameter}
-use Rattle.covjson_read.proofs.AnswerLemmas.{and_then_ok, or_fault_ok, check_ok, object_ok}
-use Rattle.covjson_read.proofs.AnswersGiven.{and_then_given, member_of_object, some_is, check_given}
+use Rattle.edr_json.specs.AnswerLaws.{and_then_ok, or_fault_ok, check_ok}
+use Rattle.covjson_checks.specs.CheckLaws.{object_ok}
+use Rattle.edr_json.specs.AnswerLaws.{and_then_given, some_is, check_given}
+use Rattle.edr_json.specs.TreeLaws.{member_of_object}
 use Rattle.covjson_read.proofs.LabelLaws.{parameter_label_stands, parameter_label_answers, unit_if_stands, unit_if_answers}
 use Rattle.covjson_read.proofs.ParameterNames.{form_tells, form_passes}
 pub use Rattle.covjson_read.proofs.ParameterNames.{named_found, have_names}

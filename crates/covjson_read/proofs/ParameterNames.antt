@@ -11,7 +11,7 @@ use Rattle.std.specs.Ordering.{nat_cmp, match_ordering}
 use Rattle.std.specs.Cmp.Lexicographic.{slice_cmp}
 use Rattle.serde_json.specs.Data.{Data, Members, no_members, member}
 use Rattle.serde_json.specs.Find.{get, get_member}
-use Rattle.covjson_value.specs.Coverages.{IsNameByte, IsName}
+use Rattle.edr_base.specs.Names.{IsNameByte, IsName}
 use Rattle.covjson_read.specs.Parameters.{is_name_byte, all_name_bytes, has_name_form, HasNameForm, EachHasName, HaveNames, EachIsParameter, HoldsParameters}
 
 -- a byte that passes the test is one of a name

@@ -1,15 +1,16 @@
 -- The ranges that are answered are some.
 use Rattle.std.proofs.Common.{◌≡◌, ◌<◌, ◌∷◌, length, true, Ok, codes, subst, arith}
 use Rattle.serde_json.specs.Data.{Data, Members, no_members, member}
-use Rattle.covjson_read.specs.declared.faults.Member.TheVariants.{Parameters, Ranges}
-use Rattle.covjson_read.specs.declared.faults.CovFault.TheVariants.{WrongCount}
-use Rattle.covjson_read.specs.declared.domains.ReadDomain.{ReadDomain}
-use Rattle.covjson_read.specs.declared.ranges.ReadRanges.{ReadRanges}
-use Rattle.covjson_read.specs.Answers.{check}
-use Rattle.covjson_read.specs.Members.{need, object_at}
+use Rattle.covjson_checks.specs.declared.faults.Member.TheVariants.{Parameters, Ranges}
+use Rattle.covjson_checks.specs.declared.faults.CovFault.TheVariants.{WrongCount}
+use Rattle.covjson_checks.specs.declared.turned.ReadDomain.{ReadDomain}
+use Rattle.covjson_read.specs.declared.collected.ReadRanges.{ReadRanges}
+use Rattle.edr_base.specs.FirstThatApplies.{check}
+use Rattle.covjson_checks.specs.Members.{need, object_at}
 use Rattle.covjson_read.specs.Parameters.{parameter_of}
-use Rattle.covjson_read.specs.RangeAnswers.{range_of, ranges_from, has_members, ranges_in}
-use Rattle.covjson_read.proofs.AnswerLemmas.{and_then_ok, check_ok}
+use Rattle.covjson_ranges.specs.RangeAnswers.{range_of}
+use Rattle.covjson_read.specs.CollectedAnswers.{ranges_from, has_members, ranges_in}
+use Rattle.edr_json.specs.AnswerLaws.{and_then_ok, check_ok}
 
 -- where there are members there are parameters
 some_from : (read : ReadDomain) (parameters : Data) (ms : Members) (r : ReadRanges) → has_members ms ≡ true → ranges_from read parameters ms ≡ Ok r → 0 < length r.parameters

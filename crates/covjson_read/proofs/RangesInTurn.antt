@@ -10,14 +10,16 @@ use Rattle.serde_json.specs.declared.value.Value.{Value}
 use Rattle.covjson_value.specs.declared.coverages.NdArray.{NdArray}
 use Rattle.covjson_value.specs.declared.coverages.Parameter.{Parameter}
 use Rattle.covjson_value.specs.Coverages.{ids_of, AscendById}
-use Rattle.covjson_read.specs.declared.domains.ReadDomain.{ReadDomain}
-use Rattle.covjson_read.specs.declared.ranges.ReadRanges.{ReadRanges}
-use Rattle.covjson_read.specs.declared.faults.Member.TheVariants.{Parameters, Ranges}
-use Rattle.covjson_read.specs.Answers.{Answer, and_then}
-use Rattle.covjson_read.specs.Members.{need, object_at}
+use Rattle.covjson_checks.specs.declared.turned.ReadDomain.{ReadDomain}
+use Rattle.covjson_read.specs.declared.collected.ReadRanges.{ReadRanges}
+use Rattle.covjson_checks.specs.declared.faults.Member.TheVariants.{Parameters, Ranges}
+use Rattle.covjson_checks.specs.Answers.{Answer}
+use Rattle.edr_base.specs.FirstThatApplies.{and_then}
+use Rattle.covjson_checks.specs.Members.{need, object_at}
 use Rattle.covjson_read.specs.Parameters.{parameter_of}
-use Rattle.covjson_read.specs.Ranges.{names_of}
-use Rattle.covjson_read.specs.RangeAnswers.{range_of, ranges_from, has_members, ranges_in}
+use Rattle.covjson_read.specs.Collected.{names_of}
+use Rattle.covjson_ranges.specs.RangeAnswers.{range_of}
+use Rattle.covjson_read.specs.CollectedAnswers.{ranges_from, has_members, ranges_in}
 
 -- the entries of an object
 abbrev pub Entries : Type 0

@@ -4,13 +4,15 @@ use Rattle.std.specs.Prelude.{⊤}
 use Rattle.std.proofs.lemmas.Slice.Eq.{bytes_eq-Decides}
 use Rattle.serde_json.specs.Data.{Data, array, Items}
 use Rattle.covjson_value.specs.declared.coverages.Referencing.{Referencing}
-use Rattle.covjson_read.specs.declared.faults.Member.TheVariants.{Referencing as SystemsMember}
-use Rattle.covjson_read.specs.declared.faults.CovFault.TheVariants.{Missing, WrongType, UnsupportedSystem}
-use Rattle.covjson_read.specs.Answers.{Answer, or_fault, check}
-use Rattle.covjson_read.specs.Members.{list_at}
+use Rattle.covjson_checks.specs.declared.faults.Member.TheVariants.{Referencing as SystemsMember}
+use Rattle.covjson_checks.specs.declared.faults.CovFault.TheVariants.{Missing, WrongType, UnsupportedSystem}
+use Rattle.covjson_checks.specs.Answers.{Answer}
+use Rattle.edr_base.specs.FirstThatApplies.{or_fault, check}
+use Rattle.covjson_checks.specs.Members.{list_at}
 use Rattle.covjson_read.specs.Systems.{all_connections, first_plane, first_other_calendar, system_text, vertical_name, only_gregorian, plane_in, referencing_of, StandsForReferencing}
-use Rattle.covjson_read.proofs.AnswerLemmas.{and_then_ok, or_fault_ok, check_ok, list_ok}
-use Rattle.covjson_read.proofs.AnswersGiven.{and_then_given, or_fault_given, check_given}
+use Rattle.edr_json.specs.AnswerLaws.{and_then_ok, or_fault_ok, check_ok}
+use Rattle.covjson_checks.specs.CheckLaws.{list_ok}
+use Rattle.edr_json.specs.AnswerLaws.{and_then_given, or_fault_given, check_given}
 
 -- what is known of the entry of the plane that is answered
 record IsPlaneIn (entries : Items) (plane : Data) : Type 0 where

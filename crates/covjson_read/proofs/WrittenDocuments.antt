@@ -9,13 +9,14 @@ use Rattle.covjson_value.specs.declared.coverages.Document.{Document}
 use Rattle.covjson_value.specs.declared.coverages.Document.TheVariants.{One, Many}
 use Rattle.covjson_value.specs.Coverages.{IsValid, IsValidDocument}
 use Rattle.covjson_value.specs.Trees.{coverage_data, array_of, collection_data, document_data}
-use Rattle.covjson_read.specs.declared.faults.Member.TheVariants.{Kind}
-use Rattle.covjson_read.specs.declared.faults.CovFault.TheVariants.{Missing}
-use Rattle.covjson_read.specs.Answers.{Answer, and_then, or_fault, each}
-use Rattle.covjson_read.specs.Members.{text_or_empty}
+use Rattle.covjson_checks.specs.declared.faults.Member.TheVariants.{Kind}
+use Rattle.covjson_checks.specs.declared.faults.CovFault.TheVariants.{Missing}
+use Rattle.covjson_checks.specs.Answers.{Answer, each}
+use Rattle.edr_base.specs.FirstThatApplies.{and_then, or_fault}
+use Rattle.edr_json.specs.Trees.{text_or_empty}
 use Rattle.covjson_read.specs.Standing.{StandsIn}
 use Rattle.covjson_read.specs.CoverageAnswers.{coverage_in, document_of, document_of_type}
-use Rattle.covjson_read.proofs.AnswersGiven.{first_given}
+use Rattle.edr_json.specs.AnswerLaws.{first_given}
 use Rattle.covjson_read.proofs.WrittenLaws.{coverage_members, kind_found, collected_stands_written}
 
 -- the answer is the coverage that a tree stands for

@@ -3,19 +3,19 @@ use Rattle.std.proofs.Common.{◌≡◌, ℕ, List, codes, length, Option, Some,
 use Rattle.std.proofs.lemmas.List.{length-map}
 use Rattle.serde_json.specs.Data.{Data, null, string, Members, no_members, member}
 use Rattle.serde_json.specs.Find.{get, as_str}
-use Rattle.covjson_value.specs.declared.domains.AxisName.TheVariants.{T, Z}
+use Rattle.covjson_value.specs.declared.domains.CoordinateName.TheVariants.{T, Z}
 use Rattle.covjson_value.specs.declared.coverages.Parameter.{Parameter}
 use Rattle.covjson_value.specs.declared.coverages.Coverage.{Coverage}
 use Rattle.covjson_value.specs.Domains.{has_coordinate}
 use Rattle.covjson_value.specs.Coverages.{ids_of, IsValid}
 use Rattle.covjson_value.specs.Trees.{member_if, members_in_order, domain_data, parameters_data, named_ranges, ranges_data, coverage_data}
-use Rattle.covjson_read.specs.Members.{either}
+use Rattle.covjson_checks.specs.Members.{either}
 use Rattle.covjson_read.specs.Standing.{StandsForRanges, StandsIn, Stands}
-use Rattle.covjson_read.proofs.WrittenMembers.{member_passed, member_found}
-use Rattle.covjson_read.proofs.WrittenDomains.{unturned, domain_written}
+use Rattle.covjson_value.specs.MemberLaws.{member_passed, member_found}
+use Rattle.covjson_domains.proofs.WrittenDomains.{unturned, domain_written}
 use Rattle.covjson_read.proofs.WrittenSystems.{systems_written}
 use Rattle.covjson_read.proofs.WrittenParameters.{parameters_written, parameters_stand_written}
-use Rattle.covjson_read.proofs.WrittenRanges.{range_names_written, ranges_written}
+use Rattle.covjson_ranges.proofs.WrittenRanges.{range_names_written, ranges_written}
 
 -- a text that was given is read again
 text_back : (text : Option (List ℕ)) → text ≡ option_and_then as_str (option_map string text)

@@ -15,7 +15,7 @@ use Rattle.covjson_value.specs.declared.coverages.Parameter.{Parameter}
 use Rattle.covjson_value.specs.Coverages.{IsParameter, ids_of, AscendById}
 use Rattle.covjson_value.specs.Trees.{members_in_order, property_data, unit_data, parameter_data, named_parameter, parameters_data}
 use Rattle.covjson_read.specs.Parameters.{said_in, StandsForLabel, StandsForUnit, StandsForParameter, EachIsParameter, HoldsParameters, StandsAmong}
-use Rattle.covjson_read.proofs.WrittenMembers.{member_found}
+use Rattle.covjson_value.specs.MemberLaws.{member_found}
 use Rattle.covjson_read.proofs.ParameterNames.{form_of_name}
 
 -- ---- one parameter

@@ -2,7 +2,7 @@
 use Rattle.std.proofs.Common.{◌≡◌, ℕ, List, [], ◌∷◌, codes, Bool, true, false, true≢false, Option, Some, None, IsSome, refl, sym}
 use Rattle.std.specs.Prelude.{IsTrue}
 use Rattle.serde_json.specs.Data.{Data, array, Items, no_items, item}
-use Rattle.covjson_value.specs.declared.domains.AxisName.TheVariants.{Z, X, Y}
+use Rattle.covjson_value.specs.declared.domains.CoordinateName.TheVariants.{Z, X, Y}
 use Rattle.covjson_value.specs.declared.coverages.Referencing.{Referencing}
 use Rattle.covjson_value.specs.Trees.{item_if, system_data, connection, connection_data, text_if_some, horizontal_data, vertical_data, temporal_data, keys_data}
 use Rattle.covjson_read.specs.Systems.{all_connections, system_text, system_name, is_other_calendar, first_other_calendar, is_vertical, first_vertical, vertical_name, StandsForReferencing}

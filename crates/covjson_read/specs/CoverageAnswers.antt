@@ -3,22 +3,24 @@ use Rattle.std.specs.Prelude.{◌≡◌, ◌⊎◌, ◌↔◌, ℕ, List, bytes_
 use Rattle.serde_json.specs.Data.{Data, null}
 use Rattle.serde_json.specs.Find.{get, as_str}
 use Rattle.serde_json.specs.Read.{read}
-use Rattle.covjson_value.specs.declared.domains.AxisName.TheVariants.{Z}
+use Rattle.covjson_value.specs.declared.domains.CoordinateName.TheVariants.{Z}
 use Rattle.covjson_value.specs.declared.coverages.Coverage.{Coverage}
 use Rattle.covjson_value.specs.declared.coverages.Document.{Document}
 use Rattle.covjson_value.specs.declared.coverages.Document.TheVariants.{One, Many}
 use Rattle.covjson_value.specs.Coverages.{IsValidDocument}
 use Rattle.covjson_value.specs.Domains.{has_coordinate}
 use Rattle.covjson_value.specs.Trees.{document_text}
-use Rattle.covjson_read.specs.declared.domains.ReadDomain.{ReadDomain}
-use Rattle.covjson_read.specs.declared.faults.Member.TheVariants.{Document as TheDocument, Kind, Coverages, Domain}
-use Rattle.covjson_read.specs.declared.faults.CovFault.TheVariants.{NotJson, WrongType}
-use Rattle.covjson_read.specs.Answers.{Answer, and_then, check, each}
-use Rattle.covjson_read.specs.Members.{need, object_at, list_at, text_or_empty, either, lent}
-use Rattle.covjson_read.specs.DomainAnswers.{domain_of}
+use Rattle.covjson_checks.specs.declared.turned.ReadDomain.{ReadDomain}
+use Rattle.covjson_checks.specs.declared.faults.Member.TheVariants.{Document as TheDocument, Kind, Coverages, Domain}
+use Rattle.covjson_checks.specs.declared.faults.CovFault.TheVariants.{NotJson, WrongType}
+use Rattle.covjson_checks.specs.Answers.{Answer, each}
+use Rattle.edr_base.specs.FirstThatApplies.{and_then, check}
+use Rattle.covjson_checks.specs.Members.{need, object_at, list_at, either, lent}
+use Rattle.edr_json.specs.Trees.{text_or_empty}
+use Rattle.covjson_domains.specs.DomainAnswers.{domain_of}
 use Rattle.covjson_read.specs.Systems.{referencing_of}
 use Rattle.covjson_read.specs.Parameters.{parameters_of}
-use Rattle.covjson_read.specs.RangeAnswers.{ranges_in}
+use Rattle.covjson_read.specs.CollectedAnswers.{ranges_in}
 use Rattle.covjson_read.specs.Standing.{StandsIn}
 
 -- ---- coverages
@@ -94,11 +96,6 @@ document_of tree =
     and_then (object_at TheDocument tree) (λ _.
     and_then (need (codes "type") Kind tree) (λ kind.
     document_of_type (text_or_empty (Some kind)) tree))
-
--- the text is JSON of this tree (RFC 8259)
-pub record IsJson (text : List ℕ) (tree : Data) : Type 0 where
-  pub utf8 : IsUtf8 text
-  pub tree_is : read text ≡ Some tree
 
 -- the answer of a text: that of its tree, or NotJson where it has none
 abbrev pub AnswersText : List ℕ → Answer Document → Type 0

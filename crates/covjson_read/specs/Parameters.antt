@@ -3,12 +3,13 @@ use Rattle.std.specs.Prelude.{◌≡◌, ℕ, ◌≤◌, ◌==◌, nat_le, List,
 use Rattle.serde_json.specs.Data.{Data, null, boolean, number, string, array, object, Members, no_members, member}
 use Rattle.serde_json.specs.Find.{get, get_member, as_str, as_object}
 use Rattle.covjson_value.specs.declared.coverages.Parameter.{Parameter}
-use Rattle.covjson_value.specs.Coverages.{IsNameByte}
-use Rattle.covjson_read.specs.declared.faults.Member.{Member}
-use Rattle.covjson_read.specs.declared.faults.Member.TheVariants.{ObservedProperty, Unit, Parameters as ParametersMember}
-use Rattle.covjson_read.specs.declared.faults.CovFault.TheVariants.{Missing, WrongType}
-use Rattle.covjson_read.specs.Answers.{Answer, and_then, or_fault, check}
-use Rattle.covjson_read.specs.Members.{need, part, object_at, text_at}
+use Rattle.edr_base.specs.Names.{IsNameByte}
+use Rattle.covjson_checks.specs.declared.faults.Member.{Member}
+use Rattle.covjson_checks.specs.declared.faults.Member.TheVariants.{ObservedProperty, Unit, Parameters as ParametersMember}
+use Rattle.covjson_checks.specs.declared.faults.CovFault.TheVariants.{Missing, WrongType}
+use Rattle.covjson_checks.specs.Answers.{Answer}
+use Rattle.edr_base.specs.FirstThatApplies.{and_then, or_fault, check}
+use Rattle.covjson_checks.specs.Members.{need, part, object_at, text_at}
 
 -- each member is a text
 abbrev pub all_texts : Members → Bool

@@ -2,20 +2,21 @@
 use Rattle.std.specs.Prelude.{◌≡◌, ◌<◌, List, length, codes, All, Some, option_and_then}
 use Rattle.serde_json.specs.Data.{Data, null, string, object, Members}
 use Rattle.serde_json.specs.Find.{get, as_str}
-use Rattle.covjson_value.specs.declared.domains.AxisName.TheVariants.{Z}
+use Rattle.covjson_value.specs.declared.domains.CoordinateName.TheVariants.{Z}
 use Rattle.covjson_value.specs.declared.domains.Domain.{Domain}
 use Rattle.covjson_value.specs.declared.coverages.Parameter.{Parameter}
 use Rattle.covjson_value.specs.declared.coverages.NdArray.{NdArray}
 use Rattle.covjson_value.specs.declared.coverages.Coverage.{Coverage}
 use Rattle.covjson_value.specs.Domains.{has_coordinate}
 use Rattle.covjson_value.specs.Coverages.{ids_of}
-use Rattle.covjson_read.specs.declared.axes.Turned.{Turned}
-use Rattle.covjson_read.specs.Members.{either, lent}
-use Rattle.covjson_read.specs.Axes.{EachStands}
-use Rattle.covjson_read.specs.Domains.{StandsForDomain}
+use Rattle.covjson_checks.specs.declared.turned.Turned.{Turned}
+use Rattle.covjson_checks.specs.Members.{either, lent}
+use Rattle.edr_json.specs.Trees.{EachStands}
+use Rattle.covjson_domains.specs.Domains.{StandsForDomain}
 use Rattle.covjson_read.specs.Systems.{StandsForReferencing}
 use Rattle.covjson_read.specs.Parameters.{HoldsParameters, StandsAmong}
-use Rattle.covjson_read.specs.Ranges.{StandsForRange, names_of, values_of}
+use Rattle.covjson_ranges.specs.Ranges.{StandsForRange}
+use Rattle.covjson_read.specs.Collected.{names_of, values_of}
 
 -- the ranges of a tree, of which there are some, in the order of their names, with the parameters of these names
 pub record StandsForRanges (domain : Domain) (turned : Turned) (parameters : Data) (ranges : Members) (kept : List Parameter) (read : List NdArray) : Type 0 where

@@ -3,15 +3,12 @@ use Rattle.std.specs.Prelude.{◌≡◌, ℕ, List, codes, Bool, true, false, no
 use Rattle.serde_json.specs.Data.{Data, array, Items, no_items, item}
 use Rattle.serde_json.specs.Find.{get, as_array, as_str}
 use Rattle.covjson_value.specs.declared.coverages.Referencing.{Referencing}
-use Rattle.covjson_read.specs.declared.faults.Member.TheVariants.{Referencing as SystemsMember}
-use Rattle.covjson_read.specs.declared.faults.CovFault.TheVariants.{Missing, WrongType, UnsupportedSystem}
-use Rattle.covjson_read.specs.Answers.{Answer, and_then, or_fault, check}
-use Rattle.covjson_read.specs.Members.{text_or_empty, list_at}
-
--- the datum is that text
-abbrev pub is_text : List ℕ → Option (List ℕ) → Bool
-is_text text None = false
-is_text text (Some found) = bytes_eq found text
+use Rattle.covjson_checks.specs.declared.faults.Member.TheVariants.{Referencing as SystemsMember}
+use Rattle.covjson_checks.specs.declared.faults.CovFault.TheVariants.{Missing, WrongType, UnsupportedSystem}
+use Rattle.covjson_checks.specs.Answers.{Answer}
+use Rattle.edr_base.specs.FirstThatApplies.{and_then, or_fault, check}
+use Rattle.edr_json.specs.Trees.{text_or_empty}
+use Rattle.covjson_checks.specs.Members.{list_at}
 
 -- a list has that text
 abbrev pub has_text : List ℕ → Items → Bool

@@ -4,18 +4,17 @@ ghost use Rattle.serde_json.specs.Data.{null};
 ghost use Rattle.serde_json.specs.View.{view};
 ghost use Rattle.serde_json.specs.Find.{get, as_str};
 ghost use Rattle.covjson_value.specs.Coverages.{HasAxes, HasTuples, IsValid};
-ghost use Rattle.covjson_read.specs.Answers.{Gives, GivesUnlessMemory};
+ghost use Rattle.covjson_checks.specs.Answers.{Gives, GivesUnlessMemory};
 ghost use Rattle.covjson_read.specs.CoverageAnswers.{over_domain, AnswersAreWhatStands, TreesStandForOne};
 ghost use Rattle.covjson_read.specs.CoverageAnswers as answers;
 
-use crate::domains::{ReadDomain, domain_of};
-use crate::faults::{CovFault, Member};
-use crate::members::{lent, need, object_at, text_or_empty};
+use covjson_checks::{CovFault, Member, ReadDomain, lent, need, object_at, text_where_given};
+use covjson_domains::domain_of;
+use edr_json::text_or_empty;
 use crate::parameters::parameters_of;
-use crate::ranges::ranges_in;
+use crate::collected::ranges_in;
 use crate::systems::referencing_of;
-use crate::texts::text_where_given;
-use covjson_value::{AxisName, Coverage};
+use covjson_value::{CoordinateName, Coverage};
 use edr_base::Text;
 use serde_json::Value;
 use std::alloc::Global;
@@ -75,7 +74,7 @@ fn over_domain(
     ensures answer { GivesUnlessMemory (λ c. c) result (over_domain (view collection.now) (view tree.now) (view domain.now) read) }
     ensures valid { IfOk result IsValid }
 {
-    let levels = read.domain.has(AxisName::Z);
+    let levels = read.domain.has(CoordinateName::Z);
     let referencing = referencing_of(alloc, lent(domain, collection, "referencing"), levels)?;
     let parameters = parameters_of(lent(tree, collection, "parameters"))?;
     let ranges = ranges_in(alloc, tree, parameters, &read)?;

@@ -2,13 +2,13 @@
 ghost use Rattle.std.specs.Prelude.{◌≡◌, ◌⊎◌, All, IfOk, MatchResult, Ok, Err};
 ghost use Rattle.serde_json.specs.View.{view, items_view};
 ghost use Rattle.covjson_value.specs.Coverages.{IsValid, IsValidDocument};
-ghost use Rattle.covjson_read.specs.Answers.{GivesUnlessMemory, each};
+ghost use Rattle.covjson_checks.specs.Answers.{GivesUnlessMemory, each};
 ghost use Rattle.covjson_read.specs.CoverageAnswers.{AnswersText, WrittenDocumentsAreRead, document_of_type, coverage_in};
 ghost use Rattle.covjson_read.specs.CoverageAnswers as answers;
 
 use crate::coverages::{answers_are_what_stands, coverage_in, coverage_of};
-use crate::faults::{CovFault, Member};
-use crate::members::{list_at, need, object_at, text_or_empty};
+use covjson_checks::{CovFault, Member, list_at, need, object_at};
+use edr_json::text_or_empty;
 use covjson_value::{Coverage, Document, document_texts_read_back};
 use edr_base::Items;
 use serde_json::{Category, Value};

@@ -3,14 +3,13 @@ ghost use Rattle.std.specs.Prelude.{◌≡◌, option_map, IfOk, codes, None};
 ghost use Rattle.serde_json.specs.View.{view, members_view};
 ghost use Rattle.serde_json.specs.Find.{get};
 ghost use Rattle.covjson_value.specs.Coverages.{IsParameter};
-ghost use Rattle.covjson_read.specs.Answers.{Gives, GivesUnlessMemory};
+ghost use Rattle.covjson_checks.specs.Answers.{Gives, GivesUnlessMemory};
 ghost use Rattle.covjson_read.specs.Parameters.{HasNameForm};
 ghost use Rattle.covjson_read.specs.Parameters as parameters;
 
-use crate::faults::{CovFault, Member};
-use crate::members::{found_or_missing, need, object_at, part, text_at};
-use crate::texts::{text_of, text_where_given};
-use covjson_value::{Parameter, is_name};
+use covjson_checks::{CovFault, Member, found_or_missing, need, object_at, part, text_at, text_of, text_where_given};
+use covjson_value::Parameter;
+use edr_base::is_name;
 use serde_json::{Map, Value};
 use std::alloc::Global;
 

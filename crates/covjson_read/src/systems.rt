@@ -3,25 +3,14 @@ ghost use Rattle.std.specs.Prelude.{◌≡◌, IfOk, IsSome, option_map, true};
 ghost use Rattle.serde_json.specs.View.{view, items_view};
 ghost use Rattle.serde_json.specs.Find.{as_str};
 ghost use Rattle.covjson_value.specs.Coverages.{IsReferencing};
-ghost use Rattle.covjson_read.specs.Answers.{GivesUnlessMemory};
+ghost use Rattle.covjson_checks.specs.Answers.{GivesUnlessMemory};
 ghost use Rattle.covjson_read.specs.Systems as systems;
 
-use crate::faults::{CovFault, Member, unsupported_system};
-use crate::members::{found_or_missing, list_at, text_or_empty};
-use crate::texts::{text_of, text_where_given};
+use covjson_checks::{CovFault, Member, found_or_missing, list_at, text_of, text_where_given, unsupported_system};
+use edr_json::text_or_empty;
 use covjson_value::Referencing;
 use serde_json::Value;
 use std::alloc::Global;
-
-/// Whether a value is that text.
-pub fn is_text(item: &Value, text: &str) -> bool
-    ensures { result ≡ systems.is_text text.now (as_str (view item.now)) }
-{
-    match item.as_str() {
-        Some(found) => found == text,
-        None => false,
-    }
-}
 
 fn has_text(items: &Vec<Value>, text: &str) -> bool
     ensures { result ≡ systems.has_text text.now (items_view items.now.items) }

@@ -5,10 +5,10 @@ use Rattle.std.proofs.lemmas.List.Elements.{All-nil, All-cons}
 use Rattle.json.proofs.Printed.Utf8.{are_ascii}
 use Rattle.edr_base.specs.declared.places.Position.{Position}
 use Rattle.edr_axes.specs.Axes.{value_at, IsAscending, IsAxis}
-use Rattle.covjson_value.specs.declared.domains.AxisName.{AxisName}
-use Rattle.covjson_value.specs.declared.domains.AxisName.TheVariants.{T, Z, Y, X}
+use Rattle.covjson_value.specs.declared.domains.CoordinateName.{CoordinateName}
+use Rattle.covjson_value.specs.declared.domains.CoordinateName.TheVariants.{T, Z, Y, X}
 use Rattle.covjson_value.specs.declared.domains.Domain.{Domain}
-use Rattle.covjson_value.specs.Domains.{AxisLength, axis_key, axis_of, tuples_of, coordinates_of, axis_before, composite_alone, is_grid, long_axis, range_axes, range_axis_of, range_tuples_of}
+use Rattle.covjson_value.specs.Domains.{AxisLength, coordinate_key, axis_of, tuples_of, coordinates_of, axis_before, composite_alone, is_grid, long_axis, range_axes, range_axis_of, range_tuples_of}
 use Rattle.covjson_value.specs.Coverages.{IsNamedAxis, HasAxes, AreTuples, HasTuples}
 
 rises : (values : List ℤ) → IsAscending values → (place : ℕ) → place < length values → (value_at values 0 +ℤ pos place) ≤ℤ value_at values place
@@ -40,7 +40,7 @@ coordinates_short values axis within =
     let between : AreBetween (neg_ℤ (pos 100_000_000)) (pos 100_000_000) values = λ place inside. coordinate_between (value_at values place) (within place (pos 0) inside) in
     omega (arith, length_between values (neg_ℤ (pos 100_000_000)) (pos 100_000_000) 200_000_000 axis between (omega (arith, ints)))
 
-IsShort-axis : (name : AxisName) (values : List ℤ) → IsNamedAxis name values → IsShort values
+IsShort-axis : (name : CoordinateName) (values : List ℤ) → IsNamedAxis name values → IsShort values
 IsShort-axis T values h =
     omega (arith, length_between values (neg_ℤ (pos 62_167_219_200)) (pos 253_402_300_799) 400_000_000_000 h.ascending (λ place inside. h.within place (pos 0) inside) (omega (arith, ints)))
 IsShort-axis Z values h = coordinates_short values h.ascending h.within
@@ -54,7 +54,7 @@ pub record IsCounted (axis : AxisLength) : Type 0 where
   pub key : are_ascii axis.key ≡ true
   pub count : axis.count < 2 ^ 64
 
-key_ascii : (name : AxisName) → are_ascii (axis_key name) ≡ true
+key_ascii : (name : CoordinateName) → are_ascii (coordinate_key name) ≡ true
 key_ascii T = refl
 key_ascii Z = refl
 key_ascii Y = refl
@@ -71,15 +71,15 @@ long_counted : {V : Type 0} (each : Bool) (axis : Option (List V)) → IfSome ax
 long_counted each None h = tt
 long_counted each (Some values) h = kept_counted _ values h
 
-axis_counted : (name : AxisName) (axis : Option (List ℤ)) → IfSome axis (IsNamedAxis name) → IfSome axis HasCount
+axis_counted : (name : CoordinateName) (axis : Option (List ℤ)) → IfSome axis (IsNamedAxis name) → IfSome axis HasCount
 axis_counted name None h = tt
 axis_counted name (Some values) h = omega (arith, IsShort-axis name values h)
 
-tuples_counted : (names : List AxisName) (tuples : Option (List Position)) → IfSome tuples (AreTuples names) → IfSome tuples HasCount
+tuples_counted : (names : List CoordinateName) (tuples : Option (List Position)) → IfSome tuples (AreTuples names) → IfSome tuples HasCount
 tuples_counted names None h = tt
 tuples_counted names (Some tuples) h = h.counted
 
-before_counted : (name : AxisName) (axis : Option (List ℤ)) (axes : List AxisLength) → IfSome axis HasCount → All IsCounted axes → All IsCounted (axis_before name axis axes)
+before_counted : (name : CoordinateName) (axis : Option (List ℤ)) (axes : List AxisLength) → IfSome axis HasCount → All IsCounted axes → All IsCounted (axis_before name axis axes)
 before_counted name None axes h hs = hs
 before_counted name (Some values) axes h hs = All-cons IsCounted _ axes (record { key = key_ascii name; count = h }) hs
 
@@ -89,6 +89,6 @@ alone_counted (Some tuples) h = All-cons IsCounted _ [] (record { key = refl; co
 
 pub range_axes_counted : (domain : Domain) → HasAxes domain → HasTuples domain → All IsCounted (range_axes domain)
 range_axes_counted domain axes tuples =
-    let each : (name : AxisName) → IfSome (range_axis_of domain name) HasCount = λ name. long_counted (is_grid domain) (axis_of domain name) (axis_counted name (axis_of domain name) (axes name)) in
+    let each : (name : CoordinateName) → IfSome (range_axis_of domain name) HasCount = λ name. long_counted (is_grid domain) (axis_of domain name) (axis_counted name (axis_of domain name) (axes name)) in
     let composite : IfSome (range_tuples_of domain) HasCount = long_counted (is_grid domain) (tuples_of domain) (tuples_counted (coordinates_of domain) (tuples_of domain) tuples.tuples) in
     before_counted T _ _ (each T) (before_counted Z _ _ (each Z) (before_counted Y _ _ (each Y) (before_counted X _ _ (each X) (alone_counted _ composite))))

@@ -3,12 +3,12 @@ use Rattle.std.proofs.Common.{◌≡◌, ℕ, ◌*◌, ℤ, List, length, refl, 
 use Rattle.std.specs.declared.option.Option.{Option}
 use Rattle.std.specs.Prelude.{None, Some}
 use Rattle.edr_base.specs.declared.places.Position.{Position}
-use Rattle.covjson_value.specs.declared.domains.AxisName.{AxisName}
-use Rattle.covjson_value.specs.declared.domains.AxisName.TheVariants.{T, Z, Y, X}
+use Rattle.covjson_value.specs.declared.domains.CoordinateName.{CoordinateName}
+use Rattle.covjson_value.specs.declared.domains.CoordinateName.TheVariants.{T, Z, Y, X}
 use Rattle.covjson_value.specs.declared.domains.Domain.{Domain}
 use Rattle.covjson_value.specs.Domains.{AxisLength, axis_of, tuples_of, axis_before, composite_alone, axis_length, places, count_of}
 
-places_before : (name : AxisName) (axis : Option (List ℤ)) (axes : List AxisLength) → places (axis_before name axis axes) ≡ axis_length axis * places axes
+places_before : (name : CoordinateName) (axis : Option (List ℤ)) (axes : List AxisLength) → places (axis_before name axis axes) ≡ axis_length axis * places axes
 places_before name None axes = omega arith
 places_before name (Some values) axes = refl
 

@@ -4,7 +4,7 @@ use Rattle.std.proofs.lemmas.List.{get_or-map, length-map}
 use Rattle.std.proofs.lemmas.Bool.{cases_lt}
 use Rattle.edr_base.specs.declared.places.Position.{Position}
 use Rattle.edr_axes.specs.Axes.{value_at}
-use Rattle.covjson_value.specs.declared.domains.AxisName.TheVariants.{T}
+use Rattle.covjson_value.specs.declared.domains.CoordinateName.TheVariants.{T}
 use Rattle.covjson_value.specs.Domains.{coordinate}
 use Rattle.covjson_value.specs.Coverages.{NeverFall}
 

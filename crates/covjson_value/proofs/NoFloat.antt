@@ -5,15 +5,15 @@ use Rattle.serde_json.specs.Data.{Data, string, Members, Items}
 use Rattle.serde_json.specs.View.{items_of}
 use Rattle.serde_json.specs.Written.{has_float, items_have_float, members_have_float}
 use Rattle.edr_base.specs.declared.places.Position.{Position}
-use Rattle.covjson_value.specs.declared.domains.AxisName.{AxisName}
-use Rattle.covjson_value.specs.declared.domains.AxisName.TheVariants.{T, Z, Y, X}
+use Rattle.covjson_value.specs.declared.domains.CoordinateName.{CoordinateName}
+use Rattle.covjson_value.specs.declared.domains.CoordinateName.TheVariants.{T, Z, Y, X}
 use Rattle.covjson_value.specs.declared.domains.Domain.{Domain}
 use Rattle.covjson_value.specs.declared.coverages.Parameter.{Parameter}
 use Rattle.covjson_value.specs.declared.coverages.Referencing.{Referencing}
 use Rattle.covjson_value.specs.declared.coverages.NdArray.{NdArray}
 use Rattle.covjson_value.specs.declared.coverages.Coverage.{Coverage}
 use Rattle.covjson_value.specs.Coverages.{ids_of}
-use Rattle.covjson_value.specs.Domains.{axis_key, axis_of, tuples_of, coordinates_of, coordinate, has_coordinate, range_axes}
+use Rattle.covjson_value.specs.Domains.{coordinate_key, axis_of, tuples_of, coordinates_of, coordinate, has_coordinate, range_axes}
 use Rattle.covjson_value.specs.Trees
 
 abbrev pub NoFloat : Data → Type 0
@@ -41,23 +41,23 @@ string-NoFloat (Some text) = refl
 
 -- ---- the domain
 
-axis_value-NoFloat : (name : AxisName) (value : ℤ) → NoFloat (Trees.axis_value_data name value)
+axis_value-NoFloat : (name : CoordinateName) (value : ℤ) → NoFloat (Trees.axis_value_data name value)
 axis_value-NoFloat T value = refl
 axis_value-NoFloat Z value = integer-NoFloat value
 axis_value-NoFloat Y value = integer-NoFloat value
 axis_value-NoFloat X value = integer-NoFloat value
 
-axis-NoFloat : (name : AxisName) (axis : Option (List ℤ)) → IfSome (option_map (Trees.axis_data name) axis) NoFloat
+axis-NoFloat : (name : CoordinateName) (axis : Option (List ℤ)) → IfSome (option_map (Trees.axis_data name) axis) NoFloat
 axis-NoFloat name None = tt
 axis-NoFloat name (Some values) = rw (items_of-NoFloat (Trees.axis_value_data name) (axis_value-NoFloat name) values) refl
 
-keys-NoFloat : (names : List AxisName) → NoFloat (Trees.keys_data names)
-keys-NoFloat names = items_of-NoFloat (λ name. string (axis_key name)) (λ name. refl) names
+keys-NoFloat : (names : List CoordinateName) → NoFloat (Trees.keys_data names)
+keys-NoFloat names = items_of-NoFloat (λ name. string (coordinate_key name)) (λ name. refl) names
 
-tuple-NoFloat : (names : List AxisName) (tuple : Position) → NoFloat (Trees.tuple_data names tuple)
+tuple-NoFloat : (names : List CoordinateName) (tuple : Position) → NoFloat (Trees.tuple_data names tuple)
 tuple-NoFloat names tuple = items_of-NoFloat (λ name. Trees.axis_value_data name (coordinate name tuple)) (λ name. axis_value-NoFloat name (coordinate name tuple)) names
 
-composite-NoFloat : (names : List AxisName) (tuples : Option (List Position)) → IfSome (option_map (Trees.composite_data names) tuples) NoFloat
+composite-NoFloat : (names : List CoordinateName) (tuples : Option (List Position)) → IfSome (option_map (Trees.composite_data names) tuples) NoFloat
 composite-NoFloat names None = tt
 composite-NoFloat names (Some tuples) = rw (keys-NoFloat names, items_of-NoFloat (Trees.tuple_data names) (tuple-NoFloat names) tuples) refl
 

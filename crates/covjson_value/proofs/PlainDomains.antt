@@ -4,12 +4,12 @@ use Rattle.std.specs.Cmp.Lexicographic.{slice_cmp}
 use Rattle.serde_json.specs.Data.{Data, string, object, no_members, member}
 use Rattle.edr_base.specs.declared.places.Position.{Position}
 use Rattle.edr_axes.specs.Instants.{TimesAreWritten}
-use Rattle.covjson_value.specs.declared.domains.AxisName.{AxisName}
-use Rattle.covjson_value.specs.declared.domains.AxisName.TheVariants.{T, Z, Y, X}
+use Rattle.covjson_value.specs.declared.domains.CoordinateName.{CoordinateName}
+use Rattle.covjson_value.specs.declared.domains.CoordinateName.TheVariants.{T, Z, Y, X}
 use Rattle.covjson_value.specs.declared.domains.Domain.{Domain}
 use Rattle.covjson_value.specs.declared.domains.Domain.TheVariants.{Grid, Point, PointSeries, VerticalProfile, MultiPoint, Trajectory}
 use Rattle.covjson_value.specs.declared.coverages.Referencing.{Referencing}
-use Rattle.covjson_value.specs.Domains.{axis_key, axis_of, tuples_of, coordinates_of, coordinate, has_coordinate}
+use Rattle.covjson_value.specs.Domains.{coordinate_key, axis_of, tuples_of, coordinates_of, coordinate, has_coordinate}
 use Rattle.covjson_value.specs.Coverages.{IsAxisValue, IsNamedAxis, HasAxes, IsTuple, AreTuples, HasTuples, IsReferencing}
 use Rattle.covjson_value.specs.Trees
 use Rattle.json.proofs.Printed.Utf8.{are_ascii, IsUtf8-are_ascii}
@@ -23,32 +23,32 @@ use Rattle.covjson_value.proofs.Tuples.{coordinates_are_values}
 coordinate_within : (n : ℕ) (value : ℤ) → unsigned_abs value ≤ 100_000_000 → IsWithin n (Trees.integer value)
 coordinate_within n value h = integer_within n value (omega (arith, h))
 
-axis_value_within : TimesAreWritten → (n : ℕ) (name : AxisName) (value : ℤ) → IsAxisValue name value → IsWithin n (Trees.axis_value_data name value)
+axis_value_within : TimesAreWritten → (n : ℕ) (name : CoordinateName) (value : ℤ) → IsAxisValue name value → IsWithin n (Trees.axis_value_data name value)
 axis_value_within written n T value h = text_within n _ (IsUtf8-IsWritten _ value (written value h))
 axis_value_within written n Z value h = coordinate_within n value h
 axis_value_within written n Y value h = coordinate_within n value h
 axis_value_within written n X value h = coordinate_within n value h
 
-axis_within : TimesAreWritten → (n : ℕ) (name : AxisName) (axis : Option (List ℤ)) → IfSome axis (IsNamedAxis name) → IfSome (option_map (Trees.axis_data name) axis) (IsWithin (suc (suc n)))
+axis_within : TimesAreWritten → (n : ℕ) (name : CoordinateName) (axis : Option (List ℤ)) → IfSome axis (IsNamedAxis name) → IfSome (option_map (Trees.axis_data name) axis) (IsWithin (suc (suc n)))
 axis_within written n name None h = tt
 axis_within written n name (Some values) h =
     alone_within (suc n) (codes "values") _ (IsUtf8-are_ascii _ refl) (array_of_within n (IsAxisValue name) (Trees.axis_value_data name) (axis_value_within written n name) values h.within)
 
-key_within : (n : ℕ) (name : AxisName) → IsWithin n (string (axis_key name))
+key_within : (n : ℕ) (name : CoordinateName) → IsWithin n (string (coordinate_key name))
 key_within n T = word_within n (codes "t") refl
 key_within n Z = word_within n (codes "z") refl
 key_within n Y = word_within n (codes "y") refl
 key_within n X = word_within n (codes "x") refl
 
-keys_within : (n : ℕ) (names : List AxisName) → IsWithin (suc n) (Trees.keys_data names)
-keys_within n names = array_of_within n (λ _. ⊤) (λ name. string (axis_key name)) (λ name _. key_within n name) names (λ k d inside. tt)
+keys_within : (n : ℕ) (names : List CoordinateName) → IsWithin (suc n) (Trees.keys_data names)
+keys_within n names = array_of_within n (λ _. ⊤) (λ name. string (coordinate_key name)) (λ name _. key_within n name) names (λ k d inside. tt)
 
-tuple_within : TimesAreWritten → (names : List AxisName) (tuple : Position) → IsTuple names tuple → IsWithin 1 (Trees.tuple_data names tuple)
+tuple_within : TimesAreWritten → (names : List CoordinateName) (tuple : Position) → IsTuple names tuple → IsWithin 1 (Trees.tuple_data names tuple)
 tuple_within written names tuple h =
     array_of_within 0 (λ name. IsAxisValue name (coordinate name tuple)) (λ name. Trees.axis_value_data name (coordinate name tuple)) (λ name k. axis_value_within written 0 name (coordinate name tuple) k)
     names (coordinates_are_values names tuple h)
 
-composite_within : TimesAreWritten → (names : List AxisName) (tuples : Option (List Position)) → IfSome tuples (AreTuples names) → IfSome (option_map (Trees.composite_data names) tuples) (IsWithin 3)
+composite_within : TimesAreWritten → (names : List CoordinateName) (tuples : Option (List Position)) → IfSome tuples (AreTuples names) → IfSome (option_map (Trees.composite_data names) tuples) (IsWithin 3)
 composite_within written names None h = tt
 composite_within written names (Some tuples) h =
     object_within 2 _
@@ -58,7 +58,7 @@ composite_within written names (Some tuples) h =
 
 axes_within : TimesAreWritten → (domain : Domain) → HasAxes domain → HasTuples domain → IsWithin 4 (Trees.axes_data domain)
 axes_within written domain h tuples =
-    let each : (name : AxisName) → IfSome (option_map (Trees.axis_data name) (axis_of domain name)) (IsWithin 3) = λ name. axis_within written 1 name (axis_of domain name) (h name) in
+    let each : (name : CoordinateName) → IfSome (option_map (Trees.axis_data name) (axis_of domain name)) (IsWithin 3) = λ name. axis_within written 1 name (axis_of domain name) (h name) in
     object_within 3 _
     (member_if_within 3 [] (codes "composite") _ _ refl refl (composite_within written (coordinates_of domain) (tuples_of domain) tuples.tuples)
     (member_if_within 3 (codes "composite") (codes "t") _ _ refl refl (each T)
@@ -86,7 +86,7 @@ system_within name kind h ascii =
     object_within 0 _ (member_if_within 0 [] (codes "id") _ _ refl refl (given_text_within 0 name h)
     (named_within 0 (codes "id") (codes "type") _ _ refl refl (word_within 0 kind ascii) (no_members_within 0 _)))
 
-connection_within : (names : List AxisName) (system : Data) → IsWithin 1 system → IsWithin 2 (Trees.connection_data names system)
+connection_within : (names : List CoordinateName) (system : Data) → IsWithin 1 system → IsWithin 2 (Trees.connection_data names system)
 connection_within names system h =
     two_within 1 (codes "coordinates") (codes "system") _ system refl refl refl refl (keys_within 0 names) h
 

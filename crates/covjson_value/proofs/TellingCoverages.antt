@@ -4,7 +4,7 @@ use Rattle.std.specs.Prelude.{⊤, IsTrue}
 use Rattle.std.proofs.lemmas.List.{length-map}
 use Rattle.serde_json.specs.Data.{string, Members, member, no_members}
 use Rattle.edr_axes.specs.Instants.{TextsTellTimes}
-use Rattle.covjson_value.specs.declared.domains.AxisName.TheVariants.{Z}
+use Rattle.covjson_value.specs.declared.domains.CoordinateName.TheVariants.{Z}
 use Rattle.covjson_value.specs.declared.domains.Domain.{Domain}
 use Rattle.covjson_value.specs.declared.coverages.Parameter.{Parameter}
 use Rattle.covjson_value.specs.declared.coverages.Referencing.{Referencing}

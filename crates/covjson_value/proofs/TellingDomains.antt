@@ -4,8 +4,8 @@ use Rattle.std.specs.Prelude.{⊤, IsTrue}
 use Rattle.std.proofs.lemmas.Slice.Eq.{bytes_eq-Decides}
 use Rattle.serde_json.specs.Data.{Data, string, Items, no_items, Members, member, no_members}
 use Rattle.edr_axes.specs.Instants.{TextsTellTimes}
-use Rattle.covjson_value.specs.declared.domains.AxisName.{AxisName}
-use Rattle.covjson_value.specs.declared.domains.AxisName.TheVariants.{T, Z, Y, X}
+use Rattle.covjson_value.specs.declared.domains.CoordinateName.{CoordinateName}
+use Rattle.covjson_value.specs.declared.domains.CoordinateName.TheVariants.{T, Z, Y, X}
 use Rattle.covjson_value.specs.declared.domains.Domain.{Domain}
 use Rattle.covjson_value.specs.declared.domains.Domain.TheVariants.{Grid, Point, PointSeries, VerticalProfile, MultiPoint, Trajectory}
 use Rattle.covjson_value.specs.declared.coverages.Referencing.{Referencing}
@@ -17,7 +17,7 @@ use Rattle.covjson_value.proofs.TellingTuples.{axis_value_tells, SameTuples, com
 
 -- ---- axes
 
-axis_tells : TextsTellTimes → (name : AxisName) → Tells (IsNamedAxis name) (Trees.axis_data name)
+axis_tells : TextsTellTimes → (name : CoordinateName) → Tells (IsNamedAxis name) (Trees.axis_data name)
 axis_tells told name one other h k e = array_of_tells (IsAxisValue name) (Trees.axis_value_data name) (axis_value_tells told name) one other h.within k.within (cc)
 
 -- the members that follow an axis
@@ -53,16 +53,16 @@ after_composite_apart domain =
 abbrev composite_given : Domain → Option Data
 composite_given domain = option_map (Trees.composite_data (coordinates_of domain)) (tuples_of domain)
 
-abbrev given : Domain → AxisName → Option Data
+abbrev given : Domain → CoordinateName → Option Data
 given domain name = option_map (Trees.axis_data name) (axis_of domain name)
 
-abbrev HaveSame : Domain → Domain → AxisName → Type 0
+abbrev HaveSame : Domain → Domain → CoordinateName → Type 0
 HaveSame one other name = given one name ≡ given other name
 
 -- the data of each axis are the same in both domains
 record SameMembers (one other : Domain) : Type 0 where
   composite : composite_given one ≡ composite_given other
-  each : (name : AxisName) → HaveSame one other name
+  each : (name : CoordinateName) → HaveSame one other name
 
 members_tell : (one other : Domain) → Trees.axes_data one ≡ Trees.axes_data other → SameMembers one other
 members_tell one other e =
@@ -88,7 +88,7 @@ level_tells false true e = cc
 level_tells false false e = refl
 
 -- domains of one type with the same axes and tuples are equal
-axes_tell : (one other : Domain) → bytes_eq (Trees.domain_type one) (Trees.domain_type other) ≡ true → ((name : AxisName) → axis_of one name ≡ axis_of other name)
+axes_tell : (one other : Domain) → bytes_eq (Trees.domain_type one) (Trees.domain_type other) ≡ true → ((name : CoordinateName) → axis_of one name ≡ axis_of other name)
     → SameTuples (coordinates_of one) (coordinates_of other) (tuples_of one) (tuples_of other) → one ≡ other
 axes_tell (Grid t z y x) (Grid t₂ z₂ y₂ x₂) e same tuples =
     let times : t ≡ t₂ = same T in

@@ -4,3 +4,5 @@ pub mod Trees
 pub mod Puts
 pub mod Samples
 pub mod Laws
+pub mod AxisNames
+pub mod MemberLaws

@@ -1,43 +1,43 @@
 //! The trees of a domain's axes.
 ghost use Rattle.std.specs.Prelude.{◌≡◌, IfOk, OnOk, IfSome, All, codes, option_map};
 ghost use Rattle.serde_json.specs.View.{view, members_view};
-ghost use Rattle.covjson_value.specs.Domains.{axis_key, axis_of, tuples_of, coordinates_of};
+ghost use Rattle.covjson_value.specs.Domains.{coordinate_key, axis_of, tuples_of, coordinates_of};
 ghost use Rattle.covjson_value.specs.Domains as domains;
 ghost use Rattle.covjson_value.specs.Coverages.{IsAxisValue, IsNamedAxis, HasAxes, HasTuples};
 ghost use Rattle.covjson_value.specs.Trees.{array_of, axis_value_data, axis_data, keys_data, tuple_data, composite_data, axes_data};
 ghost use Rattle.covjson_value.specs.Puts.{put_if};
 
-use crate::domains::{AxisName, Domain};
+use crate::domains::{CoordinateName, Domain};
 use crate::leaves::time_tree;
 use edr_base::{OutOfMemory, Position};
 use serde_json::{Map, Value, json};
 use std::alloc::Global;
 
-impl AxisName {
+impl CoordinateName {
     /// The letter that the axis has in CoverageJSON: `t`, `z`, `y` or `x`. It takes no memory.
     pub fn letter(self) -> &'static str
-        ensures { result.now ≡ axis_key self }
+        ensures { result.now ≡ coordinate_key self }
     {
         match self {
-            AxisName::T => "t",
-            AxisName::Z => "z",
-            AxisName::Y => "y",
-            AxisName::X => "x",
+            CoordinateName::T => "t",
+            CoordinateName::Z => "z",
+            CoordinateName::Y => "y",
+            CoordinateName::X => "x",
         }
     }
 }
 
-fn axis_value_tree(alloc: Global, name: AxisName, value: i64) -> Result<Value, OutOfMemory>
+fn axis_value_tree(alloc: Global, name: CoordinateName, value: i64) -> Result<Value, OutOfMemory>
     requires { IsAxisValue name value }
     ensures { IfOk result (λ v. view v ≡ axis_value_data name value) }
 {
     match name {
-        AxisName::T => time_tree(alloc, value),
-        AxisName::Z | AxisName::Y | AxisName::X => Ok(Value::from(value)),
+        CoordinateName::T => time_tree(alloc, value),
+        CoordinateName::Z | CoordinateName::Y | CoordinateName::X => Ok(Value::from(value)),
     }
 }
 
-fn axis_values_tree(alloc: Global, name: AxisName, values: &[i64]) -> Result<Value, OutOfMemory>
+fn axis_values_tree(alloc: Global, name: CoordinateName, values: &[i64]) -> Result<Value, OutOfMemory>
     requires { All (IsAxisValue name) values.now }
     ensures { IfOk result (λ v. view v ≡ array_of (axis_value_data name) values.now) }
 {
@@ -48,7 +48,7 @@ fn axis_values_tree(alloc: Global, name: AxisName, values: &[i64]) -> Result<Val
     Ok(Value::Array(items))
 }
 
-fn axis_tree(alloc: Global, name: AxisName, values: &[i64]) -> Result<Value, OutOfMemory>
+fn axis_tree(alloc: Global, name: CoordinateName, values: &[i64]) -> Result<Value, OutOfMemory>
     requires { All (IsAxisValue name) values.now }
     ensures { IfOk result (λ v. view v ≡ axis_data name values.now) }
 {
@@ -57,18 +57,18 @@ fn axis_tree(alloc: Global, name: AxisName, values: &[i64]) -> Result<Value, Out
 }
 
 // A coordinate of a tuple.
-fn coordinate(tuple: &Position, name: AxisName) -> i64
+fn coordinate(tuple: &Position, name: CoordinateName) -> i64
     ensures { result ≡ domains.coordinate name tuple.now }
 {
     match name {
-        AxisName::T => tuple.m,
-        AxisName::Z => tuple.z,
-        AxisName::Y => tuple.y,
-        AxisName::X => tuple.x,
+        CoordinateName::T => tuple.m,
+        CoordinateName::Z => tuple.z,
+        CoordinateName::Y => tuple.y,
+        CoordinateName::X => tuple.x,
     }
 }
 
-fn tuple_tree(alloc: Global, names: &[AxisName], tuple: &Position) -> Result<Value, OutOfMemory>
+fn tuple_tree(alloc: Global, names: &[CoordinateName], tuple: &Position) -> Result<Value, OutOfMemory>
     requires { All (λ name. IsAxisValue name (domains.coordinate name tuple.now)) names.now }
     ensures { IfOk result (λ v. view v ≡ tuple_data names.now tuple.now) }
 {
@@ -79,7 +79,7 @@ fn tuple_tree(alloc: Global, names: &[AxisName], tuple: &Position) -> Result<Val
     Ok(Value::Array(items))
 }
 
-fn tuples_tree(alloc: Global, names: &[AxisName], tuples: &[Position]) -> Result<Value, OutOfMemory>
+fn tuples_tree(alloc: Global, names: &[CoordinateName], tuples: &[Position]) -> Result<Value, OutOfMemory>
     requires { All (λ tuple. All (λ name. IsAxisValue name (domains.coordinate name tuple)) names.now) tuples.now }
     ensures { IfOk result (λ v. view v ≡ array_of (tuple_data names.now) tuples.now) }
 {
@@ -91,7 +91,7 @@ fn tuples_tree(alloc: Global, names: &[AxisName], tuples: &[Position]) -> Result
 }
 
 /// The names of some axes.
-pub fn keys_tree(alloc: Global, names: &[AxisName]) -> Result<Value, OutOfMemory>
+pub fn keys_tree(alloc: Global, names: &[CoordinateName]) -> Result<Value, OutOfMemory>
     ensures { IfOk result (λ v. view v ≡ keys_data names.now) }
 {
     let mut items = Vec::with_capacity(alloc, names.len())?;
@@ -103,7 +103,7 @@ pub fn keys_tree(alloc: Global, names: &[AxisName]) -> Result<Value, OutOfMemory
 
 fn composite_tree(
     alloc: Global,
-    names: &[AxisName],
+    names: &[CoordinateName],
     tuples: &[Position],
 ) -> Result<Value, OutOfMemory>
     requires { All (λ tuple. All (λ name. IsAxisValue name (domains.coordinate name tuple)) names.now) tuples.now }
@@ -118,11 +118,11 @@ fn put_axis(
     members: &mut Map<String, Value>,
     alloc: Global,
     domain: &Domain,
-    name: AxisName,
+    name: CoordinateName,
 ) -> Result<(), OutOfMemory>
     requires { IfSome (axis_of domain.now name) (IsNamedAxis name) }
     ensures { OnOk result (members_view members.new.entries
-        ≡ put_if (axis_key name) (option_map (axis_data name) (axis_of domain.now name)) (members_view members.old.entries)) }
+        ≡ put_if (coordinate_key name) (option_map (axis_data name) (axis_of domain.now name)) (members_view members.old.entries)) }
 {
     if let Some(values) = domain.axis(name) {
         let axis = axis_tree(alloc, name, values)?;
@@ -155,9 +155,9 @@ pub fn axes_tree(alloc: Global, domain: &Domain) -> Result<Value, OutOfMemory>
 {
     let mut members = Map::new(alloc);
     put_composite(&mut members, alloc, domain)?;
-    put_axis(&mut members, alloc, domain, AxisName::T)?;
-    put_axis(&mut members, alloc, domain, AxisName::X)?;
-    put_axis(&mut members, alloc, domain, AxisName::Y)?;
-    put_axis(&mut members, alloc, domain, AxisName::Z)?;
+    put_axis(&mut members, alloc, domain, CoordinateName::T)?;
+    put_axis(&mut members, alloc, domain, CoordinateName::X)?;
+    put_axis(&mut members, alloc, domain, CoordinateName::Y)?;
+    put_axis(&mut members, alloc, domain, CoordinateName::Z)?;
     Ok(Value::Object(members))
 }

@@ -6,7 +6,7 @@ ghost use Rattle.covjson_value.specs.Trees.{connection, text_if_some, system_dat
 
 use crate::axis_trees::axes_tree;
 use crate::coverages::Referencing;
-use crate::domains::{AxisName, Domain};
+use crate::domains::{CoordinateName, Domain};
 use crate::leaves::text_of;
 use edr_base::{OutOfMemory, Text};
 use serde_json::{Value, json};
@@ -77,10 +77,10 @@ fn referencing_tree(
 {
     let mut items = Vec::new(alloc);
     items.push(horizontal_tree(alloc, &referencing.crs)?)?;
-    if domain.has(AxisName::Z) {
+    if domain.has(CoordinateName::Z) {
         items.push(vertical_tree(alloc, &referencing.vertical)?)?;
     }
-    if domain.has(AxisName::T) {
+    if domain.has(CoordinateName::T) {
         items.push(temporal_tree(alloc)?)?;
     }
     Ok(Value::Array(items))

@@ -2,7 +2,7 @@
 ghost use Rattle.std.specs.Prelude.{◌≡◌, ◌≤◌, ◌<◌, ◌^◌, option_map, IfSome, MatchOption};
 ghost use Rattle.covjson_value.specs.Domains.{axis_of, tuples_of, coordinates_of, is_among, has_coordinate, single, axis_length, count_of, is_grid, range_axis_of, range_tuples_of};
 ghost use Rattle.covjson_value.specs.Trees.{domain_type};
-ghost use Rattle.covjson_value.specs.declared.domains.AxisName.TheVariants.{T, Z, Y, X};
+ghost use Rattle.covjson_value.specs.declared.domains.CoordinateName.TheVariants.{T, Z, Y, X};
 ghost use Rattle.edr_axes.specs.Axes.{IsAxis};
 
 use edr_axes::Axis;
@@ -11,7 +11,7 @@ use std::slice;
 
 /// A coordinate of a domain, and the axis of that name.
 #[derive(Clone, Copy, Debug, PartialEq, Eq)]
-pub enum AxisName {
+pub enum CoordinateName {
     /// Times, in seconds since 1970-01-01T00:00:00Z.
     T,
     /// Levels, in metres.
@@ -116,25 +116,25 @@ fn values_of(axis: &Option<Axis>) -> Option<&[i64]>
 }
 
 // The names of the coordinates of tuples.
-const SPOT: [AxisName; 2] = [AxisName::X, AxisName::Y];
+const SPOT: [CoordinateName; 2] = [CoordinateName::X, CoordinateName::Y];
 
-const SPOT_WITH_LEVEL: [AxisName; 3] = [AxisName::X, AxisName::Y, AxisName::Z];
+const SPOT_WITH_LEVEL: [CoordinateName; 3] = [CoordinateName::X, CoordinateName::Y, CoordinateName::Z];
 
-const STEP: [AxisName; 3] = [AxisName::T, AxisName::X, AxisName::Y];
+const STEP: [CoordinateName; 3] = [CoordinateName::T, CoordinateName::X, CoordinateName::Y];
 
-const STEP_WITH_LEVEL: [AxisName; 4] = [AxisName::T, AxisName::X, AxisName::Y, AxisName::Z];
+const STEP_WITH_LEVEL: [CoordinateName; 4] = [CoordinateName::T, CoordinateName::X, CoordinateName::Y, CoordinateName::Z];
 
 impl Domain {
     /// The values of an axis, or None where the domain hasn't that axis. It takes no memory.
-    pub fn axis(&self, name: AxisName) -> Option<&[i64]>
+    pub fn axis(&self, name: CoordinateName) -> Option<&[i64]>
         ensures values { option_map (λ values. values.now) result ≡ axis_of self.now name }
         ensures axis { IfSome result (λ values. IsAxis values.now) }
     {
         match name {
-            AxisName::T => self.times(),
-            AxisName::Z => self.levels(),
-            AxisName::Y => self.rows(),
-            AxisName::X => self.columns(),
+            CoordinateName::T => self.times(),
+            CoordinateName::Z => self.levels(),
+            CoordinateName::Y => self.rows(),
+            CoordinateName::X => self.columns(),
         }
     }
 
@@ -209,7 +209,7 @@ impl Domain {
 
     /// The names of the coordinates of the tuples, in their order; none where there are no tuples.
     /// It takes no memory.
-    pub fn coordinates(&self) -> &'static [AxisName]
+    pub fn coordinates(&self) -> &'static [CoordinateName]
         ensures { result.now ≡ coordinates_of self.now }
     {
         match self {
@@ -223,18 +223,18 @@ impl Domain {
     }
 
     /// Whether the tuples have a coordinate. It takes no memory.
-    pub fn is_in_tuples(&self, name: AxisName) -> bool
+    pub fn is_in_tuples(&self, name: CoordinateName) -> bool
         ensures { result ≡ is_among name (coordinates_of self.now) }
     {
         match self {
             Domain::MultiPoint { has_z, .. } => match name {
-                AxisName::T => false,
-                AxisName::Z => *has_z,
-                AxisName::Y | AxisName::X => true,
+                CoordinateName::T => false,
+                CoordinateName::Z => *has_z,
+                CoordinateName::Y | CoordinateName::X => true,
             },
             Domain::Trajectory { has_z, .. } => match name {
-                AxisName::Z => *has_z,
-                AxisName::T | AxisName::Y | AxisName::X => true,
+                CoordinateName::Z => *has_z,
+                CoordinateName::T | CoordinateName::Y | CoordinateName::X => true,
             },
             Domain::Grid { .. }
             | Domain::Point { .. }
@@ -244,14 +244,14 @@ impl Domain {
     }
 
     /// Whether the domain has a coordinate, in its tuples or along an axis. It takes no memory.
-    pub fn has(&self, name: AxisName) -> bool
+    pub fn has(&self, name: CoordinateName) -> bool
         ensures { result ≡ has_coordinate self.now name }
     {
         self.is_in_tuples(name) || self.axis(name).is_some()
     }
 
     // 1 where it hasn't the axis.
-    fn axis_len(&self, name: AxisName) -> usize
+    fn axis_len(&self, name: CoordinateName) -> usize
         ensures length { result ≡ axis_length (axis_of self.now name) }
         ensures some { 0 < result }
     {
@@ -276,10 +276,10 @@ impl Domain {
     pub fn count(&self) -> Option<usize>
         ensures { MatchOption result (2 ^ 64 ≤ count_of self.now) (λ n. n ≡ count_of self.now) }
     {
-        let times = self.axis_len(AxisName::T);
-        let levels = self.axis_len(AxisName::Z);
-        let rows = self.axis_len(AxisName::Y);
-        let columns = self.axis_len(AxisName::X);
+        let times = self.axis_len(CoordinateName::T);
+        let levels = self.axis_len(CoordinateName::Z);
+        let rows = self.axis_len(CoordinateName::Y);
+        let columns = self.axis_len(CoordinateName::X);
         let places = columns.checked_mul(self.tuples_len())?;
         let nodes = rows.checked_mul(places)?;
         let profiles = levels.checked_mul(nodes)?;
@@ -316,7 +316,7 @@ impl Domain {
 
     /// The values of an axis of the domain's ranges: in a Grid each axis that it has, and else one that has
     /// not just one value. It takes no memory.
-    pub fn range_axis(&self, name: AxisName) -> Option<&[i64]>
+    pub fn range_axis(&self, name: CoordinateName) -> Option<&[i64]>
         ensures { option_map (λ values. values.now) result ≡ range_axis_of self.now name }
     {
         let values = self.axis(name)?;

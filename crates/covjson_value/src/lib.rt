@@ -1,26 +1,24 @@
 //! Coverages of CoverageJSON (OGC 21-069r2): their values, which of them are valid, and their trees of JSON.
 #![tactic(auto)]
 
+mod axis_names;
 mod axis_trees;
 mod coverages;
 mod domain_trees;
 mod domains;
 mod laws;
 mod leaves;
-mod limits;
-mod names;
 mod parameter_trees;
 mod range_trees;
 mod trees;
 mod validity;
 
+pub use axis_names::{AxisName, axis_key};
 pub use coverages::{Coverage, Document, NdArray, Parameter, Referencing};
-pub use domains::{AxisName, Domain};
+pub use domains::{CoordinateName, Domain};
 pub use laws::{
     document_texts_read_back, texts_read_back, texts_tell_coverages, texts_tell_documents,
 };
-pub use limits::{COORDINATE_LIMIT, NAME_LIMIT, SAMPLE_LIMIT};
-pub use names::is_name;
 pub use trees::{document_tree, tree_of};
 
 #[cfg(test)]

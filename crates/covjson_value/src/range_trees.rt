@@ -7,7 +7,7 @@ ghost use Rattle.covjson_value.specs.Trees.{array_if_some, name_data, length_dat
 ghost use Rattle.covjson_value.specs.Puts.{axis_alone};
 
 use crate::coverages::{NdArray, Parameter};
-use crate::domains::{AxisName, Domain};
+use crate::domains::{CoordinateName, Domain};
 use crate::leaves::{put_given, put_text, samples_tree, text_of};
 use edr_base::OutOfMemory;
 use serde_json::{Map, Value};
@@ -18,7 +18,7 @@ fn push_name(
     names: &mut Vec<Value>,
     alloc: Global,
     domain: &Domain,
-    name: AxisName,
+    name: CoordinateName,
 ) -> Result<(), OutOfMemory>
     ensures { OnOk result (map view names.new.items
         ≡ map view names.old.items ++ map name_data (axis_alone name (range_axis_of domain.now name))) }
@@ -30,7 +30,7 @@ fn push_name(
 }
 
 // Its length, there.
-fn push_length(lengths: &mut Vec<Value>, domain: &Domain, name: AxisName) -> Result<(), OutOfMemory>
+fn push_length(lengths: &mut Vec<Value>, domain: &Domain, name: CoordinateName) -> Result<(), OutOfMemory>
     ensures { OnOk result (map view lengths.new.items
         ≡ map view lengths.old.items ++ map length_data (axis_alone name (range_axis_of domain.now name))) }
 {
@@ -66,10 +66,10 @@ fn axis_names(alloc: Global, domain: &Domain) -> Result<Vec<Value>, OutOfMemory>
     ensures { IfOk result (λ names. map view names.items ≡ map name_data (range_axes domain.now)) }
 {
     let mut names = Vec::new(alloc);
-    push_name(&mut names, alloc, domain, AxisName::T)?;
-    push_name(&mut names, alloc, domain, AxisName::Z)?;
-    push_name(&mut names, alloc, domain, AxisName::Y)?;
-    push_name(&mut names, alloc, domain, AxisName::X)?;
+    push_name(&mut names, alloc, domain, CoordinateName::T)?;
+    push_name(&mut names, alloc, domain, CoordinateName::Z)?;
+    push_name(&mut names, alloc, domain, CoordinateName::Y)?;
+    push_name(&mut names, alloc, domain, CoordinateName::X)?;
     push_composite(&mut names, alloc, domain)?;
     Ok(names)
 }
@@ -78,10 +78,10 @@ fn shape(alloc: Global, domain: &Domain) -> Result<Vec<Value>, OutOfMemory>
     ensures { IfOk result (λ lengths. map view lengths.items ≡ map length_data (range_axes domain.now)) }
 {
     let mut lengths = Vec::new(alloc);
-    push_length(&mut lengths, domain, AxisName::T)?;
-    push_length(&mut lengths, domain, AxisName::Z)?;
-    push_length(&mut lengths, domain, AxisName::Y)?;
-    push_length(&mut lengths, domain, AxisName::X)?;
+    push_length(&mut lengths, domain, CoordinateName::T)?;
+    push_length(&mut lengths, domain, CoordinateName::Z)?;
+    push_length(&mut lengths, domain, CoordinateName::Y)?;
+    push_length(&mut lengths, domain, CoordinateName::X)?;
     push_tuples(&mut lengths, domain)?;
     Ok(lengths)
 }

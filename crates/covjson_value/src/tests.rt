@@ -1,5 +1,6 @@
 //! Tables of what is valid. The texts of documents are tested where they are written.
-use crate::{AxisName, Coverage, Document, Domain, NdArray, Parameter, Referencing, is_name};
+use crate::{CoordinateName, Coverage, Document, Domain, NdArray, Parameter, Referencing};
+use edr_base::is_name;
 use edr_axes::Axis;
 use edr_base::{Items, OutOfMemory, Position, Text};
 use std::alloc::Global;
@@ -420,7 +421,7 @@ fn grid(alloc: Global) -> Result<Domain, Fail> {
 }
 
 // Whether the domain has the coordinate, and whether its ranges have the axis.
-fn has_and_stands(domain: &Domain, name: AxisName) -> (bool, bool) {
+fn has_and_stands(domain: &Domain, name: CoordinateName) -> (bool, bool) {
     (domain.has(name), domain.range_axis(name).is_some())
 }
 
@@ -428,10 +429,10 @@ fn has_and_stands(domain: &Domain, name: AxisName) -> (bool, bool) {
 fn axes_of_a_grid(rt: HostRuntime) -> Result<(), Fail> {
     let grid = grid(rt.alloc())?;
     assert!(rt; grid.count() == Some(6) && grid.is_grid() && grid.type_name() == "Grid");
-    assert!(rt; has_and_stands(&grid, AxisName::T) == (false, false));
-    assert!(rt; has_and_stands(&grid, AxisName::Z) == (true, true));
-    assert!(rt; has_and_stands(&grid, AxisName::Y) == (true, true));
-    assert!(rt; has_and_stands(&grid, AxisName::X) == (true, true));
+    assert!(rt; has_and_stands(&grid, CoordinateName::T) == (false, false));
+    assert!(rt; has_and_stands(&grid, CoordinateName::Z) == (true, true));
+    assert!(rt; has_and_stands(&grid, CoordinateName::Y) == (true, true));
+    assert!(rt; has_and_stands(&grid, CoordinateName::X) == (true, true));
     Ok(())
 }
 
@@ -439,9 +440,9 @@ fn axes_of_a_grid(rt: HostRuntime) -> Result<(), Fail> {
 fn axes_of_a_point(rt: HostRuntime) {
     let point = point(Some(0), None);
     assert!(rt; point.count() == Some(1) && !point.is_grid() && point.tuples().is_none());
-    assert!(rt; has_and_stands(&point, AxisName::T) == (true, false));
-    assert!(rt; has_and_stands(&point, AxisName::Z) == (false, false));
-    assert!(rt; AxisName::X.letter() == "x");
+    assert!(rt; has_and_stands(&point, CoordinateName::T) == (true, false));
+    assert!(rt; has_and_stands(&point, CoordinateName::Z) == (false, false));
+    assert!(rt; CoordinateName::X.letter() == "x");
 }
 
 #[test]
@@ -452,10 +453,10 @@ fn axes_of_a_trajectory(rt: HostRuntime) -> Result<(), Fail> {
         has_z: false,
         steps,
     };
-    assert!(rt; step.coordinates() == [AxisName::T, AxisName::X, AxisName::Y].as_slice());
+    assert!(rt; step.coordinates() == [CoordinateName::T, CoordinateName::X, CoordinateName::Y].as_slice());
     assert!(rt; step.tuples().is_some() && step.range_tuples().is_none());
-    assert!(rt; step.is_in_tuples(AxisName::T) && !step.is_in_tuples(AxisName::Z));
-    assert!(rt; has_and_stands(&step, AxisName::Z) == (true, false));
-    assert!(rt; has_and_stands(&step, AxisName::X) == (true, false));
+    assert!(rt; step.is_in_tuples(CoordinateName::T) && !step.is_in_tuples(CoordinateName::Z));
+    assert!(rt; has_and_stands(&step, CoordinateName::Z) == (true, false));
+    assert!(rt; has_and_stands(&step, CoordinateName::X) == (true, false));
     Ok(())
 }

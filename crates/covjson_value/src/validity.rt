@@ -3,28 +3,28 @@ ghost use Rattle.std.specs.Prelude.{◌≡◌, ◌↔◌, true, map, IsTrue, IfS
 ghost use Rattle.std.specs.Ordering.{nat_cmp};
 ghost use Rattle.std.specs.declared.cmp.Ordering.TheVariants.{Less};
 ghost use Rattle.std.specs.Cmp.Lexicographic.{slice_cmp};
-ghost use Rattle.covjson_value.specs.declared.domains.AxisName.TheVariants.{T, Z};
+ghost use Rattle.covjson_value.specs.declared.domains.CoordinateName.TheVariants.{T, Z};
 ghost use Rattle.covjson_value.specs.Domains.{axis_of, tuples_of, coordinates_of, coordinate, is_among, has_coordinate};
 ghost use Rattle.covjson_value.specs.Coverages.{IsSample, IsAxisValue, IsNamedAxis, HasAxes, IsTupleValue, IsTuple, NeverFall, AreTuples, HasTuples, IsParameter, IsReferencing, AscendById, IsRange, IsValid, IsValidDocument};
 
 use crate::coverages::{Coverage, Document, NdArray, Parameter, Referencing};
-use crate::domains::{AxisName, Domain};
-use crate::limits::{COORDINATE_LIMIT, SAMPLE_LIMIT};
-use crate::names::{is_name, is_utf8, is_utf8_where_given};
+use crate::domains::{CoordinateName, Domain};
+use edr_base::{COORDINATE_LIMIT, SAMPLE_LIMIT};
+use edr_base::{is_name, is_utf8, is_utf8_where_given};
 use edr_axes::{EARLIEST, LATEST};
 use edr_base::Position;
 
-fn is_axis_value(name: AxisName, value: i64) -> bool
+fn is_axis_value(name: CoordinateName, value: i64) -> bool
     ensures { IsTrue result ↔ IsAxisValue name value }
 {
     match name {
-        AxisName::T => EARLIEST <= value && value <= LATEST,
-        AxisName::Z | AxisName::Y | AxisName::X => value.unsigned_abs() <= COORDINATE_LIMIT,
+        CoordinateName::T => EARLIEST <= value && value <= LATEST,
+        CoordinateName::Z | CoordinateName::Y | CoordinateName::X => value.unsigned_abs() <= COORDINATE_LIMIT,
     }
 }
 
 // An axis that the domain hasn't is none at fault.
-fn is_named_axis(domain: &Domain, name: AxisName) -> bool
+fn is_named_axis(domain: &Domain, name: CoordinateName) -> bool
     ensures { IsTrue result ↔ IfSome (axis_of domain.now name) (IsNamedAxis name) }
 {
     match domain.axis(name) {
@@ -36,14 +36,14 @@ fn is_named_axis(domain: &Domain, name: AxisName) -> bool
 fn has_axes(domain: &Domain) -> bool
     ensures { IsTrue result ↔ HasAxes domain.now }
 {
-    is_named_axis(domain, AxisName::T)
-        && is_named_axis(domain, AxisName::Z)
-        && is_named_axis(domain, AxisName::Y)
-        && is_named_axis(domain, AxisName::X)
+    is_named_axis(domain, CoordinateName::T)
+        && is_named_axis(domain, CoordinateName::Z)
+        && is_named_axis(domain, CoordinateName::Y)
+        && is_named_axis(domain, CoordinateName::X)
 }
 
 // What is no coordinate is 0.
-fn is_tuple_value(is_coordinate: bool, name: AxisName, value: i64) -> bool
+fn is_tuple_value(is_coordinate: bool, name: CoordinateName, value: i64) -> bool
     ensures { IsTrue result ↔ IsTupleValue is_coordinate name value }
 {
     if is_coordinate {
@@ -56,10 +56,10 @@ fn is_tuple_value(is_coordinate: bool, name: AxisName, value: i64) -> bool
 fn is_tuple(domain: &Domain, tuple: &Position) -> bool
     ensures { IsTrue result ↔ IsTuple (coordinates_of domain.now) tuple.now }
 {
-    is_tuple_value(domain.is_in_tuples(AxisName::T), AxisName::T, tuple.m)
-        && is_tuple_value(domain.is_in_tuples(AxisName::Z), AxisName::Z, tuple.z)
-        && is_tuple_value(domain.is_in_tuples(AxisName::Y), AxisName::Y, tuple.y)
-        && is_tuple_value(domain.is_in_tuples(AxisName::X), AxisName::X, tuple.x)
+    is_tuple_value(domain.is_in_tuples(CoordinateName::T), CoordinateName::T, tuple.m)
+        && is_tuple_value(domain.is_in_tuples(CoordinateName::Z), CoordinateName::Z, tuple.z)
+        && is_tuple_value(domain.is_in_tuples(CoordinateName::Y), CoordinateName::Y, tuple.y)
+        && is_tuple_value(domain.is_in_tuples(CoordinateName::X), CoordinateName::X, tuple.x)
 }
 
 fn are_tuples(domain: &Domain, tuples: &[Position]) -> bool
@@ -90,7 +90,7 @@ fn has_good_tuples(domain: &Domain) -> bool
 }
 
 // A coordinate of tuples has no axis of its own.
-fn is_once(domain: &Domain, name: AxisName) -> bool
+fn is_once(domain: &Domain, name: CoordinateName) -> bool
     ensures { IsTrue result ↔ (is_among name (coordinates_of domain.now) ≡ true → IsNone (axis_of domain.now name)) }
 {
     !domain.is_in_tuples(name) || domain.axis(name).is_none()
@@ -100,10 +100,10 @@ fn has_tuples(domain: &Domain) -> bool
     ensures { IsTrue result ↔ HasTuples domain.now }
 {
     has_good_tuples(domain)
-        && is_once(domain, AxisName::T)
-        && is_once(domain, AxisName::Z)
-        && is_once(domain, AxisName::Y)
-        && is_once(domain, AxisName::X)
+        && is_once(domain, CoordinateName::T)
+        && is_once(domain, CoordinateName::Z)
+        && is_once(domain, CoordinateName::Y)
+        && is_once(domain, CoordinateName::X)
 }
 
 fn is_parameter(parameter: &Parameter) -> bool
@@ -170,7 +170,7 @@ fn are_ranges(ranges: &[NdArray], domain: &Domain) -> bool
 fn has_vertical_in_place(referencing: &Referencing, domain: &Domain) -> bool
     ensures { IsTrue result ↔ (IsSome referencing.now.vertical → IsTrue (has_coordinate domain.now Z)) }
 {
-    referencing.vertical.is_none() || domain.has(AxisName::Z)
+    referencing.vertical.is_none() || domain.has(CoordinateName::Z)
 }
 
 impl Coverage {

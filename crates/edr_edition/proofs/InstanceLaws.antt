@@ -8,7 +8,8 @@ use Rattle.std.specs.Ordering.{is_lt, is_eq, is_gt}
 use Rattle.std.specs.declared.cmp.Ordering.TheVariants.{Less, Equal, Greater}
 use Rattle.covjson_value.specs.declared.coverages.Parameter.{Parameter}
 use Rattle.covjson_value.specs.declared.coverages.Referencing.{Referencing}
-use Rattle.covjson_value.specs.Coverages.{IsName, IsReferencing}
+use Rattle.covjson_value.specs.Coverages.{IsReferencing}
+use Rattle.edr_base.specs.Names.{IsName}
 use Rattle.edr_ids.specs.Ids.{order, has_id, is_below, is_above, with_item, without_id}
 use Rattle.edr_ids.proofs.SortedLists.{AscendBy-nil, AscendBy-with_item, AscendBy-without_id}
 use Rattle.edr_edition.specs.declared.kinds.Kind.{Kind}

@@ -4,7 +4,7 @@ use Rattle.std.proofs.lemmas.Bool.{cases_Bool}
 use Rattle.std.proofs.lemmas.List.{get_or_default, set-get_or}
 use Rattle.std.specs.Result.{is_ok}
 use Rattle.covjson_value.specs.declared.coverages.Coverage.{Coverage}
-use Rattle.covjson_value.specs.Coverages.{IsName}
+use Rattle.edr_base.specs.Names.{IsName}
 use Rattle.edr_ids.specs.Ids.{has_id, item_of, with_item, without_id, IsPlaceOf}
 use Rattle.edr_ids.proofs.SortedLists.{item_of-missing}
 use Rattle.edr_edition.specs.declared.kinds.Kind.TheVariants.{Grid}

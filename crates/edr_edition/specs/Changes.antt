@@ -2,12 +2,13 @@
 use Rattle.std.specs.Prelude.{◌≡◌, ◌⊎◌, ℕ, Bool, true, false, not, ◌&&◌, nat_lt, bytes_eq, if◌then◌else◌, codes, List, [], ◌∷◌, ◌++◌, Result, Ok, Err, Option, None, Some, option_map, is_some, IfSome, IsUtf8}
 use Rattle.std.specs.List.{filter, list_any}
 use Rattle.std.specs.Ordering.{is_lt}
-use Rattle.covjson_value.specs.declared.domains.AxisName.TheVariants.{T}
+use Rattle.covjson_value.specs.declared.domains.CoordinateName.TheVariants.{T}
 use Rattle.covjson_value.specs.declared.coverages.Parameter.{Parameter}
 use Rattle.covjson_value.specs.declared.coverages.Referencing.{Referencing}
 use Rattle.covjson_value.specs.declared.coverages.Coverage.{Coverage}
 use Rattle.covjson_value.specs.Domains.{has_axis, is_grid, count_of}
-use Rattle.covjson_value.specs.Coverages.{IsName, IsValid}
+use Rattle.covjson_value.specs.Coverages.{IsValid}
+use Rattle.edr_base.specs.Names.{IsName}
 use Rattle.edr_ids.specs.Ids.{order, item_of, with_item, without_id}
 use Rattle.edr_edition.specs.declared.kinds.Kind.{Kind}
 use Rattle.edr_edition.specs.declared.kinds.Kind.TheVariants.{Grid as Grids, Station as Stations}

@@ -14,7 +14,7 @@ use crate::collections::CollectionData;
 use crate::differences::first_difference;
 use crate::kinds::Kind;
 use crate::limits::NODE_LIMIT;
-use covjson_value::{AxisName, Coverage, Parameter};
+use covjson_value::{CoordinateName, Coverage, Parameter};
 use edr_base::Text;
 use std::alloc::Global;
 
@@ -71,7 +71,7 @@ pub fn check_grid(
     if collection.kind() != Kind::Grid || !coverage.domain.is_grid() {
         return Err(ChangeFault::WrongKind);
     }
-    if coverage.domain.axis(AxisName::T).is_none() {
+    if coverage.domain.axis(CoordinateName::T).is_none() {
         return Err(ChangeFault::NoTimes);
     }
     if crs_differs(

@@ -1,7 +1,8 @@
 //! Collections.
 ghost use Rattle.std.specs.Prelude.{◌≡◌, ◌<◌, [], length, All, is_some, option_map, IfOk, OnOk, OnErr, MatchOption, IsUtf8};
 ghost use Rattle.std.specs.List.{slice_index_or};
-ghost use Rattle.covjson_value.specs.Coverages.{IsName, IsReferencing};
+ghost use Rattle.covjson_value.specs.Coverages.{IsReferencing};
+ghost use Rattle.edr_base.specs.Names.{IsName};
 ghost use Rattle.edr_ids.specs.Ids as ids;
 ghost use Rattle.edr_ids.specs.Ids.{with_item, without_id};
 ghost use Rattle.edr_edition.specs.Values.{InstanceValue, instance_id, parameters_of};

@@ -2,7 +2,7 @@
 ghost use Rattle.std.specs.Prelude.{◌≡◌, option_map, length};
 ghost use Rattle.edr_chunk.specs.Grids.{value};
 ghost use Rattle.edr_chunk.specs.Places.{Within, IsShape};
-ghost use Rattle.covjson_value.specs.Coverages.{IsName};
+ghost use Rattle.edr_base.specs.Names.{IsName};
 ghost use Rattle.edr_edition.specs.Instances.{IsTimedGrid, instance_of, IsInstance};
 
 use covjson_value::{Coverage, Domain, NdArray, Parameter};
@@ -28,7 +28,7 @@ pub struct GridInstance {
 }
 
 impl Model for GridInstance {
-    ghost use Rattle.covjson_value.specs.Coverages.{IsName};
+    ghost use Rattle.edr_base.specs.Names.{IsName};
     ghost use Rattle.edr_edition.specs.Values.{InstanceValue};
     ghost use Rattle.edr_edition.specs.Instances.{IsTimedGrid, instance_of, grid_of};
 

@@ -1,7 +1,8 @@
 //! The steps of a change, on the collections of a draft.
 ghost use Rattle.std.specs.Prelude.{◌≡◌, ◌<◌, None, IfOk, codes, length};
 ghost use Rattle.std.specs.List.{slice_index_or};
-ghost use Rattle.covjson_value.specs.Coverages.{IsName, IsReferencing, IsValid};
+ghost use Rattle.covjson_value.specs.Coverages.{IsReferencing, IsValid};
+ghost use Rattle.edr_base.specs.Names.{IsName};
 ghost use Rattle.edr_edition.specs.Values.{CollectionValue, collection_id};
 ghost use Rattle.edr_edition.specs.Editions.{IsCollection, AreCollections};
 ghost use Rattle.edr_edition.specs.Changes.{Made, added, instance_set, set_in, dropped, instance_dropped, bare_collection, collection_in};

@@ -5,7 +5,8 @@ ghost use Rattle.edr_edition.specs.Instances.{IsTimedGrid};
 ghost use Rattle.edr_edition.specs.Changes.{IsChange};
 
 use crate::{Change, Draft, Edition, GridInstance, Kind, NODE_LIMIT};
-use covjson_value::{AxisName, Coverage, Domain, NdArray, Parameter, Referencing, is_name};
+use covjson_value::{CoordinateName, Coverage, Domain, NdArray, Parameter, Referencing};
+use edr_base::{is_name};
 use edr_axes::Axis;
 use edr_base::{Items, OutOfMemory, Text};
 use edr_chunk::{GridPlace, GridShape};
@@ -80,7 +81,7 @@ fn is_grid(coverage: &Coverage) -> bool
     };
     coverage.is_valid()
         && coverage.domain.is_grid()
-        && coverage.domain.axis(AxisName::T).is_some()
+        && coverage.domain.axis(CoordinateName::T).is_some()
         && few
 }
 

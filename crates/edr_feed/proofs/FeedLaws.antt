@@ -2,7 +2,7 @@
 use Rattle.std.proofs.Common.{◌≡◌, ℕ, ◌+◌, Bool, true, false, nat_le, length, take, List, [], ◌∷◌, ◌++◌, Option, None, Some, Result, Ok, Err, inl, inr, sym, ap, ◌∙◌, subst, arith, nat_lt}
 use Rattle.std.specs.Prelude.{IfOk}
 use Rattle.serde_json.specs.Data.{Data}
-use Rattle.covjson_read.specs.CoverageAnswers.{IsJson}
+use Rattle.edr_json.specs.Json.{IsJson}
 use Rattle.edr_edition.specs.Values.{CollectionValue, EditionValue}
 use Rattle.edr_edition.specs.declared.changes.Change.TheVariants.{Bare as BareGrid}
 use Rattle.edr_edition.specs.declared.changes.ChangeFault.{ChangeFault}

@@ -5,8 +5,8 @@ use Rattle.std.proofs.lemmas.Slice.Eq.{bytes_eq-Decides}
 use Rattle.serde_json.specs.Data.{Data, null, boolean, number, string, array, object}
 use Rattle.serde_json.specs.Find.{get, as_str}
 use Rattle.covjson_value.specs.declared.coverages.Coverage.{Coverage}
-use Rattle.covjson_read.specs.Answers as covjson
-use Rattle.covjson_read.specs.Members.{text_or_empty}
+use Rattle.covjson_checks.specs.Answers as covjson
+use Rattle.edr_json.specs.Trees.{text_or_empty}
 use Rattle.covjson_read.specs.Parameters.{has_name_form, HasNameForm}
 use Rattle.covjson_read.specs.CoverageAnswers.{coverage_in, AnswersAreWhatStands}
 use Rattle.covjson_read.specs.Standing.{Stands}

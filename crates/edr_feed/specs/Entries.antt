@@ -3,8 +3,8 @@ use Rattle.std.specs.Prelude.{◌≡◌, ◌⊎◌, ℕ, suc, ◌==◌, Bool, fa
 use Rattle.serde_json.specs.Data.{Data, null, Members, no_members, member}
 use Rattle.serde_json.specs.Find.{get, as_object, as_str}
 use Rattle.covjson_value.specs.declared.coverages.Coverage.{Coverage}
-use Rattle.covjson_read.specs.Answers as covjson
-use Rattle.covjson_read.specs.Members.{text_or_empty}
+use Rattle.covjson_checks.specs.Answers as covjson
+use Rattle.edr_json.specs.Trees.{text_or_empty}
 use Rattle.covjson_read.specs.Parameters.{has_name_form}
 use Rattle.covjson_read.specs.CoverageAnswers.{coverage_in}
 use Rattle.edr_edition.specs.declared.kinds.Kind.TheVariants.{Grid as Grids}

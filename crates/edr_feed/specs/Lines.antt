@@ -1,7 +1,7 @@
 -- The lines of a feed.
 use Rattle.std.specs.Prelude.{◌≡◌, ◌⊎◌, ℕ, ◌==◌, ◌||◌, ◌&&◌, Bool, true, false, nat_lt, if◌then◌else◌, List, [], ◌∷◌, length, Ok, Err, Option, None, Some}
 use Rattle.serde_json.specs.Data.{Data}
-use Rattle.covjson_read.specs.CoverageAnswers.{IsJson}
+use Rattle.edr_json.specs.Json.{IsJson}
 use Rattle.edr_feed.specs.declared.faults.LineFault.TheVariants.{LineTooLong, NotJson}
 use Rattle.edr_feed.specs.declared.entries.Entry.{Entry}
 use Rattle.edr_feed.specs.Entries.{Answer, and_then, entry_of}

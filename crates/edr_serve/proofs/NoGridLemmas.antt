@@ -4,9 +4,10 @@ use Rattle.std.proofs.lemmas.List.{length-append}
 use Rattle.serde_json.specs.Data.{Data, null}
 use Rattle.edr_base.specs.Calls.{ReadsAll, ReadsMore}
 use Rattle.covjson_value.specs.declared.coverages.Coverage.{Coverage}
-use Rattle.covjson_read.specs.declared.faults.CovFault.{CovFault}
-use Rattle.covjson_read.specs.declared.faults.CovFault.TheVariants.{OutOfMemory}
-use Rattle.covjson_read.specs.CoverageAnswers.{IsJson, AnswersAreWhatStands, coverage_in}
+use Rattle.covjson_checks.specs.declared.faults.CovFault.{CovFault}
+use Rattle.covjson_checks.specs.declared.faults.CovFault.TheVariants.{OutOfMemory}
+use Rattle.edr_json.specs.Json.{IsJson}
+use Rattle.covjson_read.specs.CoverageAnswers.{AnswersAreWhatStands, coverage_in}
 use Rattle.covjson_read.specs.Standing.{Stands}
 use Rattle.edr_serve.specs.Line.{IsOneLine, LineIsOne}
 use Rattle.edr_serve.specs.Grids.{IsTimedGrid, IsInput, HoldsNoGrid, HoldsNoGridIn}

@@ -3,7 +3,7 @@ use Rattle.std.proofs.Common.{◌≡◌, ℕ, ◌+◌, ◌*◌, ◌<◌, ◌≤�
 use Rattle.std.specs.declared.option.Option.{Option}
 use Rattle.std.proofs.lemmas.Nat.{mul-add-lt}
 use Rattle.std.proofs.Math.Nat.{le-mul_of_pos_right}
-use Rattle.covjson_value.specs.declared.domains.AxisName.TheVariants.{T, Z, Y, X}
+use Rattle.covjson_value.specs.declared.domains.CoordinateName.TheVariants.{T, Z, Y, X}
 use Rattle.covjson_value.specs.declared.domains.Domain.{Domain}
 use Rattle.edr_base.specs.declared.places.Position.{Position}
 use Rattle.covjson_value.specs.Domains.{tuples_of, axis_length, count_of}

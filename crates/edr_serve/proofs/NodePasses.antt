@@ -10,7 +10,7 @@ use Rattle.std.proofs.lemmas.Int.{ints}
 use Rattle.std.proofs.lemmas.List.{get_or_default, length-map}
 use Rattle.edr_axes.specs.Axes.{value_at, IsAscending}
 use Rattle.edr_axes.proofs.AxisLemmas.{ascending_far}
-use Rattle.covjson_value.specs.declared.domains.AxisName.TheVariants.{T, Z, Y, X}
+use Rattle.covjson_value.specs.declared.domains.CoordinateName.TheVariants.{T, Z, Y, X}
 use Rattle.covjson_value.specs.declared.domains.Domain.{Domain}
 use Rattle.covjson_value.specs.declared.domains.Domain.TheVariants.{Grid, Point, PointSeries, VerticalProfile, MultiPoint, Trajectory}
 use Rattle.covjson_value.specs.Domains.{axis_of, axis_length}

@@ -5,8 +5,8 @@ use Rattle.std.specs.Prelude.{option_map}
 use Rattle.std.proofs.lemmas.List.{length-map}
 use Rattle.std.proofs.lemmas.List.Elements.{All-get_or, All-map, All-weaker}
 use Rattle.edr_axes.specs.Axes.{value_at}
-use Rattle.covjson_value.specs.declared.domains.AxisName.{AxisName}
-use Rattle.covjson_value.specs.declared.domains.AxisName.TheVariants.{T, Z, Y, X}
+use Rattle.covjson_value.specs.declared.domains.CoordinateName.{CoordinateName}
+use Rattle.covjson_value.specs.declared.domains.CoordinateName.TheVariants.{T, Z, Y, X}
 use Rattle.covjson_value.specs.declared.domains.Domain.{Domain}
 use Rattle.covjson_value.specs.declared.domains.Domain.TheVariants.{Grid, Point, PointSeries, VerticalProfile, MultiPoint, Trajectory}
 use Rattle.covjson_value.specs.declared.coverages.NdArray.{NdArray}
@@ -24,13 +24,13 @@ all_of_one P x h (suc k) d inside = absurd (omega arith)
 
 -- ---- the axes
 
-one_named : (name : AxisName) (values : List ℤ) (place : ℕ) → IsNamedAxis name values → place < length values → IsNamedAxis name (single (value_at values place))
+one_named : (name : CoordinateName) (values : List ℤ) (place : ℕ) → IsNamedAxis name values → place < length values → IsNamedAxis name (single (value_at values place))
 one_named name values place h inside = record {
   ascending = record { some = omega arith; ascending = λ k within. absurd (omega arith) };
   within = all_of_one (IsAxisValue name) (value_at values place) (All-get_or (IsAxisValue name) values place _ inside h.within);
 }
 
-one_named_where_given : (name : AxisName) (axis : Option (List ℤ)) (place : ℕ) → IfSome axis (IsNamedAxis name) → place < axis_length axis
+one_named_where_given : (name : CoordinateName) (axis : Option (List ℤ)) (place : ℕ) → IfSome axis (IsNamedAxis name) → place < axis_length axis
     → IfSome (option_map single (option_map (λ values. value_at values place) axis)) (IsNamedAxis name)
 one_named_where_given name None place h inside = h
 one_named_where_given name (Some values) place h inside = one_named name values place h inside

@@ -8,7 +8,7 @@ use Rattle.serde_json.specs.Data.{Data}
 use Rattle.edr_base.specs.declared.refusals.Refusal.{Refusal}
 use Rattle.covjson_value.specs.declared.coverages.Coverage.{Coverage}
 use Rattle.covjson_value.specs.Coverages.{IsValid}
-use Rattle.covjson_read.specs.CoverageAnswers.{IsJson}
+use Rattle.edr_json.specs.Json.{IsJson}
 use Rattle.covjson_read.specs.Standing.{Stands}
 use Rattle.edr_serve.specs.Line.{IsOneLine}
 use Rattle.edr_serve.specs.Grids.{IsTimedGrid, IsInput}

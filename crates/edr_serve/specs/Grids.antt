@@ -7,7 +7,7 @@ use Rattle.covjson_value.specs.declared.domains.Domain.TheVariants.{Grid}
 use Rattle.covjson_value.specs.Domains.{count_of}
 use Rattle.covjson_value.specs.Coverages.{IsValid}
 use Rattle.covjson_read.specs.Standing.{Stands}
-use Rattle.covjson_read.specs.CoverageAnswers.{IsJson}
+use Rattle.edr_json.specs.Json.{IsJson}
 use Rattle.edr_serve.specs.Line.{IsOneLine}
 
 -- the coverage is a grid with times and without levels, of few enough nodes

@@ -4,8 +4,8 @@ use Rattle.std.specs.List.{slice_index_or}
 use Rattle.std.specs.declared.option.Option.{Option}
 use Rattle.std.specs.Prelude.{None}
 use Rattle.edr_axes.specs.Axes.{value_at}
-use Rattle.covjson_value.specs.declared.domains.AxisName.{AxisName}
-use Rattle.covjson_value.specs.declared.domains.AxisName.TheVariants.{T, Z, Y, X}
+use Rattle.covjson_value.specs.declared.domains.CoordinateName.{CoordinateName}
+use Rattle.covjson_value.specs.declared.domains.CoordinateName.TheVariants.{T, Z, Y, X}
 use Rattle.covjson_value.specs.declared.domains.Domain.{Domain}
 use Rattle.covjson_value.specs.declared.domains.Domain.TheVariants.{Point}
 use Rattle.covjson_value.specs.declared.coverages.NdArray.{NdArray}
@@ -14,7 +14,7 @@ use Rattle.covjson_value.specs.Samples.{Node, node, values_or_none}
 use Rattle.edr_serve.specs.declared.point.GridPlace.{GridPlace}
 
 -- how many values the axis of a name has, and 1 where the domain hasn't it
-abbrev pub length_of : Domain → AxisName → ℕ
+abbrev pub length_of : Domain → CoordinateName → ℕ
 length_of domain name = axis_length (axis_of domain name)
 
 -- each place is on its axis, and the domain has no tuples besides
@@ -26,11 +26,11 @@ pub record IsPlaceOn (domain : Domain) (at : GridPlace) : Type 0 where
   pub x : at.x < length_of domain X
 
 -- the value at a place of an axis, where the domain has the axis
-abbrev pub coordinate : Domain → AxisName → ℕ → Option ℤ
+abbrev pub coordinate : Domain → CoordinateName → ℕ → Option ℤ
 coordinate domain name place = option_map (λ values. value_at values place) (axis_of domain name)
 
 -- the value at a place of an axis that every domain has
-abbrev pub placed : Domain → AxisName → ℕ → ℤ
+abbrev pub placed : Domain → CoordinateName → ℕ → ℤ
 placed domain name place = value_at (values_or_none (axis_of domain name)) place
 
 -- the node at some places of the axes

@@ -6,7 +6,7 @@ ghost use Rattle.edr_base.specs.Outside.{Rose};
 ghost use Rattle.edr_base.specs.Calls.{SourceLent};
 ghost use Rattle.covjson_value.specs.Coverages.{IsValid};
 ghost use Rattle.covjson_value.specs.declared.coverages.Coverage.{Coverage as TheCoverage};
-ghost use Rattle.covjson_read.specs.CoverageAnswers.{IsJson};
+ghost use Rattle.edr_json.specs.Json.{IsJson};
 ghost use Rattle.covjson_read.specs.Standing.{Stands};
 ghost use Rattle.edr_serve.specs.Grids.{IsTimedGrid, IsInput, HoldsNoGrid, HoldsNoGridIn};
 ghost use Rattle.edr_serve.specs.FirstReply.{IsInputFault, IsReadingFault, IsInputOf};
@@ -15,7 +15,7 @@ use crate::ask::FirstFault;
 use crate::limits::{LINE_LIMIT, NODE_LIMIT};
 use crate::line::{line_is_one, the_line};
 use covjson_read::{CovFault, answers_are_what_stands, coverage_of};
-use covjson_value::{AxisName, Coverage};
+use covjson_value::{CoordinateName, Coverage};
 use edr_base::{ReadStop, Source, read_all};
 use serde_json::{Category, Value};
 use std::alloc::Global;
@@ -44,8 +44,8 @@ fn is_timed_grid(coverage: &Coverage) -> bool
 {
     let domain = &coverage.domain;
     if !domain.is_grid()
-        || domain.axis(AxisName::T).is_none()
-        || domain.axis(AxisName::Z).is_some()
+        || domain.axis(CoordinateName::T).is_none()
+        || domain.axis(CoordinateName::Z).is_some()
     {
         return false;
     }

@@ -6,7 +6,7 @@ ghost use Rattle.covjson_value.specs.Coverages.{IsValid};
 ghost use Rattle.covjson_value.specs.Samples.{point_at};
 ghost use Rattle.edr_serve.specs.NodePlaces.{length_of, IsPlaceOn, coordinate, placed, node_at, number_of, point_domain, one_value};
 
-use covjson_value::{AxisName, Coverage, Domain, NdArray};
+use covjson_value::{CoordinateName, Coverage, Domain, NdArray};
 use edr_base::{Items, OutOfMemory};
 use std::alloc::Global;
 
@@ -24,7 +24,7 @@ pub struct GridPlace {
 }
 
 // 1 where the domain hasn't the axis.
-fn axis_len(domain: &Domain, name: AxisName) -> usize
+fn axis_len(domain: &Domain, name: CoordinateName) -> usize
     ensures { result ≡ length_of domain.now name }
 {
     match domain.axis(name) {
@@ -33,7 +33,7 @@ fn axis_len(domain: &Domain, name: AxisName) -> usize
     }
 }
 
-fn coordinate_at(domain: &Domain, name: AxisName, place: usize) -> Option<i64>
+fn coordinate_at(domain: &Domain, name: CoordinateName, place: usize) -> Option<i64>
     requires { place < length_of domain.now name }
     ensures { result ≡ coordinate domain.now name place }
 {
@@ -44,7 +44,7 @@ fn coordinate_at(domain: &Domain, name: AxisName, place: usize) -> Option<i64>
 }
 
 // 0 where the domain hasn't the axis.
-fn value_on(domain: &Domain, name: AxisName, place: usize) -> i64
+fn value_on(domain: &Domain, name: CoordinateName, place: usize) -> i64
     requires { place < length_of domain.now name }
     ensures { result ≡ placed domain.now name place }
 {
@@ -60,10 +60,10 @@ fn domain_at(domain: &Domain, at: GridPlace) -> Domain
     ensures { result ≡ point_domain (node_at domain.now at) }
 {
     Domain::Point {
-        t: coordinate_at(domain, AxisName::T, at.t),
-        z: coordinate_at(domain, AxisName::Z, at.z),
-        y: value_on(domain, AxisName::Y, at.y),
-        x: value_on(domain, AxisName::X, at.x),
+        t: coordinate_at(domain, CoordinateName::T, at.t),
+        z: coordinate_at(domain, CoordinateName::Z, at.z),
+        y: value_on(domain, CoordinateName::Y, at.y),
+        x: value_on(domain, CoordinateName::X, at.x),
     }
 }
 
@@ -74,9 +74,9 @@ fn number_at(domain: &Domain, at: GridPlace) -> usize
     ensures number { result ≡ number_of domain.now at }
     ensures inside { result < count_of domain.now }
 {
-    let levels = axis_len(domain, AxisName::Z);
-    let rows = axis_len(domain, AxisName::Y);
-    let columns = axis_len(domain, AxisName::X);
+    let levels = axis_len(domain, CoordinateName::Z);
+    let rows = axis_len(domain, CoordinateName::Y);
+    let columns = axis_len(domain, CoordinateName::X);
     ((at.t * levels + at.z) * rows + at.y) * columns + at.x
 }
 

@@ -2,7 +2,7 @@ use Rattle.std.proofs.Common.{rules, ◌≡◌, ◌<◌, ◌++◌, ◌∷◌, []
 use Rattle.covjson_value.specs.Coverages.{IsValid}
 use Rattle.serde_json.specs.View.{view}
 use Rattle.covjson_read.specs.CoverageAnswers.{coverage_in}
-use Rattle.covjson_read.proofs.AnswerLemmas.{All-push}
+use Rattle.edr_json.specs.AnswerLaws.{All-push}
 use Rattle.covjson_read.proofs.DocumentLemmas.{each_more}
 use Rattle.covjson_read.proofs.documents.coverages_in.Goals as goal
 

@@ -1,7 +1,7 @@
 use Rattle.std.proofs.Common.{◌≡◌, drop, All}
 use Rattle.serde_json.specs.View.{view, items_view}
 use Rattle.covjson_value.specs.Coverages.{IsValid}
-use Rattle.covjson_read.specs.Answers.{each, onto}
+use Rattle.covjson_checks.specs.Answers.{each, onto}
 use Rattle.covjson_read.specs.CoverageAnswers.{coverage_in}
 use Rattle.covjson_read.proofs.documents.coverages_in.Given as goal
 

@@ -1,7 +1,7 @@
 use Rattle.std.proofs.Common.{subst}
 use Rattle.serde_json.specs.View.{view, members_view}
 use Rattle.covjson_value.specs.declared.coverages.Document.{Document}
-use Rattle.covjson_read.specs.Answers.{Answer, GivesUnlessMemory}
+use Rattle.covjson_checks.specs.Answers.{Answer, GivesUnlessMemory}
 use Rattle.covjson_read.proofs.DocumentLemmas.{document_by_kind}
 use Rattle.covjson_read.proofs.documents.document_of.Goals as goal
 

@@ -3,10 +3,10 @@ use Rattle.std.proofs.lemmas.List.{take_all}
 use Rattle.serde_json.specs.Data.{array, string}
 use Rattle.serde_json.specs.View.{items_of}
 use Rattle.serde_json.proofs.Views.{view-Array}
-use Rattle.covjson_value.specs.Domains.{axis_key}
+use Rattle.covjson_value.specs.Domains.{coordinate_key}
 use Rattle.covjson_value.proofs.axis_trees.keys_tree.Goals as goal
 
 pub returns : goal.returns
 returns c =
     view-Array c.loop-name.items
-    ∙ ap (λ ds. array (items_of ds)) (c.loop-name.invariant ∙ ap (map (λ name. string (axis_key name))) (take_all _ _ (omega arith)))
+    ∙ ap (λ ds. array (items_of ds)) (c.loop-name.invariant ∙ ap (map (λ name. string (coordinate_key name))) (take_all _ _ (omega arith)))

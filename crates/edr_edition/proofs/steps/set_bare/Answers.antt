@@ -2,7 +2,7 @@ use Rattle.std.proofs.Common.{codes, zero, suc, [], Ok, Err, refl, sym, subst, a
 use Rattle.std.proofs.lemmas.List.Elements.{All-nil, All-cons}
 use Rattle.std.proofs.lemmas.Str.{IsUtf8-from_ascii}
 use Rattle.std.specs.Str.{IsAscii}
-use Rattle.covjson_value.specs.Coverages.{IsNameByte, IsName}
+use Rattle.edr_base.specs.Names.{IsNameByte, IsName}
 use Rattle.edr_ids.specs.Ids.{IsPlaceOf}
 use Rattle.edr_ids.proofs.SortedLists.{place_at}
 use Rattle.edr_edition.specs.Values.{collection_id}

@@ -1,0 +1,135 @@
+-- Laws of checks of trees.
+use Rattle.std.specs.Prelude.{Result, IfOk, ⊤, not, is_some}
+use Rattle.std.proofs.Common.{◌≡◌, if◌then◌else◌, subst, ℕ, ◌≤◌, ◌<◌, ◌+◌, ◌++◌, ℤ, List, [], ◌∷◌, length, get_or, drop, All, Bool, true, false, Option, Some, None, Ok, Err, refl, sym, ap, ◌∙◌, append_assoc, append-nil, unsigned_abs}
+use Rattle.std.proofs.lemmas.List.{drop_more, drop_all}
+use Rattle.std.proofs.lemmas.List.Elements.{All-cons, All-nil, All-append}
+use Rattle.std.proofs.lemmas.Bool.{leb-true}
+use Rattle.std.proofs.Math.Dec.{leb}
+use Rattle.serde_json.specs.Data.{Data, null, boolean, number, string, array, object, Items, no_items, item, Members, Num}
+use Rattle.serde_json.specs.Find.{as_array, as_object, as_str, as_number, as_integer}
+use Rattle.serde_json.specs.View.{view, items_view}
+use Rattle.serde_json.specs.declared.value.Value.{Value}
+use Rattle.covjson_checks.specs.declared.faults.Member.{Member}
+use Rattle.covjson_checks.specs.declared.faults.CovFault.{CovFault}
+use Rattle.covjson_checks.specs.declared.faults.CovFault.TheVariants.{OutOfRange}
+use Rattle.covjson_checks.specs.Answers.{Answer, each, GivesUnlessMemory}
+use Rattle.edr_base.specs.FirstThatApplies.{and_then, or_fault, check}
+use Rattle.covjson_checks.specs.Members.{list_at, object_at, text_at, whole_within}
+use Rattle.edr_json.specs.Trees.{text_or_empty, whole_of}
+use Rattle.edr_json.specs.Trees.{EachStands, StandsForWhole}
+use Rattle.std.specs.Prelude.{⊤, is_some}
+use Rattle.std.proofs.Common.{◌≡◌, ℕ, ◌≤◌, ℤ, List, [], ◌∷◌, All, Bool, true, false, Option, Some, None, Ok, Err, refl, ap, ◌∙◌, ◌++◌, append_assoc, unsigned_abs}
+use Rattle.std.proofs.lemmas.Bool.{le-leb, and_from}
+use Rattle.std.proofs.lemmas.List.Elements.{All-head, All-tail}
+use Rattle.serde_json.specs.Data.{Data, null, boolean, number, string, array, object, Items, no_items, item, Members, Num}
+use Rattle.serde_json.specs.Find.{get, as_object, as_number, as_integer}
+use Rattle.covjson_checks.specs.declared.faults.Member.{Member}
+use Rattle.covjson_checks.specs.declared.faults.CovFault.{CovFault}
+use Rattle.covjson_checks.specs.declared.members.Wanted.{Wanted}
+use Rattle.covjson_checks.specs.Answers.{Answer, each, onto}
+use Rattle.edr_base.specs.FirstThatApplies.{and_then, or_fault, check}
+use Rattle.covjson_checks.specs.Members.{object_at, whole_within, is_wanted, all_wanted}
+use Rattle.edr_json.specs.Trees.{whole_of}
+use Rattle.edr_json.specs.Trees.{EachStands}
+
+-- a datum that is taken for a list is one
+pub list_ok : (m : Member) (d : Data) (ds : Items) → list_at m d ≡ Ok ds → d ≡ array ds
+list_ok m d ds h = as_array_some d ds (or_fault_ok (as_array d) _ ds h)
+
+-- and for an object
+pub object_ok : (m : Member) (d : Data) (ms : Members) → object_at m d ≡ Ok ms → d ≡ object ms
+object_ok m d ms h = as_object_some d ms (or_fault_ok (as_object d) _ ms h)
+
+-- and for a text
+pub text_ok : (m : Member) (d : Data) (s : List ℕ) → text_at m d ≡ Ok s → d ≡ string s
+text_ok m d s h = as_str_some d s (or_fault_ok (as_str d) _ s h)
+
+-- an answer for each item is one item by item
+pub each_stands : {V : Type 0} (f : Data → Answer V) (R : Data → V → Type 0) → ((d : Data) (v : V) → f d ≡ Ok v → R d v)
+    → (ds : Items) (vs : List V) → each f ds ≡ Ok vs → EachStands R ds vs
+each_stands f R one no_items [] h = tt
+each_stands f R one no_items (v ∷ vs) h = cc
+each_stands f R one (item d ds) vs h =
+    let a = and_then_ok (f d) _ vs h in
+    let b = and_then_ok (each f ds) _ vs a.2 in
+    let e : a.0 ∷ b.0 ≡ vs = cc in
+    rw (← e) (one d a.0 a.1, each_stands f R one ds b.0 b.1)
+
+-- and what holds of the answer for an item holds of each
+pub each_all : {V : Type 0} (f : Data → Answer V) (P : V → Type 0) → ((d : Data) (v : V) → f d ≡ Ok v → P v)
+    → (ds : Items) (vs : List V) → each f ds ≡ Ok vs → All P vs
+each_all f P one no_items [] h = All-nil P
+each_all f P one no_items (v ∷ vs) h = cc
+each_all f P one (item d ds) vs h =
+    let a = and_then_ok (f d) _ vs h in
+    let b = and_then_ok (each f ds) _ vs a.2 in
+    let e : a.0 ∷ b.0 ≡ vs = cc in
+    let Q : List _ → Type 0 = λ xs. All P xs in
+    subst Q e (All-cons P a.0 b.0 (one d a.0 a.1) (each_all f P one ds b.0 b.1))
+
+-- a test that was passed gives the value
+pub passed : (b : Bool) (z v : ℤ) (f : CovFault) → (if b then Ok z else Err f) ≡ Ok v → (b ≡ true) × (z ≡ v)
+passed true z v f h = (refl, cc)
+passed false z v f h = cc
+
+-- what is taken for a number is held whole as that number is
+some_number : (d : Data) (n : Num) → as_number d ≡ Some n → whole_of d ≡ as_integer n
+some_number null n h = cc
+some_number (boolean b) n h = cc
+some_number (number m) n h = cc
+some_number (string t) n h = cc
+some_number (array es) n h = cc
+some_number (object ns) n h = cc
+
+-- a whole number within its limit stands there, and is within it
+pub whole_within_stands : (m : Member) (limit : ℕ) (d : Data) (v : ℤ) → whole_within m limit d ≡ Ok v → StandsForWhole d v × (unsigned_abs v ≤ limit)
+whole_within_stands m limit d v h =
+    let a = and_then_ok (or_fault (as_number d) _) _ v h in
+    let b = and_then_ok (or_fault (as_integer a.0) _) _ v a.2 in
+    let p = passed (leb (unsigned_abs b.0) limit) b.0 v (OutOfRange m) b.2 in
+    let whole = or_fault_ok (as_integer a.0) _ b.0 b.1 in
+    let held = some_number d a.0 (or_fault_ok (as_number d) _ a.0 a.1) in
+    let small = leb-true (unsigned_abs b.0) limit p.0 in
+    (held ∙ whole ∙ ap Some p.1, rw (← p.1) small)
+
+-- what a value of the answer tells holds of the result
+pub if_gives : {T U : Type 0} (r : Result T CovFault) (seen : T → U) (a : Answer U) (P : T → Type 0) → ((x : T) → a ≡ Ok (seen x) → P x)
+    → GivesUnlessMemory seen r a → IfOk r P
+if_gives (Ok x) seen a P tells h = tells x h
+if_gives (Err f) seen a P tells h = tt
+
+-- and the check that it is one passes
+pub object_given : (m : Member) (key : List ℕ) (d v : Data) → get key d ≡ Some v → (ms : Members) × (object_at m d ≡ Ok ms)
+object_given m key d v h = let held = member_of_object key d v h in (held.0, or_fault_given (as_object d) _ held.0 held.1)
+
+-- a whole number within the limit is taken
+pub whole_within_given : (m : Member) (limit : ℕ) (d : Data) (v : ℤ) → whole_of d ≡ Some v → unsigned_abs v ≤ limit → whole_within m limit d ≡ Ok v
+whole_within_given m limit null v h small = cc
+whole_within_given m limit (boolean b) v h small = cc
+whole_within_given m limit (number n) v h small = rw (h, le-leb (unsigned_abs v) limit small)
+whole_within_given m limit (string s) v h small = cc
+whole_within_given m limit (array ds) v h small = cc
+whole_within_given m limit (object ms) v h small = cc
+
+-- where each item stands for a value, there is an answer for each
+pub each_given : {V : Type 0} (f : Data → Answer V) (R : Data → V → Type 0) (P : V → Type 0) → ((d : Data) (v : V) → R d v → P v → f d ≡ Ok v)
+    → (ds : Items) (vs : List V) → EachStands R ds vs → All P vs → each f ds ≡ Ok vs
+each_given f R P one no_items [] stand all = refl
+each_given f R P one no_items (v ∷ vs) stand all = absurd stand
+each_given f R P one (item d ds) [] stand all = absurd stand
+each_given f R P one (item d ds) (v ∷ vs) stand all =
+    first_given (f d) (each f ds) v vs (one d v stand.0 (All-head P v vs all)) (each_given f R P one ds vs stand.1 (All-tail P v vs all))
+
+-- where the answer for a value is given by the item alone
+pub each_answers : {V : Type 0} (f : Data → Answer V) (R : Data → V → Type 0) → ((d : Data) (v : V) → R d v → f d ≡ Ok v)
+    → (ds : Items) (vs : List V) → EachStands R ds vs → each f ds ≡ Ok vs
+each_answers f R one ds vs stand = each_given f R (λ v. ⊤) (λ d v here any. one d v here) ds vs stand (λ place other inside. tt)
+
+-- and where each value's item is what is wanted, all of them are
+pub all_wanted_given : {V : Type 0} (wanted : Wanted) (R : Data → V → Type 0) → ((d : Data) (v : V) → R d v → is_wanted wanted d ≡ true)
+    → (ds : Items) (vs : List V) → EachStands R ds vs → all_wanted wanted ds ≡ true
+all_wanted_given wanted R one no_items [] stand = refl
+all_wanted_given wanted R one no_items (v ∷ vs) stand = absurd stand
+all_wanted_given wanted R one (item d ds) [] stand = absurd stand
+all_wanted_given wanted R one (item d ds) (v ∷ vs) stand =
+    and_from (is_wanted wanted d) _ (one d v stand.0) (all_wanted_given wanted R one ds vs stand.1)

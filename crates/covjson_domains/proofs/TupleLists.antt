@@ -1,0 +1,132 @@
+-- Tests along the items of tuples, and the values that are found there.
+use Rattle.std.specs.Prelude.{option_and_then, unsigned_abs, bytes_eq}
+use Rattle.std.proofs.Common.{◌≡◌, ℕ, suc, ◌+◌, ◌-◌, ◌<◌, ◌≤◌, ◌++◌, ℤ, List, [], ◌∷◌, length, get_or, drop, map, true, false, true≢false, Option, Some, Ok, inl, inr, refl, sym, ap, ◌∙◌, subst, arith}
+use Rattle.std.proofs.lemmas.Bool.{and_parts, cases_Bool, cond-true, cond-false}
+use Rattle.std.proofs.lemmas.List.{drop_more, length-drop}
+use Rattle.serde_json.specs.Data.{Data, Items, no_items, item}
+use Rattle.serde_json.specs.Find.{as_array, as_str}
+use Rattle.serde_json.specs.View.{view, items_view}
+use Rattle.serde_json.specs.declared.value.Value.{Value}
+use Rattle.edr_base.specs.declared.places.Position.{Position}
+use Rattle.covjson_value.specs.declared.domains.CoordinateName.{CoordinateName}
+use Rattle.covjson_value.specs.declared.domains.CoordinateName.TheVariants.{T, Z, Y, X}
+use Rattle.covjson_value.specs.Domains.{coordinate_key, coordinate}
+use Rattle.covjson_checks.specs.declared.faults.Member.TheVariants.{Composite}
+use Rattle.covjson_domains.specs.declared.tuples.Test.{Test}
+use Rattle.covjson_domains.specs.declared.tuples.Test.TheVariants.{Within}
+use Rattle.covjson_checks.specs.Answers.{Answer, onto}
+use Rattle.edr_base.specs.FirstThatApplies.{and_then}
+use Rattle.covjson_checks.specs.Members.{list_at}
+use Rattle.edr_json.specs.Trees.{whole_of}
+use Rattle.edr_json.specs.Trees.{is_text}
+use Rattle.covjson_domains.specs.TupleAnswers.{are_keys, is_whole_within, passes, all_pass, list_passes, tuples_pass, value_of, whole_or_zero, number_of, tuple_at, tuples_from, never_falls}
+use Rattle.edr_json.specs.AnswerLaws.{or_fault_ok}
+use Rattle.edr_json.specs.AnswerLaws.{onto_more}
+use Rattle.covjson_domains.proofs.TupleReads.{within_tells}
+use Rattle.covjson_domains.proofs.TupleValues.{same_name}
+
+-- as many items as names are the names
+pub keys_counted : (names : List CoordinateName) (xs : List Value) → are_keys names (items_view xs) ≡ true → length xs ≡ length names
+keys_counted [] [] h = refl
+keys_counted [] (x ∷ xs) h = absurd (true≢false (sym h))
+keys_counted (name ∷ names) [] h = absurd (true≢false (sym h))
+keys_counted (name ∷ names) (x ∷ xs) h =
+    ap suc (keys_counted names xs (and_parts (is_text (coordinate_key name) (as_str (view x))) (are_keys names (items_view xs)) h).1)
+
+-- as many items as names pass a test
+pub pass_counted : (test : Test) (names : List CoordinateName) (xs : List Value) → all_pass test names (items_view xs) ≡ true → length xs ≡ length names
+pass_counted test [] [] h = refl
+pass_counted test [] (x ∷ xs) h = absurd (true≢false (sym h))
+pass_counted test (name ∷ names) [] h = absurd (true≢false (sym h))
+pass_counted test (name ∷ names) (x ∷ xs) h =
+    ap suc (pass_counted test names xs (and_parts (passes test name (view x)) (all_pass test names (items_view xs)) h).1)
+
+-- a tuple within the limits has as many items as names
+pub list_counted : (names : List CoordinateName) (d : Data) (xs : List Value) → list_passes Within names (as_array d) ≡ true → list_at Composite d ≡ Ok (items_view xs)
+    → length names ≡ length xs
+list_counted names d xs pass is =
+    sym (pass_counted Within names xs (ap (list_passes Within names) (sym (or_fault_ok (as_array d) _ (items_view xs) is)) ∙ pass))
+
+-- ---- the value of a name
+
+-- the value at a place, before those after it
+from_place : (xs : List Value) (i : ℕ) → i < length xs → (x : Value) × (drop i xs ≡ x ∷ drop (i + 1) xs)
+from_place [] i h = absurd (omega arith)
+from_place (x ∷ xs) i h = (get_or (x ∷ xs) i x, drop_more (x ∷ xs) i x h)
+
+-- the value of a name isn't that of another
+pub value_later : (name other : CoordinateName) (names : List CoordinateName) (xs : List Value) (i : ℕ) → i < length names → i < length xs
+    → bytes_eq (coordinate_key name) (coordinate_key (get_or names i other)) ≡ false
+    → value_of name (drop i names) (items_view (drop i xs)) ≡ value_of name (drop (i + 1) names) (items_view (drop (i + 1) xs))
+value_later name other names xs i h k differs =
+    let x = from_place xs i k in
+    rw (drop_more names i other h, x.1) (cond-false (bytes_eq (coordinate_key name) (coordinate_key (get_or names i other))) (Some (view x.0)) _ differs)
+
+-- the value of a name passes the test that all pass
+value_passing : (test : Test) (name : CoordinateName) (names : List CoordinateName) (ds : Items) (d : Data) → all_pass test names ds ≡ true
+    → value_of name names ds ≡ Some d → passes test name d ≡ true
+value_passing test name [] ds d pass found = cc
+value_passing test name (other ∷ names) no_items d pass found = cc
+value_passing test name (other ∷ names) (item e ds) d pass found =
+    let same = bytes_eq (coordinate_key name) (coordinate_key other) in
+    let later = value_of name names ds in
+    let parts = and_parts (passes test other e) (all_pass test names ds) pass in
+    elim (cases_Bool same) [
+      | inl equal ↦
+          let here : ◌≡◌ {A = Option Data} (Some e) (Some d) = sym (cond-true same (Some e) later equal) ∙ found in
+          let is : e ≡ d = cc in
+          subst (λ (x : Data). passes test name x ≡ true) is (subst (λ (n : CoordinateName). passes test n e ≡ true) (sym (same_name name other equal)) parts.0)
+      | inr differs ↦ value_passing test name names ds d parts.1 (sym (cond-false same (Some e) later differs) ∙ found)
+    ]
+
+-- what passes as a number is within the limit
+number_passing : (name : CoordinateName) (d : Data) → ¬ (name ≡ T) → passes Within name d ≡ true → is_whole_within (whole_of d) ≡ true
+number_passing T d not pass = absurd (not refl)
+number_passing Z d not pass = pass
+number_passing Y d not pass = pass
+number_passing X d not pass = pass
+
+-- a number of a tuple within the limits
+pub number_within : (name : CoordinateName) (names : List CoordinateName) (ds : Items) (d : Data) (number : ℤ) → ¬ (name ≡ T) → all_pass Within names ds ≡ true
+    → value_of name names ds ≡ Some d → whole_of d ≡ Some number → unsigned_abs number ≤ 100_000_000
+number_within name names ds d number not pass found whole =
+    let tells = within_tells (whole_of d) (number_passing name d not (value_passing Within name names ds d pass found)) in
+    subst (λ (z : ℤ). unsigned_abs z ≤ 100_000_000) (ap whole_or_zero whole) tells.1
+
+-- the number of a name is that of its value
+pub number_found : (name : CoordinateName) (names : List CoordinateName) (ds : Items) (d : Data) (number : ℤ) → value_of name names ds ≡ Some d
+    → whole_of d ≡ Some number → number ≡ number_of name names ds
+number_found name names ds d number found whole =
+    sym (ap (λ (o : Option Data). whole_or_zero (option_and_then whole_of o)) found ∙ ap whole_or_zero whole)
+
+-- ---- tuples
+
+-- the rest of tuples within the limits are within them
+pub pass_rest : (names : List CoordinateName) (xs : List Value) (i : ℕ) (x : Value) → i < length xs → tuples_pass Within names (items_view (drop i xs)) ≡ true
+    → tuples_pass Within names (items_view (drop (i + 1) xs)) ≡ true
+pass_rest names xs i x h pass =
+    let begin = ap (λ (ys : List Value). tuples_pass Within names (items_view ys)) (drop_more xs i x h) in
+    (and_parts (list_passes Within names (as_array (view (get_or xs i x)))) (tuples_pass Within names (items_view (drop (i + 1) xs))) (sym begin ∙ pass)).1
+
+-- the tuples of the rest, after one tuple more
+pub read_more : (names : List CoordinateName) (xs : List Value) (i : ℕ) (x : Value) (found new : List Position) (tuple : Position) → i < length xs → x ≡ get_or xs i x
+    → tuple_at names i (view x) ≡ Ok tuple → new ≡ found ++ tuple ∷ []
+    → onto found (tuples_from names i (items_view (drop i xs))) ≡ onto new (tuples_from names (i + 1) (items_view (drop (i + 1) xs)))
+read_more names xs i x found new tuple h is read pushed =
+    let ds = items_view (drop (i + 1) xs) in
+    let after : suc i ≡ i + 1 = omega arith in
+    let here : tuple_at names i (view (get_or xs i x)) ≡ Ok tuple = ap (λ (v : Value). tuple_at names i (view v)) (sym is) ∙ read in
+    let begin = ap (λ (ys : List Value). onto found (tuples_from names i (items_view ys))) (drop_more xs i x h) in
+    let next = ap (λ (a : Answer Position). onto found (and_then a (λ t. and_then (tuples_from names (suc i) ds) (λ tuples. Ok (t ∷ tuples))))) here in
+    let place = ap (λ (n : ℕ). onto found (and_then (tuples_from names n ds) (λ tuples. Ok (tuple ∷ tuples)))) after in
+    begin ∙ next ∙ place ∙ sym (onto_more found tuple (tuples_from names (i + 1) ds)) ∙ ap (λ (ts : List Position). onto ts (tuples_from names (i + 1) ds)) (sym pushed)
+
+-- one tuple or none never falls
+falls_not : (tuples : List Position) → length tuples ≤ 1 → never_falls (map (coordinate T) tuples) ≡ true
+falls_not [] h = refl
+falls_not (tuple ∷ []) h = refl
+falls_not (tuple ∷ (next ∷ tuples)) h = absurd (omega arith)
+
+-- nor do the tuples from the last on
+pub ends_in_time : (tuples : List Position) (place : ℕ) → length tuples ≤ place → never_falls (map (coordinate T) (drop (place - 1) tuples)) ≡ true
+ends_in_time tuples place h = falls_not (drop (place - 1) tuples) (omega (arith, length-drop (place - 1) tuples))

@@ -1,0 +1,46 @@
+use Rattle.std.proofs.Common.{◌≡◌, arith, pos, ◌≤◌, ◌+ℤ◌, ◌-ℤ◌, ◌*ℤ◌, unsigned_abs, Vec, Global, ℤ, List, Ok, subst}
+use Rattle.std.proofs.lemmas.Int.{to_z-of_z, fits_signed_from_abs}
+use mir.Syntax.{w64, w128}
+use Rattle.covjson_checks.specs.Answers.{GivesUnlessMemory}
+use Rattle.covjson_domains.specs.AxisAnswers as axes
+use Rattle.covjson_domains.proofs.SpanLemmas.{span_tells, last_reached}
+use Rattle.covjson_domains.proofs.spans.regular.Goals as goal
+
+pub stepped-requires-clause-last : goal.stepped-requires-clause-last
+stepped-requires-clause-last c =
+    let first = c.args.first in
+    let last = c.args.last in
+    let count = c.args.count in
+    let step = c.step_of-step.result in
+    let span = span_tells first last count c.requires.within in
+    let short : unsigned_abs step ≤ 200000000 = c.step_of-step.ensures.short in
+    let first_is = to_z-of_z w128 first c.ranges.first in
+    let last_is = to_z-of_z w128 last c.ranges.last in
+    let count_is = to_z-of_z w128 count c.ranges.count in
+    let step_is = to_z-of_z w128 step (fits_signed_from_abs w128 step (omega (arith, short))) in
+    let first_small = to_z-of_z w64 first (fits_signed_from_abs w64 first (omega (arith, span.first_in))) in
+    let step_small = to_z-of_z w64 step (fits_signed_from_abs w64 step (omega (arith, short))) in
+    let reached : first +ℤ step *ℤ (count -ℤ pos 1) ≡ last = rw (first_is, count_is, last_is) at c.step_of-step.ensures.reaches in
+    let ended : first +ℤ step *ℤ (pos (unsigned_abs count) -ℤ pos 1) ≡ last = last_reached first step last count span.some reached in
+    rw (first_is, step_is, count_is, first_small, step_small, ended) span.last_in
+
+pub returns : goal.returns
+returns c =
+    let first = c.args.first in
+    let last = c.args.last in
+    let count = c.args.count in
+    let step = c.step_of-step.result in
+    let span = span_tells first last count c.requires.within in
+    let short : unsigned_abs step ≤ 200000000 = c.step_of-step.ensures.short in
+    let first_is = to_z-of_z w128 first c.ranges.first in
+    let last_is = to_z-of_z w128 last c.ranges.last in
+    let count_is = to_z-of_z w128 count c.ranges.count in
+    let step_is = to_z-of_z w128 step (fits_signed_from_abs w128 step (omega (arith, short))) in
+    let first_small = to_z-of_z w64 first (fits_signed_from_abs w64 first (omega (arith, span.first_in))) in
+    let step_small = to_z-of_z w64 step (fits_signed_from_abs w64 step (omega (arith, short))) in
+    let seen : Vec ℤ Global → List ℤ = λ v. v.items in
+    let given : GivesUnlessMemory seen c.stepped.result (Ok (axes.stepped first step (unsigned_abs count))) =
+    rw (first_is, step_is, count_is, first_small, step_small) at c.stepped.ensures in
+    let same : axes.stepped first step (unsigned_abs count) ≡ axes.regular first last (unsigned_abs count) =
+    rw (first_is, count_is, last_is) at c.step_of-step.ensures.regular in
+    subst (λ (vs : List ℤ). GivesUnlessMemory seen c.stepped.result (Ok vs)) same given

@@ -1,0 +1,15 @@
+pub mod OrderTests
+pub mod WrittenRangeAxes
+pub mod WrittenRanges
+pub mod RangeParts
+pub mod ShapeParts
+pub mod TreePlaces
+pub mod SampleLemmas
+pub mod RangeLaws
+pub mod PlaceNumbers
+pub mod PlaceLemmas
+pub mod KeptAxes
+pub mod OrderLemmas
+pub mod RowLemmas
+pub mod RangeCounts
+pub mod RangeLemmas

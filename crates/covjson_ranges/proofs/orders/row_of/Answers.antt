@@ -1,0 +1,17 @@
+use Rattle.std.proofs.Common.{◌≤◌, arith}
+use Rattle.covjson_value.specs.declared.axis_names.AxisName.TheVariants.{Composite}
+use Rattle.covjson_ranges.specs.Ranges.{length_of}
+use Rattle.covjson_ranges.proofs.RowLemmas.{tuple_rows, column_rows}
+use Rattle.covjson_ranges.proofs.orders.row_of.Goals as goal
+
+pub returns-then-tuples-gt1 : goal.returns-then-tuples-gt1
+returns-then-tuples-gt1 c =
+    tuple_rows c.args.domain.now c.args.turned c.args.names.now c.axis_len-tuples.result c.step_to.result
+    c.if-tuples-gt1.true c.axis_len-tuples.ensures c.step_to.ensures
+
+pub returns-then-columns-gt1 : goal.returns-then-columns-gt1
+returns-then-columns-gt1 c =
+    let d = c.args.domain.now in
+    let short : length_of d Composite ≤ 1 = omega (arith, c.axis_len-tuples.ensures, c.if-tuples-gt1.false) in
+    column_rows d c.args.turned c.args.names.now c.axis_len-columns.result c.step_to-then-columns-gt1.result
+    c.if-columns-gt1.true c.axis_len-columns.ensures c.step_to-then-columns-gt1.ensures short c.requires.some

@@ -1,0 +1,74 @@
+-- The values of a range in the order of the domain's axes.
+use Rattle.std.specs.Prelude.{◌≡◌, ◌⊎◌, ℕ, zero, suc, ◌+◌, ◌-◌, ◌*◌, ◌/◌, ◌%◌, ◌<◌, ◌≤◌, ℤ, true, false, if◌then◌else◌, List, [], ◌∷◌, ◌++◌, map, length, Option, None}
+use Rattle.std.specs.List.{slice_index_or}
+use Rattle.covjson_value.specs.declared.domains.Domain.{Domain}
+use Rattle.covjson_value.specs.Domains.{count_of}
+use Rattle.covjson_checks.specs.declared.turned.Turned.{Turned}
+use Rattle.covjson_ranges.specs.declared.orders.Row.{Row}
+use Rattle.covjson_ranges.specs.declared.places.Places.{Places}
+use Rattle.covjson_value.specs.declared.axis_names.AxisName.{AxisName}
+use Rattle.covjson_value.specs.declared.axis_names.AxisName.TheVariants.{T, Z, Y, X, Composite}
+use Rattle.covjson_ranges.specs.Ranges.{length_of, is_range_turned, AreInside, number_of, tree_number}
+
+-- the numbers below a bound, ascending
+abbrev pub below : ℕ → List ℕ
+below zero = []
+below (suc n) = below n ++ n ∷ []
+
+-- the places whose value has that number in row-major order
+abbrev pub places_at : Domain → ℕ → Places
+places_at domain number = record {
+  tuple = number % length_of domain Composite;
+  x = number / length_of domain Composite % length_of domain X;
+  y = number / length_of domain Composite / length_of domain X % length_of domain Y;
+  z = number / length_of domain Composite / length_of domain X / length_of domain Y % length_of domain Z;
+  t = number / length_of domain Composite / length_of domain X / length_of domain Y / length_of domain Z;
+}
+
+-- the value that a tree has at some places of the domain
+abbrev pub value_in_tree : Domain → Turned → List AxisName → List (Option ℤ) → Places → Option ℤ
+value_in_tree domain turned names values places = slice_index_or values (tree_number domain turned names places) None
+
+-- the values of a tree at the places of the domain in turn
+abbrev pub ordered : Domain → Turned → List AxisName → List (Option ℤ) → List (Option ℤ)
+ordered domain turned names values = map (λ number. value_in_tree domain turned names values (places_at domain number)) (below (count_of domain))
+
+-- ---- for private clauses
+
+-- the value at each place of the domain is the tree's value at that place
+pub record AreInOrder (domain : Domain) (turned : Turned) (names : List AxisName) (values ordered : List (Option ℤ)) : Type 0 where
+  pub counted : length ordered ≡ count_of domain
+  pub each : (places : Places) → AreInside domain places
+      → slice_index_or ordered (number_of domain places) None ≡ slice_index_or values (tree_number domain turned names places) None
+
+-- the domain's own order, with or without axes of one value
+abbrev pub IsUsual : List AxisName → Type 0
+IsUsual names =
+    (names ≡ T ∷ Z ∷ Y ∷ X ∷ []) ⊎ ((names ≡ T ∷ Y ∷ X ∷ []) ⊎ ((names ≡ Z ∷ Y ∷ X ∷ []) ⊎ ((names ≡ Y ∷ X ∷ [])
+    ⊎ ((names ≡ T ∷ []) ⊎ ((names ≡ Z ∷ []) ⊎ ((names ≡ Composite ∷ []) ⊎ (names ≡ [])))))))
+
+abbrev pub IsUnturned : Turned → Type 0
+IsUnturned turned = (name : AxisName) → is_range_turned turned name ≡ false
+
+-- no axis turned
+abbrev pub ascending : Turned
+ascending = record { t = false; z = false; y = false; x = false }
+
+-- the number in a tree of the value at a place in a row, by that of the row's first
+abbrev pub in_row : Row → ℕ → ℕ → ℕ
+in_row row first place = if row.turned then first - place * row.step else first + place * row.step
+
+-- a row goes back no further than 0, and nowhere as far as the count
+pub record StaysInside (row : Row) (first count : ℕ) : Type 0 where
+  pub back : (place : ℕ) → place < row.length → row.turned ≡ true → place * row.step ≤ first
+  pub inside : (place : ℕ) → place < row.length → in_row row first place < count
+
+-- the places of a domain in rows of one length, in each of which the values of a tree are a step from each other
+pub record AreRows (domain : Domain) (turned : Turned) (names : List AxisName) (row : Row) : Type 0 where
+  pub some : 0 < row.length
+  pub whole : count_of domain / row.length * row.length ≡ count_of domain
+  pub back : (number place : ℕ) → place < row.length → row.turned ≡ true
+      → place * row.step ≤ tree_number domain turned names (places_at domain (number * row.length))
+  pub steps : (number place : ℕ) → place < row.length
+      → tree_number domain turned names (places_at domain (number * row.length + place))
+      ≡ in_row row (tree_number domain turned names (places_at domain (number * row.length))) place

@@ -1,0 +1,252 @@
+//! Ranges (OGC 21-069r2, NdArray objects).
+ghost use Rattle.std.specs.Prelude.{◌≡◌, IfOk, codes, length, map};
+ghost use Rattle.serde_json.specs.View.{view, items_view};
+ghost use Rattle.serde_json.specs.Find.{get};
+ghost use Rattle.covjson_value.specs.Domains.{count_of};
+ghost use Rattle.covjson_value.specs.Coverages.{HasAxes, HasTuples, IsRange};
+ghost use Rattle.covjson_checks.specs.Answers.{GivesUnlessMemory, each};
+ghost use Rattle.covjson_ranges.specs.Ranges as axes;
+ghost use Rattle.covjson_ranges.specs.RangeAnswers as ranges;
+
+use covjson_checks::{CovFault, Member, ReadDomain, Wanted, list_at, need, need_form, need_wholes, object_at, unsupported_range, wholes_or_nulls};
+use edr_json::{is_text, text_or_empty};
+use crate::orders::in_order;
+use covjson_value::{AxisName, Domain, NdArray};
+use crate::places::{axis_len, has_axis};
+use edr_base::{Items, SAMPLE_LIMIT};
+use serde_json::Value;
+use std::alloc::Global;
+
+// An array of whole numbers.
+fn need_integers(alloc: Global, tree: &Value) -> Result<(), CovFault>
+    ensures { GivesUnlessMemory (λ u. u) result (ranges.are_integers (view tree.now)) }
+{
+    let _members = object_at(tree, Member::Ranges)?;
+    let kind = text_or_empty(tree, "type");
+    if kind != "NdArray" {
+        return Err(unsupported_range(alloc, kind));
+    }
+    let _data_type = need(tree, "dataType", Member::DataType)?;
+    let name = text_or_empty(tree, "dataType");
+    if name != "integer" {
+        return Err(unsupported_range(alloc, name));
+    }
+    Ok(())
+}
+
+// The axis that an item names: WrongType.
+fn axis_named(item: &Value) -> Result<AxisName, CovFault>
+    ensures { result ≡ ranges.axis_named (view item.now) }
+{
+    if is_text(item, "t") {
+        Ok(AxisName::T)
+    } else if is_text(item, "z") {
+        Ok(AxisName::Z)
+    } else if is_text(item, "y") {
+        Ok(AxisName::Y)
+    } else if is_text(item, "x") {
+        Ok(AxisName::X)
+    } else if is_text(item, "composite") {
+        Ok(AxisName::Composite)
+    } else {
+        Err(CovFault::WrongType(Member::AxisNames))
+    }
+}
+
+// The axes that a list names: WrongType.
+fn axes_named(alloc: Global, items: &Vec<Value>) -> Result<Vec<AxisName>, CovFault>
+    ensures { GivesUnlessMemory (λ v. v.items) result (each ranges.axis_named (items_view items.now.items)) }
+{
+    let mut names = Vec::new(alloc);
+    for item in items {
+        let name = axis_named(item)?;
+        if names.push(name).is_err() {
+            return Err(CovFault::OutOfMemory);
+        }
+    }
+    Ok(names)
+}
+
+fn is_named(name: AxisName, names: &[AxisName]) -> bool
+    ensures { result ≡ axes.is_named name names.now }
+{
+    for other in names {
+        if *other == name {
+            return true;
+        }
+    }
+    false
+}
+
+fn are_distinct(names: &[AxisName]) -> bool
+    ensures { result ≡ ranges.are_distinct names.now }
+{
+    for place in 0..names.len() {
+        if is_named(names[place], &names[place + 1..]) {
+            return false;
+        }
+    }
+    true
+}
+
+fn are_owned(names: &[AxisName], domain: &Domain) -> bool
+    ensures { result ≡ ranges.are_owned domain.now names.now }
+{
+    for name in names {
+        if !has_axis(domain, *name) {
+            return false;
+        }
+    }
+    true
+}
+
+// An axis of several values is among these.
+fn is_kept(name: AxisName, names: &[AxisName], domain: &Domain) -> bool
+    ensures { result ≡ ranges.is_kept domain.now names.now name }
+{
+    axis_len(domain, name) <= 1 || is_named(name, names)
+}
+
+fn are_range_axes(names: &[AxisName], domain: &Domain) -> bool
+    ensures { result ≡ ranges.are_range_axes domain.now names.now }
+{
+    are_distinct(names)
+        && are_owned(names, domain)
+        && is_kept(AxisName::T, names, domain)
+        && is_kept(AxisName::Z, names, domain)
+        && is_kept(AxisName::Y, names, domain)
+        && is_kept(AxisName::X, names, domain)
+        && is_kept(AxisName::Composite, names, domain)
+}
+
+fn is_one_place(domain: &Domain) -> bool
+    ensures { result ≡ ranges.is_one_place domain.now }
+{
+    axis_len(domain, AxisName::T) <= 1
+        && axis_len(domain, AxisName::Z) <= 1
+        && axis_len(domain, AxisName::Y) <= 1
+        && axis_len(domain, AxisName::X) <= 1
+        && axis_len(domain, AxisName::Composite) <= 1
+}
+
+// The names of a range's axes in their order; none where they are left out: Missing, WrongType.
+fn names_at(alloc: Global, tree: &Value, domain: &Domain) -> Result<Vec<AxisName>, CovFault>
+    ensures { GivesUnlessMemory (λ v. v.items) result (ranges.names_in domain.now (get (codes "axisNames") (view tree.now))) }
+{
+    let Some(list) = tree.get("axisNames") else {
+        return if is_one_place(domain) {
+            Ok(Vec::new(alloc))
+        } else {
+            Err(CovFault::Missing(Member::AxisNames))
+        };
+    };
+    let items = list_at(list, Member::AxisNames)?;
+    let names = axes_named(alloc, items)?;
+    if !are_range_axes(&names, domain) {
+        return Err(CovFault::WrongType(Member::AxisNames));
+    }
+    Ok(names)
+}
+
+// A whole number from 0, which has to be that length: WrongType, WrongCount.
+fn need_length(item: &Value, length: usize) -> Result<(), CovFault>
+    ensures { result ≡ ranges.length_is length (view item.now) }
+{
+    let Some(found) = item.as_u64() else {
+        return Err(CovFault::WrongType(Member::Shape));
+    };
+    if found != length as u64 {
+        return Err(CovFault::WrongCount(Member::Shape, length as u128, found as u128));
+    }
+    Ok(())
+}
+
+// The lengths of these axes: WrongCount.
+fn need_lengths(items: &Vec<Value>, names: &[AxisName], domain: &Domain) -> Result<(), CovFault>
+    requires { length items.now.items ≡ length names.now }
+    ensures { result ≡ ranges.lengths_are (map (axes.length_of domain.now) names.now) (items_view items.now.items) }
+{
+    for place in 0..names.len() {
+        need_length(&items[place], axis_len(domain, names[place]))?;
+    }
+    Ok(())
+}
+
+// The lengths of the axes, where they are given: Missing, WrongType, WrongCount.
+fn need_shape(tree: &Value, names: &[AxisName], domain: &Domain) -> Result<(), CovFault>
+    ensures { result ≡ ranges.shape_in domain.now names.now (get (codes "shape") (view tree.now)) }
+{
+    let Some(list) = tree.get("shape") else {
+        return if is_one_place(domain) {
+            Ok(())
+        } else {
+            Err(CovFault::Missing(Member::Shape))
+        };
+    };
+    let items = list_at(list, Member::Shape)?;
+    need_form(items, Wanted::Naturals, Member::Shape)?;
+    if items.len() != names.len() {
+        return Err(CovFault::WrongCount(Member::Shape, names.len() as u128, items.len() as u128));
+    }
+    need_lengths(items, names, domain)
+}
+
+// How many values a range has. Each axis has fewer values than its limits have numbers, so that no product is beyond its type.
+fn wanted_count(domain: &Domain) -> u128
+    requires axes { HasAxes domain.now }
+    requires tuples { HasTuples domain.now }
+    ensures { result ≡ count_of domain.now }
+{
+    let times = axis_len(domain, AxisName::T) as u128;
+    let levels = axis_len(domain, AxisName::Z) as u128;
+    let rows = axis_len(domain, AxisName::Y) as u128;
+    let columns = axis_len(domain, AxisName::X) as u128;
+    let tuples = axis_len(domain, AxisName::Composite) as u128;
+    times * (levels * (rows * (columns * tuples)))
+}
+
+// The samples that items are, absent where they are null: WrongType, NotWhole, OutOfRange. They are read in one pass, and looked
+// at in the order of the checks only where one of them is none.
+fn samples_of(alloc: Global, items: &Vec<Value>) -> Result<Vec<Option<i64>>, CovFault>
+    ensures { GivesUnlessMemory (λ v. v.items) result (ranges.samples_of (items_view items.now.items)) }
+{
+    match wholes_or_nulls(alloc, items, Member::Values, SAMPLE_LIMIT) {
+        Ok(found) => Ok(found),
+        Err(fault) => {
+            need_form(items, Wanted::NumbersOrNulls, Member::Values)?;
+            need_wholes(items, Wanted::WholesOrNulls, Member::Values)?;
+            Err(fault)
+        }
+    }
+}
+
+// The values of a range: Missing, WrongType, WrongCount, and then sample by sample.
+fn samples(alloc: Global, tree: &Value, wanted: u128) -> Result<Vec<Option<i64>>, CovFault>
+    ensures { GivesUnlessMemory (λ v. v.items) result (ranges.samples_in wanted (view tree.now)) }
+{
+    let list = need(tree, "values", Member::Values)?;
+    let items = list_at(list, Member::Values)?;
+    let found = items.len() as u128;
+    if found != wanted {
+        return Err(CovFault::WrongCount(Member::Values, wanted, found));
+    }
+    samples_of(alloc, items)
+}
+
+/// The range over a domain that a tree stands for: its values in row-major order t, z, y, x or along the tuples, whatever the
+/// order of its axes in the tree and whichever of them are turned round.
+pub fn range_of(alloc: Global, tree: &Value, read: &ReadDomain) -> Result<NdArray, CovFault>
+    requires axes { HasAxes read.now.domain }
+    requires tuples { HasTuples read.now.domain }
+    ensures answer { GivesUnlessMemory (λ r. r) result (ranges.range_of read.now (view tree.now)) }
+    ensures valid { IfOk result (IsRange read.now.domain) }
+{
+    need_integers(alloc, tree)?;
+    let names = names_at(alloc, tree, &read.domain)?;
+    need_shape(tree, &names, &read.domain)?;
+    let values = samples(alloc, tree, wanted_count(&read.domain))?;
+    let values = in_order(alloc, values, &read.domain, read.turned, &names)?;
+    Ok(NdArray {
+        values: Items::of(values),
+    })
+}

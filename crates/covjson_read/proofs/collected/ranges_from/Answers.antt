@@ -1,0 +1,48 @@
+use Rattle.std.proofs.Common.{rules, arith, ◌≡◌, [], ◌∷◌, ◌++◌, Ok, length, string_bytes, ap, subst}
+use Rattle.std.proofs.lemmas.List.{length_push}
+use Rattle.serde_json.specs.Find.{get}
+use Rattle.serde_json.specs.View.{view}
+use Rattle.covjson_value.specs.Coverages.{IsParameter, IsRange}
+use Rattle.covjson_checks.specs.declared.faults.Member.TheVariants.{Parameters}
+use Rattle.covjson_checks.specs.Members.{need}
+use Rattle.covjson_read.specs.Parameters.{parameter_of, HasNameForm}
+use Rattle.edr_json.specs.AnswerLaws.{or_fault_ok, All-push}
+use Rattle.covjson_read.proofs.ParameterLaws.{parameter_stands, named_found}
+use Rattle.covjson_read.proofs.RangesInTurn.{one_more, ids_more, ids_ascend}
+use Rattle.covjson_ranges.proofs.ranges.ranges_from.Goals as goal
+
+pub loop-id-preserved : goal.loop-id-preserved
+loop-id-preserved c =
+    let i = c.loop-id.invariant in
+    let p = c.in_ok-parameter.parameter in
+    let a = c.in_ok-array.array in
+    let k = c.in-Some.id.now in
+    let v = c.in-Some.range.now in
+    let read = c.args.read.now in
+    let d = view c.args.parameters.now in
+    let tree = view c.in_ok-tree.tree.now in
+    let pushed : c.push.new.self.items ≡ c.loop-id.kept.items ++ p ∷ [] = search rules in
+    let put : c.push-in-loop-id.new.self.items ≡ c.loop-id.found.items ++ a ∷ [] = search rules in
+    let needed : need (string_bytes k) Parameters d ≡ Ok tree = search rules in
+    let parameter : parameter_of (string_bytes k) tree ≡ Ok p = search rules in
+    let same : string_bytes k ≡ c.deref-in-loop-id.result.now = search rules in
+    let form = subst HasNameForm same (named_found (string_bytes k) d tree c.requires.named (or_fault_ok (get (string_bytes k) d) _ tree needed)) in
+    record {
+      answer = one_more read d c.loop-id.kept.items c.push.new.self.items c.loop-id.found.items c.push-in-loop-id.new.self.items c.loop-id.id-iterator c.next.new.self
+          k v tree p a _ c.in-Some.ensures.steps i.answer needed parameter c.in_ok-array.ensures.answer pushed put;
+      ids = ids_more c.loop-id.kept.items c.push.new.self.items p c.loop-id.id-iterator c.next.new.self k v _ c.in-Some.ensures.steps
+          (parameter_stands (string_bytes k) tree p parameter).0 pushed i.ids;
+      parameters = All-push IsParameter c.loop-id.kept.items c.push.new.self.items p pushed i.parameters (c.in_ok-parameter.ensures.valid form);
+      as_many = omega (arith, i.as_many, ap length pushed, ap length put, length_push c.loop-id.kept.items p, length_push c.loop-id.found.items a);
+      ranges = All-push (IsRange read.domain) c.loop-id.found.items c.push-in-loop-id.new.self.items a put i.ranges c.in_ok-array.ensures.valid;
+    }
+
+pub returns-clause-valid : goal.returns-clause-valid
+returns-clause-valid c =
+    let i = c.loop-id.invariant in
+    rw (c.of.ensures, c.of-2.ensures) (record {
+      parameters = i.parameters;
+      ascending = ids_ascend c.loop-id.kept.items c.loop-id.id-iterator c.args.members.now.entries c.in-None.ensures.steps.0 i.ids c.iter-id-items.ensures.ordered;
+      as_many = i.as_many;
+      ranges = i.ranges;
+    })

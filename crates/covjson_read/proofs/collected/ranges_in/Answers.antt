@@ -1,0 +1,16 @@
+use Rattle.std.proofs.Common.{rules, ◌≡◌, Ok, codes, length}
+use Rattle.serde_json.specs.View.{view, members_view}
+use Rattle.covjson_checks.specs.declared.faults.Member.TheVariants.{Ranges}
+use Rattle.covjson_checks.specs.Members.{need, object_at}
+use Rattle.covjson_read.proofs.RangesInTurn.{some_members, some_ranges}
+use Rattle.covjson_ranges.proofs.ranges.ranges_in.Goals as goal
+
+pub returns-clause-answer : goal.returns-clause-answer
+returns-clause-answer c =
+    let es = c.in_ok-members.members.now.entries in
+    let found = view c.in_ok-found.found.now in
+    let needed : need (codes "ranges") Ranges (view c.args.tree.now) ≡ Ok found = search rules in
+    let are : object_at Ranges found ≡ Ok (members_view es) = search rules in
+    let some : ¬ (length es ≡ 0) = λ e. cc (c.is_empty.ensures.1 e) in
+    rw (some_ranges c.args.read.now (view c.args.parameters.now) (view c.args.tree.now) found (members_view es) needed are (some_members es some))
+    c.ranges_from.ensures.answer

@@ -1,6 +1,0 @@
-use Rattle.serde_json.specs.View.{items_view}
-use Rattle.covjson_read.proofs.SampleLemmas.{samples_read}
-use Rattle.covjson_read.proofs.ranges.samples_of.Goals as goal
-
-pub returns-in-Ok : goal.returns-in-Ok
-returns-in-Ok c = samples_read (items_view c.args.items.now.items) c.in-Ok.found.items c.in-Ok.ensures

@@ -1,9 +1,0 @@
-use Rattle.std.proofs.Common.{◌≡◌, drop}
-use Rattle.serde_json.specs.View.{items_view}
-use Rattle.covjson_read.specs.TupleAnswers as tuples
-use Rattle.covjson_read.proofs.tuples.tuples_pass.Given as goal
-
--- the rest pass where all do
-abbrev pub invariant-loop-tuple : goal.invariant-loop-tuple
-invariant-loop-tuple l =
-    tuples.tuples_pass l.test l.names (items_view (drop l.tuple-index l.items.items)) ≡ tuples.tuples_pass l.test l.names (items_view l.items.items)

@@ -1,0 +1,4 @@
+pub mod Json
+pub mod Trees
+pub mod AnswerLaws
+pub mod TreeLaws

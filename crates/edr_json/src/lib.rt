@@ -1,0 +1,8 @@
+//! The door to JSON (RFC 8259): texts to trees, and what is asked of trees everywhere.
+#![tactic(auto)]
+
+mod reading;
+mod trees;
+
+pub use reading::{JsonFault, read_tree, texts_have_one_tree};
+pub use trees::{is_text, text_or_empty, whole_of};
