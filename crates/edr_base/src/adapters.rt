@@ -77,6 +77,8 @@ impl<T: Write> Sink for RealSink<T> {
 
     ghost beside = { λ s. untold_beside false };
 
+    ghost bottomed = { λ s. tt };
+
     fn write(&mut self, piece: &[u8]) -> Result<usize, Stop> {
         if piece.is_empty() {
             return Ok(0);
