@@ -1,36 +1,21 @@
 -- Laws of checks of trees.
-use Rattle.std.specs.Prelude.{Result, IfOk, ⊤, not, is_some}
-use Rattle.std.proofs.Common.{◌≡◌, if◌then◌else◌, subst, ℕ, ◌≤◌, ◌<◌, ◌+◌, ◌++◌, ℤ, List, [], ◌∷◌, length, get_or, drop, All, Bool, true, false, Option, Some, None, Ok, Err, refl, sym, ap, ◌∙◌, append_assoc, append-nil, unsigned_abs}
-use Rattle.std.proofs.lemmas.List.{drop_more, drop_all}
-use Rattle.std.proofs.lemmas.List.Elements.{All-cons, All-nil, All-append}
-use Rattle.std.proofs.lemmas.Bool.{leb-true}
+use Rattle.std.specs.Prelude.{Result, IfOk, ⊤}
+use Rattle.std.proofs.Common.{◌≡◌, if◌then◌else◌, subst, ℕ, ◌≤◌, ◌++◌, ℤ, List, [], ◌∷◌, All, Bool, true, false, Option, Some, None, Ok, Err, refl, ap, ◌∙◌, append_assoc, unsigned_abs}
+use Rattle.std.proofs.lemmas.List.Elements.{All-cons, All-nil, All-head, All-tail}
+use Rattle.std.proofs.lemmas.Bool.{leb-true, le-leb, and_from}
 use Rattle.std.proofs.Math.Dec.{leb}
 use Rattle.serde_json.specs.Data.{Data, null, boolean, number, string, array, object, Items, no_items, item, Members, Num}
-use Rattle.serde_json.specs.Find.{as_array, as_object, as_str, as_number, as_integer}
-use Rattle.serde_json.specs.View.{view, items_view}
-use Rattle.serde_json.specs.declared.value.Value.{Value}
+use Rattle.serde_json.specs.Find.{get, as_array, as_object, as_str, as_number, as_integer}
+use Rattle.edr_base.specs.FirstThatApplies.{and_then, or_fault}
+use Rattle.edr_json.specs.Trees.{EachStands, StandsForWhole, whole_of}
+use Rattle.edr_json.specs.AnswerLaws.{and_then_ok, or_fault_ok, and_then_given, or_fault_given}
+use Rattle.edr_json.specs.TreeLaws.{as_array_some, as_object_some, as_str_some, member_of_object}
 use Rattle.covjson_checks.specs.declared.faults.Member.{Member}
 use Rattle.covjson_checks.specs.declared.faults.CovFault.{CovFault}
 use Rattle.covjson_checks.specs.declared.faults.CovFault.TheVariants.{OutOfRange}
-use Rattle.covjson_checks.specs.Answers.{Answer, each, GivesUnlessMemory}
-use Rattle.edr_base.specs.FirstThatApplies.{and_then, or_fault, check}
-use Rattle.covjson_checks.specs.Members.{list_at, object_at, text_at, whole_within}
-use Rattle.edr_json.specs.Trees.{text_or_empty, whole_of}
-use Rattle.edr_json.specs.Trees.{EachStands, StandsForWhole}
-use Rattle.std.specs.Prelude.{⊤, is_some}
-use Rattle.std.proofs.Common.{◌≡◌, ℕ, ◌≤◌, ℤ, List, [], ◌∷◌, All, Bool, true, false, Option, Some, None, Ok, Err, refl, ap, ◌∙◌, ◌++◌, append_assoc, unsigned_abs}
-use Rattle.std.proofs.lemmas.Bool.{le-leb, and_from}
-use Rattle.std.proofs.lemmas.List.Elements.{All-head, All-tail}
-use Rattle.serde_json.specs.Data.{Data, null, boolean, number, string, array, object, Items, no_items, item, Members, Num}
-use Rattle.serde_json.specs.Find.{get, as_object, as_number, as_integer}
-use Rattle.covjson_checks.specs.declared.faults.Member.{Member}
-use Rattle.covjson_checks.specs.declared.faults.CovFault.{CovFault}
 use Rattle.covjson_checks.specs.declared.members.Wanted.{Wanted}
-use Rattle.covjson_checks.specs.Answers.{Answer, each, onto}
-use Rattle.edr_base.specs.FirstThatApplies.{and_then, or_fault, check}
-use Rattle.covjson_checks.specs.Members.{object_at, whole_within, is_wanted, all_wanted}
-use Rattle.edr_json.specs.Trees.{whole_of}
-use Rattle.edr_json.specs.Trees.{EachStands}
+use Rattle.covjson_checks.specs.Answers.{Answer, each, onto, GivesUnlessMemory}
+use Rattle.covjson_checks.specs.Members.{list_at, object_at, text_at, whole_within, is_wanted, all_wanted}
 
 -- a datum that is taken for a list is one
 pub list_ok : (m : Member) (d : Data) (ds : Items) → list_at m d ≡ Ok ds → d ≡ array ds
@@ -97,6 +82,16 @@ pub if_gives : {T U : Type 0} (r : Result T CovFault) (seen : T → U) (a : Answ
     → GivesUnlessMemory seen r a → IfOk r P
 if_gives (Ok x) seen a P tells h = tells x h
 if_gives (Err f) seen a P tells h = tt
+
+-- the answer for an item, before those for the others
+pub first_given : {V : Type 0} (first : Answer V) (rest : Answer (List V)) (v : V) (vs : List V) → first ≡ Ok v → rest ≡ Ok vs
+    → and_then first (λ x. and_then rest (λ xs. Ok (x ∷ xs))) ≡ Ok (v ∷ vs)
+first_given first rest v vs h k = and_then_given first _ v _ h (and_then_given rest _ vs _ k refl)
+
+-- a value more, after what was found or before the rest
+pub onto_more : {V : Type 0} (found : List V) (v : V) (rest : Answer (List V)) → onto (found ++ v ∷ []) rest ≡ onto found (and_then rest (λ vs. Ok (v ∷ vs)))
+onto_more found v (Ok vs) = ap Ok (append_assoc found (v ∷ []) vs)
+onto_more found v (Err f) = refl
 
 -- and the check that it is one passes
 pub object_given : (m : Member) (key : List ℕ) (d v : Data) → get key d ≡ Some v → (ms : Members) × (object_at m d ≡ Ok ms)

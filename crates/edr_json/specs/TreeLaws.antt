@@ -1,36 +1,12 @@
 -- Laws of trees of JSON.
-use Rattle.std.specs.Prelude.{Result, IfOk, ⊤, not, is_some}
-use Rattle.std.proofs.Common.{◌≡◌, if◌then◌else◌, subst, ℕ, ◌≤◌, ◌<◌, ◌+◌, ◌++◌, ℤ, List, [], ◌∷◌, length, get_or, drop, All, Bool, true, false, Option, Some, None, Ok, Err, refl, sym, ap, ◌∙◌, append_assoc, append-nil, unsigned_abs}
+use Rattle.std.proofs.Common.{◌≡◌, ℕ, ◌≤◌, ◌<◌, ◌+◌, ◌++◌, ℤ, List, [], ◌∷◌, length, map, get_or, drop, All, Option, Some, None, refl, append_assoc, append-nil}
 use Rattle.std.proofs.lemmas.List.{drop_more, drop_all}
-use Rattle.std.proofs.lemmas.List.Elements.{All-cons, All-nil, All-append}
-use Rattle.std.proofs.lemmas.Bool.{leb-true}
-use Rattle.std.proofs.Math.Dec.{leb}
-use Rattle.serde_json.specs.Data.{Data, null, boolean, number, string, array, object, Items, no_items, item, Members, Num}
-use Rattle.serde_json.specs.Find.{as_array, as_object, as_str, as_number, as_integer}
-use Rattle.serde_json.specs.View.{view, items_view}
-use Rattle.serde_json.specs.declared.value.Value.{Value}
-use Rattle.covjson_checks.specs.declared.faults.Member.{Member}
-use Rattle.covjson_checks.specs.declared.faults.CovFault.{CovFault}
-use Rattle.covjson_checks.specs.declared.faults.CovFault.TheVariants.{OutOfRange}
-use Rattle.covjson_checks.specs.Answers.{Answer, each, GivesUnlessMemory}
-use Rattle.edr_base.specs.FirstThatApplies.{and_then, or_fault, check}
-use Rattle.covjson_checks.specs.Members.{list_at, object_at, text_at, whole_within}
-use Rattle.edr_json.specs.Trees.{text_or_empty, whole_of}
-use Rattle.edr_json.specs.Trees.{EachStands, StandsForWhole}
-use Rattle.std.specs.Prelude.{⊤, is_some}
-use Rattle.std.proofs.Common.{◌≡◌, ℕ, ◌≤◌, ℤ, List, [], ◌∷◌, All, Bool, true, false, Option, Some, None, Ok, Err, refl, ap, ◌∙◌, ◌++◌, append_assoc, unsigned_abs}
-use Rattle.std.proofs.lemmas.Bool.{le-leb, and_from}
 use Rattle.std.proofs.lemmas.List.Elements.{All-head, All-tail}
-use Rattle.serde_json.specs.Data.{Data, null, boolean, number, string, array, object, Items, no_items, item, Members, Num}
-use Rattle.serde_json.specs.Find.{get, as_object, as_number, as_integer}
-use Rattle.covjson_checks.specs.declared.faults.Member.{Member}
-use Rattle.covjson_checks.specs.declared.faults.CovFault.{CovFault}
-use Rattle.covjson_checks.specs.declared.members.Wanted.{Wanted}
-use Rattle.covjson_checks.specs.Answers.{Answer, each, onto}
-use Rattle.edr_base.specs.FirstThatApplies.{and_then, or_fault, check}
-use Rattle.covjson_checks.specs.Members.{object_at, whole_within, is_wanted, all_wanted}
-use Rattle.edr_json.specs.Trees.{whole_of}
-use Rattle.edr_json.specs.Trees.{EachStands}
+use Rattle.serde_json.specs.Data.{Data, null, boolean, number, string, array, object, Items, Members, Num}
+use Rattle.serde_json.specs.Find.{get, as_array, as_object, as_str, as_number, as_integer}
+use Rattle.serde_json.specs.View.{view, items_view, items_of}
+use Rattle.serde_json.specs.declared.value.Value.{Value}
+use Rattle.edr_json.specs.Trees.{EachStands, text_or_empty, whole_of}
 
 -- what is taken for a list is one
 pub as_array_some : (d : Data) (ds : Items) → as_array d ≡ Some ds → d ≡ array ds
