@@ -18,4 +18,3 @@ unsigned_abs-signed NoSign n = refl
 unsigned_abs-signed Plus n = refl
 unsigned_abs-signed Minus zero = refl
 unsigned_abs-signed Minus (suc n) = refl
-

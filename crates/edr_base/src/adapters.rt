@@ -3,7 +3,7 @@
 //! They tell nothing of contents by the words of `Source` and `Sink`. Where the reader or the writer tells its bytes
 //! by the standard library's words, the clauses `passes` say that each call passes them on. That a flush is passed on
 //! the standard library has no word for.
-ghost use Rattle.std.specs.Prelude.{◌≡◌, ◌≤◌, ◌<◌, length, Ok, Err, IfOk, OnErr, IsErr, IsErrOf, IsOk, None, true, false};
+ghost use Rattle.std.specs.Prelude.{◌≡◌, ◌≤◌, ◌<◌, ◌+◌, ◌-◌, ◌^◌, min, length, Ok, Err, IfOk, OnErr, IsErr, IsErrOf, IsOk, None, true, false};
 ghost use Rattle.std.specs.Io.KnownBytes.{ReadConsumes, WriteAppends, Keeps};
 ghost use Rattle.edr_base.specs.Outside.{Rose};
 ghost use Rattle.edr_base.specs.Calls.{Reads, Appended, Flushed, SourceLent, SinkLent};
@@ -11,6 +11,13 @@ ghost use Rattle.edr_base.specs.Untold.{untold_aside, untold_beside};
 
 use crate::outside::{Failed, Faults, Sink, Source, Stop};
 use std::io::{ErrorKind, Read, Write};
+
+// A count of faults after one more.
+fn one_more(faults: u64) -> u64
+    ensures { result ≡ min (faults + 1) (2 ^ 64 - 1) }
+{
+    faults.saturating_add(1)
+}
 
 /// A source over a reader. Each error of the reader is a fault, but for `Interrupted`: then it is asked again.
 #[derive(Drop)]
@@ -83,7 +90,7 @@ impl<T: Read> Source for RealSource<T> {
         match read_from(&mut self.reader, buf) {
             Ok(count) => Ok(count),
             Err(Failed) => {
-                self.faults = self.faults.saturating_add(1);
+                self.faults = one_more(self.faults);
                 Err(Failed)
             }
         }
@@ -188,7 +195,7 @@ impl<T: Write> Sink for RealSink<T> {
         match write_to(&mut self.writer, piece) {
             Ok(count) => Ok(count),
             Err(Failed) => {
-                self.faults = self.faults.saturating_add(1);
+                self.faults = one_more(self.faults);
                 Err(Stop::Failed)
             }
         }
@@ -212,7 +219,7 @@ impl<T: Write> Sink for RealSink<T> {
         match flush_of(&mut self.writer) {
             Ok(()) => Ok(()),
             Err(Failed) => {
-                self.faults = self.faults.saturating_add(1);
+                self.faults = one_more(self.faults);
                 Err(Stop::Failed)
             }
         }
