@@ -1,10 +1,10 @@
 -- Laws of bytes that are told by some objects only: an equation says both that they are told still and what they are.
 use Rattle.std.proofs.Common.{◌≡◌, ℕ, List, [], ◌++◌, sym, ap, ◌∙◌, refl, Some, None, append-nil}
 use Rattle.std.specs.declared.option.Option.{Option}
-use Rattle.std.specs.Prelude.{Result, Ok, Err, tt}
+use Rattle.std.specs.Prelude.{Result, Ok, Err}
 use mathlib.Core.List.{append_assoc}
 use Rattle.std.specs.Io.KnownBytes.{append_known, prepend_known}
-use Rattle.edr_base.specs.Calls.{Begins, Front, Writes}
+use Rattle.edr_base.specs.Calls.{Front, Writes}
 
 pub append_nothing : (w : Option (List ℕ)) → w ≡ append_known w []
 append_nothing None = refl

@@ -1,6 +1,5 @@
 -- Names and blanks.
-use Rattle.std.specs.Prelude.{◌≡◌, ◌≢◌, ℕ, ◌≤◌, ◌==◌, ◌||◌, Bool, List, length, All, IsUtf8}
-use Rattle.std.specs.List.{list_all}
+use Rattle.std.specs.Prelude.{◌≢◌, ℕ, ◌≤◌, ◌==◌, ◌||◌, Bool, List, length, All, IsUtf8}
 use Rattle.edr_base.specs.Limits.{name_limit}
 
 -- a space, a tab, a line feed or a carriage return

@@ -1,6 +1,6 @@
 //! Files in memory.
 ghost use Rattle.std.specs.Prelude.{◌≡◌, ◌≢◌, ◌↔◌, ◌⊎◌, ◌≤◌, ◌<◌, [], map, length, Option, option_map, Some, None, Ok, Err, IfOk, OnErr, IsErr, IsErrOf, IsOk, IsUtf8, true, false, is_err};
-ghost use Rattle.edr_base.specs.Outside.{Rose};
+ghost use Rattle.edr_base.specs.Outside.{Rose, KeptByOpen};
 ghost use Rattle.edr_base.specs.Calls.{Reads, SourceLent, Opened, asked_after, Cause};
 ghost use Rattle.edr_base.specs.Memory.{FailsNext, bytes_at, content_of, place_of_name, left_in, files_aside, name_asked};
 
@@ -43,9 +43,8 @@ impl MemoryFiles {
         fails: Vec<u64>,
     ) -> MemoryFiles
         requires { 0 < cut }
-        ensures content { (⟦<MemoryFiles as Source>⟧.aside result).content ≡ content_of files.items }
-        ensures start { ((⟦<MemoryFiles as Source>⟧.aside result).idle ≡ true)
-            × ((⟦<MemoryFiles as Source>⟧.aside result).asked ≡ Some []) }
+        ensures left { ⟦<MemoryFiles as Source>⟧.left result ≡ Some [] }
+        ensures aside { ⟦<MemoryFiles as Source>⟧.aside result ≡ files_aside false [] (content_of files.items) }
         ensures faults { ⟦<MemoryFiles as Faults>⟧.faults result ≡ 0 }
         ensures plan { ((plan_of_files result).fails ≡ fails) × ((plan_of_files result).calls ≡ 0) }
         ensures cut { cut_of_files result ≡ cut }
@@ -116,7 +115,7 @@ impl Files for MemoryFiles {
         requires { IsUtf8 name.now }
         ensures ready { (⟦<MemoryFiles as Source>⟧.aside self.new).idle ≡ is_err result }
         ensures left { Opened ((⟦<MemoryFiles as Source>⟧.aside self.old).content name.now) (⟦<MemoryFiles as Source>⟧.left self.new) result }
-        ensures content { (⟦<MemoryFiles as Source>⟧.aside self.new).content ≡ (⟦<MemoryFiles as Source>⟧.aside self.old).content }
+        ensures kept { KeptByOpen (⟦<MemoryFiles as Source>⟧.aside self.old) (⟦<MemoryFiles as Source>⟧.aside self.new) }
         ensures asked { (⟦<MemoryFiles as Source>⟧.aside self.new).asked
             ≡ asked_after (⟦<MemoryFiles as Source>⟧.aside self.old).asked (name.now, 0) result }
         ensures cause { Cause result (⟦<MemoryFiles as Faults>⟧.faults self.old) (⟦<MemoryFiles as Faults>⟧.faults self.new) }

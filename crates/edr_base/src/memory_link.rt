@@ -115,6 +115,8 @@ impl Sink for MemoryLink {
 
     ghost beside = { λ s. link_beside s.ready (map peer_asked s.asked.items) s.incoming.items (left_in s.ready s.at s.incoming.items) };
 
+    ghost bottomed = { λ s. tt };
+
     fn write(&mut self, piece: &[u8]) -> Result<usize, Stop>
         ensures bound { IfOk result (λ n. (n ≤ length piece.now) × (0 < length piece.now → 0 < n)) }
         ensures empty { length piece.now ≡ 0 → result ≡ Ok 0 }

@@ -62,6 +62,8 @@ impl Sink for MemorySink {
 
     ghost beside = { λ s. plain_beside };
 
+    ghost bottomed = { λ s. tt };
+
     fn write(&mut self, piece: &[u8]) -> Result<usize, Stop>
         ensures bound { IfOk result (λ n. (n ≤ length piece.now) × (0 < length piece.now → 0 < n)) }
         ensures empty { length piece.now ≡ 0 → result ≡ Ok 0 }
