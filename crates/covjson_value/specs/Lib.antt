@@ -6,3 +6,4 @@ pub mod Samples
 pub mod Laws
 pub mod AxisNames
 pub mod MemberLaws
+pub mod RegularLaws
