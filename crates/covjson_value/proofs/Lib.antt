@@ -1,9 +1,7 @@
 pub mod Rows
 pub mod Order
 pub mod InTime
-pub mod Counts
 pub mod RegularGaps
-pub mod Tuples
 pub mod InOrder
 pub mod TimeTexts
 pub mod NamedParts

@@ -18,7 +18,7 @@ use Rattle.json.proofs.Printed.Utf8.{are_ascii, IsUtf8-are_ascii}
 use Rattle.std.specs.Prelude.{⊤}
 use Rattle.covjson_value.proofs.Within.{IsWithin, within_more, text_within, word_within, integer_within, count_within, array_within, none_within, item_within, item_if_within, array_of_within, object_within, no_members_within, named_within, member_if_within, alone_within}
 use Rattle.covjson_value.proofs.TimeTexts.{IsUtf8-IsWritten}
-use Rattle.covjson_value.proofs.Tuples.{coordinates_are_values}
+use Rattle.covjson_value.specs.TupleLaws.{coordinates_are_values}
 
 -- ---- axes
 

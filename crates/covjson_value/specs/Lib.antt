@@ -7,3 +7,5 @@ pub mod Laws
 pub mod AxisNames
 pub mod MemberLaws
 pub mod RegularLaws
+pub mod CountLaws
+pub mod TupleLaws

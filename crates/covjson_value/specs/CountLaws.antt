@@ -1,4 +1,4 @@
--- How many values a parameter has over a domain.
+-- A law of counts: how many values a parameter has over a domain.
 use Rattle.std.proofs.Common.{◌≡◌, ◌*◌, ℤ, List, refl, ap, ◌∙◌, arith}
 use Rattle.std.specs.declared.option.Option.{Option}
 use Rattle.std.specs.Prelude.{None, Some}
