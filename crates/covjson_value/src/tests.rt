@@ -1,8 +1,7 @@
 //! Tables of what is valid. The texts of documents are tested where they are written.
 use crate::{CoordinateName, Coverage, Document, Domain, NdArray, Parameter, Referencing};
-use edr_base::is_name;
 use edr_axes::Axis;
-use edr_base::{Items, OutOfMemory, Position, Text};
+use edr_base::{Items, OutOfMemory, Position, Text, is_name};
 use std::alloc::Global;
 use std::test::Fail;
 
@@ -453,7 +452,9 @@ fn axes_of_a_trajectory(rt: HostRuntime) -> Result<(), Fail> {
         has_z: false,
         steps,
     };
-    assert!(rt; step.coordinates() == [CoordinateName::T, CoordinateName::X, CoordinateName::Y].as_slice());
+    assert!(rt;
+        step.coordinates() == [CoordinateName::T, CoordinateName::X, CoordinateName::Y].as_slice()
+    );
     assert!(rt; step.tuples().is_some() && step.range_tuples().is_none());
     assert!(rt; step.is_in_tuples(CoordinateName::T) && !step.is_in_tuples(CoordinateName::Z));
     assert!(rt; has_and_stands(&step, CoordinateName::Z) == (true, false));
