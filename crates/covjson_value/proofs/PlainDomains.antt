@@ -1,5 +1,5 @@
 -- The tree of a valid domain is plain and shallow.
-use Rattle.std.proofs.Common.{◌≡◌, ℕ, suc, ◌-◌, ◌≤◌, ℤ, pos, unsigned_abs, codes, Bool, false, if◌then◌else◌, List, [], ◌∷◌, length, All, Option, Some, None, IfSome, option_map, true, IsUtf8, Greater, nat_cmp, refl, arith}
+use Rattle.std.proofs.Common.{◌≡◌, ℕ, suc, ◌-◌, ℤ, pos, codes, Bool, false, if◌then◌else◌, List, [], ◌∷◌, length, All, Option, Some, None, IfSome, option_map, true, IsUtf8, Greater, nat_cmp, refl, arith}
 use Rattle.std.specs.Cmp.Lexicographic.{slice_cmp}
 use Rattle.serde_json.specs.Data.{Data, string, object, no_members, member}
 use Rattle.edr_base.specs.declared.places.Position.{Position}
@@ -22,7 +22,7 @@ use Rattle.covjson_value.specs.TupleLaws.{coordinates_are_values}
 
 -- ---- axes
 
-coordinate_within : (n : ℕ) (value : ℤ) → unsigned_abs value ≤ 100_000_000 → IsWithin n (Trees.integer value)
+coordinate_within : (n : ℕ) (value : ℤ) → IsCoordinate value → IsWithin n (Trees.integer value)
 coordinate_within n value h = integer_within n value (omega (arith, h))
 
 axis_value_within : TimesAreWritten → (n : ℕ) (name : CoordinateName) (value : ℤ) → IsAxisValue name value → IsWithin n (Trees.axis_value_data name value)

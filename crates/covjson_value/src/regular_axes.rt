@@ -9,6 +9,9 @@ use edr_base::{NODE_LIMIT, OutOfMemory};
 use serde_json::{Value, json};
 use std::alloc::Global;
 
+// An axis of fewer values is listed.
+const REGULAR_LEAST: usize = 3;
+
 // How far a value is above the one before.
 fn gap_at(values: &[i64], place: usize) -> i64
     requires within { All IsCoordinate values.now }
@@ -25,7 +28,7 @@ pub fn is_regular(values: &[i64]) -> bool
     requires { All IsCoordinate values.now }
     ensures { result ≡ is_regular values.now }
 {
-    if values.len() < 3 || values.len() > NODE_LIMIT {
+    if values.len() < REGULAR_LEAST || values.len() > NODE_LIMIT {
         return false;
     }
     let step = gap_at(values, 1);

@@ -9,14 +9,16 @@ ghost use Rattle.covjson_value.specs.Coverages.{IsSample, IsAxisValue, IsNamedAx
 
 use crate::coverages::{Coverage, Document, NdArray, Parameter, Referencing};
 use crate::domains::{CoordinateName, Domain};
-use edr_axes::{EARLIEST, LATEST};
-use edr_base::{COORDINATE_LIMIT, Position, SAMPLE_LIMIT, is_name, is_utf8, is_utf8_where_given};
+use edr_base::{
+    COORDINATE_LIMIT, EARLIEST_TIME, LATEST_TIME, Position, SAMPLE_LIMIT, is_name, is_utf8,
+    is_utf8_where_given,
+};
 
 fn is_axis_value(name: CoordinateName, value: i64) -> bool
     ensures { IsTrue result ↔ IsAxisValue name value }
 {
     match name {
-        CoordinateName::T => EARLIEST <= value && value <= LATEST,
+        CoordinateName::T => EARLIEST_TIME <= value && value <= LATEST_TIME,
         CoordinateName::Z | CoordinateName::Y | CoordinateName::X => value.unsigned_abs()
             <= COORDINATE_LIMIT,
     }

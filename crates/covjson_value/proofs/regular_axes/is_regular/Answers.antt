@@ -18,5 +18,5 @@ loop-place-preserved c =
 pub returns : goal.returns
 returns c =
     let kept = to_z-of_z w64 c.gap_at-step.result (record { sfits = c.gap_at-step.type_inv }) in
-    gaps_regular c.args.values.now c.if-values-lt3.false c.if-values-gt-NODE_LIMIT.false
+    gaps_regular c.args.values.now c.if-values-lt-REGULAR_LEAST.false c.if-values-gt-NODE_LIMIT.false
     (λ k inside. c.loop-place.invariant k (omega (arith, inside, c.loop-place-test.false)) ∙ kept ∙ c.gap_at-step.ensures)
