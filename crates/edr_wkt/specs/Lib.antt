@@ -9,3 +9,4 @@ pub mod Reads
 pub mod BodyReads
 pub mod Faults
 pub mod Checks
+pub mod Stops

@@ -19,6 +19,16 @@ pub enum Stop {
     OutOfMemory,
 }
 
+impl From<OutOfMemory> for Stop {
+    ghost use Rattle.edr_wkt.specs.declared.lists.Stop.TheVariants as stops;
+
+    ghost from_gives = { λ _ stop. stop ≡ stops.OutOfMemory };
+
+    fn from(_: OutOfMemory) -> Stop {
+        Stop::OutOfMemory
+    }
+}
+
 /// One position more, up to one beyond the limit.
 pub fn counted(count: usize) -> usize
     requires { count ≤ position_limit + 1 }
@@ -71,10 +81,7 @@ pub fn read_positions<'a>(
         };
         *count = counted(*count);
         len = longer(len);
-        match keep(&mut positions, position, *count) {
-            Ok(()) => {}
-            Err(OutOfMemory) => return Err(Stop::OutOfMemory),
-        }
+        keep(&mut positions, position, *count)?;
         let Some((mark, next)) = read_mark(after) else {
             return Err(Stop::NotWkt);
         };
