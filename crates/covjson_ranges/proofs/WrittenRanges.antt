@@ -1,5 +1,5 @@
 -- What is written of ranges stands for them.
-use Rattle.std.proofs.Common.{◌≡◌, ℕ, suc, ℤ, pos, negsuc, true≢false, inl, inr, List, [], ◌∷◌, map, length, zip, codes, slice_index_or, IfSome, Option, Some, None, refl, sym, ap, ◌∙◌, subst, arith}
+use Rattle.std.proofs.Common.{◌≡◌, ℕ, suc, ℤ, true≢false, inl, inr, List, [], ◌∷◌, map, length, zip, codes, slice_index_or, IfSome, Option, Some, None, refl, sym, ap, ◌∙◌, subst, arith}
 use Rattle.std.proofs.lemmas.Bool.{cases_lt}
 use Rattle.std.proofs.lemmas.List.{length-map}
 use Rattle.serde_json.specs.Data.{Data, string, Items, item, Members, no_members, member}
@@ -9,22 +9,18 @@ use Rattle.covjson_value.specs.declared.domains.Domain.{Domain}
 use Rattle.covjson_value.specs.declared.coverages.NdArray.{NdArray}
 use Rattle.covjson_value.specs.Domains.{AxisLength, range_axes}
 use Rattle.covjson_value.specs.Coverages.{IsRange, IsSample}
-use Rattle.covjson_value.specs.Trees.{integer, member_if, array_of, array_if_some, sample_data, name_data, length_data, range_data, members_in_order}
+use Rattle.covjson_value.specs.Trees.{member_if, array_of, array_if_some, sample_data, name_data, length_data, range_data, members_in_order}
 use Rattle.covjson_value.specs.declared.axis_names.AxisName.{AxisName}
 use Rattle.covjson_ranges.specs.Ranges.{StandsForSample, StandsForName, StandsForLength, length_of, AreRangeAxes, IsOnePlace, NamesStand, ShapeStands, StandsForRange}
-use Rattle.edr_json.specs.Trees.{StandsForWhole, count_items, EachStands, names_of, values_of}
-use Rattle.covjson_ranges.specs.Orders.{ascending}
+use Rattle.edr_json.specs.Trees.{count_items, EachStands, names_of, values_of}
+use Rattle.covjson_checks.specs.CheckLaws.{whole_written}
+use Rattle.covjson_checks.specs.Turns.{unturned}
 use Rattle.covjson_value.specs.MemberLaws.{member_passed, member_found}
 use Rattle.edr_json.specs.TreeLaws.{each_written}
 use Rattle.covjson_ranges.specs.Laws.{WrittenRangesStand}
 use Rattle.covjson_ranges.proofs.WrittenRangeAxes.{written_names, written_axis, range_axes_are, names_written, tree_number_is}
 
 -- ---- values
-
--- a whole number is held whole
-whole_written : (value : ℤ) → StandsForWhole (integer value) value
-whole_written (pos n) = refl
-whole_written (negsuc n) = refl
 
 -- a value
 sample_written : (v : Option ℤ) → StandsForSample (sample_data v) v
@@ -118,7 +114,7 @@ values_found domain range =
     ∙ member_passed (codes "values") (codes "shape") (shape_given domain) (kind_member range) (λ d. refl)
 
 -- a range is written with the axes that the domain's ranges have, in the domain's order
-range_written : (domain : Domain) (range : NdArray) → IsRange domain range → StandsForRange domain ascending (range_data domain range) range
+range_written : (domain : Domain) (range : NdArray) → IsRange domain range → StandsForRange domain unturned (range_data domain range) range
 range_written domain range h =
     let names = written_names domain in
     let axes = names_written domain in
@@ -164,8 +160,8 @@ values_zipped (key ∷ keys) (d ∷ ds) same = ap (item d) (values_zipped keys d
 pub ranges_written : WrittenRangesStand
 ranges_written domain ids ranges same h =
     let as_many = length-map ranges (range_data domain) ∙ same in
-    let P : Items → Type 0 = λ items. EachStands (StandsForRange domain ascending) items ranges in (
+    let P : Items → Type 0 = λ items. EachStands (StandsForRange domain unturned) items ranges in (
       names_zipped ids (map (range_data domain) ranges) as_many,
       subst P (sym (values_zipped ids (map (range_data domain) ranges) as_many))
-          (each_written (StandsForRange domain ascending) (IsRange domain) (range_data domain) (range_written domain) ranges h),
+          (each_written (StandsForRange domain unturned) (IsRange domain) (range_data domain) (range_written domain) ranges h),
     )

@@ -8,9 +8,9 @@ use Rattle.covjson_value.specs.Coverages.{IsRange}
 use Rattle.covjson_value.specs.Trees.{range_data, members_in_order}
 use Rattle.covjson_checks.specs.declared.faults.CovFault.{CovFault}
 use Rattle.covjson_checks.specs.declared.turned.ReadDomain.{ReadDomain}
+use Rattle.covjson_checks.specs.Turns.{unturned}
 use Rattle.covjson_ranges.specs.Ranges.{StandsForRange}
 use Rattle.covjson_ranges.specs.RangeRows.{RangeRows}
-use Rattle.covjson_ranges.specs.Orders.{ascending}
 use Rattle.covjson_ranges.specs.RangeAnswers.{range_of}
 
 -- the rows of a tree have one answer
@@ -35,4 +35,4 @@ RangesAreWhatStand = (read : ReadDomain) (d : Data) (range : NdArray) → (range
 abbrev pub WrittenRangesStand : Type 0
 WrittenRangesStand = (domain : Domain) (ids : List (List ℕ)) (ranges : List NdArray) → length ranges ≡ length ids → All (IsRange domain) ranges
     → let members = members_in_order (zip ids (map (range_data domain) ranges)) in
-    (names_of members ≡ ids) × EachStands (StandsForRange domain ascending) (values_of members) ranges
+    (names_of members ≡ ids) × EachStands (StandsForRange domain unturned) (values_of members) ranges

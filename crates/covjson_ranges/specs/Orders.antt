@@ -44,10 +44,6 @@ IsUsual names =
 abbrev pub IsUnturned : Turned → Type 0
 IsUnturned turned = (name : AxisName) → is_range_turned turned name ≡ false
 
--- no axis turned
-abbrev pub ascending : Turned
-ascending = record { t = false; z = false; y = false; x = false }
-
 -- the number in a tree of the value at a place in a row, by that of the row's first
 abbrev pub in_row : Row → ℕ → ℕ → ℕ
 in_row row first place = if row.turned then first - place * row.step else first + place * row.step

@@ -1,8 +1,9 @@
 -- The ranges of a tree (OGC 21-069r2, NdArray objects), and what they stand for.
-use Rattle.std.specs.Prelude.{◌≡◌, ℕ, ◌+◌, ◌-◌, ◌*◌, ◌<◌, ◌≤◌, ℤ, Bool, true, false, bytes_eq, is_some, ◌||◌, IfSome, if◌then◌else◌, List, [], ◌∷◌, length, map, All, codes, ⊤, Option, Some, None}
+use Rattle.std.specs.Prelude.{◌≡◌, ℕ, ◌-◌, ◌<◌, ◌≤◌, ℤ, Bool, true, false, bytes_eq, is_some, ◌||◌, IfSome, if◌then◌else◌, List, [], ◌∷◌, length, map, All, codes, ⊤, Option, Some, None}
 use Rattle.std.specs.List.{slice_index_or}
 use Rattle.serde_json.specs.Data.{Data, null, string, array, Items}
 use Rattle.serde_json.specs.Find.{get}
+use Rattle.edr_chunk.specs.RowMajor.{row_major}
 use Rattle.edr_json.specs.Trees.{whole_of, natural_of, count_items, EachStands}
 use Rattle.covjson_value.specs.declared.domains.CoordinateName.TheVariants.{T as Times, Z as Levels, Y as Rows, X as Columns}
 use Rattle.covjson_value.specs.declared.domains.Domain.{Domain}
@@ -77,11 +78,6 @@ place_on places Composite = places.tuple
 -- each place is on its axis
 abbrev pub AreInside : Domain → Places → Type 0
 AreInside domain places = (name : AxisName) → place_on places name < length_of domain name
-
--- the number of places among those of some axes in their order, the last fastest: row-major order
-abbrev pub row_major : (AxisName → ℕ) → (AxisName → ℕ) → List AxisName → ℕ → ℕ
-row_major lengths places [] number = number
-row_major lengths places (name ∷ names) number = row_major lengths places names (number * lengths name + places name)
 
 -- the number of the value at some places of the domain
 abbrev pub number_of : Domain → Places → ℕ

@@ -4,8 +4,9 @@ ghost use Rattle.std.specs.Bool.{OnTrue};
 ghost use Rattle.std.specs.List.{slice_index_or};
 ghost use Rattle.covjson_value.specs.Domains.{count_of};
 ghost use Rattle.covjson_checks.specs.Answers.{GivesUnlessMemory};
+ghost use Rattle.covjson_checks.specs.Turns.{unturned};
 ghost use Rattle.covjson_ranges.specs.Ranges.{AreInside, AreRangeAxes, tree_number};
-ghost use Rattle.covjson_ranges.specs.Orders.{below, ordered, IsUsual, IsUnturned, ascending, in_row, StaysInside, AreRows};
+ghost use Rattle.covjson_ranges.specs.Orders.{below, ordered, IsUsual, IsUnturned, in_row, StaysInside, AreRows};
 ghost use Rattle.covjson_checks.specs.declared.faults.CovFault.TheVariants.{OutOfMemory};
 
 use crate::places::{Places, axis_len, places_of, tree_number};
@@ -50,15 +51,15 @@ fn step_to(domain: &Domain, names: &[AxisName], second: Places) -> usize
     requires axes { AreRangeAxes domain.now names.now }
     requires few { count_of domain.now < 2 ^ 64 }
     requires inside { AreInside domain.now second }
-    ensures { result ≡ tree_number domain.now ascending names.now second }
+    ensures { result ≡ tree_number domain.now unturned names.now second }
 {
-    let ascending = Turned {
+    let unturned = Turned {
         t: false,
         z: false,
         y: false,
         x: false,
     };
-    tree_number(domain, ascending, names, second)
+    tree_number(domain, unturned, names, second)
 }
 
 // The rows of a domain: its tuples where it has several, else its columns.
