@@ -1,7 +1,7 @@
 -- Laws of rows of checks: they have one answer, what holds where they are passed, and which answer follows them.
 use Rattle.std.specs.Prelude.{⊤}
-use Rattle.std.proofs.Common.{◌≡◌, inl, inr, Bool, true, false, true≢false, Decides, Result, Ok, Err, refl, sym, ap, ◌∙◌, subst}
-use Rattle.edr_base.specs.FirstThatApplies.{Check, Find, Then, Gives, Answer, and_then, check}
+use Rattle.std.proofs.Common.{◌≡◌, inl, inr, Bool, true, false, true≢false, Decides, Option, None, Some, Result, Ok, Err, refl, sym, ap, ◌∙◌, subst}
+use Rattle.edr_base.specs.FirstThatApplies.{Check, Find, Then, Gives, Answer, and_then, or_fault, check}
 
 -- ---- one answer
 
@@ -82,3 +82,46 @@ pub then_follows : {V F T : Type 0} (answer : Answer F V) (next : V → Answer F
     → ((v : V) → answer ≡ Ok v → Next v (next v)) → Then Rows Next (and_then answer next)
 then_follows (Ok v) next Rows Next rows later = inl (v, rows, later v refl)
 then_follows (Err f) next Rows Next rows later = inr (f, rows, refl)
+
+-- what an answer finds, seen as a row names it
+pub find_seen : {U V F T : Type 0} (answer : Answer F U) (seen : U → V) (fault : F) (next : U → Answer F T) (IsFound : V → Type 0) (Next : V → Result T F → Type 0)
+    → ((u : U) → answer ≡ Ok u → IsFound (seen u)) → ((v : V) → IsFound v → (u : U) × (answer ≡ Ok u)) → ((f : F) → answer ≡ Err f → f ≡ fault)
+    → ((u : U) → answer ≡ Ok u → Next (seen u) (next u)) → Find IsFound fault Next (and_then answer next)
+find_seen (Ok u) seen fault next IsFound Next tells given at_fault later = inl (seen u, tells u refl, later u refl)
+find_seen (Err f) seen fault next IsFound Next tells given at_fault later =
+    inr (λ v found. let e = (given v found).1 in cc, ap Err (at_fault f refl))
+
+-- an answer of which only is kept that there is one
+abbrev pub told : {F U : Type 0} → Answer F U → Answer F ⊤
+told (Ok u) = Ok tt
+told (Err f) = Err f
+
+-- it follows rows that give nothing, before others
+pub told_follows : {U F T : Type 0} (answer : Answer F U) (next : U → Answer F T) (Rows : Result ⊤ F → Type 0) (Next : Result T F → Type 0) → Rows (told answer)
+    → ((u : U) → answer ≡ Ok u → Next (next u)) → Then Rows (λ _. Next) (and_then answer next)
+told_follows (Ok u) next Rows Next rows later = inl (tt, rows, later u refl)
+told_follows (Err f) next Rows Next rows later = inr (f, rows, refl)
+
+-- ---- faults
+
+-- a fault is that of a check, or of those after it
+pub and_then_err : {F T U : Type 0} (Is : F → Type 0) (answer : Answer F T) (next : T → Answer F U) → ((f : F) → answer ≡ Err f → Is f)
+    → ((x : T) (f : F) → next x ≡ Err f → Is f) → (f : F) → and_then answer next ≡ Err f → Is f
+and_then_err Is (Ok x) next here later f h = later x f h
+and_then_err Is (Err g) next here later f h = let same : g ≡ f = cc in subst Is same (here g refl)
+
+-- the fault of what isn't there
+pub or_fault_err : {F T : Type 0} (o : Option T) (fault f : F) → or_fault o fault ≡ Err f → f ≡ fault
+or_fault_err None fault f h = cc
+or_fault_err (Some x) fault f h = cc
+
+-- the fault of a test
+pub check_err : {F : Type 0} (test : Bool) (fault f : F) → check test fault ≡ Err f → f ≡ fault
+check_err true fault f h = cc
+check_err false fault f h = cc
+
+-- checks in checks are checks one after the other
+pub and_then_assoc : {F T U V : Type 0} (answer : Answer F T) (first : T → Answer F U) (second : U → Answer F V)
+    → and_then (and_then answer first) second ≡ and_then answer (λ x. and_then (first x) second)
+and_then_assoc (Ok x) first second = refl
+and_then_assoc (Err f) first second = refl
