@@ -1,4 +1,7 @@
 pub mod Json
 pub mod Trees
+pub mod ReadTrees
 pub mod AnswerLaws
+pub mod RowLaws
 pub mod TreeLaws
+pub mod ReadTreeLaws
