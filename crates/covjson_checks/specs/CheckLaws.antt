@@ -1,6 +1,6 @@
 -- Laws of checks of trees.
 use Rattle.std.specs.Prelude.{Result, IfOk, ⊤}
-use Rattle.std.proofs.Common.{◌≡◌, if◌then◌else◌, subst, ℕ, ◌≤◌, ◌++◌, ℤ, List, [], ◌∷◌, All, Bool, true, false, Option, Some, None, Ok, Err, refl, ap, ◌∙◌, append_assoc, unsigned_abs}
+use Rattle.std.proofs.Common.{◌≡◌, if◌then◌else◌, subst, ℕ, ◌≤◌, ◌++◌, ℤ, List, [], ◌∷◌, All, Bool, true, false, Some, Ok, Err, refl, ap, ◌∙◌, append_assoc, unsigned_abs}
 use Rattle.std.proofs.lemmas.List.Elements.{All-cons, All-nil, All-head, All-tail}
 use Rattle.std.proofs.lemmas.Bool.{leb-true, le-leb, and_from}
 use Rattle.std.proofs.Math.Dec.{leb}
