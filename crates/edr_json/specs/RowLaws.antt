@@ -1,5 +1,5 @@
 -- Laws of rows of checks: each has one answer, and the computation of it follows them.
-use Rattle.std.specs.Prelude.{Result, ◌↔◌}
+use Rattle.std.specs.Prelude.{Result, ◌⊎◌, ◌↔◌}
 use Rattle.std.proofs.Common.{◌≡◌, Bool, true, false, Option, Some, None, Ok, Err, inl, inr, refl, sym, ap, ◌∙◌, subst}
 use Rattle.edr_base.specs.FirstThatApplies.{Check, Find, Then, Gives, Answer, and_then, or_fault, check}
 
@@ -96,6 +96,16 @@ then_answers Rows Next (Err f) next has rows =
 pub gives_answers : {F T : Type 0} (value : T) → HaveAnswer (Gives {F = F} value) (Ok value)
 gives_answers value = record { follows = refl; only = λ other h. h }
 
+-- ---- what passed, where the answer is a value
+
+-- a row that finds or checks
+pub passed : {A N T F : Type 0} {x : T} {fault : F} → A ⊎ (N × (Ok x ≡ Err fault)) → A
+passed h = elim h [ inl w ↦ w | inr w ↦ let e = w.1 in cc ]
+
+-- rows of their own
+pub passed_then : {A T F : Type 0} {Rows : F → Type 0} {x : T} → A ⊎ ((fault : F) × Rows fault × (Ok x ≡ Err fault)) → A
+passed_then h = elim h [ inl w ↦ w | inr w ↦ let e = w.2 in cc ]
+
 -- ---- what stands
 
 -- where the answer is a value exactly where that value stands, the rows say so too
@@ -103,3 +113,9 @@ pub rows_stand : {F T : Type 0} (Rows : Result T F → Type 0) (answer : Result 
     → (x : T) → Rows (Ok x) ↔ Stands x
 rows_stand Rows answer Stands has stands x =
     (λ h. (stands x).0 (sym (has.only (Ok x) h)), λ s. subst Rows ((stands x).1 s) has.follows)
+
+-- and where rows with a value say what stands, the answer is that value exactly where it stands
+pub answer_stands : {F T : Type 0} (Rows : Result T F → Type 0) (answer : Result T F) (Stands : T → Type 0) → HaveAnswer Rows answer → ((x : T) → Rows (Ok x) → Stands x) → ((x : T) → Stands x → Rows (Ok x))
+    → (x : T) → (answer ≡ Ok x) ↔ Stands x
+answer_stands Rows answer Stands has tells passes x =
+    (λ h. tells x (subst Rows h has.follows), λ s. sym (has.only (Ok x) (passes x s)))
