@@ -12,11 +12,11 @@ use Rattle.covjson_checks.specs.Members.{need, object_at}
 use Rattle.edr_base.specs.FirstThatApplies.{Check, Find, Then, Gives, and_then, or_fault, check}
 use Rattle.edr_json.specs.AnswerLaws.{none_of}
 use Rattle.edr_json.specs.TreeLaws.{as_object_some, member_of_object}
-use Rattle.edr_json.specs.RowLaws.{HaveAnswer, Finds, option_finds, find_answers, check_answers, then_answers, gives_answers, passed, passed_then, answer_stands}
+use Rattle.covjson_read.proofs.RowAnswers.{HaveAnswer, Finds, option_finds, find_answers, check_answers, then_answers, gives_answers, passed, passed_then, answer_stands}
 use Rattle.covjson_read.specs.Parameters.{StandsForLabel, StandsForUnit, StandsForParameter, EachIsNamedObject, EachIsParameter, HoldsParameters}
 use Rattle.covjson_read.specs.ParameterAnswers.{all_named_objects, label_at, parameter_label, parameter_unit, parameter_form, parameter_forms, parameters_of, parameter_of}
 use Rattle.covjson_read.specs.Rows.{ParameterRows, EachParameterRows, ParametersRows}
-use Rattle.covjson_read.proofs.RowParts.{find_within, check_within}
+use Rattle.covjson_read.proofs.RowAnswers.{find_within, check_within}
 use Rattle.covjson_read.proofs.SystemLaws.{given_found}
 use Rattle.covjson_read.proofs.LabelLaws.{label_finds, unit_finds}
 use Rattle.covjson_read.proofs.ParameterNames.{named_tells, named_passes}
@@ -38,7 +38,7 @@ abbrev pub IsParameterOf : List ℕ → Data → Parameter → Type 0
 IsParameterOf id d p = (p.id ≡ id) × StandsForParameter d p
 
 -- one that passes the rows stands
-parameter_tells : (id : List ℕ) (d : Data) (p : Parameter) → ParameterRows id d (Ok p) → IsParameterOf id d p
+pub parameter_tells : (id : List ℕ) (d : Data) (p : Parameter) → ParameterRows id d (Ok p) → IsParameterOf id d p
 parameter_tells id d p h =
     let o = passed h in
     let c = passed o.2 in
@@ -49,7 +49,7 @@ parameter_tells id d p h =
     subst (IsParameterOf id d) (sym same) (refl, record { property = o.0; observed = o.1; no_categories = c.0; label = l.1; unit = u.1 })
 
 -- and one that stands passes them
-parameter_passes : (id : List ℕ) (d : Data) (p : Parameter) → IsParameterOf id d p → ParameterRows id d (Ok p)
+pub parameter_passes : (id : List ℕ) (d : Data) (p : Parameter) → IsParameterOf id d p → ParameterRows id d (Ok p)
 parameter_passes id d p s =
     let t = s.1 in
     inl (t.property, t.observed, inl (t.no_categories, inl ((p.lang, p.label), t.label, inl (p.unit, t.unit, ap (λ k. Ok (record p { id = k })) s.0))))
@@ -118,7 +118,7 @@ abbrev pub AreParametersOf : Option Data → Data → Type 0
 AreParametersOf found d = (found ≡ Some d) × HoldsParameters d
 
 -- those that pass the rows are parameters
-parameters_tell : (found : Option Data) (d : Data) → ParametersRows found (Ok d) → AreParametersOf found d
+pub parameters_tell : (found : Option Data) (d : Data) → ParametersRows found (Ok d) → AreParametersOf found d
 parameters_tell found d h =
     let f = passed h in
     let o = passed f.2 in
@@ -128,7 +128,7 @@ parameters_tell found d h =
     subst (AreParametersOf found) same (f.1, record { members = o.0; is = o.1; each = each_tells o.0 n.0 e.1 })
 
 -- and parameters pass them
-parameters_pass : (found : Option Data) (d : Data) → AreParametersOf found d → ParametersRows found (Ok d)
+pub parameters_pass : (found : Option Data) (d : Data) → AreParametersOf found d → ParametersRows found (Ok d)
 parameters_pass found d s =
     let h = s.1 in
     inl (d, s.0, inl (h.members, h.is, inl (each_named h.members h.each, inl (tt, each_passes h.members h.each, refl))))

@@ -13,11 +13,11 @@ use Rattle.covjson_checks.specs.Members.{list_at}
 use Rattle.edr_base.specs.FirstThatApplies.{Check, Find, Then, Gives, and_then, or_fault, check}
 use Rattle.edr_json.specs.AnswerLaws.{and_then_ok, or_fault_ok, check_ok, and_then_given, or_fault_given, check_given}
 use Rattle.edr_json.specs.TreeLaws.{as_array_some}
-use Rattle.edr_json.specs.RowLaws.{HaveAnswer, Finds, option_finds, find_answers, then_answers, passed, passed_then, answer_stands}
+use Rattle.covjson_read.proofs.RowAnswers.{HaveAnswer, Finds, option_finds, find_answers, then_answers, passed, passed_then, answer_stands}
 use Rattle.covjson_read.specs.Systems.{EachItem, NoItem, IsFirst, IsConnection, IsPlane, IsOtherCalendar, IsVertical, system_text, system_name, StandsForVertical, StandsForReferencing}
 use Rattle.covjson_read.specs.SystemAnswers.{all_that, first_that, is_connection, is_plane, is_other_calendar, is_vertical, vertical_name, only_gregorian, plane_in, referencing_of}
 use Rattle.covjson_read.specs.Rows.{CalendarRows, GivesSystems, SystemRows}
-use Rattle.covjson_read.proofs.RowParts.{find_within, check_within}
+use Rattle.covjson_read.proofs.RowAnswers.{find_within, check_within}
 use Rattle.covjson_read.proofs.ItemTests.{Tells, all_tells, all_passes, first_tells, first_passes, none_tells, none_passes}
 use Rattle.covjson_read.proofs.EntryTests.{connections, planes, other_calendars, verticals}
 
@@ -43,8 +43,8 @@ vertical_one false entries vertical s = s
 
 -- ---- rows
 
--- an entry that is found
-list_found : (fault : CovFault) (list : Data) → Finds (λ entries. list ≡ array entries) fault (or_fault (as_array list) fault)
+-- a list
+pub list_found : (fault : CovFault) (list : Data) → Finds (λ entries. list ≡ array entries) fault (or_fault (as_array list) fault)
 list_found fault list = option_finds (λ entries. list ≡ array entries) fault (as_array list) (as_array_some list) (λ entries is. ap as_array is)
 
 -- what was found
@@ -105,7 +105,7 @@ systems_rows has_z found =
 -- ---- what stands
 
 -- systems that pass the rows stand
-rows_tell : (has_z : Bool) (found : Option Data) (r : Referencing) → SystemRows has_z found (Ok r) → StandsForReferencing has_z found r
+pub rows_tell : (has_z : Bool) (found : Option Data) (r : Referencing) → SystemRows has_z found (Ok r) → StandsForReferencing has_z found r
 rows_tell has_z found r h =
     let l = passed h in
     let e = passed l.2 in
@@ -129,7 +129,7 @@ rows_tell has_z found r h =
     }
 
 -- and systems that stand pass them
-rows_pass : (has_z : Bool) (found : Option Data) (r : Referencing) → StandsForReferencing has_z found r → SystemRows has_z found (Ok r)
+pub rows_pass : (has_z : Bool) (found : Option Data) (r : Referencing) → StandsForReferencing has_z found r → SystemRows has_z found (Ok r)
 rows_pass has_z found r s =
     inl (array s.entries, s.list, inl (s.entries, refl, inl (s.connections, inl (s.plane, s.first, inl (s.projected, inl (tt, inl (s.gregorian, refl), (r, s.crs, s.vertical, refl)))))))
 

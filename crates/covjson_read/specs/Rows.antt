@@ -24,10 +24,6 @@ use Rattle.covjson_read.specs.Systems.{EachItem, NoItem, IsFirst, IsConnection, 
 use Rattle.covjson_read.specs.Parameters.{StandsForLabel, StandsForUnit, EachIsNamedObject}
 use Rattle.covjson_read.specs.Standing.{type_of}
 
--- an object
-abbrev pub IsObject : Data → Type 0
-IsObject d = (members : Members) × (d ≡ object members)
-
 -- ---- reference systems
 
 -- each system of times is Gregorian, else the first that isn't
@@ -91,8 +87,8 @@ RangesRows read parameters tree =
 -- the coverage of a tree, in a collection that lends it what it lacks; the collection is null where there is none
 abbrev pub CoverageRows : Data → Data → Result Coverage CovFault → Type 0
 CoverageRows collection tree =
-    Check (IsObject tree) (WrongType TheCoverages) (Find (λ kind. get (codes "type") tree ≡ Some kind) (Missing Kind) (λ kind. Check (kind ≡ string (codes "Coverage")) (WrongType Kind) (
-    Find (λ domain. get (codes "domain") tree ≡ Some domain) (Missing TheDomain) (λ domain. Check (IsObject domain) (WrongType TheDomain) (
+    Find (λ members. tree ≡ object members) (WrongType TheCoverages) (λ _. Find (λ kind. get (codes "type") tree ≡ Some kind) (Missing Kind) (λ kind. Check (kind ≡ string (codes "Coverage")) (WrongType Kind) (
+    Find (λ domain. get (codes "domain") tree ≡ Some domain) (Missing TheDomain) (λ domain. Find (λ members. domain ≡ object members) (WrongType TheDomain) (λ _.
     Then (DomainRows (type_of domain tree collection) domain) (λ read.
     Then (SystemRows (has_coordinate read.domain Z) (lent (codes "referencing") domain collection)) (λ referencing.
     Then (ParametersRows (lent (codes "parameters") tree collection)) (λ parameters.
@@ -128,9 +124,15 @@ RowsOfType collected tree =
     Then (EachCoverageRows tree items) (λ coverages.
     Gives (Many coverages))))
 
+-- the document of a tree
+abbrev pub TreeRows : Data → Result Document CovFault → Type 0
+TreeRows tree =
+    Find (λ members. tree ≡ object members) (WrongType TheDocument) (λ _.
+    Find (λ kind. get (codes "type") tree ≡ Some kind) (Missing Kind) (λ kind. Find (λ type. kind ≡ string (type_name type)) (WrongType Kind) (λ type.
+    RowsOfType type tree)))
+
+-- and of a text
 abbrev pub DocumentRows : List ℕ → Result Document CovFault → Type 0
 DocumentRows text =
     Find (IsJson text) NotJson (λ tree.
-    Check (IsObject tree) (WrongType TheDocument) (
-    Find (λ kind. get (codes "type") tree ≡ Some kind) (Missing Kind) (λ kind. Find (λ type. kind ≡ string (type_name type)) (WrongType Kind) (λ type.
-    RowsOfType type tree))))
+    TreeRows tree)

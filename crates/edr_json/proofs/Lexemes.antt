@@ -1,5 +1,5 @@
 -- The texts among the tokens of UTF-8 are UTF-8.
-use Rattle.std.proofs.Common.{◌≡◌, ℕ, Bool, true, false, cond, ◌&&◌, ◌==◌, List, [], ◌∷◌, ◌++◌, IsUtf8, Option, Some, None, refl, arith, append_assoc}
+use Rattle.std.proofs.Common.{◌≡◌, ℕ, suc, ◌≤◌, Bool, true, false, cond, ◌&&◌, ◌==◌, List, [], ◌∷◌, ◌++◌, IsUtf8, Option, Some, None, refl, arith, append_assoc}
 use Rattle.std.specs.Prelude.{⊤, nat_eq, length, take, drop, ◌-◌}
 use Rattle.std.specs.List.{starts_with}
 use Rattle.std.proofs.lemmas.Bool.{eqb-true}
@@ -151,3 +151,69 @@ punctuated after_key (colon ∷ ls) h = punctuated fresh ls h
 -- the tokens of a text
 pub tokens_are : (text : List ℕ) → IsUtf8 text → TextsAre (tokens text)
 tokens_are text utf8 = punctuated fresh (lex between text) (lexemes_are text [] between utf8)
+
+-- ---- how many there are
+
+-- a byte begins at most one lexeme
+byte_count : (m : Mode) (c : Class) (x n : ℕ) (xs : List ℕ) (k : Mode → List Lexeme) → ((next : Mode) → length (k next) ≤ n) → length (lex_byte m c x xs k) ≤ suc n
+byte_count between quote x n xs k rest = let h = rest in_string in omega arith
+byte_count between backslash x n xs k rest = let h = rest in_word in omega arith
+byte_count between operator x n xs k rest = let h = rest between in omega arith
+byte_count between space x n xs k rest = let h = rest between in omega arith
+byte_count between other x n xs k rest = let h = rest in_word in omega arith
+byte_count in_word quote x n xs k rest = let h = rest in_word in omega arith
+byte_count in_word backslash x n xs k rest = let h = rest in_word in omega arith
+byte_count in_word operator x n xs k rest = let h = rest between in omega arith
+byte_count in_word space x n xs k rest = let h = rest between in omega arith
+byte_count in_word other x n xs k rest = let h = rest in_word in omega arith
+byte_count in_string quote x n xs k rest = let h = rest between in omega arith
+byte_count in_string backslash x n xs k rest = let h = rest in_escape in omega arith
+byte_count in_string operator x n xs k rest = let h = rest in_string in omega arith
+byte_count in_string space x n xs k rest = let h = rest in_string in omega arith
+byte_count in_string other x n xs k rest = let h = rest in_string in omega arith
+byte_count in_escape c x n xs k rest = let h = rest in_string in omega arith
+
+lexeme_count : (m : Mode) (xs : List ℕ) → length (lex m xs) ≤ length xs
+unfolding lex
+lexeme_count m [] = omega arith
+lexeme_count m (x ∷ xs) = byte_count m (class x) x (length xs) xs (λ next. lex next xs) (λ next. lexeme_count next xs)
+
+-- a lexeme is at most one token, and one fault may end them
+allowed_count : (may : Bool) (t : Token) (k : Place → List Token) (next : Place) (n : ℕ) → length (k next) ≤ suc n → length (if_allowed may t k next) ≤ suc (suc n)
+allowed_count true t k next n rest = omega arith
+allowed_count false t k next n rest = omega arith
+
+placed_count : (p : Place) (t : Token) (before_colon : Bool) (k : Place → List Token) (n : ℕ) → ((next : Place) → length (k next) ≤ suc n) → length (place_token p t before_colon k) ≤ suc (suc n)
+placed_count p begin_object b k n rest = allowed_count (may_begin p) begin_object k fresh n (rest fresh)
+placed_count p end_object b k n rest = allowed_count (may_close p) end_object k after_value n (rest after_value)
+placed_count p begin_array b k n rest = allowed_count (may_begin p) begin_array k fresh n (rest fresh)
+placed_count p end_array b k n rest = allowed_count (may_close p) end_array k after_value n (rest after_value)
+placed_count p (key s) b k n rest = omega arith
+placed_count p (string s) true k n rest = allowed_count (may_begin p) (key s) k after_key n (rest after_key)
+placed_count p (string s) false k n rest = allowed_count (may_begin p) (string s) k after_value n (rest after_value)
+placed_count p (number s) b k n rest = allowed_count (may_begin p) (number s) k after_value n (rest after_value)
+placed_count p (boolean x) b k n rest = allowed_count (may_begin p) (boolean x) k after_value n (rest after_value)
+placed_count p null b k n rest = allowed_count (may_begin p) null k after_value n (rest after_value)
+placed_count p bad b k n rest = omega arith
+
+token_count : (p : Place) (ls : List Lexeme) → length (punctuate p ls) ≤ suc (length ls)
+unfolding punctuate
+token_count fresh [] = omega arith
+token_count after_value [] = omega arith
+token_count after_comma [] = omega arith
+token_count after_key [] = omega arith
+token_count fresh (token t ∷ ls) = placed_count fresh t (begins_colon ls) (λ next. punctuate next ls) (length ls) (λ next. token_count next ls)
+token_count after_value (token t ∷ ls) = placed_count after_value t (begins_colon ls) (λ next. punctuate next ls) (length ls) (λ next. token_count next ls)
+token_count after_comma (token t ∷ ls) = placed_count after_comma t (begins_colon ls) (λ next. punctuate next ls) (length ls) (λ next. token_count next ls)
+token_count after_key (token t ∷ ls) = placed_count after_key t (begins_colon ls) (λ next. punctuate next ls) (length ls) (λ next. token_count next ls)
+token_count fresh (comma ∷ ls) = omega arith
+token_count after_value (comma ∷ ls) = let h = token_count after_comma ls in omega arith
+token_count after_comma (comma ∷ ls) = omega arith
+token_count after_key (comma ∷ ls) = omega arith
+token_count fresh (colon ∷ ls) = omega arith
+token_count after_value (colon ∷ ls) = omega arith
+token_count after_comma (colon ∷ ls) = omega arith
+token_count after_key (colon ∷ ls) = let h = token_count fresh ls in omega arith
+
+pub tokens_counted : (text : List ℕ) → length (tokens text) ≤ suc (length text)
+tokens_counted text = let h = token_count fresh (lex between text) in let k = lexeme_count between text in omega arith

@@ -2,6 +2,5 @@ pub mod Json
 pub mod Trees
 pub mod ReadTrees
 pub mod AnswerLaws
-pub mod RowLaws
 pub mod TreeLaws
 pub mod ReadTreeLaws

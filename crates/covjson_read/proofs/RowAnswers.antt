@@ -1,11 +1,8 @@
--- Laws of rows of checks: each has one answer, and the computation of it follows them.
+-- Rows of checks and the computation of their answer: it follows them, and no other answer does.
 use Rattle.std.specs.Prelude.{Result, ◌⊎◌, ◌↔◌}
 use Rattle.std.proofs.Common.{◌≡◌, Bool, true, false, Option, Some, None, Ok, Err, inl, inr, refl, sym, ap, ◌∙◌, subst}
+use Rattle.covjson_checks.specs.RowLaws.{HasOneAnswer}
 use Rattle.edr_base.specs.FirstThatApplies.{Check, Find, Then, Gives, Answer, and_then, or_fault, check}
-
--- rows have one answer
-abbrev pub HaveOneAnswer : {F T : Type 0} → (Result T F → Type 0) → Type 0
-HaveOneAnswer Rows = (one other : _) → Rows one → Rows other → one ≡ other
 
 -- rows have this answer, and no other
 pub record HaveAnswer {F T : Type 0} (Rows : Result T F → Type 0) (answer : Result T F) : Type 0 where
@@ -13,11 +10,11 @@ pub record HaveAnswer {F T : Type 0} (Rows : Result T F → Type 0) (answer : Re
   pub only : (other : Result T F) → Rows other → other ≡ answer
 
 -- so they have one
-pub answer_is_one : {F T : Type 0} (Rows : Result T F → Type 0) (answer : Result T F) → HaveAnswer Rows answer → HaveOneAnswer Rows
+pub answer_is_one : {F T : Type 0} (Rows : Result T F → Type 0) (answer : Result T F) → HaveAnswer Rows answer → HasOneAnswer Rows
 answer_is_one Rows answer has one other a b = has.only one a ∙ sym (has.only other b)
 
--- and where they have one, an answer that they have is that one
-pub one_is_answer : {F T : Type 0} (Rows : Result T F → Type 0) (answer : Result T F) → Rows answer → HaveOneAnswer Rows → HaveAnswer Rows answer
+-- and where they have one, an answer that follows them is that one
+pub one_is_answer : {F T : Type 0} (Rows : Result T F → Type 0) (answer : Result T F) → Rows answer → HasOneAnswer Rows → HaveAnswer Rows answer
 one_is_answer Rows answer follows one = record { follows = follows; only = λ other rows. one other answer rows follows }
 
 -- the answer is what is looked for, or that fault where there is none
@@ -92,6 +89,20 @@ then_answers Rows Next (Err f) next has rows =
       only = λ other h. elim h [ inl w ↦ absurd (none w.0 w.1) | inr w ↦ w.2 ∙ ap Err (sym (same w.0 w.1)) ];
     }
 
+-- ---- where the computation stands within another
+
+-- a row that finds, and others behind it, before more
+pub find_within : {V W F T : Type 0} (IsFound : V → Type 0) (fault : F) (Next : V → Result T F → Type 0) (answer : Answer F V) (first : V → Answer F W) (next : W → Answer F T) → Finds IsFound fault answer
+    → ((v : V) → IsFound v → HaveAnswer (Next v) (and_then (first v) next)) → HaveAnswer (Find IsFound fault Next) (and_then (and_then answer first) next)
+find_within IsFound fault Next (Ok v) first next finds rows = find_answers IsFound fault Next (Ok v) (λ w. and_then (first w) next) finds rows
+find_within IsFound fault Next (Err f) first next finds rows = find_answers IsFound fault Next (Err f) (λ w. and_then (first w) next) finds rows
+
+-- a row that checks, likewise
+pub check_within : {W F T : Type 0} (Holds : Type 0) (fault : F) (Next : Result T F → Type 0) (b : Bool) (first : Answer F W) (next : W → Answer F T) → (b ≡ true → Holds) → (Holds → b ≡ true)
+    → (Holds → HaveAnswer Next (and_then first next)) → HaveAnswer (Check Holds fault Next) (and_then (and_then (check b fault) (λ _. first)) next)
+check_within Holds fault Next true first next tells passes rows = check_answers Holds fault Next true (and_then first next) tells passes rows
+check_within Holds fault Next false first next tells passes rows = check_answers Holds fault Next false (and_then first next) tells passes rows
+
 -- the value at the end
 pub gives_answers : {F T : Type 0} (value : T) → HaveAnswer (Gives {F = F} value) (Ok value)
 gives_answers value = record { follows = refl; only = λ other h. h }
@@ -119,3 +130,24 @@ pub answer_stands : {F T : Type 0} (Rows : Result T F → Type 0) (answer : Resu
     → (x : T) → (answer ≡ Ok x) ↔ Stands x
 answer_stands Rows answer Stands has tells passes x =
     (λ h. tells x (subst Rows h has.follows), λ s. sym (has.only (Ok x) (passes x s)))
+
+-- ---- answers with one fault
+
+-- where it isn't a value, the answer is this fault
+abbrev pub FaultIs : {F T : Type 0} → F → Answer F T → Type 0
+FaultIs fault answer = (other : _) → answer ≡ Err other → other ≡ fault
+
+pub ok_fault : {F T : Type 0} (fault : F) (x : T) → FaultIs fault (Ok x)
+ok_fault fault x other h = cc
+
+pub option_fault : {F T : Type 0} (fault : F) (o : Option T) → FaultIs fault (or_fault o fault)
+option_fault fault None other h = cc
+option_fault fault (Some x) other h = cc
+
+pub check_fault : {F : Type 0} (fault : F) (b : Bool) → FaultIs fault (check b fault)
+check_fault fault true other h = cc
+check_fault fault false other h = cc
+
+pub then_fault : {F T U : Type 0} (fault : F) (answer : Answer F T) (next : T → Answer F U) → FaultIs fault answer → ((x : T) → FaultIs fault (next x)) → FaultIs fault (and_then answer next)
+then_fault fault (Ok x) next here behind = behind x
+then_fault fault (Err f) next here behind = λ other h. let same : f ≡ other = cc in here other (ap Err same)
