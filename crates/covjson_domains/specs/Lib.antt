@@ -1,6 +1,8 @@
+pub mod DomainTypes
 pub mod Axes
-pub mod AxisAnswers
 pub mod Tuples
-pub mod TupleAnswers
 pub mod Domains
+pub mod TypeAnswers
+pub mod AxisAnswers
+pub mod TupleAnswers
 pub mod DomainAnswers

@@ -2,6 +2,7 @@
 #![tactic(auto)]
 
 mod axes;
+mod domain_types;
 mod domains;
 mod spans;
 mod tuples;

@@ -1,13 +1,13 @@
 -- What holds of ranges and of the answers to their trees.
-use Rattle.std.specs.Prelude.{◌≡◌, ℕ, ◌↔◌, List, length, map, zip, All, Result, Ok}
+use Rattle.std.specs.Prelude.{◌≡◌, ℕ, ◌↔◌, List, length, map, zip, All, Ok}
 use Rattle.serde_json.specs.Data.{Data}
 use Rattle.edr_json.specs.Trees.{EachStands, names_of, values_of}
 use Rattle.covjson_value.specs.declared.domains.Domain.{Domain}
 use Rattle.covjson_value.specs.declared.coverages.NdArray.{NdArray}
 use Rattle.covjson_value.specs.Coverages.{IsRange}
 use Rattle.covjson_value.specs.Trees.{range_data, members_in_order}
-use Rattle.covjson_checks.specs.declared.faults.CovFault.{CovFault}
 use Rattle.covjson_checks.specs.declared.turned.ReadDomain.{ReadDomain}
+use Rattle.covjson_checks.specs.RowLaws.{HasOneAnswer}
 use Rattle.covjson_checks.specs.Turns.{unturned}
 use Rattle.covjson_ranges.specs.Ranges.{StandsForRange}
 use Rattle.covjson_ranges.specs.RangeRows.{RangeRows}
@@ -15,7 +15,7 @@ use Rattle.covjson_ranges.specs.RangeAnswers.{range_of}
 
 -- the rows of a tree have one answer
 abbrev pub RangeRowsHaveOneAnswer : Type 0
-RangeRowsHaveOneAnswer = (read : ReadDomain) (d : Data) (answer other : Result NdArray CovFault) → RangeRows read d answer → RangeRows read d other → answer ≡ other
+RangeRowsHaveOneAnswer = (read : ReadDomain) (d : Data) → HasOneAnswer (RangeRows read d)
 
 -- they end in a range exactly where the tree stands for it
 abbrev pub RangeRowsAreWhatStand : Type 0

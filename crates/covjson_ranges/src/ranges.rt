@@ -244,8 +244,12 @@ fn samples(alloc: Global, tree: &Value, wanted: u128) -> Result<Vec<Option<i64>>
     samples_of(alloc, items)
 }
 
-/// The range over a domain that a tree stands for: its values in row-major order t, z, y, x or along the tuples, whatever the
-/// order of its axes in the tree and whichever of them are turned round.
+/// The range over a domain that a tree stands for (OGC 21-069r2, NdArray objects): its values in row-major order t, z, y, x or
+/// along the tuples, whatever the order of its axes in the tree and whichever of them are turned round.
+///
+/// Else the first that applies: WrongType or UnsupportedRange of the range itself, Missing or UnsupportedRange of `dataType`,
+/// Missing or WrongType of `axisNames`, Missing, WrongType or WrongCount of `shape`, and Missing, WrongType, WrongCount,
+/// NotWhole or OutOfRange of `values`; or OutOfMemory.
 pub fn range_of(alloc: Global, tree: &Value, read: &ReadDomain) -> Result<NdArray, CovFault>
     requires axes { HasAxes read.now.domain }
     requires tuples { HasTuples read.now.domain }
