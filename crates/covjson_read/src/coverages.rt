@@ -1,5 +1,5 @@
 //! Coverages (OGC 21-069r2, Coverage objects).
-ghost use Rattle.std.specs.Prelude.{◌≡◌, IfOk, IfSome, IsUtf8, Ok, option_and_then, option_map, codes};
+ghost use Rattle.std.specs.Prelude.{◌≡◌, ◌≢◌, IfOk, IfErr, IfSome, IsUtf8, Ok, Err, option_and_then, option_map, codes};
 ghost use Rattle.serde_json.specs.Data.{null};
 ghost use Rattle.serde_json.specs.View.{view};
 ghost use Rattle.serde_json.specs.Find.{get, as_str};
@@ -53,7 +53,7 @@ fn domain_at(tree: &Value) -> Result<&Value, CovFault>
 
 // The type of a domain: its own, else that of the coverage, else that of the collection.
 fn type_of<'a>(domain: &'a Value, tree: &'a Value, collection: &'a Value) -> Option<&'a Value>
-    ensures { option_map (λ v. view v.now) result ≡ answers.type_of (view domain.now) (view tree.now) (view collection.now) }
+    ensures { option_map (λ v. view v.now) result ≡ type_of (view domain.now) (view tree.now) (view collection.now) }
 {
     match domain.get("domainType") {
         Some(found) => Some(found),
@@ -106,20 +106,14 @@ pub fn coverage_in(alloc: Global, tree: &Value, collection: &Value) -> Result<Co
 /// reference systems, the parameters, and the ranges, parameters and ranges in ascending order of their ids. An axis has its
 /// values in a list, or one of numbers has them by `start`, `stop` and `num`; descending values are turned round with the
 /// samples over them. A range may have its axes in any order. Members that aren't needed are passed over, and parameters
-/// without a range are dropped.
+/// without a range are dropped. A tree is JSON, so that NotJson is none of the faults.
 pub fn coverage_of(alloc: Global, tree: &Value) -> Result<Coverage, CovFault>
-    ensures answer { GivesUnlessMemory (λ c. c) result (answers.coverage_in null (view tree.now)) }
+    ensures stands { IfOk result (Stands (view tree.now)) }
+    ensures none { IfErr result (λ fault. fault ≢ CovFault.OutOfMemory → (coverage : Coverage) → ¬ (Stands (view tree.now) coverage)) }
+    ensures first_fault { IfErr result (λ fault. fault ≢ CovFault.OutOfMemory → CoverageRows null (view tree.now) (Err fault)) }
     ensures valid { IfOk result IsValid }
 {
+    coverage_answers_follow_rows();
+    answers_are_what_stands();
     coverage_in(alloc, tree, &Value::Null)
 }
-
-/// The answer to a tree is a coverage exactly where the tree stands for that coverage.
-pub fn answers_are_what_stands()
-    ensures { AnswersAreWhatStands }
-{}
-
-/// A tree stands for at most one coverage.
-pub fn trees_stand_for_one()
-    ensures { TreesStandForOne }
-{}
