@@ -43,6 +43,11 @@ each_decides Is test all none more one (item d ds) =
 pub first_here : (Is : Data → Type 0) (d : Data) (ds : Items) → Is d → IsFirst Is (item d ds) d
 first_here Is d ds is = record { place = 0; here = refl; is = is; none_before = λ earlier other before at. absurd (omega arith) }
 
+-- at place 0
+pub first_here_place : (Is : Data → Type 0) (d : Data) (ds : Items) (is : Is d) → (first_here Is d ds is).place ≡ 0
+unfolding first_here
+first_here_place Is d ds is = refl
+
 -- none before a place after the first item is so
 before : (Is : Data → Type 0) (d : Data) (ds : Items) (first : Data) → ¬ (Is d) → (later : IsFirst Is ds first) (earlier : ℕ) (other : Data) → earlier < suc later.place
     → item_at (item d ds) earlier ≡ Some other → ¬ (Is other)
@@ -52,6 +57,11 @@ before Is d ds first not later (suc earlier) other h at is = later.none_before e
 -- or the first of the others
 pub first_later : (Is : Data → Type 0) (d : Data) (ds : Items) (first : Data) → ¬ (Is d) → IsFirst Is ds first → IsFirst Is (item d ds) first
 first_later Is d ds first not later = record { place = suc later.place; here = later.here; is = later.is; none_before = before Is d ds first not later }
+
+-- one place on
+pub first_later_place : (Is : Data → Type 0) (d : Data) (ds : Items) (first : Data) (not : ¬ (Is d)) (later : IsFirst Is ds first) → (first_later Is d ds first not later).place ≡ suc later.place
+unfolding first_later
+first_later_place Is d ds first not later = refl
 
 -- a place has one item
 one_item : (items : Items) (place other : ℕ) (d e : Data) → place ≡ other → item_at items place ≡ Some d → item_at items other ≡ Some e → d ≡ e
