@@ -3,3 +3,5 @@ pub mod Members
 pub mod Turns
 pub mod CheckLaws
 pub mod RowLaws
+pub mod Places
+pub mod PlaceLaws
