@@ -12,3 +12,4 @@ pub mod OrderLemmas
 pub mod RowLemmas
 pub mod RangeCounts
 pub mod RangeLemmas
+pub mod ValidRanges

@@ -8,6 +8,7 @@ use Rattle.covjson_value.specs.Coverages.{IsRange}
 use Rattle.covjson_value.specs.Trees.{range_data, members_in_order}
 use Rattle.covjson_checks.specs.declared.turned.ReadDomain.{ReadDomain}
 use Rattle.covjson_checks.specs.RowLaws.{HasOneAnswer}
+use Rattle.covjson_checks.specs.declared.turned.Turned.{Turned}
 use Rattle.covjson_checks.specs.Turns.{unturned}
 use Rattle.covjson_ranges.specs.Ranges.{StandsForRange}
 use Rattle.covjson_ranges.specs.RangeRows.{RangeRows}
@@ -20,6 +21,10 @@ RangeRowsHaveOneAnswer = (read : ReadDomain) (d : Data) → HasOneAnswer (RangeR
 -- they end in a range exactly where the tree stands for it
 abbrev pub RangeRowsAreWhatStand : Type 0
 RangeRowsAreWhatStand = (read : ReadDomain) (d : Data) (range : NdArray) → RangeRows read d (Ok range) ↔ StandsForRange read.domain read.turned d range
+
+-- a range for which a tree stands is one over the domain
+abbrev pub RangesAreValid : Type 0
+RangesAreValid = (domain : Domain) (turned : Turned) (d : Data) (range : NdArray) → StandsForRange domain turned d range → IsRange domain range
 
 -- ---- for the crates of CoverageJSON
 

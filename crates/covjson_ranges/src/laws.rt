@@ -1,5 +1,5 @@
 //! What holds of ranges and of the answers to their trees.
-ghost use Rattle.covjson_ranges.specs.Laws.{RangeRowsHaveOneAnswer, RangeRowsAreWhatStand, RangeAnswersFollowRows, RangesAreWhatStand, WrittenRangesStand};
+ghost use Rattle.covjson_ranges.specs.Laws.{RangeRowsHaveOneAnswer, RangeRowsAreWhatStand, RangeAnswersFollowRows, RangesAreWhatStand, RangesAreValid, WrittenRangesStand};
 
 /// The checks of a range, one after the other, have one answer.
 pub fn range_rows_have_one_answer()
@@ -24,4 +24,9 @@ pub fn ranges_are_what_stand()
 /// What is written of ranges stands for them.
 pub fn written_ranges_stand()
     ensures { WrittenRangesStand }
+{}
+
+/// A range for which a tree stands is one over the domain: as many values as it has places, each a sample or absent.
+pub fn ranges_are_valid()
+    ensures { RangesAreValid }
 {}

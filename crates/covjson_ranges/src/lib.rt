@@ -8,6 +8,6 @@ mod ranges;
 
 pub use laws::{
     range_answers_follow_rows, range_rows_are_what_stand, range_rows_have_one_answer,
-    ranges_are_what_stand, written_ranges_stand,
+    ranges_are_valid, ranges_are_what_stand, written_ranges_stand,
 };
 pub use ranges::range_of;
