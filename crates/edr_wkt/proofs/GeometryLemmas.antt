@@ -11,7 +11,7 @@ use Rattle.edr_wkt.specs.declared.geometry.Geometry.{Geometry}
 use Rattle.edr_wkt.specs.declared.geometry.Geometry.TheVariants.{Points, Line, Polygons}
 use Rattle.edr_wkt.specs.declared.faults.WktFault.{WktFault}
 use Rattle.edr_wkt.specs.declared.faults.WktFault.TheVariants.{NotWkt, TooManyPositions, OutOfRange, OpenRing, DecreasingM, OutOfMemory}
-use Rattle.edr_wkt.specs.Limits.{counted}
+use Rattle.edr_wkt.specs.Kept.{counted}
 use Rattle.edr_wkt.specs.Geometries.{positions_of, rings_of}
 use Rattle.edr_wkt.specs.Grammar.{AreBlanks, IsNumberIf, IsPosition, IsMember, IsMore, AreItems, IsRing, IsPolygon}
 use Rattle.edr_wkt.specs.Wkt.{has_z_of, has_m_of, IsInside, IsWkt}

@@ -1,4 +1,4 @@
-pub mod Limits
+pub mod Kept
 pub mod Geometries
 pub mod Grammar
 pub mod Headings

@@ -1,7 +1,7 @@
 //! Rings and polygons.
 ghost use Rattle.std.specs.Prelude.{◌≡◌, ◌+◌, ◌≤◌, IfOk, Err, length, map};
 ghost use Rattle.edr_base.specs.Limits.{position_limit};
-ghost use Rattle.edr_wkt.specs.Limits.{kept, kept_polygon};
+ghost use Rattle.edr_wkt.specs.Kept.{kept, kept_polygon};
 ghost use Rattle.edr_wkt.specs.Geometries.{polygon_size};
 ghost use Rattle.edr_wkt.specs.Grammar.{IsRing, IsPolygon};
 ghost use Rattle.edr_wkt.specs.Reads.{HasNoItem, IsRead, AreRead, HasNoItems};

@@ -1,7 +1,7 @@
 //! Lists of positions.
 ghost use Rattle.std.specs.Prelude.{◌≡◌, ◌≤◌, ◌<◌, ◌++◌, ◌∷◌, [], min, ◌+◌, IfOk, OnOk, Err};
 ghost use Rattle.edr_base.specs.Limits.{position_limit};
-ghost use Rattle.edr_wkt.specs.Limits.{counted};
+ghost use Rattle.edr_wkt.specs.Kept.{counted};
 ghost use Rattle.edr_wkt.specs.Grammar.{IsMember};
 ghost use Rattle.edr_wkt.specs.Reads.{ArePositions, HasNoItems};
 

@@ -1,5 +1,5 @@
 use Rattle.std.proofs.Common.{arith, refl, subst, ℕ}
-use Rattle.edr_wkt.specs.Limits.{kept_polygon}
+use Rattle.edr_wkt.specs.Kept.{kept_polygon}
 use Rattle.edr_wkt.specs.Geometries.{polygon_size}
 use Rattle.edr_wkt.specs.Grammar.{IsMark, IsPolygon}
 use Rattle.edr_wkt.proofs.ListLemmas.{continues-none, continues-no_mark, mark-shorter}

@@ -1,5 +1,5 @@
 use Rattle.std.proofs.Common.{arith, refl, length, map, subst, ℕ}
-use Rattle.edr_wkt.specs.Limits.{kept}
+use Rattle.edr_wkt.specs.Kept.{kept}
 use Rattle.edr_wkt.specs.Grammar.{IsMark, IsRing}
 use Rattle.edr_wkt.proofs.ListLemmas.{continues-none, continues-no_mark, mark-shorter}
 use Rattle.edr_wkt.proofs.MemberLemmas.{unique_ring, shorter_ring}
