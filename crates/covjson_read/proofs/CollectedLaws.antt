@@ -24,7 +24,8 @@ use Rattle.covjson_read.specs.ParameterAnswers.{parameter_of}
 use Rattle.covjson_read.specs.CollectedAnswers.{ranges_from, has_members, ranges_in}
 use Rattle.covjson_read.specs.Standing.{StandsForRanges}
 use Rattle.covjson_read.specs.Rows.{ParameterRows, EachRangeRows, RangesRows}
-use Rattle.covjson_read.proofs.RowAnswers.{HaveAnswer, one_is_answer, find_answers, check_answers, then_answers, gives_answers, passed, passed_then}
+use Rattle.covjson_checks.specs.RowLaws.{HaveAnswer, find_answers, check_answers, then_answers, gives_answers, passed, passed_then}
+use Rattle.covjson_read.proofs.RowAnswers.{one_is_answer}
 use Rattle.covjson_read.proofs.SystemLaws.{given_found}
 use Rattle.covjson_read.proofs.ParameterLaws.{parameter_rows, parameter_tells, parameter_passes, object_found}
 
@@ -57,7 +58,7 @@ pub ranges_rows : RangeLaws → (read : ReadDomain) (parameters tree : Data) →
 ranges_rows laws read parameters tree =
     find_answers (λ d. get (codes "ranges") tree ≡ Some d) (Missing Ranges) _ (need (codes "ranges") Ranges tree) _ (given_found (Missing Ranges) (get (codes "ranges") tree)) (λ d at.
     find_answers (λ members. d ≡ object members) (WrongType Ranges) _ (object_at Ranges d) _ (object_found (WrongType Ranges) d) (λ members are.
-    check_answers (members ≢ no_members) (WrongCount Ranges 1 0) _ (has_members members) _ (some_tells members) (some_passes members) (λ some.
+    check_answers (members ≢ no_members) (WrongCount Ranges 1 0) _ (has_members members) _ (some_tells members, some_passes members) (λ some.
     each_rows laws read parameters members)))
 
 -- ---- what passes the rows stands

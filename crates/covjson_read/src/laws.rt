@@ -58,6 +58,7 @@ pub fn document_rows_have_one_answer()
 {
     texts_have_one_tree();
     coverage_rows_have_one_answer();
+    coverage_answers_follow_rows();
 }
 
 /// They end in a document exactly where the text stands for it (OGC 21-069r2, CoverageJSON documents).
