@@ -19,21 +19,15 @@ pub fn coverage_rows_have_one_answer()
 {
     domain_rows_have_one_answer();
     domain_answers_follow_rows();
-    domain_rows_are_what_stand();
     range_rows_have_one_answer();
     range_answers_follow_rows();
-    range_rows_are_what_stand();
 }
 
 /// They end in a coverage exactly where the tree stands for it (OGC 21-069r2, Coverage objects).
 pub fn coverage_rows_are_what_stands()
     ensures { CoverageRowsAreWhatStands }
 {
-    domain_rows_have_one_answer();
-    domain_answers_follow_rows();
     domain_rows_are_what_stand();
-    range_rows_have_one_answer();
-    range_answers_follow_rows();
     range_rows_are_what_stand();
 }
 
@@ -99,10 +93,8 @@ pub fn coverage_answers_follow_rows()
 {
     domain_rows_have_one_answer();
     domain_answers_follow_rows();
-    domain_rows_are_what_stand();
     range_rows_have_one_answer();
     range_answers_follow_rows();
-    range_rows_are_what_stand();
 }
 
 /// The answer to a tree is a coverage exactly where the tree stands for that coverage.
