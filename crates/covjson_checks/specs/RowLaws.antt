@@ -133,6 +133,30 @@ pub told_answers : {U F T : Type 0} (Rows : Result ⊤ F → Type 0) (Next : Res
 told_answers Rows Next (Ok u) next has rows = then_answers Rows (λ _. Next) (Ok tt) (λ _. next u) has (λ v h. rows u refl)
 told_answers Rows Next (Err f) next has rows = then_answers Rows (λ _. Next) (Err f) (λ _. Err f) has (λ v h. let e = h in cc)
 
+-- likewise where the computation stands within another
+pub told_within : {U W F T : Type 0} (Rows : Result ⊤ F → Type 0) (Next : Result T F → Type 0) (answer : Answer F U) (first : U → Answer F W) (next : W → Answer F T) → HaveAnswer Rows (told answer)
+    → ((u : U) → answer ≡ Ok u → HaveAnswer Next (and_then (first u) next)) → HaveAnswer (Then Rows (λ _. Next)) (and_then (and_then answer first) next)
+told_within Rows Next (Ok u) first next has rows = told_answers Rows Next (Ok u) (λ w. and_then (first w) next) has rows
+told_within Rows Next (Err f) first next has rows = told_answers Rows Next (Err f) (λ w. and_then (first w) next) has rows
+
+-- a row that checks by an answer, of which the value is known
+pub value_answers : {U F T : Type 0} (Holds : Type 0) (fault : F) (Next : Result T F → Type 0) (answer : Answer F U) (value : U) (next : U → Answer F T) → Finds (λ (u : U). Holds × (u ≡ value)) fault answer
+    → (Holds → HaveAnswer Next (next value)) → HaveAnswer (Check Holds fault Next) (and_then answer next)
+value_answers Holds fault Next (Ok u) value next finds rows =
+    let here = finds.found u refl in
+    let has = subst (λ v. HaveAnswer Next (next v)) (sym here.1) (rows here.0) in
+    record {
+      follows = inl (here.0, has.follows);
+      only = λ other h. elim h [ inl w ↦ has.only other w.1 | inr w ↦ absurd (w.0 here.0) ];
+    }
+value_answers Holds fault Next (Err f) value next finds rows =
+    let gone : Holds → ⊥ = λ h. let e = finds.finds value (h, refl) in cc in
+    let same = finds.none f refl in
+    record {
+      follows = inr (gone, ap Err same);
+      only = λ other h. elim h [ inl w ↦ absurd (gone w.0) | inr w ↦ w.1 ∙ ap Err (sym same) ];
+    }
+
 -- ---- what passed, where the answer is a value
 
 -- a row that finds or checks

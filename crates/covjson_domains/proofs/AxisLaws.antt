@@ -15,7 +15,8 @@ use Rattle.covjson_checks.specs.Answers.{Answer}
 use Rattle.covjson_checks.specs.Members.{object_at}
 use Rattle.edr_json.specs.Trees.{EachStands}
 use Rattle.covjson_domains.specs.Axes.{StandsForAxisValue, ListsValues, SpansValues, HoldsValues, turned_if, StandsForAxis}
-use Rattle.covjson_domains.specs.AxisAnswers.{coordinates, spanned, axis_numbers, axis_values, in_direction, member_of, axis_read}
+use Rattle.covjson_domains.specs.DomainTypes.{member_of}
+use Rattle.covjson_domains.specs.AxisAnswers.{coordinates, spanned, axis_numbers, axis_values, in_direction, axis_read}
 use Rattle.edr_json.specs.AnswerLaws.{and_then_ok, and_then_given}
 use Rattle.covjson_checks.specs.CheckLaws.{object_given}
 use Rattle.covjson_domains.proofs.AxisLists.{coordinates_stand, coordinates_given, axis_times_stand, axis_times_given}

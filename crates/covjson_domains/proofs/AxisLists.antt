@@ -68,7 +68,7 @@ coordinates_stand m axis vs h =
     )
 
 -- an item that stands for a whole number is held whole
-whole_wanted : (d : Data) (v : ℤ) → StandsForWhole d v → is_wanted Wholes d ≡ true
+pub whole_wanted : (d : Data) (v : ℤ) → StandsForWhole d v → is_wanted Wholes d ≡ true
 whole_wanted d v h = some_is (whole_of d) v h
 
 -- and is a number

@@ -11,8 +11,9 @@ use Rattle.covjson_checks.specs.declared.faults.CovFault.TheVariants.{Missing, W
 use Rattle.covjson_domains.specs.declared.axes.ReadAxis.{ReadAxis}
 use Rattle.covjson_domains.specs.declared.domain_types.Presence.{Presence}
 use Rattle.covjson_domains.specs.Axes.{HasSameAxis}
+use Rattle.covjson_domains.specs.DomainTypes.{member_of}
 use Rattle.covjson_domains.specs.TypeAnswers.{is_allowed, is_needed, is_single, left_out}
-use Rattle.covjson_domains.specs.AxisAnswers.{member_of, axis_read, need_count, axis_if}
+use Rattle.covjson_domains.specs.AxisAnswers.{axis_read, need_count, axis_if}
 use Rattle.covjson_domains.specs.DomainAnswers.{is_turned_round, axis_in}
 use Rattle.covjson_domains.proofs.AxisLaws.{axis_stands, axis_answers}
 use Rattle.covjson_domains.proofs.DomainTypes.{Fits}
@@ -20,17 +21,17 @@ use Rattle.covjson_domains.proofs.DomainTypes.{Fits}
 -- ---- counts and what is left out
 
 -- a count is 1 where a single value is wanted
-count_is : (wanted : Bool) (count : Bool) → (not wanted || count) ≡ true → wanted ≡ true → count ≡ true
+pub count_is : (wanted : Bool) (count : Bool) → (not wanted || count) ≡ true → wanted ≡ true → count ≡ true
 count_is true count h e = h
 count_is false count h e = absurd (false≢true e)
 
 -- and then it is the wanted one
-count_given : (wanted : Bool) (count : Bool) → (wanted ≡ true → count ≡ true) → (not wanted || count) ≡ true
+pub count_given : (wanted : Bool) (count : Bool) → (wanted ≡ true → count ≡ true) → (not wanted || count) ≡ true
 count_given true count h = h refl
 count_given false count h = refl
 
 -- what isn't is not
-not_true : (b : Bool) → not b ≡ true → b ≡ true → ⊥
+pub not_true : (b : Bool) → not b ≡ true → b ≡ true → ⊥
 not_true true h e = false≢true h
 not_true false h e = false≢true e
 
@@ -39,7 +40,7 @@ pub not_missing : (wanted : Presence) (m : Member) (x : ⊤) → left_out wanted
 not_missing wanted m x h e = not_true (is_needed wanted) (check_ok (not (is_needed wanted)) (Missing m) x h) e
 
 -- and what can't be isn't
-not_given : (b : Bool) → (b ≡ true → ⊥) → not b ≡ true
+pub not_given : (b : Bool) → (b ≡ true → ⊥) → not b ≡ true
 not_given true h = absurd (h refl)
 not_given false h = refl
 

@@ -74,7 +74,7 @@ axes_answer kind tree members found keys =
 -- ---- an answer stands
 
 -- an axis that the type hasn't isn't found
-only_there : (kind : DomainType) (members : Members) → All (IsAxisOf kind) (names_of members) → (name : AxisName) → is_allowed (presence kind name) ≡ false
+pub only_there : (kind : DomainType) (members : Members) → All (IsAxisOf kind) (names_of members) → (name : AxisName) → is_allowed (presence kind name) ≡ false
     → get_member (axis_key name) members ≡ None
 only_there kind members keys name none = no_other kind name members keys (λ h. false≢true (sym none ∙ (allowed_decides (presence kind name)).1 h))
 

@@ -24,3 +24,6 @@ pub mod DomainLaws
 pub mod WrittenAxes
 pub mod WrittenTuples
 pub mod WrittenDomains
+pub mod AxisRowLaws
+pub mod TupleRowLaws
+pub mod DomainRowLaws

@@ -8,6 +8,7 @@ use mir.Syntax.{w128}
 use Rattle.edr_base.specs.Limits.{coordinate_limit, node_limit}
 use Rattle.covjson_value.specs.Coverages.{IsCoordinate}
 use Rattle.covjson_checks.specs.Members.{is_within}
+use Rattle.covjson_domains.specs.AxisRows.{IsSpan}
 use Rattle.covjson_domains.specs.AxisAnswers.{has_whole_steps, is_span_within, stepped, regular}
 use Rattle.covjson_domains.proofs.OrderTests.{at_most_tells}
 
@@ -79,13 +80,6 @@ same_rest z fits = same_test (of_z w128 z) (unsigned_abs z) (λ h. ap unsigned_a
 pub several_steps : (first last count : ℤ) → int_lt count (pos 1) ≡ false → int_le count (pos 1) ≡ false
     → has_whole_steps first last count ≡ (unsigned_abs (int_rem (last -ℤ first) (count -ℤ pos 1)) == 0)
 several_steps first last count some more = rw (some, more) refl
-
--- the bounds of a span that passes its test
-pub record IsSpan (first last count : ℤ) : Type 0 where
-  pub first_in : IsCoordinate first
-  pub last_in : IsCoordinate last
-  pub some : pos 1 ≤ℤ count
-  pub few : count ≤ℤ pos node_limit
 
 -- the test tells them
 pub span_tells : (first last count : ℤ) → is_span_within first last count ≡ true → IsSpan first last count

@@ -29,7 +29,7 @@ use Rattle.covjson_domains.proofs.TupleSteps.{items_stand, items_answer}
 -- ---- parts of a composite axis
 
 -- what is a tuple's kind of axis says so
-type_tells : (o : Option Data) → bytes_eq (text_or_empty o) (codes "tuple") ≡ true → o ≡ Some (string (codes "tuple"))
+pub type_tells : (o : Option Data) → bytes_eq (text_or_empty o) (codes "tuple") ≡ true → o ≡ Some (string (codes "tuple"))
 type_tells o h = text_is o _ _ ((bytes_eq-Decides (text_or_empty o) (codes "tuple")).0 h)
 
 -- the type and the names of an axis whose tuples may have levels

@@ -14,6 +14,7 @@ use Rattle.covjson_domains.specs.declared.tuples.Test.{Test}
 use Rattle.covjson_domains.specs.declared.tuples.Test.TheVariants.{Within}
 use Rattle.covjson_domains.specs.Axes.{StandsForAxisValue}
 use Rattle.covjson_domains.specs.Tuples.{EachCoordinate}
+use Rattle.covjson_domains.specs.TupleRows.{EachNamed}
 use Rattle.covjson_domains.specs.TupleAnswers.{passes, all_pass, value_of}
 use Rattle.covjson_domains.proofs.TupleReads.{IsReadAs, value_passes, value_stands, value_read, none_read, none_zero}
 
@@ -27,20 +28,13 @@ same_name Y Y e = refl
 same_name X X e = refl
 same_name one other e = absurd (true≢false (sym e))
 
--- each datum is as a relation says of the name at its place
-abbrev EachIs : (CoordinateName → Data → Type 0) → List CoordinateName → Items → Type 0
-EachIs P [] no_items = ⊤
-EachIs P [] (item d ds) = ⊥
-EachIs P (name ∷ names) no_items = ⊥
-EachIs P (name ∷ names) (item d ds) = P name d × EachIs P names ds
-
 -- a name that isn't the first is among the others
 later_among : (here later : Bool) → here ≡ false → (here || later) ≡ true → later ≡ true
 later_among true later h among = cc
 later_among false later h among = among
 
 -- a name among these has a datum, which is as the relation says
-has_value : (P : CoordinateName → Data → Type 0) (name : CoordinateName) (names : List CoordinateName) (ds : Items) → EachIs P names ds → is_among name names ≡ true
+pub has_value : (P : CoordinateName → Data → Type 0) (name : CoordinateName) (names : List CoordinateName) (ds : Items) → EachNamed P names ds → is_among name names ≡ true
     → (d : Data) × (value_of name names ds ≡ Some d) × P name d
 has_value P name [] ds each among = absurd (true≢false (sym among))
 has_value P name (other ∷ names) no_items each among = absurd each
@@ -54,7 +48,7 @@ has_value P name (other ∷ names) (item d ds) each among =
     ]
 
 -- a name that isn't among these has none
-no_value : (name : CoordinateName) (names : List CoordinateName) (ds : Items) → is_among name names ≡ false → value_of name names ds ≡ None
+pub no_value : (name : CoordinateName) (names : List CoordinateName) (ds : Items) → is_among name names ≡ false → value_of name names ds ≡ None
 no_value name [] ds h = refl
 no_value name (other ∷ names) no_items h = refl
 no_value name (other ∷ names) (item d ds) h =
@@ -77,14 +71,14 @@ each_passes test (name ∷ names) (item d ds) tuple each within =
     and_from (passes test name d) (all_pass test names ds) here later
 
 -- the data of a tuple stand for its coordinates, name by name
-each_stand : (names : List CoordinateName) (ds : Items) (tuple : Position) → EachCoordinate names ds tuple → EachIs (λ name d. StandsForAxisValue name d (coordinate name tuple)) names ds
+each_stand : (names : List CoordinateName) (ds : Items) (tuple : Position) → EachCoordinate names ds tuple → EachNamed (λ name d. StandsForAxisValue name d (coordinate name tuple)) names ds
 each_stand [] no_items tuple each = tt
 each_stand [] (item d ds) tuple each = each
 each_stand (name ∷ names) no_items tuple each = each
 each_stand (name ∷ names) (item d ds) tuple each = (each.0, each_stand names ds tuple each.1)
 
 -- data that pass the test pass it name by name
-each_within : (names : List CoordinateName) (ds : Items) → all_pass Within names ds ≡ true → EachIs (λ name d. passes Within name d ≡ true) names ds
+each_within : (names : List CoordinateName) (ds : Items) → all_pass Within names ds ≡ true → EachNamed (λ name d. passes Within name d ≡ true) names ds
 each_within [] no_items pass = tt
 each_within [] (item d ds) pass = true≢false (sym pass)
 each_within (name ∷ names) no_items pass = true≢false (sym pass)

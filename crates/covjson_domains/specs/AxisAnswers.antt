@@ -8,6 +8,7 @@ use Rattle.edr_base.specs.Limits.{coordinate_limit, node_limit}
 use Rattle.covjson_value.specs.Domains.{coordinate_key}
 use Rattle.covjson_domains.specs.declared.axes.ReadAxis.{ReadAxis}
 use Rattle.covjson_domains.specs.declared.domain_types.Presence.{Presence}
+use Rattle.covjson_domains.specs.DomainTypes.{member_of}
 use Rattle.covjson_domains.specs.TypeAnswers.{is_needed, is_single, left_out}
 use Rattle.covjson_checks.specs.declared.faults.Member.{Member}
 use Rattle.covjson_checks.specs.declared.faults.Member.TheVariants.{T as TimeAxis, Z as LevelAxis, Y as RowAxis, X as ColumnAxis}
@@ -17,13 +18,6 @@ use Rattle.covjson_checks.specs.Answers.{Answer, each}
 use Rattle.edr_base.specs.FirstThatApplies.{and_then, or_fault, check}
 use Rattle.edr_axes.specs.InstantComputed.{instant_of}
 use Rattle.covjson_checks.specs.Members.{part, object_at, list_at, text_at, number_at, held_whole, is_within, whole_within, need_each}
-
--- the member that an axis is
-abbrev pub member_of : CoordinateName → Member
-member_of T = TimeAxis
-member_of Z = LevelAxis
-member_of Y = RowAxis
-member_of X = ColumnAxis
 
 -- ---- listed values
 

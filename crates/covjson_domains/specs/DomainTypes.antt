@@ -5,6 +5,8 @@ use Rattle.covjson_value.specs.declared.domains.CoordinateName.TheVariants as co
 use Rattle.covjson_value.specs.declared.axis_names.AxisName.{AxisName}
 use Rattle.covjson_value.specs.declared.axis_names.AxisName.TheVariants.{T, Z, Y, X, Composite}
 use Rattle.covjson_value.specs.AxisNames.{axis_key}
+use Rattle.covjson_checks.specs.declared.faults.Member.{Member}
+use Rattle.covjson_checks.specs.declared.faults.Member.TheVariants as members
 use Rattle.covjson_domains.specs.declared.domain_types.DomainType.{DomainType}
 use Rattle.covjson_domains.specs.declared.domain_types.DomainType.TheVariants.{Grid, Point, PointSeries, VerticalProfile, MultiPoint, Trajectory}
 use Rattle.covjson_domains.specs.declared.domain_types.Presence.{Presence}
@@ -82,3 +84,10 @@ axis_name coordinates.X = X
 -- the name of an axis that a domain of a type may have
 abbrev pub IsAxisOf : DomainType → List ℕ → Type 0
 IsAxisOf kind key = (name : AxisName) × (key ≡ axis_key name) × IsAllowed (presence kind name)
+
+-- the member that a fault of the axis of a coordinate names
+abbrev pub member_of : CoordinateName → Member
+member_of coordinates.T = members.T
+member_of coordinates.Z = members.Z
+member_of coordinates.Y = members.Y
+member_of coordinates.X = members.X

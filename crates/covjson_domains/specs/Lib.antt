@@ -2,6 +2,11 @@ pub mod DomainTypes
 pub mod Axes
 pub mod Tuples
 pub mod Domains
+pub mod RowWords
+pub mod AxisRows
+pub mod TupleRows
+pub mod DomainRows
+pub mod Laws
 pub mod TypeAnswers
 pub mod AxisAnswers
 pub mod TupleAnswers

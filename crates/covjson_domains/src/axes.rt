@@ -3,6 +3,7 @@ ghost use Rattle.std.specs.Prelude.{◌≡◌, IfOk, false};
 ghost use Rattle.serde_json.specs.View.{view, items_view};
 ghost use Rattle.covjson_checks.specs.Answers.{Gives, GivesUnlessMemory};
 ghost use Rattle.covjson_domains.specs.AxisAnswers.{times_from};
+ghost use Rattle.covjson_domains.specs.DomainTypes.{member_of};
 ghost use Rattle.covjson_domains.specs.AxisAnswers as axes;
 ghost use Rattle.covjson_domains.specs.AxisAnswers.{IfNeeded};
 
@@ -27,7 +28,7 @@ pub struct ReadAxis {
 }
 
 fn member_of(name: CoordinateName) -> Member
-    ensures { result ≡ axes.member_of name }
+    ensures { result ≡ member_of name }
 {
     match name {
         CoordinateName::T => Member::T,

@@ -1,8 +1,11 @@
 //! The domain of a tree (OGC 21-069r2, Domain objects and domain types).
-ghost use Rattle.std.specs.Prelude.{◌≡◌, IfOk, option_map, IsSome};
+ghost use Rattle.std.specs.Prelude.{◌≡◌, ◌≢◌, IfOk, IfErr, option_map, IsSome};
 ghost use Rattle.serde_json.specs.View.{view};
 ghost use Rattle.covjson_value.specs.Coverages.{HasAxes, HasTuples};
 ghost use Rattle.covjson_checks.specs.Answers.{Gives, GivesUnlessMemory};
+ghost use Rattle.covjson_checks.specs.declared.turned.ReadDomain.{ReadDomain};
+ghost use Rattle.covjson_domains.specs.Domains.{StandsForDomain};
+ghost use Rattle.covjson_domains.specs.DomainRows.{DomainRows};
 ghost use Rattle.covjson_domains.specs.AxisAnswers.{IfNeeded};
 ghost use Rattle.covjson_domains.specs.DomainAnswers.{HasNeeded, CompositeCounted, AreCounted};
 ghost use Rattle.covjson_domains.specs.DomainAnswers as domains;
@@ -275,15 +278,28 @@ fn formed(kind: DomainType, read: ReadAxes) -> ReadDomain
     ReadDomain { domain, turned }
 }
 
-/// The domain of a tree, whose type was found there or elsewhere: its type, the names of its axes, and then axis by axis.
-pub fn domain_of(alloc: Global, tree: &Value, found: Option<&Value>) -> Result<ReadDomain, CovFault>
-    ensures answer { GivesUnlessMemory (λ r. r) result (domains.domain_of (option_map (λ v. view v.now) found.entry) (view tree.now)) }
-    ensures axes { IfOk result (λ r. HasAxes r.domain) }
-    ensures tuples { IfOk result (λ r. HasTuples r.domain) }
+// The domain of a tree: its type, the names of its axes, and then axis by axis.
+fn domain_read(alloc: Global, tree: &Value, found: Option<&Value>) -> Result<ReadDomain, CovFault>
+    ensures answer { GivesUnlessMemory (λ read. read) result (domains.domain_of (option_map (λ v. view v.now) found.entry) (view tree.now)) }
+    ensures counted { IfOk result (λ read. AreCounted read.domain) }
 {
-    instants_are_read();
     let kind = type_at(alloc, found)?;
     let axes = axes_at(tree, kind)?;
     let read = axes_read(alloc, axes, kind)?;
     Ok(formed(kind, read))
+}
+
+/// The domain of a tree, whose type was found there or elsewhere, or the fault of the first check that isn't passed: of its
+/// type, the names of its axes, and then axis by axis.
+pub fn domain_of(alloc: Global, tree: &Value, found: Option<&Value>) -> Result<ReadDomain, CovFault>
+    ensures stands { IfOk result (λ read. StandsForDomain (option_map (λ v. view v.now) found.entry) (view tree.now) read.turned read.domain) }
+    ensures refused { IfErr result (λ fault. fault ≢ CovFault.OutOfMemory → DomainRows (option_map (λ v. view v.now) found.entry) (view tree.now) (Err fault)) }
+    ensures stands_not { IfErr result (λ fault. fault ≢ CovFault.OutOfMemory
+        → (read : ReadDomain) → ¬ (StandsForDomain (option_map (λ v. view v.now) found.entry) (view tree.now) read.turned read.domain)) }
+    ensures axes { IfOk result (λ read. HasAxes read.domain) }
+    ensures tuples { IfOk result (λ read. HasTuples read.domain) }
+    ensures answer { GivesUnlessMemory (λ read. read) result (domains.domain_of (option_map (λ v. view v.now) found.entry) (view tree.now)) }
+{
+    instants_are_read();
+    domain_read(alloc, tree, found)
 }
