@@ -5,3 +5,4 @@ pub mod CheckLaws
 pub mod RowLaws
 pub mod Places
 pub mod PlaceLaws
+pub mod TextFaults

@@ -1,8 +1,10 @@
 //! Why a text or a tree stands for no coverage.
 ghost use Rattle.std.specs.Prelude.{◌≡◌, IfOk};
 ghost use Rattle.covjson_checks.specs.declared.faults.CovFault.TheVariants.{OutOfMemory as WantsMemory};
+ghost use Rattle.covjson_checks.specs.TextFaults.{fault_of_text};
 
 use edr_base::{OutOfMemory, Text};
+use edr_json::JsonFault;
 use std::alloc::{AllocError, AllocFailed, Global};
 
 /// A member of a document, by which a fault says where it is (OGC 21-069r2, CoverageJSON objects).
@@ -100,6 +102,17 @@ impl<T: Drop> From<AllocFailed<T>> for CovFault {
 
     fn from(_failed: AllocFailed<T>) -> CovFault {
         CovFault::OutOfMemory
+    }
+}
+
+impl From<JsonFault> for CovFault {
+    ghost from_gives = { λ json fault. fault ≡ fault_of_text json };
+
+    fn from(json: JsonFault) -> CovFault {
+        match json {
+            JsonFault::NotJson => CovFault::NotJson,
+            JsonFault::OutOfMemory => CovFault::OutOfMemory,
+        }
     }
 }
 

@@ -1,6 +1,6 @@
 -- Coverages: the answer is what stands, and the rows have it.
 use Rattle.std.specs.Prelude.{◌↔◌, Result}
-use Rattle.std.proofs.Common.{◌≡◌, Some, Ok, Err, inl, option_and_then, bytes_eq, codes, refl, sym, ap, ◌∙◌, subst}
+use Rattle.std.proofs.Common.{◌≡◌, true, Some, Ok, Err, inl, option_and_then, bytes_eq, codes, refl, sym, ap, ◌∙◌, subst}
 use Rattle.std.proofs.lemmas.Slice.Eq.{bytes_eq-Decides}
 use Rattle.serde_json.specs.Data.{Data, string, object, Members}
 use Rattle.serde_json.specs.Find.{get, as_str}
@@ -17,24 +17,31 @@ use Rattle.edr_json.specs.TreeLaws.{text_is}
 use Rattle.covjson_domains.specs.DomainAnswers.{domain_of}
 use Rattle.covjson_domains.specs.DomainRows.{DomainRows}
 use Rattle.covjson_domains.specs.Laws.{DomainRowsHaveOneAnswer, DomainAnswersFollowRows, DomainRowsAreWhatStand}
+use Rattle.covjson_ranges.specs.Laws.{RangeRowsAreWhatStand}
 use Rattle.covjson_read.specs.declared.collected.ReadRanges.{ReadRanges}
 use Rattle.covjson_read.specs.SystemAnswers.{referencing_of}
 use Rattle.covjson_read.specs.ParameterAnswers.{parameters_of}
 use Rattle.covjson_read.specs.CollectedAnswers.{ranges_in}
 use Rattle.covjson_read.specs.Standing.{type_of, StandsIn}
-use Rattle.covjson_read.specs.CoverageAnswers.{is_coverage, domain_at, over_domain, coverage_in}
+use Rattle.covjson_read.specs.CoverageAnswers.{coverage_in, CoverageAnswersFollowRows, AnswersAreWhatStands}
+use Rattle.covjson_read.specs.Laws.{CoverageRowsHaveOneAnswer, CoverageRowsAreWhatStands, TreesStandForOne}
 use Rattle.covjson_read.specs.Rows.{SystemRows, ParametersRows, RangesRows, CoverageRows}
-use Rattle.covjson_read.proofs.RowAnswers.{HaveAnswer, one_is_answer, find_within, check_within, then_answers, gives_answers, passed, passed_then, answer_stands}
+use Rattle.covjson_checks.specs.RowLaws.{HaveAnswer, find_within, check_within, then_answers, gives_answers, passed, passed_then}
+use Rattle.covjson_read.proofs.RowAnswers.{one_is_answer, answer_stands, same_ok}
 use Rattle.covjson_read.proofs.SystemLaws.{given_found, systems_rows, rows_tell, rows_pass}
 use Rattle.covjson_read.proofs.ParameterLaws.{object_found, object_of, parameters_rows, parameters_tell, parameters_pass}
-use Rattle.covjson_read.proofs.CollectedLaws.{RangeLaws, ranges_rows, ranges_tell, ranges_pass}
+use Rattle.covjson_read.proofs.CollectedLaws.{RangesAnswered, ranges_rows, ranges_tell, ranges_pass}
 
--- what is known of domains and of ranges
-pub record LawsBelow : Type 0 where
+-- what is known of the answers to domains and ranges
+pub record PartsAnswered : Type 0 where
   pub domains_one : DomainRowsHaveOneAnswer
   pub domains_follow : DomainAnswersFollowRows
-  pub domains_stand : DomainRowsAreWhatStand
-  pub ranges : RangeLaws
+  pub ranges : RangesAnswered
+
+-- and of which stand
+pub record PartsStand : Type 0 where
+  pub domains : DomainRowsAreWhatStand
+  pub ranges : RangeRowsAreWhatStand
 
 -- a member of the type Coverage
 is_kind : (kind : Data) → bytes_eq (text_or_empty (Some kind)) (codes "Coverage") ≡ true → kind ≡ string (codes "Coverage")
@@ -45,11 +52,11 @@ passes_kind kind is = ap (λ (d : Data). bytes_eq (text_or_empty (Some d)) (code
 
 -- ---- the rows have the answer
 
-pub coverage_rows : LawsBelow → (collection tree : Data) → HaveAnswer (CoverageRows collection tree) (coverage_in collection tree)
+pub coverage_rows : PartsAnswered → (collection tree : Data) → HaveAnswer (CoverageRows collection tree) (coverage_in collection tree)
 coverage_rows laws collection tree =
     find_within (λ members. tree ≡ object members) (WrongType Coverages) _ (object_at Coverages tree) _ _ (object_found (WrongType Coverages) tree) (λ members is_object.
     find_within (λ kind. get (codes "type") tree ≡ Some kind) (Missing Kind) _ (need (codes "type") Kind tree) _ _ (given_found (Missing Kind) (get (codes "type") tree)) (λ kind kind_at.
-    check_within (kind ≡ string (codes "Coverage")) (WrongType Kind) _ (bytes_eq (text_or_empty (Some kind)) (codes "Coverage")) _ _ (is_kind kind) (passes_kind kind) (λ is.
+    check_within (kind ≡ string (codes "Coverage")) (WrongType Kind) _ (bytes_eq (text_or_empty (Some kind)) (codes "Coverage")) _ _ (is_kind kind, passes_kind kind) (λ is.
     find_within (λ domain. get (codes "domain") tree ≡ Some domain) (Missing DomainMember) _ (need (codes "domain") DomainMember tree) _ _ (given_found (Missing DomainMember) (get (codes "domain") tree)) (λ domain domain_is.
     find_within (λ members. domain ≡ object members) (WrongType DomainMember) _ (object_at DomainMember domain) _ _ (object_found (WrongType DomainMember) domain) (λ inside are.
     let found = type_of domain tree collection in
@@ -70,8 +77,8 @@ coverage_rows laws collection tree =
 
 -- ---- what passes them stands
 
-pub coverage_tells : LawsBelow → (collection tree : Data) (coverage : Coverage) → CoverageRows collection tree (Ok coverage) → StandsIn collection tree coverage
-coverage_tells laws collection tree coverage h =
+pub coverage_tells : PartsStand → (collection tree : Data) (coverage : Coverage) → CoverageRows collection tree (Ok coverage) → StandsIn collection tree coverage
+coverage_tells stand collection tree coverage h =
     let o = passed h in
     let k = passed o.2 in
     let c = passed k.2 in
@@ -88,29 +95,29 @@ coverage_tells laws collection tree coverage h =
       parameters = a.0.parameters;
       ranges = a.0.ranges;
     } in
-    let same : made ≡ coverage = let e = a.2 in cc in
+    let same : made ≡ coverage = sym (same_ok coverage made a.2) in
     let held = parameters_tell (lent (codes "parameters") tree collection) p.0 p.1 in
-    let stand = ranges_tell laws.ranges r.0 p.0 tree a.0 a.1 in
+    let held_ranges = ranges_tell stand.ranges r.0 p.0 tree a.0 a.1 in
     subst (λ (c : Coverage). StandsIn collection tree c) same (record {
       kind = k.1 ∙ ap Some c.0;
       id = refl;
       domain = d.0;
       domain_at = d.1;
       turned = r.0.turned;
-      domain_stands = (laws.domains_stand (type_of d.0 tree collection) d.0 r.0).0 r.1;
+      domain_stands = (stand.domains (type_of d.0 tree collection) d.0 r.0).0 r.1;
       referencing_stands = rows_tell (has_coordinate r.0.domain Z) (lent (codes "referencing") d.0 collection) s.0 s.1;
       parameters = p.0;
       parameters_at = held.0;
       parameters_are = held.1;
-      ranges = stand.0;
-      ranges_at = stand.1;
-      ranges_stand = stand.2;
+      ranges = held_ranges.0;
+      ranges_at = held_ranges.1;
+      ranges_stand = held_ranges.2;
     })
 
 -- ---- and what stands passes them
 
-pub coverage_passes : LawsBelow → (collection tree : Data) (coverage : Coverage) → StandsIn collection tree coverage → CoverageRows collection tree (Ok coverage)
-coverage_passes laws collection tree coverage s =
+pub coverage_passes : PartsStand → (collection tree : Data) (coverage : Coverage) → StandsIn collection tree coverage → CoverageRows collection tree (Ok coverage)
+coverage_passes stand collection tree coverage s =
     let read : ReadDomain = record { domain = coverage.domain; turned = s.turned } in
     let ranges : ReadRanges = record { parameters = coverage.parameters; ranges = coverage.ranges } in
     let has_z = has_coordinate coverage.domain Z in
@@ -118,21 +125,21 @@ coverage_passes laws collection tree coverage s =
     let i = object_of (codes "axes") s.domain (object s.domain_stands.members) s.domain_stands.axes in
     let id = s.id in
     inl (o.0, o.1, inl (string (codes "Coverage"), s.kind, inl (refl, inl (s.domain, s.domain_at, inl (i.0, i.1,
-    inl (read, (laws.domains_stand (type_of s.domain tree collection) s.domain read).1 s.domain_stands,
+    inl (read, (stand.domains (type_of s.domain tree collection) s.domain read).1 s.domain_stands,
     inl (coverage.referencing, rows_pass has_z (lent (codes "referencing") s.domain collection) coverage.referencing s.referencing_stands,
     inl (s.parameters, parameters_pass (lent (codes "parameters") tree collection) s.parameters (s.parameters_at, s.parameters_are),
-    inl (ranges, ranges_pass laws.ranges read s.parameters tree ranges (s.ranges, s.ranges_at, s.ranges_stand),
-    (λ j. Ok (record { id = id j; domain = coverage.domain; referencing = coverage.referencing; parameters = coverage.parameters; ranges = coverage.ranges }))))))))))
+    inl (ranges, ranges_pass stand.ranges read s.parameters tree ranges (s.ranges, s.ranges_at, s.ranges_stand),
+    (λ j. Ok (record { id = id j; domain = coverage.domain; referencing = coverage.referencing; parameters = coverage.parameters; ranges = coverage.ranges })))))))))))
 
 -- ---- the answer is what stands
 
-pub coverage_is : LawsBelow → (collection tree : Data) (coverage : Coverage) → (coverage_in collection tree ≡ Ok coverage) ↔ StandsIn collection tree coverage
-coverage_is laws collection tree =
-    answer_stands (CoverageRows collection tree) (coverage_in collection tree) (StandsIn collection tree) (coverage_rows laws collection tree) (coverage_tells laws collection tree) (coverage_passes laws collection tree)
+pub answers_stand : CoverageRowsHaveOneAnswer → CoverageAnswersFollowRows → CoverageRowsAreWhatStands → AnswersAreWhatStands
+answers_stand one follow stand collection tree =
+    answer_stands (CoverageRows collection tree) (coverage_in collection tree) (StandsIn collection tree) (one_is_answer (CoverageRows collection tree) (coverage_in collection tree) (follow collection tree) (one collection tree))
+    (λ coverage. (stand collection tree coverage).0) (λ coverage. (stand collection tree coverage).1)
 
 -- a tree stands for one coverage at most
-pub coverage_one : LawsBelow → (collection tree : Data) (one other : Coverage) → StandsIn collection tree one → StandsIn collection tree other → one ≡ other
-coverage_one laws collection tree one other a b =
-    let first = (coverage_is laws collection tree one).1 a in
-    let second = (coverage_is laws collection tree other).1 b in
+pub coverage_one : CoverageRowsHaveOneAnswer → CoverageRowsAreWhatStands → TreesStandForOne
+coverage_one rows_one stand collection tree one other a b =
+    let e = rows_one collection tree (Ok one) (Ok other) ((stand collection tree one).1 a) ((stand collection tree other).1 b) in
     cc

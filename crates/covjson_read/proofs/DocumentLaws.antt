@@ -12,7 +12,8 @@ use Rattle.covjson_checks.specs.declared.faults.CovFault.TheVariants.{NotJson, M
 use Rattle.covjson_checks.specs.declared.faults.Member.TheVariants.{Document as TheDocument, Kind, Coverages}
 use Rattle.covjson_checks.specs.Answers.{Answer, each}
 use Rattle.covjson_checks.specs.Members.{need, object_at, list_at}
-use Rattle.covjson_checks.specs.RowLaws.{HasOneAnswer, find_one}
+use Rattle.covjson_checks.specs.RowLaws.{HaveAnswer, answer_is_one, Finds, find_answers, then_answers, gives_answers, passed, passed_then, HasOneAnswer, find_one}
+use Rattle.covjson_read.proofs.RowAnswers.{one_is_answer}
 use Rattle.edr_base.specs.FirstThatApplies.{Find, Then, Gives, and_then, or_fault}
 use Rattle.edr_json.specs.Json.{IsJson, IsNoJson, TextsHaveOneTree}
 use Rattle.edr_json.specs.Trees.{EachStands, text_or_empty}
@@ -21,7 +22,6 @@ use Rattle.covjson_read.specs.Standing.{StandsIn, StandsForCollection, TreeStand
 use Rattle.covjson_read.specs.Rows.{CoverageRows, EachCoverageRows, RowsOfType, TreeRows, DocumentRows, DocumentType, single, collected, type_name}
 use Rattle.covjson_read.specs.CoverageAnswers.{coverage_in, one_coverage, many_coverages, document_of_type, document_of, AnswersText, CoverageAnswersFollowRows}
 use Rattle.covjson_read.specs.Laws.{CoverageRowsHaveOneAnswer, CoverageRowsAreWhatStands, DocumentRowsHaveOneAnswer, DocumentRowsAreWhatStands, TextsHaveOneDocument}
-use Rattle.covjson_read.proofs.RowAnswers.{HaveAnswer, answer_is_one, one_is_answer, Finds, find_answers, then_answers, gives_answers, passed, passed_then}
 use Rattle.covjson_read.proofs.SystemLaws.{given_found, list_found}
 use Rattle.covjson_read.proofs.ParameterLaws.{object_of, object_found}
 

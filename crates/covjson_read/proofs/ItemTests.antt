@@ -6,7 +6,7 @@ use Rattle.serde_json.specs.Data.{Data, string, Items, no_items, item}
 use Rattle.serde_json.specs.Find.{as_str}
 use Rattle.edr_json.specs.Trees.{item_at, is_text}
 use Rattle.edr_json.specs.TreeLaws.{as_str_some}
-use Rattle.covjson_read.specs.Systems.{IsAmong, EachItem, NoItem, IsFirst}
+use Rattle.covjson_checks.specs.Places.{IsAmong, EachItem, NoItem, IsFirst}
 use Rattle.covjson_read.specs.SystemAnswers.{all_that, first_that, has_text}
 
 -- the test is passed by exactly those that are so

@@ -10,9 +10,8 @@ use Rattle.edr_base.specs.FirstThatApplies.{or_fault, check}
 use Rattle.covjson_checks.specs.Members.{need, part, object_at, text_at}
 use Rattle.covjson_read.specs.Parameters.{EachIsText, IsSaid, StandsForLabel, StandsForLabelText, StandsForSymbol, StandsForUnit}
 use Rattle.covjson_read.specs.ParameterAnswers.{all_texts, said_in, label_at, unit_label, unit_by_symbol, unit_if, parameter_unit}
-use Rattle.covjson_read.proofs.RowAnswers.{FaultIs, ok_fault, option_fault, check_fault, then_fault}
+use Rattle.covjson_checks.specs.RowLaws.{FaultIs, ok_fault, option_fault, check_fault, then_fault, Finds}
 use Rattle.edr_json.specs.AnswerLaws.{and_then_ok, or_fault_ok, check_ok}
-use Rattle.covjson_read.proofs.RowAnswers.{Finds}
 use Rattle.covjson_checks.specs.CheckLaws.{object_ok, text_ok}
 use Rattle.edr_json.specs.AnswerLaws.{and_then_given, or_fault_given, check_given}
 

@@ -12,11 +12,11 @@ use Rattle.covjson_checks.specs.Members.{need, object_at}
 use Rattle.edr_base.specs.FirstThatApplies.{Check, Find, Then, Gives, and_then, or_fault, check}
 use Rattle.edr_json.specs.AnswerLaws.{none_of}
 use Rattle.edr_json.specs.TreeLaws.{as_object_some, member_of_object}
-use Rattle.covjson_read.proofs.RowAnswers.{HaveAnswer, Finds, option_finds, find_answers, check_answers, then_answers, gives_answers, passed, passed_then, answer_stands}
+use Rattle.covjson_checks.specs.RowLaws.{HaveAnswer, Finds, option_finds, find_answers, check_answers, then_answers, gives_answers, passed, passed_then, find_within, check_within}
+use Rattle.covjson_read.proofs.RowAnswers.{answer_stands}
 use Rattle.covjson_read.specs.Parameters.{StandsForLabel, StandsForUnit, StandsForParameter, EachIsNamedObject, EachIsParameter, HoldsParameters}
 use Rattle.covjson_read.specs.ParameterAnswers.{all_named_objects, label_at, parameter_label, parameter_unit, parameter_form, parameter_forms, parameters_of, parameter_of}
 use Rattle.covjson_read.specs.Rows.{ParameterRows, EachParameterRows, ParametersRows}
-use Rattle.covjson_read.proofs.RowAnswers.{find_within, check_within}
 use Rattle.covjson_read.proofs.SystemLaws.{given_found}
 use Rattle.covjson_read.proofs.LabelLaws.{label_finds, unit_finds}
 use Rattle.covjson_read.proofs.ParameterNames.{named_tells, named_passes}
@@ -28,7 +28,7 @@ pub parameter_rows : (id : List ℕ) (d : Data) → HaveAnswer (ParameterRows id
 parameter_rows id d =
     find_within (λ property. get (codes "observedProperty") d ≡ Some property) (Missing ObservedProperty) _ (need (codes "observedProperty") ObservedProperty d) _ _ (given_found (Missing ObservedProperty) (get (codes "observedProperty") d)) (λ property observed.
     let categories = get (codes "categories") property in
-    check_within (categories ≡ None) (WrongType ObservedProperty) _ (not (is_some categories)) _ _ (none_of categories) (λ none. ap (λ (o : Option Data). not (is_some o)) none) (λ none.
+    check_within (categories ≡ None) (WrongType ObservedProperty) _ (not (is_some categories)) _ _ (none_of categories, λ none. ap (λ (o : Option Data). not (is_some o)) none) (λ none.
     find_answers (λ (said : List ℕ × List ℕ). StandsForLabel property said.0 said.1) (WrongType ObservedProperty) _ (label_at ObservedProperty property) _ (label_finds ObservedProperty property) (λ said label.
     find_answers (StandsForUnit (get (codes "unit") d)) (WrongType Unit) _ (parameter_unit d) _ (unit_finds d) (λ unit stands.
     gives_answers (record { id = id; lang = said.0; label = said.1; unit = unit })))))
@@ -110,7 +110,7 @@ pub parameters_rows : (found : Option Data) → HaveAnswer (ParametersRows found
 parameters_rows found =
     find_answers (λ d. found ≡ Some d) (Missing ParametersMember) _ (or_fault found (Missing ParametersMember)) _ (given_found (Missing ParametersMember) found) (λ d is.
     find_answers (λ members. d ≡ object members) (WrongType ParametersMember) _ (object_at ParametersMember d) _ (object_found (WrongType ParametersMember) d) (λ members are.
-    check_answers (EachIsNamedObject members) (WrongType ParametersMember) _ (all_named_objects members) _ (named_tells members) (named_passes members) (λ named.
+    check_answers (EachIsNamedObject members) (WrongType ParametersMember) _ (all_named_objects members) _ (named_tells members, named_passes members) (λ named.
     then_answers (EachParameterRows members) _ (parameter_forms members) _ (each_rows members) (λ _ passed.
     gives_answers d))))
 

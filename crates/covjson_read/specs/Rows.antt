@@ -20,7 +20,8 @@ use Rattle.covjson_checks.specs.Members.{lent}
 use Rattle.covjson_domains.specs.DomainRows.{DomainRows}
 use Rattle.covjson_ranges.specs.RangeRows.{RangeRows}
 use Rattle.covjson_read.specs.declared.collected.ReadRanges.{ReadRanges}
-use Rattle.covjson_read.specs.Systems.{EachItem, NoItem, IsFirst, IsConnection, IsPlane, IsOtherCalendar, system_text, StandsForVertical}
+use Rattle.covjson_checks.specs.Places.{EachItem, NoItem, IsFirst}
+use Rattle.covjson_read.specs.Systems.{IsConnection, IsPlane, IsOtherCalendar, system_text, StandsForVertical}
 use Rattle.covjson_read.specs.Parameters.{StandsForLabel, StandsForUnit, EachIsNamedObject}
 use Rattle.covjson_read.specs.Standing.{type_of}
 

@@ -1,30 +1,10 @@
 -- Reference systems (OGC 21-069r2, reference system objects): which trees stand for which.
-use Rattle.std.specs.Prelude.{◌≡◌, ◌≢◌, ◌⊎◌, ℕ, ◌<◌, List, codes, Bool, true, false, Option, Some, None, option_and_then}
+use Rattle.std.specs.Prelude.{◌≡◌, ◌≢◌, ◌⊎◌, ℕ, List, codes, Bool, true, false, Option, Some, None, option_and_then}
 use Rattle.serde_json.specs.Data.{Data, string, array, Items}
 use Rattle.serde_json.specs.Find.{get, as_str}
-use Rattle.edr_json.specs.Trees.{text_or_empty, item_at}
+use Rattle.edr_json.specs.Trees.{text_or_empty}
+use Rattle.covjson_checks.specs.Places.{IsAmong, EachItem, NoItem, IsFirst}
 use Rattle.covjson_value.specs.declared.coverages.Referencing.{Referencing}
-
--- ---- items of a list
-
--- the datum is one of the items
-abbrev pub IsAmong : Data → Items → Type 0
-IsAmong d items = (place : ℕ) × (item_at items place ≡ Some d)
-
--- each of the items is so
-abbrev pub EachItem : (Data → Type 0) → Items → Type 0
-EachItem Is items = (d : Data) → IsAmong d items → Is d
-
--- none of them is
-abbrev pub NoItem : (Data → Type 0) → Items → Type 0
-NoItem Is items = EachItem (λ d. ¬ (Is d)) items
-
--- the datum is the first item that is so
-pub record IsFirst (Is : Data → Type 0) (items : Items) (first : Data) : Type 0 where
-  pub place : ℕ
-  pub here : item_at items place ≡ Some first
-  pub is : Is first
-  pub none_before : (earlier : ℕ) (other : Data) → earlier < place → item_at items earlier ≡ Some other → ¬ (Is other)
 
 -- ---- entries
 

@@ -5,17 +5,21 @@ ghost use Rattle.serde_json.specs.View.{view};
 ghost use Rattle.serde_json.specs.Find.{get, as_str};
 ghost use Rattle.covjson_value.specs.Coverages.{HasAxes, HasTuples, IsValid};
 ghost use Rattle.covjson_checks.specs.Answers.{Gives, GivesUnlessMemory};
-ghost use Rattle.covjson_read.specs.CoverageAnswers.{over_domain, AnswersAreWhatStands, TreesStandForOne};
+ghost use Rattle.covjson_value.specs.declared.coverages.Coverage.{Coverage};
+ghost use Rattle.covjson_read.specs.CoverageAnswers.{over_domain};
 ghost use Rattle.covjson_read.specs.CoverageAnswers as answers;
+ghost use Rattle.covjson_read.specs.Standing.{Stands, type_of};
+ghost use Rattle.covjson_read.specs.Rows.{CoverageRows};
 
+use crate::collected::ranges_in;
+use crate::laws::{answers_are_what_stands, coverage_answers_follow_rows};
+use crate::parameters::parameters_of;
+use crate::systems::referencing_of;
 use covjson_checks::{CovFault, Member, ReadDomain, lent, need, object_at, text_where_given};
 use covjson_domains::domain_of;
-use edr_json::text_or_empty;
-use crate::parameters::parameters_of;
-use crate::collected::ranges_in;
-use crate::systems::referencing_of;
 use covjson_value::{CoordinateName, Coverage};
 use edr_base::Text;
+use edr_json::text_or_empty;
 use serde_json::Value;
 use std::alloc::Global;
 
@@ -100,6 +104,14 @@ pub fn coverage_in(alloc: Global, tree: &Value, collection: &Value) -> Result<Co
     over_domain(alloc, tree, collection, domain, read)
 }
 
+/// The coverage that a tree of JSON stands for by itself.
+pub fn coverage_alone(alloc: Global, tree: &Value) -> Result<Coverage, CovFault>
+    ensures answer { GivesUnlessMemory (λ c. c) result (answers.coverage_in null (view tree.now)) }
+    ensures valid { IfOk result IsValid }
+{
+    coverage_in(alloc, tree, &Value::Null)
+}
+
 /// The coverage that a tree of JSON stands for (OGC 21-069r2, CoverageJSON objects), or the first check that it fails.
 ///
 /// The checks go in this order: the object and its type, the domain and its type, the axes t, z, y, x and composite, the
@@ -115,5 +127,5 @@ pub fn coverage_of(alloc: Global, tree: &Value) -> Result<Coverage, CovFault>
 {
     coverage_answers_follow_rows();
     answers_are_what_stands();
-    coverage_in(alloc, tree, &Value::Null)
+    coverage_alone(alloc, tree)
 }

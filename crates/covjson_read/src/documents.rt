@@ -9,9 +9,10 @@ ghost use Rattle.covjson_read.specs.Standing.{StandsForDocument};
 ghost use Rattle.covjson_read.specs.Rows.{DocumentRows};
 ghost use Rattle.covjson_read.specs.CoverageAnswers as answers;
 
-use crate::coverages::coverage_in;
+use crate::coverages::{coverage_alone, coverage_in};
 use crate::laws::{
-    coverage_answers_follow_rows, document_rows_are_what_stands, document_rows_have_one_answer,
+    coverage_answers_follow_rows, coverage_rows_have_one_answer, document_rows_are_what_stands,
+    document_rows_have_one_answer,
 };
 use covjson_checks::{CovFault, Member, list_at, need, object_at};
 use covjson_value::{Coverage, Document};
@@ -24,7 +25,7 @@ fn one_coverage(alloc: Global, tree: &Value) -> Result<Document, CovFault>
     ensures answer { GivesUnlessMemory (λ d. d) result (answers.one_coverage (view tree.now)) }
     ensures valid { IfOk result IsValidDocument }
 {
-    let coverage = coverage_in(alloc, tree, &Value::Null)?;
+    let coverage = coverage_alone(alloc, tree)?;
     Ok(Document::One(coverage))
 }
 
@@ -97,6 +98,7 @@ pub fn read_document(alloc: Global, bytes: &[u8]) -> Result<Document, CovFault>
     ensures first_fault { IfErr result (λ fault. fault ≢ CovFault.OutOfMemory → DocumentRows bytes.now (Err fault)) }
     ensures valid { IfOk result IsValidDocument }
 {
+    coverage_rows_have_one_answer();
     coverage_answers_follow_rows();
     document_rows_have_one_answer();
     document_rows_are_what_stands();

@@ -19,21 +19,15 @@ pub fn coverage_rows_have_one_answer()
 {
     domain_rows_have_one_answer();
     domain_answers_follow_rows();
-    domain_rows_are_what_stand();
     range_rows_have_one_answer();
     range_answers_follow_rows();
-    range_rows_are_what_stand();
 }
 
 /// They end in a coverage exactly where the tree stands for it (OGC 21-069r2, Coverage objects).
 pub fn coverage_rows_are_what_stands()
     ensures { CoverageRowsAreWhatStands }
 {
-    domain_rows_have_one_answer();
-    domain_answers_follow_rows();
     domain_rows_are_what_stand();
-    range_rows_have_one_answer();
-    range_answers_follow_rows();
     range_rows_are_what_stand();
 }
 
@@ -58,6 +52,7 @@ pub fn document_rows_have_one_answer()
 {
     texts_have_one_tree();
     coverage_rows_have_one_answer();
+    coverage_answers_follow_rows();
 }
 
 /// They end in a document exactly where the text stands for it (OGC 21-069r2, CoverageJSON documents).
@@ -98,10 +93,8 @@ pub fn coverage_answers_follow_rows()
 {
     domain_rows_have_one_answer();
     domain_answers_follow_rows();
-    domain_rows_are_what_stand();
     range_rows_have_one_answer();
     range_answers_follow_rows();
-    range_rows_are_what_stand();
 }
 
 /// The answer to a tree is a coverage exactly where the tree stands for that coverage.
