@@ -1,5 +1,5 @@
--- How many values a parameter has over a domain.
-use Rattle.std.proofs.Common.{◌≡◌, ℕ, ◌*◌, ℤ, List, length, refl, ap, ◌∙◌, arith}
+-- A law of counts: how many values a parameter has over a domain.
+use Rattle.std.proofs.Common.{◌≡◌, ◌*◌, ℤ, List, refl, ap, ◌∙◌, arith}
 use Rattle.std.specs.declared.option.Option.{Option}
 use Rattle.std.specs.Prelude.{None, Some}
 use Rattle.edr_base.specs.declared.places.Position.{Position}

@@ -1,4 +1,4 @@
--- The coordinates of a tuple are values of their axes.
+-- Laws of tuples: their coordinates are values of their axes.
 use Rattle.std.proofs.Common.{◌≡◌, true, List, [], ◌∷◌, All, refl}
 use Rattle.std.proofs.lemmas.Bool.{or_right}
 use Rattle.std.proofs.lemmas.List.Elements.{All-nil, All-cons}
