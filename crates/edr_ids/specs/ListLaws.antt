@@ -1,5 +1,5 @@
 -- Laws of lists of items with ids, for the proofs of callers.
-use Rattle.std.proofs.Common.{◌≡◌, inl, inr, ℕ, zero, suc, ◌<◌, Bool, true, false, not, if◌then◌else◌, List, [], ◌∷◌, ◌++◌, length, map, slice_set, All, Some, None, Result, Ok, Err, Ordering, Less, Equal, Greater, bytes_eq, refl, sym, ap, ◌∙◌, subst}
+use Rattle.std.proofs.Common.{◌≡◌, inl, inr, ℕ, zero, suc, ◌<◌, Bool, true, false, not, if◌then◌else◌, List, [], ◌∷◌, ◌++◌, length, map, slice_set, All, Some, None, Result, Err, Ordering, Less, Equal, Greater, bytes_eq, refl, sym, ap, ◌∙◌, subst}
 use Rattle.std.proofs.Math.Nat.{zero-lt-suc, suc-le-suc_iff, le_of_suc-le-suc, not-suc-le-zero, lt_trans}
 use Rattle.std.proofs.lemmas.Bool.{false≢true, cases_lt}
 use Rattle.std.proofs.lemmas.Cmp.{nat_list_cmp_total, tied_itself}

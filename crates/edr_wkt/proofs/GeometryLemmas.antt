@@ -1,5 +1,5 @@
 -- What is read is a geometry, and the faults of what is kept are those of the text.
-use Rattle.std.proofs.Common.{◌≡◌, ℕ, subst, ◌<◌, ◌≤◌, Bool, true, false, List, [], ◌∷◌, length, refl, sym, ap, ◌∙◌, arith, ℤ, inl, inr, Ok, Err}
+use Rattle.std.proofs.Common.{◌≡◌, ℕ, subst, ◌<◌, ◌≤◌, Bool, true, false, List, [], ◌∷◌, length, refl, sym, ap, ◌∙◌, arith, ℤ, inl, inr, Result, Ok, Err}
 use Rattle.std.specs.List.{flat_map, AllByRecursion}
 use Rattle.std.proofs.lemmas.List.{length-append, append-nil}
 use Rattle.edr_base.specs.declared.places.Position.{Position}
@@ -11,7 +11,7 @@ use Rattle.edr_wkt.specs.declared.geometry.Geometry.{Geometry}
 use Rattle.edr_wkt.specs.declared.geometry.Geometry.TheVariants.{Points, Line, Polygons}
 use Rattle.edr_wkt.specs.declared.faults.WktFault.{WktFault}
 use Rattle.edr_wkt.specs.declared.faults.WktFault.TheVariants.{NotWkt, TooManyPositions, OutOfRange, OpenRing, DecreasingM, OutOfMemory}
-use Rattle.edr_wkt.specs.Limits.{counted}
+use Rattle.edr_wkt.specs.Kept.{counted}
 use Rattle.edr_wkt.specs.Geometries.{positions_of, rings_of}
 use Rattle.edr_wkt.specs.Grammar.{AreBlanks, IsNumberIf, IsPosition, IsMember, IsMore, AreItems, IsRing, IsPolygon}
 use Rattle.edr_wkt.specs.Wkt.{has_z_of, has_m_of, IsInside, IsWkt}
@@ -20,6 +20,12 @@ use Rattle.edr_wkt.specs.HeadingReads.{BeginsWithHeading}
 use Rattle.edr_wkt.specs.BodyReads.{kept_geometry, IsBodyRead}
 use Rattle.edr_wkt.specs.Faults.{IsInRange, IsFirstBad, IsFaultless, IsAbsent, HasOnly, IsLong, HasRings, HasCounts, IsGeometry, MatchWkt}
 use Rattle.edr_wkt.specs.Checks.{IsFound}
+use Rattle.edr_wkt.specs.declared.lists.Stop.{Stop}
+use Rattle.edr_wkt.specs.declared.lists.Stop.TheVariants as stops
+use Rattle.edr_wkt.specs.Stops.{fault_of}
+use Rattle.std.specs.Prelude.{IsErr}
+use Rattle.std.specs.Result.{IsErrAnd}
+use Rattle.edr_wkt.proofs.GatherLemmas.{passed_on}
 use Rattle.edr_wkt.proofs.FaultLemmas.{found_least}
 use Rattle.edr_wkt.proofs.WordLemmas.{blanks-none, blanks-all}
 use Rattle.edr_wkt.proofs.CheckLemmas.{all-append}
@@ -192,3 +198,8 @@ read-sound text kind z m inside after read rest h b all few f =
     let same = b.read_is few in
     let P : Geometry → Type 0 = λ g. MatchWkt (Ok g) text in
     subst P (sym same) (wkt-sound b.geometry text (wkt-from text kind z m inside 0 after read rest h b all) (subst IsFaultless same f))
+
+-- where the brackets weren't read, the text stands for nothing, or memory was wanting
+pub answer-stopped : (r : Result Geometry WktFault) (stop : Stop) (text : List ℕ) → IsErr r × IsErrAnd r (λ f. f ≡ fault_of stop) → (stop ≡ stops.NotWkt → (g : Geometry) → ¬ (IsWkt text g)) → MatchWkt r text
+answer-stopped r stops.NotWkt text h none = rw (passed_on r NotWkt h) (none refl)
+answer-stopped r stops.OutOfMemory text h none = rw (passed_on r OutOfMemory h) tt

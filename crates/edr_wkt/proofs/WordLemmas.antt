@@ -31,6 +31,13 @@ blanks-all (c ∷ cs) none = (not-not (is_blank c) none.0, blanks-all cs none.1)
 pub mark-split : (mark : ℕ) (text rest : List ℕ) → is_blank mark ≡ false → (m : IsMark mark text rest) → IsSplit not_blank text m.blanks (mark ∷ rest)
 mark-split mark text rest e m = record { text_is = m.text_is; before = blanks-none m.blanks m.are_blanks; stops = ap not e }
 
+-- what stands behind a mark at the front, and that there is none
+pub behind-some : (mark : ℕ) (text blanks front rest : List ℕ) → IsSplit not_blank text blanks front → front ≡ mark ∷ rest → IsMark mark text rest
+behind-some mark text blanks front rest s e = record { blanks = blanks; are_blanks = blanks-all blanks s.before; text_is = s.text_is ∙ ap (λ l. blanks ++ l) e }
+
+pub behind-none : (mark : ℕ) (text blanks front : List ℕ) → is_blank mark ≡ false → IsSplit not_blank text blanks front → ((rest : List ℕ) → ¬ (front ≡ mark ∷ rest)) → (rest : List ℕ) → ¬ (IsMark mark text rest)
+behind-none mark text blanks front e s none rest m = none rest (IsSplit-unique not_blank text _ _ _ _ s (mark-split mark text rest e m)).1
+
 -- one mark stands at the front
 pub mark-unique : (a b : ℕ) (text x y : List ℕ) → is_blank a ≡ false → is_blank b ≡ false → IsMark a text x → IsMark b text y → (a ≡ b) × (x ≡ y)
 mark-unique a b text x y e f m n =

@@ -1,10 +1,10 @@
--- What the calls that read the brackets of a geometry answer.
+-- For private clauses: what the calls that read the brackets of a geometry answer.
 use Rattle.std.specs.Prelude.{◌≡◌, ℕ, ◌≤◌, Bool, List, length, map}
 use Rattle.edr_base.specs.Limits.{position_limit}
 use Rattle.edr_wkt.specs.declared.headings.Kind.{Kind}
 use Rattle.edr_wkt.specs.declared.geometry.Geometry.{Geometry}
 use Rattle.edr_wkt.specs.declared.geometry.Geometry.TheVariants.{Points, Line, Polygons}
-use Rattle.edr_wkt.specs.Limits.{kept, kept_polygon, counted}
+use Rattle.edr_wkt.specs.Kept.{kept, kept_polygon, counted}
 use Rattle.edr_wkt.specs.Geometries.{positions_of}
 use Rattle.edr_wkt.specs.Wkt.{kind_of, has_z_of, has_m_of, IsInside}
 

@@ -1,4 +1,4 @@
--- What the calls that read a piece answer.
+-- For private clauses: what the calls that read a piece answer.
 use Rattle.std.specs.Prelude.{◌≡◌, ℕ, ℤ, Bool, false, not, ◌≤◌, List, [], ◌∷◌, length, map, min}
 use Rattle.std.specs.List.{sum_by}
 use Rattle.edr_base.specs.Limits.{position_limit}
@@ -6,7 +6,7 @@ use Rattle.edr_base.specs.declared.places.Position.{Position}
 use Rattle.edr_base.specs.NumberParts.{IsSplit}
 use Rattle.edr_base.specs.Names.{is_blank}
 use Rattle.edr_wkt.specs.Grammar.{is_end, IsMark, IsNumber, IsNumberIf, IsPosition, IsMember, AreItems}
-use Rattle.edr_wkt.specs.Limits.{kept_number, kept, counted}
+use Rattle.edr_wkt.specs.Kept.{kept_number, kept, counted}
 
 abbrev pub not_blank : ℕ → Bool
 not_blank c = not (is_blank c)

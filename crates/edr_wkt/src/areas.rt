@@ -1,7 +1,7 @@
 //! Rings and polygons.
 ghost use Rattle.std.specs.Prelude.{◌≡◌, ◌+◌, ◌≤◌, IfOk, Err, length, map};
 ghost use Rattle.edr_base.specs.Limits.{position_limit};
-ghost use Rattle.edr_wkt.specs.Limits.{kept, kept_polygon};
+ghost use Rattle.edr_wkt.specs.Kept.{kept, kept_polygon};
 ghost use Rattle.edr_wkt.specs.Geometries.{polygon_size};
 ghost use Rattle.edr_wkt.specs.Grammar.{IsRing, IsPolygon};
 ghost use Rattle.edr_wkt.specs.Reads.{HasNoItem, IsRead, AreRead, HasNoItems};
@@ -9,7 +9,7 @@ ghost use Rattle.edr_wkt.specs.Reads.{HasNoItem, IsRead, AreRead, HasNoItems};
 use crate::geometry::Polygon;
 use crate::lists::{Stop, keep, read_positions};
 use crate::words::{behind, read_mark};
-use edr_base::{Items, OutOfMemory, Position};
+use edr_base::{Items, Position};
 use std::alloc::Global;
 
 // The ring at the front, and what stands behind it.
@@ -27,15 +27,11 @@ fn read_ring<'a>(
     let Some(inside) = behind(text, b'(') else {
         return Err(Stop::NotWkt);
     };
-    match read_positions(alloc, false, has_z, has_m, inside, count) {
-        Ok((positions, len, rest)) => {
-            if len < 4 {
-                return Err(Stop::NotWkt);
-            }
-            Ok((positions, rest))
-        }
-        Err(stop) => Err(stop),
+    let (positions, len, rest) = read_positions(alloc, false, has_z, has_m, inside, count)?;
+    if len < 4 {
+        return Err(Stop::NotWkt);
     }
+    Ok((positions, rest))
 }
 
 /// The rings of a list, and what stands behind it.
@@ -53,14 +49,8 @@ pub fn read_rings<'a>(
     let mut rings = Vec::new(alloc);
     let mut rest = text;
     'rings: loop {
-        let (ring, after) = match read_ring(alloc, has_z, has_m, rest, count) {
-            Ok(read) => read,
-            Err(stop) => return Err(stop),
-        };
-        match keep(&mut rings, ring, *count) {
-            Ok(()) => {}
-            Err(OutOfMemory) => return Err(Stop::OutOfMemory),
-        }
+        let (ring, after) = read_ring(alloc, has_z, has_m, rest, count)?;
+        keep(&mut rings, ring, *count)?;
         let Some((mark, next)) = read_mark(after) else {
             return Err(Stop::NotWkt);
         };
@@ -89,10 +79,8 @@ fn read_polygon<'a>(
     let Some(inside) = behind(text, b'(') else {
         return Err(Stop::NotWkt);
     };
-    match read_rings(alloc, has_z, has_m, inside, count) {
-        Ok((rings, rest)) => Ok((Polygon { rings }, rest)),
-        Err(stop) => Err(stop),
-    }
+    let (rings, rest) = read_rings(alloc, has_z, has_m, inside, count)?;
+    Ok((Polygon { rings }, rest))
 }
 
 /// The polygons of a list, and what stands behind it.
@@ -110,14 +98,8 @@ pub fn read_polygons<'a>(
     let mut polygons = Vec::new(alloc);
     let mut rest = text;
     'polygons: loop {
-        let (polygon, after) = match read_polygon(alloc, has_z, has_m, rest, count) {
-            Ok(read) => read,
-            Err(stop) => return Err(stop),
-        };
-        match keep(&mut polygons, polygon, *count) {
-            Ok(()) => {}
-            Err(OutOfMemory) => return Err(Stop::OutOfMemory),
-        }
+        let (polygon, after) = read_polygon(alloc, has_z, has_m, rest, count)?;
+        keep(&mut polygons, polygon, *count)?;
         let Some((mark, next)) = read_mark(after) else {
             return Err(Stop::NotWkt);
         };

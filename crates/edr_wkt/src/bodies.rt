@@ -23,23 +23,17 @@ fn read_point<'a>(
     ensures read { IfOk result (λ r. IsBodyRead k.Point has_z has_m text.now count.old count.new r.0 r.1.now) }
     ensures not_wkt { result ≡ Err Stop.NotWkt → HasNoBody k.Point has_z has_m text.now }
 {
-    match read_positions(alloc, false, has_z, has_m, text, count) {
-        Ok((positions, len, rest)) => {
-            if len != 1 {
-                return Err(Stop::NotWkt);
-            }
-            Ok((
-                Geometry::Points {
-                    multi: false,
-                    has_z,
-                    has_m,
-                    positions,
-                },
-                rest,
-            ))
-        }
-        Err(stop) => Err(stop),
+    let (positions, len, rest) = read_positions(alloc, false, has_z, has_m, text, count)?;
+    if len != 1 {
+        return Err(Stop::NotWkt);
     }
+    let geometry = Geometry::Points {
+        multi: false,
+        has_z,
+        has_m,
+        positions,
+    };
+    Ok((geometry, rest))
 }
 
 // The inside of MULTIPOINT.
@@ -54,18 +48,14 @@ fn read_multi_point<'a>(
     ensures read { IfOk result (λ r. IsBodyRead k.MultiPoint has_z has_m text.now count.old count.new r.0 r.1.now) }
     ensures not_wkt { result ≡ Err Stop.NotWkt → HasNoBody k.MultiPoint has_z has_m text.now }
 {
-    match read_positions(alloc, true, has_z, has_m, text, count) {
-        Ok((positions, _, rest)) => Ok((
-            Geometry::Points {
-                multi: true,
-                has_z,
-                has_m,
-                positions,
-            },
-            rest,
-        )),
-        Err(stop) => Err(stop),
-    }
+    let (positions, _, rest) = read_positions(alloc, true, has_z, has_m, text, count)?;
+    let geometry = Geometry::Points {
+        multi: true,
+        has_z,
+        has_m,
+        positions,
+    };
+    Ok((geometry, rest))
 }
 
 // The inside of LINESTRING.
@@ -80,22 +70,16 @@ fn read_line<'a>(
     ensures read { IfOk result (λ r. IsBodyRead k.LineString has_z has_m text.now count.old count.new r.0 r.1.now) }
     ensures not_wkt { result ≡ Err Stop.NotWkt → HasNoBody k.LineString has_z has_m text.now }
 {
-    match read_positions(alloc, false, has_z, has_m, text, count) {
-        Ok((positions, len, rest)) => {
-            if len < 2 {
-                return Err(Stop::NotWkt);
-            }
-            Ok((
-                Geometry::Line {
-                    has_z,
-                    has_m,
-                    positions,
-                },
-                rest,
-            ))
-        }
-        Err(stop) => Err(stop),
+    let (positions, len, rest) = read_positions(alloc, false, has_z, has_m, text, count)?;
+    if len < 2 {
+        return Err(Stop::NotWkt);
     }
+    let geometry = Geometry::Line {
+        has_z,
+        has_m,
+        positions,
+    };
+    Ok((geometry, rest))
 }
 
 // The inside of MULTIPOLYGON.
@@ -110,18 +94,14 @@ fn read_multi_polygon<'a>(
     ensures read { IfOk result (λ r. IsBodyRead k.MultiPolygon has_z has_m text.now count.old count.new r.0 r.1.now) }
     ensures not_wkt { result ≡ Err Stop.NotWkt → HasNoBody k.MultiPolygon has_z has_m text.now }
 {
-    match read_polygons(alloc, has_z, has_m, text, count) {
-        Ok((polygons, rest)) => Ok((
-            Geometry::Polygons {
-                multi: true,
-                has_z,
-                has_m,
-                polygons,
-            },
-            rest,
-        )),
-        Err(stop) => Err(stop),
-    }
+    let (polygons, rest) = read_polygons(alloc, has_z, has_m, text, count)?;
+    let geometry = Geometry::Polygons {
+        multi: true,
+        has_z,
+        has_m,
+        polygons,
+    };
+    Ok((geometry, rest))
 }
 
 // The list of one polygon.
@@ -145,21 +125,15 @@ fn read_one_polygon<'a>(
     ensures read { IfOk result (λ r. IsBodyRead k.Polygon has_z has_m text.now count.old count.new r.0 r.1.now) }
     ensures not_wkt { result ≡ Err Stop.NotWkt → HasNoBody k.Polygon has_z has_m text.now }
 {
-    match read_rings(alloc, has_z, has_m, text, count) {
-        Ok((rings, rest)) => match listed(alloc, Polygon { rings }) {
-            Ok(polygons) => Ok((
-                Geometry::Polygons {
-                    multi: false,
-                    has_z,
-                    has_m,
-                    polygons,
-                },
-                rest,
-            )),
-            Err(OutOfMemory) => Err(Stop::OutOfMemory),
-        },
-        Err(stop) => Err(stop),
-    }
+    let (rings, rest) = read_rings(alloc, has_z, has_m, text, count)?;
+    let polygons = listed(alloc, Polygon { rings })?;
+    let geometry = Geometry::Polygons {
+        multi: false,
+        has_z,
+        has_m,
+        polygons,
+    };
+    Ok((geometry, rest))
 }
 
 /// The inside of the brackets behind a heading.

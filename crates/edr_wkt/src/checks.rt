@@ -80,10 +80,7 @@ fn check_rings(rings: &[Items<Position>], before: usize) -> Result<usize, usize>
 {
     let mut count = before;
     for ring in rings {
-        count = match check_positions(ring.items(), count) {
-            Ok(count) => count,
-            Err(place) => return Err(place),
-        };
+        count = check_positions(ring.items(), count)?;
     }
     Ok(count)
 }
@@ -95,10 +92,7 @@ fn check_polygons(polygons: &[Polygon], before: usize) -> Result<usize, usize>
 {
     let mut count = before;
     for polygon in polygons {
-        count = match check_rings(polygon.rings.items(), count) {
-            Ok(count) => count,
-            Err(place) => return Err(place),
-        };
+        count = check_rings(polygon.rings.items(), count)?;
     }
     Ok(count)
 }
@@ -123,10 +117,7 @@ fn check_all_closed(polygons: &[Polygon], before: usize) -> Result<usize, usize>
 {
     let mut count = before;
     for polygon in polygons {
-        count = match check_closed(polygon.rings.items(), count) {
-            Ok(count) => count,
-            Err(place) => return Err(place),
-        };
+        count = check_closed(polygon.rings.items(), count)?;
     }
     Ok(count)
 }
@@ -161,10 +152,7 @@ fn first_out(geometry: &Geometry) -> Option<usize>
         Geometry::Line { positions, .. } => check_positions(positions.items(), 0),
         Geometry::Polygons { polygons, .. } => check_polygons(polygons.items(), 0),
     };
-    match checked {
-        Ok(_) => None,
-        Err(place) => Some(place),
-    }
+    checked.err()
 }
 
 // The first ring of a geometry that isn't closed.
@@ -174,10 +162,7 @@ fn first_open(geometry: &Geometry) -> Option<usize>
         (λ place. IsFirstBad IsClosed (rings_of geometry.now) place) }
 {
     match geometry {
-        Geometry::Polygons { polygons, .. } => match check_all_closed(polygons.items(), 0) {
-            Ok(_) => None,
-            Err(place) => Some(place),
-        },
+        Geometry::Polygons { polygons, .. } => check_all_closed(polygons.items(), 0).err(),
         _ => None,
     }
 }

@@ -1,7 +1,7 @@
 //! Lists of positions.
 ghost use Rattle.std.specs.Prelude.{◌≡◌, ◌≤◌, ◌<◌, ◌++◌, ◌∷◌, [], min, ◌+◌, IfOk, OnOk, Err};
 ghost use Rattle.edr_base.specs.Limits.{position_limit};
-ghost use Rattle.edr_wkt.specs.Limits.{counted};
+ghost use Rattle.edr_wkt.specs.Kept.{counted};
 ghost use Rattle.edr_wkt.specs.Grammar.{IsMember};
 ghost use Rattle.edr_wkt.specs.Reads.{ArePositions, HasNoItems};
 
@@ -17,6 +17,16 @@ pub enum Stop {
     NotWkt,
     /// Memory was wanting.
     OutOfMemory,
+}
+
+impl From<OutOfMemory> for Stop {
+    ghost use Rattle.edr_wkt.specs.declared.lists.Stop.TheVariants as stops;
+
+    ghost from_gives = { λ _ stop. stop ≡ stops.OutOfMemory };
+
+    fn from(_: OutOfMemory) -> Stop {
+        Stop::OutOfMemory
+    }
 }
 
 /// One position more, up to one beyond the limit.
@@ -71,10 +81,7 @@ pub fn read_positions<'a>(
         };
         *count = counted(*count);
         len = longer(len);
-        match keep(&mut positions, position, *count) {
-            Ok(()) => {}
-            Err(OutOfMemory) => return Err(Stop::OutOfMemory),
-        }
+        keep(&mut positions, position, *count)?;
         let Some((mark, next)) = read_mark(after) else {
             return Err(Stop::NotWkt);
         };

@@ -6,7 +6,6 @@ use crate::checks::fault_of;
 use crate::faults::WktFault;
 use crate::geometry::Geometry;
 use crate::headings::read_heading;
-use crate::lists::Stop;
 use crate::words::without_blanks;
 use edr_base::POSITION_LIMIT;
 use std::alloc::Global;
@@ -21,11 +20,7 @@ pub fn read_wkt(alloc: Global, text: &[u8]) -> Result<Geometry, WktFault>
         return Err(WktFault::NotWkt);
     };
     let mut count = 0;
-    let (geometry, rest) = match read_body(alloc, heading, inside, &mut count) {
-        Ok(read) => read,
-        Err(Stop::NotWkt) => return Err(WktFault::NotWkt),
-        Err(Stop::OutOfMemory) => return Err(WktFault::OutOfMemory),
-    };
+    let (geometry, rest) = read_body(alloc, heading, inside, &mut count)?;
     if !without_blanks(rest).is_empty() {
         return Err(WktFault::NotWkt);
     }
