@@ -1,14 +1,8 @@
 -- A text is cut at the first place of a mark in one way.
-use Rattle.std.proofs.Common.{◌≡◌, ◌≢◌, ℕ, zero, suc, ◌+◌, ◌<◌, ◌≤◌, List, [], ◌∷◌, ◌++◌, length, get_or, take, drop, refl, ap, ◌∙◌, arith, add-one}
+use Rattle.std.proofs.Common.{◌≡◌, ◌≢◌, ℕ, zero, suc, ◌+◌, ◌<◌, ◌≤◌, List, [], ◌∷◌, ◌++◌, length, get_or, take, drop, ap, ◌∙◌, arith, add-one}
 use Rattle.std.proofs.Math.Seq.{split_at}
 use Rattle.std.specs.List.{Contains}
 use Rattle.edr_base.specs.Cuts.{IsCut}
-
-Contains-tail : (x : ℕ) (xs : List ℕ) (mark : ℕ) → Contains xs mark → Contains (x ∷ xs) mark
-Contains-tail x xs mark h = (suc h.0, omega (arith, h.1), h.2)
-
-Contains-head : (x : ℕ) (xs : List ℕ) (mark : ℕ) → x ≡ mark → Contains (x ∷ xs) mark
-Contains-head x xs mark e = (0, omega arith, e)
 
 Contains-none : (mark : ℕ) → ¬ (Contains [] mark)
 Contains-none mark h = omega (arith, h.1)
@@ -19,22 +13,6 @@ Contains-neither x xs mark n p h = at h.0 h.1 h.2
     at : (k : ℕ) → k < length (x ∷ xs) → get_or (x ∷ xs) k mark ≡ mark → ⊥
     at zero l e = n e
     at (suc k) l e = p (k, omega arith, e)
-
--- the mark stands between two texts
-pub Contains-between : (mark : ℕ) (front back : List ℕ) → Contains (front ++ mark ∷ back) mark
-Contains-between mark [] back = Contains-head mark back mark refl
-Contains-between mark (x ∷ front) back = Contains-tail x (front ++ mark ∷ back) mark (Contains-between mark front back)
-
--- there is one cut
-pub cut_unique : (mark : ℕ) (a b c d : List ℕ) → ¬ (Contains a mark) → ¬ (Contains c mark) → a ++ mark ∷ b ≡ c ++ mark ∷ d → (a ≡ c) × (b ≡ d)
-cut_unique mark [] b [] d p q e = (refl, cc e)
-cut_unique mark [] b (y ∷ c) d p q e = absurd (q (Contains-head y c mark (cc e)))
-cut_unique mark (x ∷ a) b [] d p q e = absurd (p (Contains-head x a mark (cc e)))
-cut_unique mark (x ∷ a) b (y ∷ c) d p q e =
-    let rest = cut_unique mark a b c d (λ h. p (Contains-tail x a mark h)) (λ h. q (Contains-tail y c mark h)) (cc e) in
-    let heads : x ≡ y = cc e in
-    let tails = rest.0 in
-    (cc, rest.1)
 
 none_before : (text : List ℕ) (mark n : ℕ) → n ≤ length text → ((k : ℕ) → k < n → get_or text k 0 ≢ mark) → ¬ (Contains (take n text) mark)
 none_before text mark zero h none = Contains-none mark

@@ -1,22 +1,14 @@
 -- A numeral's text has one sign, one front of digits and one point.
-use Rattle.std.proofs.Common.{◌≡◌, ◌⊎◌, ℕ, subst, ◌<◌, ◌≤◌, ◌==◌, Bool, true, false, not, List, [], ◌∷◌, length, refl, sym, ap, ◌∙◌, arith, rules, inl, inr}
-use Rattle.std.specs.Prelude.{IsTrue, ◌↔◌}
-use Rattle.std.proofs.lemmas.Bool.{false≢true}
+use Rattle.std.proofs.Common.{◌≡◌, ◌⊎◌, ℕ, subst, ◌<◌, ◌≤◌, ◌==◌, Bool, true, false, List, [], ◌∷◌, length, refl, ap, ◌∙◌, arith, inl, inr}
 use Rattle.std.specs.Int.{IsInRange}
-use Rattle.std.specs.Char.{digit_value, is_ascii_digit}
+use Rattle.std.specs.Char.{digit_value}
 use Rattle.std.specs.Str.Parse.{AllDigits, digits_value}
 use Rattle.std.proofs.lemmas.Bool.Decides.{nat_tests}
 use Rattle.std.proofs.lemmas.Str.{digit_value_digit}
-use Rattle.std.proofs.lemmas.Str.Parse.{digit_from_value}
 use Rattle.edr_base.specs.Numbers.{IsPoint, IsUnsigned}
-use Rattle.edr_base.specs.NumberParts.{NonePass, Stops, IsSplit}
-use Rattle.edr_base.proofs.NumberLemmas.{IsSplit-unique}
-
-abbrev pub not_digit : ℕ → Bool
-not_digit c = not (is_ascii_digit c)
-
-digit-none : (c : ℕ) → IsInRange 48 57 c → not_digit c ≡ false
-digit-none c h = grind (arith, nat_tests)
+use Rattle.edr_base.specs.NumberParts.{NonePass, IsSplit}
+use Rattle.edr_base.specs.SplitLaws.{IsSplit-unique}
+use Rattle.edr_base.specs.NumberLaws.{not_digit, unsigned-split}
 
 digit-all : (c : ℕ) → not_digit c ≡ false → IsInRange 48 57 c
 digit-all c h = grind (arith, nat_tests)
@@ -24,20 +16,9 @@ digit-all c h = grind (arith, nat_tests)
 value-small : (c : ℕ) → IsInRange 48 57 c → digit_value c < 10
 value-small c h = omega (arith, digit_value_digit c h)
 
-pub digits-none : (ds : List ℕ) → AllDigits 10 ds → NonePass not_digit ds
-digits-none [] all = tt
-digits-none (d ∷ ds) all = (digit-none d (digit_from_value d all.0), digits-none ds all.1)
-
 pub digits-all : (ds : List ℕ) → NonePass not_digit ds → AllDigits 10 ds
 digits-all [] none = tt
 digits-all (d ∷ ds) none = (value-small d (digit-all d none.0), digits-all ds none.1)
-
-point-stops : (point : List ℕ) → IsPoint point → Stops not_digit point
-point-stops [] h = tt
-point-stops (c ∷ zeros) h = let P : ℕ → Type 0 = λ x. not_digit x ≡ true in subst P (sym h.0) refl
-
-pub unsigned-split : (text : List ℕ) (n : ℕ) (u : IsUnsigned text n) → IsSplit not_digit text u.digits u.point
-unsigned-split text n u = record { text_is = u.text_is; before = digits-none u.digits u.are_digits; stops = point-stops u.point u.is_point }
 
 -- an unsigned numeral has the digits and the point that stand at its front
 pub unsigned-parts : (text ds pt : List ℕ) (n : ℕ) → IsSplit not_digit text ds pt → (u : IsUnsigned text n) → (u.digits ≡ ds) × (u.point ≡ pt)
@@ -58,20 +39,9 @@ unsigned-short text ds pt s e l n u =
     let parts = unsigned-parts text ds pt n s u in
     some-digit _ _ u.some (ap length parts.0 ∙ e) (omega (arith, ap length parts.1))
 
-pub unsigned-unique : (text : List ℕ) (m n : ℕ) → IsUnsigned text m → IsUnsigned text n → m ≡ n
-unsigned-unique text m n u w = unsigned-value text _ _ m (unsigned-split text n w) u ∙ sym w.size_is
-
 -- what the parts at the front are together
 pub unsigned-from : (text ds pt : List ℕ) → IsSplit not_digit text ds pt → IsPoint pt → (0 < length ds) ⊎ (1 < length pt) → IsUnsigned text (digits_value 10 ds)
 unsigned-from text ds pt s point some = record { digits = ds; point = pt; text_is = s.text_is; are_digits = digits-all ds s.before; is_point = point; some = some; size_is = refl }
-
-pub holds : (b : Bool) (P : Type 0) → (IsTrue b ↔ P) → b ≡ true → P
-holds true P h e = h.0 (search rules)
-holds false P h e = absurd (false≢true e)
-
-pub fails : (b : Bool) (P : Type 0) → (IsTrue b ↔ P) → b ≡ false → ¬ P
-fails true P h e = absurd (false≢true (sym e))
-fails false P h e = λ p. absurd (search (rules, h.1 p))
 
 pub some-else : (b : Bool) (m n : ℕ) → b ≡ (m == 0) → ((b ≡ true) × (2 ≤ n)) ⊎ (b ≡ false) → (0 < m) ⊎ (1 < n)
 some-else b m n e (inl h) = inr (omega (arith, h.1))

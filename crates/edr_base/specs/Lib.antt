@@ -13,3 +13,7 @@ pub mod Limits
 pub mod Names
 pub mod KnownBytes
 pub mod Adapters
+pub mod SplitLaws
+pub mod CutLaws
+pub mod NumberLaws
+pub mod TestLaws

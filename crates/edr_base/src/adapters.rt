@@ -1,11 +1,25 @@
-//! The standard library's readers and writers as sources and sinks. They tell nothing of contents.
-ghost use Rattle.std.specs.Prelude.{◌≡◌, ◌≤◌, None, false};
+//! The standard library's readers and writers as sources and sinks.
+//!
+//! They tell nothing of contents by the words of `Source` and `Sink`. Where the reader or the writer tells its bytes
+//! by the standard library's words, the clauses `passes` say that each call passes them on. That a flush is passed on
+//! the standard library has no word for.
+ghost use Rattle.std.specs.Prelude.{◌≡◌, ◌≤◌, ◌<◌, ◌+◌, ◌-◌, ◌^◌, min, length, Ok, Err, IfOk, OnErr, IsErr, IsErrOf, IsOk, None, true, false};
+ghost use Rattle.std.specs.Io.KnownBytes.{ReadConsumes, WriteAppends, Keeps};
+ghost use Rattle.edr_base.specs.Outside.{Rose};
+ghost use Rattle.edr_base.specs.Calls.{Reads, Appended, Flushed, SourceLent, SinkLent};
 ghost use Rattle.edr_base.specs.Untold.{untold_aside, untold_beside};
 
 use crate::outside::{Failed, Faults, Sink, Source, Stop};
-use std::io::{Read, Write};
+use std::io::{ErrorKind, Read, Write};
 
-/// A source over a reader. Each error of the reader is a fault.
+// A count of faults after one more.
+fn one_more(faults: u64) -> u64
+    ensures { result ≡ min (faults + 1) (2 ^ 64 - 1) }
+{
+    faults.saturating_add(1)
+}
+
+/// A source over a reader. Each error of the reader is a fault, but for `Interrupted`: then it is asked again.
 #[derive(Drop)]
 pub struct RealSource<T: Read> {
     reader: T,
@@ -14,12 +28,33 @@ pub struct RealSource<T: Read> {
 }
 
 impl<T: Read> RealSource<T> {
+    ghost use Rattle.edr_base.specs.Adapters.{reader_of};
+
     /// A source that reads from this reader.
     pub fn of(reader: T) -> RealSource<T>
-        ensures { ⟦<RealSource<T> as Faults>⟧.faults result ≡ 0 }
+        ensures reader { reader_of result ≡ reader }
+        ensures faults { ⟦<RealSource<T> as Faults>⟧.faults result ≡ 0 }
     {
         RealSource { reader, faults: 0 }
     }
+}
+
+// Reads, again where a signal interrupts it.
+fn read_from<T: Read>(reader: &mut T, buf: &mut [u8]) -> Result<usize, Failed>
+    ensures bound { IfOk result (λ n. n ≤ length buf.new) }
+    ensures passes { ReadConsumes (T.remaining reader.old) (T.remaining reader.new) result buf.new }
+{
+    for _ in 0..u64::MAX {
+        match reader.read(buf) {
+            Ok(count) => return Ok(count),
+            Err(error) => {
+                if error.kind() != ErrorKind::Interrupted {
+                    return Err(Failed);
+                }
+            }
+        }
+    }
+    Err(Failed)
 }
 
 impl<T: Read> Faults for RealSource<T> {
@@ -29,25 +64,41 @@ impl<T: Read> Faults for RealSource<T> {
 }
 
 impl<T: Read> Source for RealSource<T> {
+    ghost use Rattle.edr_base.specs.Adapters.{reader_of, Counts};
+
     ghost left = { λ s. None };
 
     ghost aside = { λ s. untold_aside false };
 
-    fn read(&mut self, buf: &mut [u8]) -> Result<usize, Failed> {
+    fn read(&mut self, buf: &mut [u8]) -> Result<usize, Failed>
+        ensures bound { IfOk result (λ n. n ≤ length buf.new) }
+        ensures empty { length buf.new ≡ 0 → result ≡ Ok 0 }
+        ensures bytes { Reads (⟦<RealSource<T> as Source>⟧.left self.old) (⟦<RealSource<T> as Source>⟧.left self.new) result buf.new }
+        ensures lent { SourceLent (⟦<RealSource<T> as Source>⟧.aside self.old) (⟦<RealSource<T> as Source>⟧.aside self.new)
+            (⟦<RealSource<T> as Faults>⟧.faults self.old) (⟦<RealSource<T> as Faults>⟧.faults self.new) }
+        ensures cause { OnErr result (Rose (⟦<RealSource<T> as Faults>⟧.faults self.old) (⟦<RealSource<T> as Faults>⟧.faults self.new)) }
+        ensures idle { (⟦<RealSource<T> as Source>⟧.aside self.old).idle ≡ true
+            → (result ≡ Ok 0) × (⟦<RealSource<T> as Faults>⟧.faults self.new ≡ ⟦<RealSource<T> as Faults>⟧.faults self.old) }
+
+        // beyond the trait: what the reader gives is passed on, and each error is counted once
+        ensures passes { ReadConsumes (T.remaining (reader_of self.old)) (T.remaining (reader_of self.new)) result buf.new }
+        ensures counts { Counts (IsErr result) (⟦<RealSource<T> as Faults>⟧.faults self.old) (⟦<RealSource<T> as Faults>⟧.faults self.new) }
+    {
         if buf.is_empty() {
             return Ok(0);
         }
-        match self.reader.read(buf) {
+        match read_from(&mut self.reader, buf) {
             Ok(count) => Ok(count),
-            Err(_) => {
-                self.faults = self.faults.saturating_add(1);
+            Err(Failed) => {
+                self.faults = one_more(self.faults);
                 Err(Failed)
             }
         }
     }
 }
 
-/// A sink over a writer. Each error of the writer is a fault, and so is a write that takes nothing.
+/// A sink over a writer. Each error of the writer is a fault, and so is a write that takes nothing; after `Interrupted`
+/// the writer is asked again.
 #[derive(Drop)]
 pub struct RealSink<T: Write> {
     writer: T,
@@ -56,12 +107,53 @@ pub struct RealSink<T: Write> {
 }
 
 impl<T: Write> RealSink<T> {
+    ghost use Rattle.edr_base.specs.Adapters.{writer_of};
+
     /// A sink that writes to this writer.
     pub fn of(writer: T) -> RealSink<T>
-        ensures { ⟦<RealSink<T> as Faults>⟧.faults result ≡ 0 }
+        ensures writer { writer_of result ≡ writer }
+        ensures faults { ⟦<RealSink<T> as Faults>⟧.faults result ≡ 0 }
     {
         RealSink { writer, faults: 0 }
     }
+}
+
+// Writes, again where a signal interrupts it. Of a piece that isn't empty at least one byte is taken.
+#[tactic(auto, using(crate::proofs::KnownBytes::keeps_none))]
+fn write_to<T: Write>(writer: &mut T, piece: &[u8]) -> Result<usize, Failed>
+    requires { 0 < length piece.now }
+    ensures bound { IfOk result (λ n. (n ≤ length piece.now) × (0 < n)) }
+    ensures passes { WriteAppends (T.contents writer.old) (T.contents writer.new) result piece.now }
+{
+    for _ in 0..u64::MAX {
+        match writer.write(piece) {
+            Ok(0) => return Err(Failed),
+            Ok(count) => return Ok(count),
+            Err(error) => {
+                if error.kind() != ErrorKind::Interrupted {
+                    return Err(Failed);
+                }
+            }
+        }
+    }
+    Err(Failed)
+}
+
+// Flushes, again where a signal interrupts it.
+fn flush_of<T: Write>(writer: &mut T) -> Result<(), Failed>
+    ensures passes { Keeps (T.contents writer.old) (T.contents writer.new) }
+{
+    for _ in 0..u64::MAX {
+        match writer.flush() {
+            Ok(()) => return Ok(()),
+            Err(error) => {
+                if error.kind() != ErrorKind::Interrupted {
+                    return Err(Failed);
+                }
+            }
+        }
+    }
+    Err(Failed)
 }
 
 impl<T: Write> Faults for RealSink<T> {
@@ -71,6 +163,8 @@ impl<T: Write> Faults for RealSink<T> {
 }
 
 impl<T: Write> Sink for RealSink<T> {
+    ghost use Rattle.edr_base.specs.Adapters.{writer_of, Counts};
+
     ghost written = { λ s. None };
 
     ghost flushed = { λ s. None };
@@ -79,24 +173,55 @@ impl<T: Write> Sink for RealSink<T> {
 
     ghost bottomed = { λ s. tt };
 
-    fn write(&mut self, piece: &[u8]) -> Result<usize, Stop> {
+    fn write(&mut self, piece: &[u8]) -> Result<usize, Stop>
+        ensures bound { IfOk result (λ n. (n ≤ length piece.now) × (0 < length piece.now → 0 < n)) }
+        ensures empty { length piece.now ≡ 0 → result ≡ Ok 0 }
+        ensures bytes { Appended (⟦<RealSink<T> as Sink>⟧.written self.old) (⟦<RealSink<T> as Sink>⟧.written self.new) result piece.now }
+        ensures flushed { ⟦<RealSink<T> as Sink>⟧.flushed self.new ≡ ⟦<RealSink<T> as Sink>⟧.flushed self.old }
+        ensures lent { SinkLent (⟦<RealSink<T> as Sink>⟧.beside self.old) (⟦<RealSink<T> as Sink>⟧.beside self.new)
+            (⟦<RealSink<T> as Faults>⟧.faults self.old) (⟦<RealSink<T> as Faults>⟧.faults self.new) }
+        ensures cause { IsErrOf result Stop.Failed
+            → Rose (⟦<RealSink<T> as Faults>⟧.faults self.old) (⟦<RealSink<T> as Faults>⟧.faults self.new) }
+        ensures idle { (⟦<RealSink<T> as Sink>⟧.beside self.old).idle ≡ true → 0 < length piece.now
+            → (result ≡ Err Stop.OutOfMemory) × (⟦<RealSink<T> as Faults>⟧.faults self.new ≡ ⟦<RealSink<T> as Faults>⟧.faults self.old) }
+
+        // beyond the trait: what the writer takes is passed on once, and each error is counted once
+        ensures passes { WriteAppends (T.contents (writer_of self.old)) (T.contents (writer_of self.new)) result piece.now }
+        ensures counts { Counts (IsErr result) (⟦<RealSink<T> as Faults>⟧.faults self.old) (⟦<RealSink<T> as Faults>⟧.faults self.new) }
+    {
         if piece.is_empty() {
             return Ok(0);
         }
-        match self.writer.write(piece) {
-            Ok(0) | Err(_) => {
-                self.faults = self.faults.saturating_add(1);
+        match write_to(&mut self.writer, piece) {
+            Ok(count) => Ok(count),
+            Err(Failed) => {
+                self.faults = one_more(self.faults);
                 Err(Stop::Failed)
             }
-            Ok(count) => Ok(count),
         }
     }
 
-    fn flush(&mut self) -> Result<(), Stop> {
-        if self.writer.flush().is_err() {
-            self.faults = self.faults.saturating_add(1);
-            return Err(Stop::Failed);
+    fn flush(&mut self) -> Result<(), Stop>
+        ensures bytes { ⟦<RealSink<T> as Sink>⟧.written self.new ≡ ⟦<RealSink<T> as Sink>⟧.written self.old }
+        ensures flushed { Flushed (⟦<RealSink<T> as Sink>⟧.written self.new) (⟦<RealSink<T> as Sink>⟧.flushed self.old)
+            (⟦<RealSink<T> as Sink>⟧.flushed self.new) result }
+        ensures lent { SinkLent (⟦<RealSink<T> as Sink>⟧.beside self.old) (⟦<RealSink<T> as Sink>⟧.beside self.new)
+            (⟦<RealSink<T> as Faults>⟧.faults self.old) (⟦<RealSink<T> as Faults>⟧.faults self.new) }
+        ensures cause { IsErrOf result Stop.Failed
+            → Rose (⟦<RealSink<T> as Faults>⟧.faults self.old) (⟦<RealSink<T> as Faults>⟧.faults self.new) }
+        ensures idle { (⟦<RealSink<T> as Sink>⟧.beside self.old).idle ≡ true
+            → IsOk result × (⟦<RealSink<T> as Faults>⟧.faults self.new ≡ ⟦<RealSink<T> as Faults>⟧.faults self.old) }
+
+        // beyond the trait: the writer keeps its bytes, and each error is counted once
+        ensures passes { Keeps (T.contents (writer_of self.old)) (T.contents (writer_of self.new)) }
+        ensures counts { Counts (IsErr result) (⟦<RealSink<T> as Faults>⟧.faults self.old) (⟦<RealSink<T> as Faults>⟧.faults self.new) }
+    {
+        match flush_of(&mut self.writer) {
+            Ok(()) => Ok(()),
+            Err(Failed) => {
+                self.faults = one_more(self.faults);
+                Err(Stop::Failed)
+            }
         }
-        Ok(())
     }
 }

@@ -1,11 +1,12 @@
 ghost use Rattle.std.specs.Prelude.{◌≡◌, IfOk, IsUtf8};
 
 use crate::{
-    CopyFault, Failed, Files, Items, Link, MemoryFiles, MemoryLink, MemorySink, MemorySource,
-    ReadStop, RealSink, RealSource, Refusal, Sink, Source, Stop, Text, copy_all, read_all, send,
-    settle,
+    Failed, Files, Items, Link, MemoryFiles, MemoryLink, MemorySink, MemorySource, ReadStop,
+    RealSink, RealSource, Refusal, SendFault, Sink, Source, Stop, Text, is_blank, is_name, is_utf8,
+    is_utf8_where_given, read_all, send, settle,
 };
 use std::alloc::{AllocError, Global};
+use std::io::{self, ErrorKind, Read, Write};
 use std::test::Fail;
 
 fn bytes_of(alloc: Global, bytes: &[u8]) -> Result<Vec<u8>, AllocError>
@@ -111,23 +112,17 @@ fn a_link_gives_and_takes_once_connected(rt: HostRuntime) -> Result<(), Fail> {
     Ok(())
 }
 
-// However the bytes are cut, all of them arrive; a fault leaves a beginning.
+// However the bytes are cut, all of them are written; a fault leaves a beginning.
 #[test]
-fn copies_are_whole_or_a_beginning(rt: HostRuntime) -> Result<(), Fail> {
+fn pieces_are_sent_whole_or_in_part(rt: HostRuntime) -> Result<(), Fail> {
     let alloc = rt.alloc();
     for cut in [1usize, 2, 7, 100] {
-        let mut source = MemorySource::of(
-            bytes_of(alloc, b"0123456789")?,
-            cut,
-            numbers_of(alloc, &[])?,
-        );
         let mut sink = MemorySink::of(alloc, cut, numbers_of(alloc, &[])?);
-        assert!(rt; copy_all(&mut source, &mut sink) == Ok(()));
+        assert!(rt; send(&mut sink, b"0123456789") == Ok(()));
         assert!(rt; sink.written() == b"0123456789".as_slice());
     }
-    let mut source = MemorySource::of(bytes_of(alloc, b"0123456789")?, 4, numbers_of(alloc, &[3])?);
-    let mut sink = MemorySink::of(alloc, 100, numbers_of(alloc, &[])?);
-    assert!(rt; copy_all(&mut source, &mut sink) == Err(CopyFault::ReadFault));
+    let mut sink = MemorySink::of(alloc, 4, numbers_of(alloc, &[3])?);
+    assert!(rt; send(&mut sink, b"0123456789") == Err(SendFault::WriteFault));
     assert!(rt; sink.written() == b"01234567".as_slice());
     Ok(())
 }
@@ -153,20 +148,118 @@ fn a_source_is_read_up_to_the_limit(rt: HostRuntime) -> Result<(), Fail> {
     Ok(())
 }
 
-// No contract tells what they pass on.
 #[test]
 fn adapters_pass_bytes_on(rt: HostRuntime) -> Result<(), Fail> {
     let alloc = rt.alloc();
     let mut source = RealSource::of(b"real".as_slice());
-    let mut kept = MemorySink::of(alloc, 3, numbers_of(alloc, &[])?);
-    assert!(rt; copy_all(&mut source, &mut kept) == Ok(()));
-    assert!(rt; kept.written() == b"real".as_slice());
+    let all = read_all(alloc, &mut source, 4).ok().ok_or("not read")?;
+    assert!(rt; all.as_slice() == b"real".as_slice());
     let mut bytes = Vec::new(alloc);
     let mut sink = RealSink::of(&mut bytes);
     assert!(rt; send(&mut sink, b"real").is_ok());
     assert!(rt; settle(&mut sink).is_ok());
     drop(sink);
     assert!(rt; bytes.as_slice() == b"real".as_slice());
+    Ok(())
+}
+
+// A reader and a writer whose first call is interrupted and whose third one fails. It reads one byte and takes two.
+#[derive(Drop)]
+struct Shaky {
+    calls: u8,
+    flushes: u8,
+}
+
+impl Shaky {
+    fn new() -> Shaky {
+        Shaky {
+            calls: 0,
+            flushes: 0,
+        }
+    }
+
+    fn call(&mut self) -> io::Result<()> {
+        self.calls = self.calls.saturating_add(1);
+        match self.calls {
+            1 => Err(io::Error::from(ErrorKind::Interrupted)),
+            3 => Err(io::Error::from(ErrorKind::BrokenPipe)),
+            _ => Ok(()),
+        }
+    }
+}
+
+impl Read for Shaky {
+    fn read(&mut self, buf: &mut [u8]) -> io::Result<usize> {
+        self.call()?;
+        if buf.is_empty() {
+            return Ok(0);
+        }
+        buf[0] = 7;
+        Ok(1)
+    }
+}
+
+impl Write for Shaky {
+    fn write(&mut self, piece: &[u8]) -> io::Result<usize> {
+        self.call()?;
+        Ok(piece.len().min(2))
+    }
+
+    fn flush(&mut self) -> io::Result<()> {
+        self.call()?;
+        self.flushes = self.flushes.saturating_add(1);
+        Ok(())
+    }
+}
+
+// After an interruption the same is tried again; another error is answered once, and the next call works.
+#[test]
+fn adapters_answer_errors(rt: HostRuntime) {
+    let mut shaky = Shaky::new();
+    let mut source = RealSource::of(&mut shaky);
+    let mut buffer = [0u8; 4];
+    assert!(rt; source.read(&mut []) == Ok(0));
+    assert!(rt; source.read(&mut buffer) == Ok(1));
+    assert!(rt; buffer == [7, 0, 0, 0]);
+    assert!(rt; source.read(&mut buffer) == Err(Failed));
+    assert!(rt; source.read(&mut buffer) == Ok(1));
+    let mut shaky = Shaky::new();
+    let mut sink = RealSink::of(&mut shaky);
+    assert!(rt; sink.write(b"") == Ok(0));
+    assert!(rt; sink.write(b"abc") == Ok(2));
+    assert!(rt; sink.write(b"abc") == Err(Stop::Failed));
+    assert!(rt; sink.write(b"abc") == Ok(2));
+}
+
+// No contract tells that a flush is passed on.
+#[test]
+fn flushes_are_passed_on(rt: HostRuntime) {
+    let mut shaky = Shaky::new();
+    let mut sink = RealSink::of(&mut shaky);
+    assert!(rt; sink.flush() == Ok(()));
+    assert!(rt; sink.flush() == Err(Stop::Failed));
+    assert!(rt; settle(&mut sink) == Ok(()));
+    drop(sink);
+    assert!(rt; shaky.calls == 4);
+    assert!(rt; shaky.flushes == 2);
+}
+
+#[test]
+fn names_have_no_comma_and_no_control_byte(rt: HostRuntime) -> Result<(), Fail> {
+    for name in b"air;Luft-2 m;a b;\xc3\xa9".split(|byte| *byte == b';') {
+        assert!(rt; is_name(name));
+    }
+    for text in b";a,b;a\tb;a\x7f;\xc3;\xa9".split(|byte| *byte == b';') {
+        assert!(rt; !is_name(text));
+    }
+    assert!(rt; is_name(&[b'a'; 128]));
+    assert!(rt; !is_name(&[b'a'; 129]));
+    assert!(rt; b" \t\n\r".iter().all(|byte| is_blank(*byte)));
+    assert!(rt; !is_blank(11));
+    assert!(rt; is_utf8(b""));
+    assert!(rt; !is_utf8(b"\xff"));
+    assert!(rt; is_utf8_where_given(&None));
+    assert!(rt; !is_utf8_where_given(&Some(Text::of(rt.alloc(), b"\xff")?)));
     Ok(())
 }
 

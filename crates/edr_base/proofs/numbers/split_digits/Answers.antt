@@ -1,6 +1,6 @@
 use Rattle.std.proofs.Common.{arith, sym, ap, ◌∙◌, not}
 use Rattle.std.specs.Char.{is_ascii_digit}
-use Rattle.edr_base.proofs.NumberLemmas.{IsSplit-at, IsSplit-all}
+use Rattle.edr_base.specs.SplitLaws.{IsSplit-at, IsSplit-all}
 use Rattle.edr_base.proofs.numbers.split_digits.Goals as goal
 
 pub returns-then-not-is_ascii_digit : goal.returns-then-not-is_ascii_digit

@@ -1,6 +1,6 @@
 use Rattle.std.proofs.Common.{arith, ◌==◌}
 use Rattle.std.proofs.lemmas.Bool.Decides.{nat_tests}
-use Rattle.edr_base.proofs.NumberLemmas.{IsSplit-at, IsSplit-all}
+use Rattle.edr_base.specs.SplitLaws.{IsSplit-at, IsSplit-all}
 use Rattle.edr_base.proofs.numbers.split_word.Goals as goal
 
 pub returns-then-byte-eq32 : goal.returns-then-byte-eq32

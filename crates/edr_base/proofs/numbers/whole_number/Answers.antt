@@ -2,7 +2,8 @@ use Rattle.std.proofs.Common.{◌≡◌, ℤ, arith, length, subst, w64}
 use Rattle.std.proofs.lemmas.Int.{to_z-of_z}
 use Rattle.std.proofs.lemmas.Bool.Decides.{nat_tests}
 use Rattle.edr_base.specs.Numbers.{IsNumeral, IsWhole, MatchWhole}
-use Rattle.edr_base.proofs.NumberWords.{match-same, whole-from, whole-parts, whole-end}
+use Rattle.edr_base.specs.NumberLaws.{whole-parts}
+use Rattle.edr_base.proofs.NumberWords.{match-same, whole-from, whole-end}
 use Rattle.edr_base.proofs.numbers.whole_number.Goals as goal
 
 pub returns-then-is_empty : goal.returns-then-is_empty

@@ -1,7 +1,8 @@
 use Rattle.std.proofs.Common.{ℕ, arith, sym, subst}
 use Rattle.std.proofs.lemmas.Bool.Decides.{nat_tests}
 use Rattle.edr_base.specs.Numbers.{IsUnsigned}
-use Rattle.edr_base.proofs.NumberTexts.{digits-all, unsigned-not_point, unsigned-short, unsigned-from, holds, fails, some-else}
+use Rattle.edr_base.proofs.NumberTexts.{digits-all, unsigned-not_point, unsigned-short, unsigned-from, some-else}
+use Rattle.edr_base.specs.TestLaws.{holds, fails}
 use Rattle.edr_base.proofs.numbers.without_sign.Goals as goal
 
 pub returns-then-not-is_point : goal.returns-then-not-is_point

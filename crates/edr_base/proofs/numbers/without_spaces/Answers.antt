@@ -1,7 +1,8 @@
 use Rattle.std.proofs.Common.{arith, ◌==◌, not}
 use Rattle.std.proofs.lemmas.List.{take_rest}
 use Rattle.std.proofs.lemmas.Bool.Decides.{nat_tests}
-use Rattle.edr_base.proofs.NumberLemmas.{IsSplit-at, IsSplit-all, spaces-split}
+use Rattle.edr_base.specs.SplitLaws.{IsSplit-at, IsSplit-all}
+use Rattle.edr_base.proofs.NumberLemmas.{spaces-split}
 use Rattle.edr_base.proofs.numbers.without_spaces.Goals as goal
 
 pub returns-then-byte-ne32 : goal.returns-then-byte-ne32
