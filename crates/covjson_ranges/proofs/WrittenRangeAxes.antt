@@ -11,8 +11,7 @@ use Rattle.covjson_value.specs.declared.axis_names.AxisName.TheVariants.{T, Z, Y
 use Rattle.covjson_ranges.specs.declared.places.Places.{Places}
 use Rattle.covjson_value.specs.AxisNames.{axis_key}
 use Rattle.covjson_ranges.specs.Ranges.{length_of, has_range_axis, AreRangeAxes, AreInside, number_of, tree_number}
-use Rattle.covjson_ranges.specs.Orders.{IsUnturned}
-use Rattle.covjson_domains.proofs.WrittenDomains.{unturned}
+use Rattle.covjson_ranges.specs.Orders.{ascending, IsUnturned}
 use Rattle.covjson_ranges.proofs.KeptAxes.{keep, kept, kept_distinct, kept_all, kept_named, kept_number_of}
 
 -- ---- the axes that are written
@@ -134,7 +133,7 @@ names_written domain = record {
 -- ---- the places of values
 
 -- no written axis is turned round
-never_turned : IsUnturned unturned
+never_turned : IsUnturned ascending
 never_turned T = refl
 never_turned Z = refl
 never_turned Y = refl
@@ -142,5 +141,5 @@ never_turned X = refl
 never_turned Composite = refl
 
 -- the value at some places has the same number in the tree as in the range
-pub tree_number_is : (domain : Domain) (places : Places) → AreInside domain places → tree_number domain unturned (written_names domain) places ≡ number_of domain places
-tree_number_is domain places inside = kept_number_of domain unturned (is_written domain) places never_turned (unwritten_one domain) inside
+pub tree_number_is : (domain : Domain) (places : Places) → AreInside domain places → tree_number domain ascending (written_names domain) places ≡ number_of domain places
+tree_number_is domain places inside = kept_number_of domain ascending (is_written domain) places never_turned (unwritten_one domain) inside

@@ -8,8 +8,8 @@ ghost use Rattle.covjson_ranges.specs.Ranges.{AreInside, AreRangeAxes, tree_numb
 ghost use Rattle.covjson_ranges.specs.Orders.{below, ordered, IsUsual, IsUnturned, ascending, in_row, StaysInside, AreRows};
 ghost use Rattle.covjson_checks.specs.declared.faults.CovFault.TheVariants.{OutOfMemory};
 
-use covjson_checks::{CovFault, Turned};
 use crate::places::{Places, axis_len, places_of, tree_number};
+use covjson_checks::{CovFault, Turned};
 use covjson_value::{AxisName, Domain};
 use std::alloc::Global;
 
@@ -124,9 +124,7 @@ fn push_row(
 {
     for place in 0..row.length {
         let value = values[number_in_row(row, first, place)];
-        if found.push(value).is_err() {
-            return Err(CovFault::OutOfMemory);
-        }
+        found.push(value)?;
     }
     Ok(())
 }
@@ -143,9 +141,7 @@ fn arranged(
     requires counted { length values.now ≡ count_of domain.now }
     ensures { GivesUnlessMemory (λ v. v.items) result (Ok (ordered domain.now turned names.now values.now)) }
 {
-    let Ok(mut found) = Vec::with_capacity(alloc, values.len()) else {
-        return Err(CovFault::OutOfMemory);
-    };
+    let mut found = Vec::with_capacity(alloc, values.len())?;
     if values.is_empty() {
         return Ok(found);
     }

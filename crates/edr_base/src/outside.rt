@@ -1,7 +1,20 @@
 //! The outside: what bytes come from and go to, each object with a count of its faults.
 //!
-//! A meaning that is an `Option` is told only by some objects: those in memory tell their bytes,
-//! real files and sockets tell nothing. Every clause holds in both cases.
+//! The words of its contracts:
+//!
+//! - **told**: a meaning that is an `Option` is told where it is `Some`. Objects in memory tell their bytes, real files
+//!   and sockets tell nothing, and an object tells a meaning always or never. Every clause holds in both cases.
+//! - **aside** of a source: what no read changes, such as whether something is open, what was asked, and what files of
+//!   which names hold. Of a link also what was written to the peer.
+//! - **beside** of a sink: what no write and no flush changes, such as whether a peer is connected, and what is still
+//!   to come from it.
+//! - **idle**: files with none open, a link with no peer connected, or a layer over a sink that was ended. Reads then
+//!   give nothing, and writes take nothing; neither is a fault.
+//! - **lent**: an object that a call takes by `&mut`. `SourceLent` and `SinkLent` say what each such call leaves:
+//!   aside and beside as they were, and a count of faults that isn't less.
+//! - **bottom** of a layer over a sink: what stood in the sink below before the layer's own first byte. Of a sink that
+//!   is no layer it is empty.
+//! - **held**: which reference a layer over a lent sink holds; 0 of a sink that holds none.
 ghost use Rattle.std.specs.Prelude.{◌≡◌, ◌≤◌, ◌<◌, ℕ, List, [], Bool, true, length, IfOk, OnErr, IsErrOf, IsOk, is_err, Some, Option, Ok, Err, IsUtf8};
 ghost use Rattle.edr_base.specs.Outside.{Aside, Beside, Rose, Ties, TellsBottom, KeptByOpen};
 ghost use Rattle.edr_base.specs.Calls.{SourceLent, SinkLent, Reads, Appended, Flushed, Opened, asked_after, Cause};

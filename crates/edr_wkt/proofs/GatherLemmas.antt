@@ -8,7 +8,8 @@ use Rattle.edr_base.specs.declared.places.Position.{Position}
 use Rattle.edr_wkt.specs.declared.geometry.Polygon.{Polygon}
 use Rattle.edr_wkt.specs.Geometries.{polygon_size}
 use Rattle.edr_wkt.specs.Limits.{kept, kept_polygon, counted}
-use Rattle.edr_wkt.specs.Grammar.{is_blank, IsMark, IsMember, AreItems, IsList, IsPosition, IsRing, IsPolygon}
+use Rattle.edr_base.specs.Names.{is_blank}
+use Rattle.edr_wkt.specs.Grammar.{IsMark, IsMember, AreItems, IsList, IsPosition, IsRing, IsPolygon}
 use Rattle.edr_wkt.specs.Reads.{ArePositions, HasNoMark, HasNoItem, HasNoItems, IsRead, AreRead}
 use Rattle.edr_wkt.proofs.WordLemmas.{mark-unique}
 use Rattle.edr_wkt.proofs.ListLemmas.{IsUnique, Continues, continues-start, continues-step, continues-end, list-unique}

@@ -5,9 +5,10 @@ use Rattle.std.proofs.lemmas.Bool.{false≢true}
 use Rattle.std.proofs.lemmas.Bool.Decides.{nat_tests}
 use Rattle.edr_base.specs.Numbers.{IsNumeral}
 use Rattle.edr_base.specs.NumberParts.{NonePass, Stops, IsSplit}
-use Rattle.edr_base.proofs.NumberLemmas.{IsSplit-unique}
-use Rattle.edr_base.proofs.NumberWords.{IsOutside, numeral-none_pass, numeral-some}
-use Rattle.edr_wkt.specs.Grammar.{is_blank, is_end, AreBlanks, IsMark, IsNumber}
+use Rattle.edr_base.specs.SplitLaws.{IsSplit-unique}
+use Rattle.edr_base.specs.NumberLaws.{IsOutside, numeral-none_pass, numeral-some}
+use Rattle.edr_base.specs.Names.{is_blank}
+use Rattle.edr_wkt.specs.Grammar.{is_end, AreBlanks, IsMark, IsNumber}
 use Rattle.edr_wkt.specs.Reads.{not_blank, HasNoMark, BeginsWithMark}
 
 not-not : (b : Bool) → not b ≡ false → b ≡ true

@@ -1,12 +1,13 @@
--- The limits of the numbers of a geometry.
-use Rattle.std.specs.Prelude.{ℕ, ◌+◌, min, ℤ, pos, nat_le, if◌then◌else◌, map}
+-- For private clauses: numbers and positions as they are kept, and counted.
+use Rattle.std.specs.Prelude.{ℕ, ◌+◌, min, ℤ, pos, ◌+ℤ◌, nat_le, if◌then◌else◌, map}
 use Rattle.std.specs.Int.RustNames.{unsigned_abs}
+use Rattle.edr_base.specs.Limits.{position_limit, latest_time}
 use Rattle.edr_wkt.specs.declared.geometry.Polygon.{Polygon}
 use Rattle.edr_base.specs.declared.places.Position.{Position}
 
--- a number as it is kept: itself, or 253,402,300,800 where its size is beyond every limit
+-- a number as it is kept: itself, or one beyond the latest time where its size is beyond every limit
 abbrev pub kept_number : ℤ → ℤ
-kept_number z = if nat_le (unsigned_abs z) 253402300799 then z else pos 253402300800
+kept_number z = if nat_le (unsigned_abs z) (unsigned_abs latest_time) then z else latest_time +ℤ pos 1
 
 -- a position as it is kept
 abbrev pub kept : Position → Position
@@ -18,4 +19,4 @@ kept_polygon polygon = record { rings = map (map kept) polygon.rings }
 
 -- how many positions there are with n more, up to one beyond the limit
 abbrev pub counted : ℕ → ℕ → ℕ
-counted before n = min (before + n) 10001
+counted before n = min (before + n) (position_limit + 1)

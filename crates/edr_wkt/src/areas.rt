@@ -1,5 +1,6 @@
 //! Rings and polygons.
-ghost use Rattle.std.specs.Prelude.{◌≡◌, ◌≤◌, IfOk, Err, length, map};
+ghost use Rattle.std.specs.Prelude.{◌≡◌, ◌+◌, ◌≤◌, IfOk, Err, length, map};
+ghost use Rattle.edr_base.specs.Limits.{position_limit};
 ghost use Rattle.edr_wkt.specs.Limits.{kept, kept_polygon};
 ghost use Rattle.edr_wkt.specs.Geometries.{polygon_size};
 ghost use Rattle.edr_wkt.specs.Grammar.{IsRing, IsPolygon};
@@ -19,7 +20,7 @@ fn read_ring<'a>(
     text: &'a [u8],
     count: &mut usize,
 ) -> Result<(Items<Position>, &'a [u8]), Stop>
-    requires { count.old ≤ 10001 }
+    requires { count.old ≤ position_limit + 1 }
     ensures read { IfOk result (λ r. IsRead (IsRing has_z has_m) length (map kept) text.now count.old count.new r.0 r.1.now) }
     ensures not_wkt { result ≡ Err Stop.NotWkt → HasNoItem (IsRing has_z has_m) text.now }
 {
@@ -45,7 +46,7 @@ pub fn read_rings<'a>(
     text: &'a [u8],
     count: &mut usize,
 ) -> Result<(Items<Items<Position>>, &'a [u8]), Stop>
-    requires { count.old ≤ 10001 }
+    requires { count.old ≤ position_limit + 1 }
     ensures read { IfOk result (λ r. AreRead (IsRing has_z has_m) length (map kept) text.now count.old count.new r.0 r.1.now) }
     ensures not_wkt { result ≡ Err Stop.NotWkt → HasNoItems (IsRing has_z has_m) text.now }
 {
@@ -81,7 +82,7 @@ fn read_polygon<'a>(
     text: &'a [u8],
     count: &mut usize,
 ) -> Result<(Polygon, &'a [u8]), Stop>
-    requires { count.old ≤ 10001 }
+    requires { count.old ≤ position_limit + 1 }
     ensures read { IfOk result (λ r. IsRead (IsPolygon has_z has_m) polygon_size kept_polygon text.now count.old count.new r.0 r.1.now) }
     ensures not_wkt { result ≡ Err Stop.NotWkt → HasNoItem (IsPolygon has_z has_m) text.now }
 {
@@ -102,7 +103,7 @@ pub fn read_polygons<'a>(
     text: &'a [u8],
     count: &mut usize,
 ) -> Result<(Items<Polygon>, &'a [u8]), Stop>
-    requires { count.old ≤ 10001 }
+    requires { count.old ≤ position_limit + 1 }
     ensures read { IfOk result (λ r. AreRead (IsPolygon has_z has_m) polygon_size kept_polygon text.now count.old count.new r.0 r.1.now) }
     ensures not_wkt { result ≡ Err Stop.NotWkt → HasNoItems (IsPolygon has_z has_m) text.now }
 {

@@ -1,5 +1,6 @@
 //! The brackets of each kind of geometry.
-ghost use Rattle.std.specs.Prelude.{◌≡◌, ◌≤◌, ◌∷◌, [], IfOk, Err};
+ghost use Rattle.std.specs.Prelude.{◌≡◌, ◌+◌, ◌≤◌, ◌∷◌, [], IfOk, Err};
+ghost use Rattle.edr_base.specs.Limits.{position_limit};
 ghost use Rattle.edr_wkt.specs.declared.headings.Kind.TheVariants as k;
 ghost use Rattle.edr_wkt.specs.BodyReads.{IsBodyRead, HasNoBody};
 
@@ -18,7 +19,7 @@ fn read_point<'a>(
     text: &'a [u8],
     count: &mut usize,
 ) -> Result<(Geometry, &'a [u8]), Stop>
-    requires { count.old ≤ 10001 }
+    requires { count.old ≤ position_limit + 1 }
     ensures read { IfOk result (λ r. IsBodyRead k.Point has_z has_m text.now count.old count.new r.0 r.1.now) }
     ensures not_wkt { result ≡ Err Stop.NotWkt → HasNoBody k.Point has_z has_m text.now }
 {
@@ -49,7 +50,7 @@ fn read_multi_point<'a>(
     text: &'a [u8],
     count: &mut usize,
 ) -> Result<(Geometry, &'a [u8]), Stop>
-    requires { count.old ≤ 10001 }
+    requires { count.old ≤ position_limit + 1 }
     ensures read { IfOk result (λ r. IsBodyRead k.MultiPoint has_z has_m text.now count.old count.new r.0 r.1.now) }
     ensures not_wkt { result ≡ Err Stop.NotWkt → HasNoBody k.MultiPoint has_z has_m text.now }
 {
@@ -75,7 +76,7 @@ fn read_line<'a>(
     text: &'a [u8],
     count: &mut usize,
 ) -> Result<(Geometry, &'a [u8]), Stop>
-    requires { count.old ≤ 10001 }
+    requires { count.old ≤ position_limit + 1 }
     ensures read { IfOk result (λ r. IsBodyRead k.LineString has_z has_m text.now count.old count.new r.0 r.1.now) }
     ensures not_wkt { result ≡ Err Stop.NotWkt → HasNoBody k.LineString has_z has_m text.now }
 {
@@ -105,7 +106,7 @@ fn read_multi_polygon<'a>(
     text: &'a [u8],
     count: &mut usize,
 ) -> Result<(Geometry, &'a [u8]), Stop>
-    requires { count.old ≤ 10001 }
+    requires { count.old ≤ position_limit + 1 }
     ensures read { IfOk result (λ r. IsBodyRead k.MultiPolygon has_z has_m text.now count.old count.new r.0 r.1.now) }
     ensures not_wkt { result ≡ Err Stop.NotWkt → HasNoBody k.MultiPolygon has_z has_m text.now }
 {
@@ -140,7 +141,7 @@ fn read_one_polygon<'a>(
     text: &'a [u8],
     count: &mut usize,
 ) -> Result<(Geometry, &'a [u8]), Stop>
-    requires { count.old ≤ 10001 }
+    requires { count.old ≤ position_limit + 1 }
     ensures read { IfOk result (λ r. IsBodyRead k.Polygon has_z has_m text.now count.old count.new r.0 r.1.now) }
     ensures not_wkt { result ≡ Err Stop.NotWkt → HasNoBody k.Polygon has_z has_m text.now }
 {
@@ -168,7 +169,7 @@ pub fn read_body<'a>(
     text: &'a [u8],
     count: &mut usize,
 ) -> Result<(Geometry, &'a [u8]), Stop>
-    requires { count.old ≤ 10001 }
+    requires { count.old ≤ position_limit + 1 }
     ensures read { IfOk result (λ r. IsBodyRead heading.kind heading.has_z heading.has_m text.now count.old count.new r.0 r.1.now) }
     ensures not_wkt { result ≡ Err Stop.NotWkt → HasNoBody heading.kind heading.has_z heading.has_m text.now }
 {

@@ -6,8 +6,9 @@ use crate::checks::fault_of;
 use crate::faults::WktFault;
 use crate::geometry::Geometry;
 use crate::headings::read_heading;
-use crate::lists::{MOST_POSITIONS, Stop};
+use crate::lists::Stop;
 use crate::words::without_blanks;
+use edr_base::POSITION_LIMIT;
 use std::alloc::Global;
 
 /// The geometry that a text stands for (OGC 06-103r4, section 7), or the first fault that applies.
@@ -28,7 +29,7 @@ pub fn read_wkt(alloc: Global, text: &[u8]) -> Result<Geometry, WktFault>
     if !without_blanks(rest).is_empty() {
         return Err(WktFault::NotWkt);
     }
-    if count > MOST_POSITIONS {
+    if count > POSITION_LIMIT {
         return Err(WktFault::TooManyPositions);
     }
     match fault_of(&geometry) {

@@ -1,14 +1,11 @@
 //! Blanks, brackets, commas and the words between them.
 ghost use Rattle.std.specs.Prelude.{◌≡◌, ℕ, List, not, false, MatchOption};
 ghost use Rattle.edr_base.specs.NumberParts.{IsSplit};
-ghost use Rattle.edr_wkt.specs.Grammar.{is_blank, is_end, IsMark};
+ghost use Rattle.edr_base.specs.Names.{is_blank};
+ghost use Rattle.edr_wkt.specs.Grammar.{is_end, IsMark};
 ghost use Rattle.edr_wkt.specs.Reads.{not_blank, HasNoMark, BeginsWithMark, BeginsWithWord};
 
-fn is_blank(byte: u8) -> bool
-    ensures { result ≡ is_blank byte }
-{
-    byte == b' ' || byte == b'\t' || byte == b'\n' || byte == b'\r'
-}
+use edr_base::is_blank;
 
 // Whether a byte ends a word.
 fn is_end(byte: u8) -> bool

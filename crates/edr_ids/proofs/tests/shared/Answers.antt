@@ -1,6 +1,6 @@
 use Rattle.std.specs.Arc.{arc_value}
 use Rattle.edr_ids.specs.declared.tests.Word.{Word}
-use Rattle.edr_ids.proofs.SortedLists.{AscendBy-empty}
+use Rattle.edr_ids.specs.ListLaws.{AscendBy-empty}
 use Rattle.edr_ids.proofs.tests.shared.Goals as goal
 
 pub loop-word-init : goal.loop-word-init

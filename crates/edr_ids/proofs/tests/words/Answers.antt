@@ -1,5 +1,5 @@
 use Rattle.edr_ids.specs.declared.tests.Word.{Word}
-use Rattle.edr_ids.proofs.SortedLists.{AscendBy-empty}
+use Rattle.edr_ids.specs.ListLaws.{AscendBy-empty}
 use Rattle.edr_ids.proofs.tests.words.Goals as goal
 
 pub loop-number-init : goal.loop-number-init

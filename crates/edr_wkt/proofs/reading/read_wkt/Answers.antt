@@ -17,26 +17,26 @@ returns-then-not-is_empty c = λ g w.
     let end : length c.without_blanks.result.now ≡ 0 = blanks-end _ s.0 _ s.1 (wkt-end c.args.text.now _ _ _ _ _ _ _ _ c.in-Some.ensures c.in-Ok.ensures.read g w) in
     grind (arith, nat_tests)
 
-pub returns-then-count-gt-MOST_POSITIONS : goal.returns-then-count-gt-MOST_POSITIONS
-returns-then-count-gt-MOST_POSITIONS c =
+pub returns-then-count-gt-POSITION_LIMIT : goal.returns-then-count-gt-POSITION_LIMIT
+returns-then-count-gt-POSITION_LIMIT c =
     let s = c.without_blanks.ensures in
     let end : length c.without_blanks.result.now ≡ 0 = grind (arith, nat_tests) in
-    read-many c.args.text.now _ _ _ _ _ _ _ c.in-Some.ensures c.in-Ok.ensures.read (blanks-from _ s.0 _ s.1 end) c.if-count-gt-MOST_POSITIONS.true
+    read-many c.args.text.now _ _ _ _ _ _ _ c.in-Some.ensures c.in-Ok.ensures.read (blanks-from _ s.0 _ s.1 end) c.if-count-gt-POSITION_LIMIT.true
 
 pub fault_of-requires-clause-few : goal.fault_of-requires-clause-few
-fault_of-requires-clause-few c = read-few _ _ _ _ _ _ _ c.in-Ok.ensures.read c.if-count-gt-MOST_POSITIONS.false
+fault_of-requires-clause-few c = read-few _ _ _ _ _ _ _ c.in-Ok.ensures.read c.if-count-gt-POSITION_LIMIT.false
 
 pub fault_of-requires-clause-rings : goal.fault_of-requires-clause-rings
-fault_of-requires-clause-rings c = read-few_rings _ _ _ _ _ _ _ c.in-Ok.ensures.read c.if-count-gt-MOST_POSITIONS.false
+fault_of-requires-clause-rings c = read-few_rings _ _ _ _ _ _ _ c.in-Ok.ensures.read c.if-count-gt-POSITION_LIMIT.false
 
 pub returns-in-Some-fault_of : goal.returns-in-Some-fault_of
 returns-in-Some-fault_of c =
     let s = c.without_blanks.ensures in
     let end : length c.without_blanks.result.now ≡ 0 = grind (arith, nat_tests) in
-    read-fault c.args.text.now _ _ _ _ _ _ _ c.in-Some-fault_of.fault c.in-Some.ensures c.in-Ok.ensures.read (blanks-from _ s.0 _ s.1 end) c.if-count-gt-MOST_POSITIONS.false c.in-Some-fault_of.ensures
+    read-fault c.args.text.now _ _ _ _ _ _ _ c.in-Some-fault_of.fault c.in-Some.ensures c.in-Ok.ensures.read (blanks-from _ s.0 _ s.1 end) c.if-count-gt-POSITION_LIMIT.false c.in-Some-fault_of.ensures
 
 pub returns-in-None : goal.returns-in-None
 returns-in-None c =
     let s = c.without_blanks.ensures in
     let end : length c.without_blanks.result.now ≡ 0 = grind (arith, nat_tests) in
-    read-sound c.args.text.now _ _ _ _ _ _ _ c.in-Some.ensures c.in-Ok.ensures.read (blanks-from _ s.0 _ s.1 end) c.if-count-gt-MOST_POSITIONS.false c.in-None.ensures
+    read-sound c.args.text.now _ _ _ _ _ _ _ c.in-Some.ensures c.in-Ok.ensures.read (blanks-from _ s.0 _ s.1 end) c.if-count-gt-POSITION_LIMIT.false c.in-None.ensures
