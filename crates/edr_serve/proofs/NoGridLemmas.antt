@@ -5,7 +5,7 @@ use Rattle.serde_json.specs.Data.{Data, null}
 use Rattle.edr_base.specs.Calls.{ReadsAll, ReadsMore}
 use Rattle.covjson_value.specs.declared.coverages.Coverage.{Coverage}
 use Rattle.edr_json.specs.Json.{IsJson}
-use Rattle.covjson_read.specs.CoverageAnswers.{TreesStandForOne}
+use Rattle.covjson_read.specs.Laws.{TreesStandForOne}
 use Rattle.covjson_read.specs.Standing.{Stands}
 use Rattle.edr_serve.specs.Line.{IsOneLine, LineIsOne}
 use Rattle.edr_serve.specs.Grids.{IsGridWithoutLevels, IsInput, HoldsNoGrid, HoldsNoGridIn}
