@@ -75,12 +75,22 @@ pub fn run<S: Source, K: Sink, D: Sink, F: Files, L: Link>(
     link: &mut L,
 ) -> u8
     ensures ends { (ending : Ending) × Ends ending (asked_by words.now) result
-        (record { left = S.left input.old; written = K.written output.old; flushed = K.flushed output.old; told = D.written errors.old;
-            counts = record { input = S.faults input.old; output = K.faults output.old; files = F.faults files.old; link = L.faults link.old };
-            errors = D.faults errors.old })
-        (record { left = S.left input.new; written = K.written output.new; flushed = K.flushed output.new; told = D.written errors.new;
-            counts = record { input = S.faults input.new; output = K.faults output.new; files = F.faults files.new; link = L.faults link.new };
-            errors = D.faults errors.new }) }
+        (record {
+          left = S.left input.old;
+          written = K.written output.old;
+          flushed = K.flushed output.old;
+          told = D.written errors.old;
+          counts = record { input = S.faults input.old; output = K.faults output.old; files = F.faults files.old; link = L.faults link.old };
+          errors = D.faults errors.old;
+        })
+        (record {
+          left = S.left input.new;
+          written = K.written output.new;
+          flushed = K.flushed output.new;
+          told = D.written errors.new;
+          counts = record { input = S.faults input.new; output = K.faults output.new; files = F.faults files.new; link = L.faults link.new };
+          errors = D.faults errors.new;
+        }) }
     ensures unread { IsNone (asked_by words.now) → (input.new ≡ input.old) × (output.new ≡ output.old) }
     ensures input { SourceLent (S.aside input.old) (S.aside input.new) (S.faults input.old) (S.faults input.new) }
     ensures output { SinkLent (K.beside output.old) (K.beside output.new) (K.faults output.old) (K.faults output.new) }
