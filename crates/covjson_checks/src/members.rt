@@ -4,9 +4,11 @@ ghost use Rattle.serde_json.specs.View.{view, items_view, members_view, number_v
 ghost use Rattle.serde_json.specs.Find.{get};
 ghost use Rattle.covjson_checks.specs.Answers.{Gives, GivesUnlessMemory, each};
 ghost use Rattle.edr_base.specs.FirstThatApplies.{or_fault};
+ghost use Rattle.edr_json.specs.Trees.{whole_of};
 ghost use Rattle.covjson_checks.specs.Members as members;
 
 use crate::faults::{CovFault, Member};
+use edr_json::whole_of;
 use serde_json::{Map, Number, Value};
 use std::alloc::Global;
 
@@ -205,14 +207,10 @@ pub fn wholes(
     requires { limit < 2 ^ 63 }
     ensures { GivesUnlessMemory (λ v. v.items) result (each (members.whole_within member limit) (items_view items.now.items)) }
 {
-    let Ok(mut found) = Vec::with_capacity(alloc, items.len()) else {
-        return Err(CovFault::OutOfMemory);
-    };
+    let mut found = Vec::with_capacity(alloc, items.len())?;
     for item in items {
         let whole = whole_within(item, member, limit)?;
-        if found.push(whole).is_err() {
-            return Err(CovFault::OutOfMemory);
-        }
+        found.push(whole)?;
     }
     Ok(found)
 }
@@ -227,14 +225,10 @@ pub fn wholes_or_nulls(
     requires { limit < 2 ^ 63 }
     ensures { GivesUnlessMemory (λ v. v.items) result (each (members.whole_or_null member limit) (items_view items.now.items)) }
 {
-    let Ok(mut found) = Vec::with_capacity(alloc, items.len()) else {
-        return Err(CovFault::OutOfMemory);
-    };
+    let mut found = Vec::with_capacity(alloc, items.len())?;
     for item in items {
         let whole = whole_or_null(item, member, limit)?;
-        if found.push(whole).is_err() {
-            return Err(CovFault::OutOfMemory);
-        }
+        found.push(whole)?;
     }
     Ok(found)
 }

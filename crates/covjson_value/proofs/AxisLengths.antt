@@ -1,15 +1,16 @@
 -- A valid axis is short: it ascends between two bounds.
-use Rattle.std.proofs.Common.{◌≡◌, ℕ, zero, suc, ◌+◌, ◌-◌, ◌<◌, ◌≤◌, ◌^◌, ℤ, pos, neg_ℤ, ◌+ℤ◌, ◌≤ℤ◌, unsigned_abs, Bool, true, false, if◌then◌else◌, List, [], length, All, Option, Some, None, IfSome, refl, arith, add-one}
+use Rattle.std.proofs.Common.{◌≡◌, ℕ, zero, suc, ◌+◌, ◌-◌, ◌<◌, ◌≤◌, ◌^◌, ℤ, pos, neg_ℤ, ◌+ℤ◌, ◌≤ℤ◌, Bool, true, false, if◌then◌else◌, List, [], length, All, Option, Some, None, IfSome, refl, arith, add-one}
 use Rattle.std.proofs.lemmas.Int.{ints}
 use Rattle.std.proofs.lemmas.List.Elements.{All-nil, All-cons}
 use Rattle.json.proofs.Printed.Utf8.{are_ascii}
+use Rattle.edr_base.specs.Limits.{coordinate_limit, earliest_time, latest_time}
 use Rattle.edr_base.specs.declared.places.Position.{Position}
 use Rattle.edr_axes.specs.Axes.{value_at, IsAscending, IsAxis}
 use Rattle.covjson_value.specs.declared.domains.CoordinateName.{CoordinateName}
 use Rattle.covjson_value.specs.declared.domains.CoordinateName.TheVariants.{T, Z, Y, X}
 use Rattle.covjson_value.specs.declared.domains.Domain.{Domain}
 use Rattle.covjson_value.specs.Domains.{AxisLength, coordinate_key, axis_of, tuples_of, coordinates_of, axis_before, composite_alone, is_grid, long_axis, range_axes, range_axis_of, range_tuples_of}
-use Rattle.covjson_value.specs.Coverages.{IsNamedAxis, HasAxes, AreTuples, HasTuples}
+use Rattle.covjson_value.specs.Coverages.{IsCoordinate, IsNamedAxis, HasAxes, AreTuples, HasTuples}
 
 rises : (values : List ℤ) → IsAscending values → (place : ℕ) → place < length values → (value_at values 0 +ℤ pos place) ≤ℤ value_at values place
 rises values ascends zero inside = omega (arith, ints)
@@ -32,17 +33,17 @@ length_between values low high n axis between near =
 abbrev pub IsShort : List ℤ → Type 0
 IsShort values = length values < 2 ^ 63
 
-coordinate_between : (value : ℤ) → unsigned_abs value ≤ 100_000_000 → (neg_ℤ (pos 100_000_000) ≤ℤ value) × (value ≤ℤ pos 100_000_000)
+coordinate_between : (value : ℤ) → IsCoordinate value → (neg_ℤ (pos coordinate_limit) ≤ℤ value) × (value ≤ℤ pos coordinate_limit)
 coordinate_between value h = (omega (arith, ints, h), omega (arith, ints, h))
 
-coordinates_short : (values : List ℤ) → IsAxis values → All (λ value. unsigned_abs value ≤ 100_000_000) values → IsShort values
+coordinates_short : (values : List ℤ) → IsAxis values → All IsCoordinate values → IsShort values
 coordinates_short values axis within =
-    let between : AreBetween (neg_ℤ (pos 100_000_000)) (pos 100_000_000) values = λ place inside. coordinate_between (value_at values place) (within place (pos 0) inside) in
-    omega (arith, length_between values (neg_ℤ (pos 100_000_000)) (pos 100_000_000) 200_000_000 axis between (omega (arith, ints)))
+    let between : AreBetween (neg_ℤ (pos coordinate_limit)) (pos coordinate_limit) values = λ place inside. coordinate_between (value_at values place) (within place (pos 0) inside) in
+    omega (arith, length_between values (neg_ℤ (pos coordinate_limit)) (pos coordinate_limit) (coordinate_limit + coordinate_limit) axis between (omega (arith, ints)))
 
 IsShort-axis : (name : CoordinateName) (values : List ℤ) → IsNamedAxis name values → IsShort values
 IsShort-axis T values h =
-    omega (arith, length_between values (neg_ℤ (pos 62_167_219_200)) (pos 253_402_300_799) 400_000_000_000 h.ascending (λ place inside. h.within place (pos 0) inside) (omega (arith, ints)))
+    omega (arith, length_between values earliest_time latest_time (2 ^ 40) h.ascending (λ place inside. h.within place (pos 0) inside) (omega (arith, ints)))
 IsShort-axis Z values h = coordinates_short values h.ascending h.within
 IsShort-axis Y values h = coordinates_short values h.ascending h.within
 IsShort-axis X values h = coordinates_short values h.ascending h.within

@@ -1,8 +1,7 @@
 pub mod Rows
 pub mod Order
 pub mod InTime
-pub mod Counts
-pub mod Tuples
+pub mod RegularGaps
 pub mod InOrder
 pub mod TimeTexts
 pub mod NamedParts

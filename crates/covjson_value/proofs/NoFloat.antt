@@ -1,10 +1,11 @@
 -- The tree of a coverage has no float.
-use Rattle.std.proofs.Common.{◌≡◌, ℕ, ℤ, pos, negsuc, List, [], ◌∷◌, map, Option, Some, None, IfSome, option_map, false, true, Bool, refl}
+use Rattle.std.proofs.Common.{◌≡◌, ℕ, ◌-◌, ℤ, pos, negsuc, List, [], ◌∷◌, length, map, if◌then◌else◌, Option, Some, None, IfSome, option_map, false, true, Bool, refl}
 use Rattle.std.specs.List.{zip}
 use Rattle.serde_json.specs.Data.{Data, string, Members, Items}
 use Rattle.serde_json.specs.View.{items_of}
 use Rattle.serde_json.specs.Written.{has_float, items_have_float, members_have_float}
 use Rattle.edr_base.specs.declared.places.Position.{Position}
+use Rattle.edr_axes.specs.Axes.{value_at}
 use Rattle.covjson_value.specs.declared.domains.CoordinateName.{CoordinateName}
 use Rattle.covjson_value.specs.declared.domains.CoordinateName.TheVariants.{T, Z, Y, X}
 use Rattle.covjson_value.specs.declared.domains.Domain.{Domain}
@@ -47,9 +48,19 @@ axis_value-NoFloat Z value = integer-NoFloat value
 axis_value-NoFloat Y value = integer-NoFloat value
 axis_value-NoFloat X value = integer-NoFloat value
 
+list-NoFloat : (name : CoordinateName) (values : List ℤ) → NoFloat (Trees.list_data name values)
+list-NoFloat name values = rw (items_of-NoFloat (Trees.axis_value_data name) (axis_value-NoFloat name) values) refl
+
+span-NoFloat : (values : List ℤ) → NoFloat (Trees.span_data values)
+span-NoFloat values = rw (integer-NoFloat (value_at values 0), integer-NoFloat (value_at values (length values - 1))) refl
+
+chosen-NoFloat : (short : Bool) (name : CoordinateName) (values : List ℤ) → NoFloat (if short then Trees.span_data values else Trees.list_data name values)
+chosen-NoFloat true name values = span-NoFloat values
+chosen-NoFloat false name values = list-NoFloat name values
+
 axis-NoFloat : (name : CoordinateName) (axis : Option (List ℤ)) → IfSome (option_map (Trees.axis_data name) axis) NoFloat
 axis-NoFloat name None = tt
-axis-NoFloat name (Some values) = rw (items_of-NoFloat (Trees.axis_value_data name) (axis_value-NoFloat name) values) refl
+axis-NoFloat name (Some values) = chosen-NoFloat (Trees.is_spanned name values) name values
 
 keys-NoFloat : (names : List CoordinateName) → NoFloat (Trees.keys_data names)
 keys-NoFloat names = items_of-NoFloat (λ name. string (coordinate_key name)) (λ name. refl) names

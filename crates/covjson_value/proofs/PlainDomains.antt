@@ -1,8 +1,9 @@
 -- The tree of a valid domain is plain and shallow.
-use Rattle.std.proofs.Common.{◌≡◌, ℕ, suc, ◌≤◌, ℤ, unsigned_abs, codes, List, [], ◌∷◌, Option, Some, None, IfSome, option_map, true, IsUtf8, Greater, nat_cmp, refl, arith}
+use Rattle.std.proofs.Common.{◌≡◌, ℕ, suc, ◌-◌, ℤ, pos, codes, Bool, false, if◌then◌else◌, List, [], ◌∷◌, length, All, Option, Some, None, IfSome, option_map, true, IsUtf8, Greater, nat_cmp, refl, arith}
 use Rattle.std.specs.Cmp.Lexicographic.{slice_cmp}
 use Rattle.serde_json.specs.Data.{Data, string, object, no_members, member}
 use Rattle.edr_base.specs.declared.places.Position.{Position}
+use Rattle.edr_axes.specs.Axes.{value_at}
 use Rattle.edr_axes.specs.Instants.{TimesAreWritten}
 use Rattle.covjson_value.specs.declared.domains.CoordinateName.{CoordinateName}
 use Rattle.covjson_value.specs.declared.domains.CoordinateName.TheVariants.{T, Z, Y, X}
@@ -10,17 +11,18 @@ use Rattle.covjson_value.specs.declared.domains.Domain.{Domain}
 use Rattle.covjson_value.specs.declared.domains.Domain.TheVariants.{Grid, Point, PointSeries, VerticalProfile, MultiPoint, Trajectory}
 use Rattle.covjson_value.specs.declared.coverages.Referencing.{Referencing}
 use Rattle.covjson_value.specs.Domains.{coordinate_key, axis_of, tuples_of, coordinates_of, coordinate, has_coordinate}
-use Rattle.covjson_value.specs.Coverages.{IsAxisValue, IsNamedAxis, HasAxes, IsTuple, AreTuples, HasTuples, IsReferencing}
+use Rattle.covjson_value.specs.Coverages.{IsCoordinate, IsAxisValue, IsNamedAxis, HasAxes, IsTuple, AreTuples, HasTuples, IsReferencing}
 use Rattle.covjson_value.specs.Trees
+use Rattle.covjson_value.specs.RegularLaws.{AreRegular, regular_tells, IsSpanned, spanned_tells}
 use Rattle.json.proofs.Printed.Utf8.{are_ascii, IsUtf8-are_ascii}
 use Rattle.std.specs.Prelude.{⊤}
-use Rattle.covjson_value.proofs.Within.{IsWithin, within_more, text_within, word_within, integer_within, array_within, none_within, item_within, item_if_within, array_of_within, object_within, no_members_within, named_within, member_if_within, alone_within}
+use Rattle.covjson_value.proofs.Within.{IsWithin, within_more, text_within, word_within, integer_within, count_within, array_within, none_within, item_within, item_if_within, array_of_within, object_within, no_members_within, named_within, member_if_within, alone_within}
 use Rattle.covjson_value.proofs.TimeTexts.{IsUtf8-IsWritten}
-use Rattle.covjson_value.proofs.Tuples.{coordinates_are_values}
+use Rattle.covjson_value.specs.TupleLaws.{coordinates_are_values}
 
 -- ---- axes
 
-coordinate_within : (n : ℕ) (value : ℤ) → unsigned_abs value ≤ 100_000_000 → IsWithin n (Trees.integer value)
+coordinate_within : (n : ℕ) (value : ℤ) → IsCoordinate value → IsWithin n (Trees.integer value)
 coordinate_within n value h = integer_within n value (omega (arith, h))
 
 axis_value_within : TimesAreWritten → (n : ℕ) (name : CoordinateName) (value : ℤ) → IsAxisValue name value → IsWithin n (Trees.axis_value_data name value)
@@ -29,10 +31,29 @@ axis_value_within written n Z value h = coordinate_within n value h
 axis_value_within written n Y value h = coordinate_within n value h
 axis_value_within written n X value h = coordinate_within n value h
 
+list_within : TimesAreWritten → (n : ℕ) (name : CoordinateName) (values : List ℤ) → All (IsAxisValue name) values → IsWithin (suc (suc n)) (Trees.list_data name values)
+list_within written n name values h =
+    alone_within (suc n) (codes "values") _ (IsUtf8-are_ascii _ refl) (array_of_within n (IsAxisValue name) (Trees.axis_value_data name) (axis_value_within written n name) values h)
+
+span_within : (n : ℕ) (values : List ℤ) → AreRegular values → All IsCoordinate values → IsWithin (suc n) (Trees.span_data values)
+span_within n values regular h =
+    let several = regular.several in
+    let few = regular.few in
+    object_within n _
+    (named_within n [] (codes "num") _ _ refl refl (count_within n (length values) (omega arith))
+    (named_within n (codes "num") (codes "start") _ _ refl refl (coordinate_within n (value_at values 0) (h 0 (pos 0) (omega arith)))
+    (named_within n (codes "start") (codes "stop") _ _ refl refl (coordinate_within n (value_at values (length values - 1)) (h (length values - 1) (pos 0) (omega arith))) (no_members_within n _))))
+
+chosen_within : TimesAreWritten → (n : ℕ) (name : CoordinateName) (values : List ℤ) (short : Bool) → (short ≡ true → IsSpanned name values) → All (IsAxisValue name) values
+    → IsWithin (suc (suc n)) (if short then Trees.span_data values else Trees.list_data name values)
+chosen_within written n name values true spanned h =
+    let is = spanned refl in
+    span_within (suc n) values (regular_tells values is.regular) (is.numbers h)
+chosen_within written n name values false spanned h = list_within written n name values h
+
 axis_within : TimesAreWritten → (n : ℕ) (name : CoordinateName) (axis : Option (List ℤ)) → IfSome axis (IsNamedAxis name) → IfSome (option_map (Trees.axis_data name) axis) (IsWithin (suc (suc n)))
 axis_within written n name None h = tt
-axis_within written n name (Some values) h =
-    alone_within (suc n) (codes "values") _ (IsUtf8-are_ascii _ refl) (array_of_within n (IsAxisValue name) (Trees.axis_value_data name) (axis_value_within written n name) values h.within)
+axis_within written n name (Some values) h = chosen_within written n name values (Trees.is_spanned name values) (spanned_tells name values) h.within
 
 key_within : (n : ℕ) (name : CoordinateName) → IsWithin n (string (coordinate_key name))
 key_within n T = word_within n (codes "t") refl

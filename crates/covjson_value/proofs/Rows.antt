@@ -38,6 +38,20 @@ grid_row : coverage_text grid ≡ codes "{\"domain\":{\"axes\":{\"x\":{\"values\
 unfolding serde_json_on_literals grid temperature digits
 grid_row = refl
 
+-- levels that are equally far apart are written short; columns that aren't, and two rows, are listed
+levels : Coverage
+levels = record {
+  id = None;
+  domain = Grid None (Some (negsuc 1 ∷ pos 0 ∷ pos 2 ∷ [])) (pos 0 ∷ pos 5 ∷ []) (pos 1 ∷ pos 2 ∷ pos 4 ∷ []);
+  referencing = record { crs = []; vertical = None };
+  parameters = [];
+  ranges = [];
+}
+
+levels_row : coverage_text levels ≡ codes "{\"domain\":{\"axes\":{\"x\":{\"values\":[1,2,4]},\"y\":{\"values\":[0,5]},\"z\":{\"num\":3,\"start\":-2,\"stop\":2}},\"domainType\":\"Grid\",\"referencing\":[{\"coordinates\":[\"x\",\"y\"],\"system\":{\"type\":\"ProjectedCRS\"}},{\"coordinates\":[\"z\"],\"system\":{\"type\":\"VerticalCRS\"}}],\"type\":\"Domain\"},\"parameters\":{},\"ranges\":{},\"type\":\"Coverage\"}"
+unfolding serde_json_on_literals levels digits
+levels_row = refl
+
 places : Coverage
 places = record {
   id = None;

@@ -1,8 +1,9 @@
 -- The tree of a valid domain tells the domain and its referencing.
-use Rattle.std.proofs.Common.{◌≡◌, ℕ, ℤ, Bool, true, false, true≢false, bytes_eq, codes, List, [], ◌∷◌, Option, Some, None, IsSome, option_map, refl, ap₂, sym}
+use Rattle.std.proofs.Common.{◌≡◌, ℕ, ◌-◌, ℤ, pos, Bool, true, false, true≢false, bytes_eq, if◌then◌else◌, codes, List, [], ◌∷◌, length, All, Option, Some, None, IsSome, option_map, refl, ap, ap₂, sym}
 use Rattle.std.specs.Prelude.{⊤, IsTrue}
 use Rattle.std.proofs.lemmas.Slice.Eq.{bytes_eq-Decides}
 use Rattle.serde_json.specs.Data.{Data, string, Items, no_items, Members, member, no_members}
+use Rattle.edr_axes.specs.Axes.{value_at}
 use Rattle.edr_axes.specs.Instants.{TextsTellTimes}
 use Rattle.covjson_value.specs.declared.domains.CoordinateName.{CoordinateName}
 use Rattle.covjson_value.specs.declared.domains.CoordinateName.TheVariants.{T, Z, Y, X}
@@ -12,13 +13,41 @@ use Rattle.covjson_value.specs.declared.coverages.Referencing.{Referencing}
 use Rattle.covjson_value.specs.Domains.{single, axis_of, tuples_of, coordinates_of, level_if, has_coordinate}
 use Rattle.covjson_value.specs.Coverages.{IsAxisValue, IsNamedAxis, HasAxes, HasTuples}
 use Rattle.covjson_value.specs.Trees
-use Rattle.covjson_value.proofs.Telling.{Tells, any_given, option_tells, array_of_tells, IsApart, none_apart, member_apart, member_if_apart, member_if_tells}
+use Rattle.covjson_value.specs.RegularLaws.{regular_is_one, IsSpanned, spanned_tells}
+use Rattle.covjson_value.proofs.Telling.{Tells, any_given, integer_tells, option_tells, array_of_tells, IsApart, none_apart, member_apart, member_if_apart, member_if_tells}
 use Rattle.covjson_value.proofs.TellingTuples.{axis_value_tells, SameTuples, composite_tells}
 
 -- ---- axes
 
+list_tells : TextsTellTimes → (name : CoordinateName) → Tells (All (IsAxisValue name)) (Trees.list_data name)
+list_tells told name one other h k e = array_of_tells (IsAxisValue name) (Trees.axis_value_data name) (axis_value_tells told name) one other h k (cc)
+
+span_tells : Tells (λ values. Trees.is_regular values ≡ true) Trees.span_data
+span_tells one other h k e =
+    let counts : pos (length one) ≡ pos (length other) = integer_tells (pos (length one)) (pos (length other)) (cc) in
+    let firsts : value_at one 0 ≡ value_at other 0 = integer_tells (value_at one 0) (value_at other 0) (cc) in
+    let lasts : value_at one (length one - 1) ≡ value_at other (length other - 1) = integer_tells (value_at one (length one - 1)) (value_at other (length other - 1)) (cc) in
+    regular_is_one one other h k (cc) firsts lasts
+
+-- the first members have unlike names
+unlike : (name : CoordinateName) (one other : List ℤ) → Trees.span_data one ≡ Trees.list_data name other → ⊥
+unlike name one other e =
+    let names : codes "num" ≡ codes "values" = cc in
+    true≢false (ap (bytes_eq (codes "num")) names)
+
+abbrev chosen : CoordinateName → Bool → List ℤ → Data
+chosen name short values = if short then Trees.span_data values else Trees.list_data name values
+
+chosen_tells : TextsTellTimes → (name : CoordinateName) (short shorter : Bool) (one other : List ℤ) → (short ≡ true → IsSpanned name one) → (shorter ≡ true → IsSpanned name other)
+    → All (IsAxisValue name) one → All (IsAxisValue name) other → chosen name short one ≡ chosen name shorter other → one ≡ other
+chosen_tells told name true true one other h k within within₂ e = span_tells one other (h refl).regular (k refl).regular e
+chosen_tells told name true false one other h k within within₂ e = absurd (unlike name one other e)
+chosen_tells told name false true one other h k within within₂ e = absurd (unlike name other one (sym e))
+chosen_tells told name false false one other h k within within₂ e = list_tells told name one other within within₂ e
+
 axis_tells : TextsTellTimes → (name : CoordinateName) → Tells (IsNamedAxis name) (Trees.axis_data name)
-axis_tells told name one other h k e = array_of_tells (IsAxisValue name) (Trees.axis_value_data name) (axis_value_tells told name) one other h.within k.within (cc)
+axis_tells told name one other h k e =
+    chosen_tells told name (Trees.is_spanned name one) (Trees.is_spanned name other) one other (spanned_tells name one) (spanned_tells name other) h.within k.within e
 
 -- the members that follow an axis
 abbrev after_y : Domain → Members

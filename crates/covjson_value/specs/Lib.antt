@@ -6,3 +6,6 @@ pub mod Samples
 pub mod Laws
 pub mod AxisNames
 pub mod MemberLaws
+pub mod RegularLaws
+pub mod CountLaws
+pub mod TupleLaws

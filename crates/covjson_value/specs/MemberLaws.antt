@@ -1,11 +1,8 @@
 -- Laws of members that may be left out.
-use Rattle.std.proofs.Common.{◌≡◌, ℕ, List, [], ◌∷◌, map, All, Option, Some, None, refl}
-use Rattle.std.proofs.lemmas.List.Elements.{All-head, All-tail}
+use Rattle.std.proofs.Common.{◌≡◌, ℕ, List, Option, Some, None, refl}
 use Rattle.serde_json.specs.Data.{Data, Members, member}
 use Rattle.serde_json.specs.Find.{get_member}
-use Rattle.serde_json.specs.View.{items_of}
 use Rattle.covjson_value.specs.Trees.{member_if}
-use Rattle.edr_json.specs.Trees.{EachStands}
 
 -- a member of another name is passed over, whether it is there or not
 pub member_passed : (name other : List ℕ) (given : Option Data) (rest : Members) → ((d : Data) → get_member name (member other d rest) ≡ get_member name rest)

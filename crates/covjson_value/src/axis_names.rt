@@ -29,4 +29,3 @@ pub fn axis_key(name: AxisName) -> &'static str
         AxisName::Composite => "composite",
     }
 }
-

@@ -1,14 +1,18 @@
 //! The trees of a domain's axes.
-ghost use Rattle.std.specs.Prelude.{◌≡◌, IfOk, OnOk, IfSome, All, codes, option_map};
+ghost use Rattle.std.specs.Prelude.{◌≡◌, IfOk, OnOk, IfSome, All, option_map};
 ghost use Rattle.serde_json.specs.View.{view, members_view};
 ghost use Rattle.covjson_value.specs.Domains.{coordinate_key, axis_of, tuples_of, coordinates_of};
 ghost use Rattle.covjson_value.specs.Domains as domains;
+ghost use Rattle.covjson_value.specs.AxisNames.{axis_key};
+ghost use Rattle.covjson_value.specs.declared.axis_names.AxisName.TheVariants.{Composite};
 ghost use Rattle.covjson_value.specs.Coverages.{IsAxisValue, IsNamedAxis, HasAxes, HasTuples};
-ghost use Rattle.covjson_value.specs.Trees.{array_of, axis_value_data, axis_data, keys_data, tuple_data, composite_data, axes_data};
+ghost use Rattle.covjson_value.specs.Trees.{array_of, axis_value_data, list_data, is_spanned, axis_data, keys_data, tuple_data, composite_data, axes_data};
 ghost use Rattle.covjson_value.specs.Puts.{put_if};
 
+use crate::axis_names::{AxisName, axis_key};
 use crate::domains::{CoordinateName, Domain};
 use crate::leaves::time_tree;
+use crate::regular_axes::{is_regular, span_tree};
 use edr_base::{OutOfMemory, Position};
 use serde_json::{Map, Value, json};
 use std::alloc::Global;
@@ -37,7 +41,11 @@ fn axis_value_tree(alloc: Global, name: CoordinateName, value: i64) -> Result<Va
     }
 }
 
-fn axis_values_tree(alloc: Global, name: CoordinateName, values: &[i64]) -> Result<Value, OutOfMemory>
+fn axis_values_tree(
+    alloc: Global,
+    name: CoordinateName,
+    values: &[i64],
+) -> Result<Value, OutOfMemory>
     requires { All (IsAxisValue name) values.now }
     ensures { IfOk result (λ v. view v ≡ array_of (axis_value_data name) values.now) }
 {
@@ -48,12 +56,34 @@ fn axis_values_tree(alloc: Global, name: CoordinateName, values: &[i64]) -> Resu
     Ok(Value::Array(items))
 }
 
-fn axis_tree(alloc: Global, name: CoordinateName, values: &[i64]) -> Result<Value, OutOfMemory>
+fn list_tree(alloc: Global, name: CoordinateName, values: &[i64]) -> Result<Value, OutOfMemory>
     requires { All (IsAxisValue name) values.now }
-    ensures { IfOk result (λ v. view v ≡ axis_data name values.now) }
+    ensures { IfOk result (λ v. view v ≡ list_data name values.now) }
 {
     let values = axis_values_tree(alloc, name, values)?;
     Ok(json!(in alloc; {"values": values})?)
+}
+
+// Times are always listed.
+fn is_spanned(name: CoordinateName, values: &[i64]) -> bool
+    requires { All (IsAxisValue name) values.now }
+    ensures { result ≡ is_spanned name values.now }
+{
+    match name {
+        CoordinateName::T => false,
+        CoordinateName::Z | CoordinateName::Y | CoordinateName::X => is_regular(values),
+    }
+}
+
+fn axis_tree(alloc: Global, name: CoordinateName, values: &[i64]) -> Result<Value, OutOfMemory>
+    requires { IsNamedAxis name values.now }
+    ensures { IfOk result (λ v. view v ≡ axis_data name values.now) }
+{
+    if is_spanned(name, values) {
+        span_tree(alloc, values)
+    } else {
+        list_tree(alloc, name, values)
+    }
 }
 
 // A coordinate of a tuple.
@@ -68,7 +98,11 @@ fn coordinate(tuple: &Position, name: CoordinateName) -> i64
     }
 }
 
-fn tuple_tree(alloc: Global, names: &[CoordinateName], tuple: &Position) -> Result<Value, OutOfMemory>
+fn tuple_tree(
+    alloc: Global,
+    names: &[CoordinateName],
+    tuple: &Position,
+) -> Result<Value, OutOfMemory>
     requires { All (λ name. IsAxisValue name (domains.coordinate name tuple.now)) names.now }
     ensures { IfOk result (λ v. view v ≡ tuple_data names.now tuple.now) }
 {
@@ -79,7 +113,11 @@ fn tuple_tree(alloc: Global, names: &[CoordinateName], tuple: &Position) -> Resu
     Ok(Value::Array(items))
 }
 
-fn tuples_tree(alloc: Global, names: &[CoordinateName], tuples: &[Position]) -> Result<Value, OutOfMemory>
+fn tuples_tree(
+    alloc: Global,
+    names: &[CoordinateName],
+    tuples: &[Position],
+) -> Result<Value, OutOfMemory>
     requires { All (λ tuple. All (λ name. IsAxisValue name (domains.coordinate name tuple)) names.now) tuples.now }
     ensures { IfOk result (λ v. view v ≡ array_of (tuple_data names.now) tuples.now) }
 {
@@ -138,11 +176,11 @@ fn put_composite(
 ) -> Result<(), OutOfMemory>
     requires { HasTuples domain.now }
     ensures { OnOk result (members_view members.new.entries
-        ≡ put_if (codes "composite") (option_map (composite_data (coordinates_of domain.now)) (tuples_of domain.now)) (members_view members.old.entries)) }
+        ≡ put_if (axis_key Composite) (option_map (composite_data (coordinates_of domain.now)) (tuples_of domain.now)) (members_view members.old.entries)) }
 {
     if let Some(tuples) = domain.tuples() {
         let composite = composite_tree(alloc, domain.coordinates(), tuples)?;
-        serde_json::put(members, alloc, "composite", composite)?;
+        serde_json::put(members, alloc, axis_key(AxisName::Composite), composite)?;
     }
     Ok(())
 }

@@ -118,11 +118,20 @@ fn values_of(axis: &Option<Axis>) -> Option<&[i64]>
 // The names of the coordinates of tuples.
 const SPOT: [CoordinateName; 2] = [CoordinateName::X, CoordinateName::Y];
 
-const SPOT_WITH_LEVEL: [CoordinateName; 3] = [CoordinateName::X, CoordinateName::Y, CoordinateName::Z];
+const SPOT_WITH_LEVEL: [CoordinateName; 3] = [
+    CoordinateName::X,
+    CoordinateName::Y,
+    CoordinateName::Z,
+];
 
 const STEP: [CoordinateName; 3] = [CoordinateName::T, CoordinateName::X, CoordinateName::Y];
 
-const STEP_WITH_LEVEL: [CoordinateName; 4] = [CoordinateName::T, CoordinateName::X, CoordinateName::Y, CoordinateName::Z];
+const STEP_WITH_LEVEL: [CoordinateName; 4] = [
+    CoordinateName::T,
+    CoordinateName::X,
+    CoordinateName::Y,
+    CoordinateName::Z,
+];
 
 impl Domain {
     /// The values of an axis, or None where the domain hasn't that axis. It takes no memory.

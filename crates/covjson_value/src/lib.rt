@@ -10,6 +10,7 @@ mod laws;
 mod leaves;
 mod parameter_trees;
 mod range_trees;
+mod regular_axes;
 mod trees;
 mod validity;
 

@@ -6,6 +6,7 @@ ghost use Rattle.covjson_value.specs.Domains.{composite_alone, range_axis_of, ra
 ghost use Rattle.covjson_value.specs.Trees.{array_if_some, name_data, length_data, range_data, ranges_data};
 ghost use Rattle.covjson_value.specs.Puts.{axis_alone};
 
+use crate::axis_names::{AxisName, axis_key};
 use crate::coverages::{NdArray, Parameter};
 use crate::domains::{CoordinateName, Domain};
 use crate::leaves::{put_given, put_text, samples_tree, text_of};
@@ -30,7 +31,11 @@ fn push_name(
 }
 
 // Its length, there.
-fn push_length(lengths: &mut Vec<Value>, domain: &Domain, name: CoordinateName) -> Result<(), OutOfMemory>
+fn push_length(
+    lengths: &mut Vec<Value>,
+    domain: &Domain,
+    name: CoordinateName,
+) -> Result<(), OutOfMemory>
     ensures { OnOk result (map view lengths.new.items
         ≡ map view lengths.old.items ++ map length_data (axis_alone name (range_axis_of domain.now name))) }
 {
@@ -46,7 +51,7 @@ fn push_composite(names: &mut Vec<Value>, alloc: Global, domain: &Domain) -> Res
         ≡ map view names.old.items ++ map name_data (composite_alone (range_tuples_of domain.now))) }
 {
     if domain.range_tuples().is_some() {
-        names.push(Value::try_from_str(alloc, "composite")?)?;
+        names.push(Value::try_from_str(alloc, axis_key(AxisName::Composite))?)?;
     }
     Ok(())
 }

@@ -1,462 +1,390 @@
-//! Tables of what is valid. The texts of documents are tested where they are written.
-use crate::{CoordinateName, Coverage, Document, Domain, NdArray, Parameter, Referencing};
-use edr_base::is_name;
+//! Tables of what is valid, and of the axes of domains. The texts of documents are tested where they are written.
+use crate::{
+    AxisName, CoordinateName, Coverage, Document, Domain, NdArray, Parameter, Referencing, axis_key,
+};
 use edr_axes::Axis;
-use edr_base::{Items, OutOfMemory, Position, Text};
+use edr_base::{Items, Position, Text};
 use std::alloc::Global;
 use std::test::Fail;
 
-fn parameter(alloc: Global, id: &[u8]) -> Result<Parameter, OutOfMemory> {
+// A line for each document, which is a coverage or coverages between `[` and `]`, and whether it is valid.
+// A coverage is its domain type and some words: `t`, `z`, `y` and `x` of the domain, `at` with its tuples x/y/z/m, and
+// `own` where these have levels of their own, the `ids` of its parameters, and the `values` of each, `-` for an absent one.
+// It may have an `id`, a `crs` and a `vertical`. In texts `?` stands for a byte that is no UTF-8.
+const DOCUMENTS: &str = "\
+# parameters and ranges
+Point y=0 x=0 ids=a values=1 => valid
+Point y=0 x=0 ids=a,b values=- => valid
+Point y=0 x=0 ids=a,aa,b values=0 => valid
+Point y=0 x=0 ids=b,a values=1 => wrong
+Point y=0 x=0 ids=a,a values=1 => wrong
+Point y=0 x=0 ids=a?b values=1 => wrong
+Point y=0 x=0 values=1 => wrong
+Point y=0 x=0 ids=a => wrong
+Point y=0 x=0 ids=a values=1,2 => wrong
+Point y=0 x=0 ids=a values=9007199254740991 => valid
+Point y=0 x=0 ids=a values=-9007199254740992 => wrong
+# ids and systems
+Point y=0 x=0 ids=a values=- id=a => valid
+Point y=0 x=0 ids=a values=- id=? => wrong
+Point z=1 y=0 x=0 ids=a values=- crs=m vertical=depth => valid
+Point z=1 y=0 x=0 ids=a values=- crs=? vertical=depth => wrong
+Point z=1 y=0 x=0 ids=a values=- crs=m vertical=? => wrong
+Point y=0 x=0 ids=a values=- crs=m vertical=depth => wrong
+MultiPoint at=1/2/0/0 own=z ids=a values=- crs=m vertical=depth => valid
+MultiPoint at=1/2/0/0 ids=a values=- crs=m vertical=depth => wrong
+# coordinates, levels and times
+Point y=100000000 x=-100000000 ids=a values=- => valid
+Point t=-62167219200 z=0 y=0 x=0 ids=a values=- => valid
+Point t=-62167219201 y=0 x=0 ids=a values=- => wrong
+Point t=253402300799 y=0 x=0 ids=a values=- => valid
+Point t=253402300800 y=0 x=0 ids=a values=- => wrong
+Point z=100000001 y=0 x=0 ids=a values=- => wrong
+Point y=-9223372036854775808 x=0 ids=a values=- => wrong
+Point y=0 x=100000001 ids=a values=- => wrong
+PointSeries t=-1,0 z=9 y=0 x=0 ids=a values=-,- => valid
+PointSeries t=-1,0 z=9 y=0 x=0 ids=a values=- => wrong
+VerticalProfile z=-1,0 y=0 x=0 ids=a values=-,- => valid
+VerticalProfile z=-1,0 y=0 x=0 ids=a values=- => wrong
+VerticalProfile z=0,100000001 y=0 x=0 ids=a values=-,- => wrong
+Grid t=0 y=0,1 x=0,1 ids=a values=1,2,3,4 => valid
+Grid t=0 y=0,1 x=0,1 ids=a values=1,2 => wrong
+# places, also one twice and in any order
+MultiPoint at=1/2/0/0 ids=a values=- => valid
+MultiPoint t=0 at=1/2/3/0 own=z ids=a values=- => valid
+MultiPoint at=2/2/0/0,1/1/0/0,2/2/0/0 ids=a values=-,-,- => valid
+MultiPoint ids=a => wrong
+MultiPoint own=z ids=a values=- => wrong
+MultiPoint at=1/2/3/0 ids=a values=- => wrong
+MultiPoint at=1/2/0/3 ids=a values=- => wrong
+MultiPoint at=1/2/3/-1 own=z ids=a values=- => wrong
+MultiPoint at=1/2/100000001/0 own=z ids=a values=- => wrong
+MultiPoint at=0/0/0/0,1/-100000001/0/0 ids=a values=-,- => wrong
+MultiPoint t=253402300800 at=1/2/0/0 ids=a values=- => wrong
+MultiPoint at=1/2/0/0,3/4/0/0 ids=a values=- => wrong
+MultiPoint t=0 at=1/2/0/0 ids=a values=-,- => wrong
+# places and times, which may stand still and don't fall
+Trajectory at=1/2/0/7 ids=a values=- => valid
+Trajectory at=1/2/3/7 own=z ids=a values=- => valid
+Trajectory z=3 at=1/2/0/7 ids=a values=- => valid
+Trajectory z=3 at=1/2/3/7 own=z ids=a values=- => wrong
+Trajectory z=100000001 at=1/2/0/7 ids=a values=- => wrong
+Trajectory ids=a => wrong
+Trajectory at=1/2/3/7 ids=a values=- => wrong
+Trajectory at=1/2/-100000001/7 own=z ids=a values=- => wrong
+Trajectory at=100000001/0/0/2 ids=a values=- => wrong
+Trajectory at=1/2/0/253402300800 ids=a values=- => wrong
+Trajectory at=1/2/0/-62167219200,1/2/0/253402300799 ids=a values=-,- => valid
+Trajectory at=1/2/0/7,3/4/0/7 ids=a values=-,- => valid
+Trajectory at=1/2/0/7,1/2/0/6 ids=a values=-,- => wrong
+Trajectory at=0/0/5/1,0/0/4/3,0/0/3/3 own=z ids=a values=-,-,- => valid
+Trajectory at=0/0/5/1,0/0/4/3,0/0/3/2 own=z ids=a values=-,-,- => wrong
+Trajectory at=1/2/0/7,3/4/0/7 ids=a values=- => wrong
+# collections
+[] => valid
+[Point y=0 x=0 ids=a values=-;Point y=0 x=0 ids=a values=-] => valid
+[Point y=0 x=0 ids=a values=-;Point y=0 x=0 values=-] => wrong
+[Point y=0 x=0 values=-;Point y=0 x=0 ids=a values=-] => wrong
+";
+
+// A line for each domain: how many values a parameter has, the coordinates of the domain, the axes of its ranges, and the
+// coordinates of its tuples.
+const DOMAINS: &str = "\
+Grid z=1,2 y=3 x=4,5,6 => 6 zyx zyx -
+Grid t=0 y=3,4 x=5 => 2 tyx tyx -
+Point t=0 y=0 x=0 => 1 tyx - -
+PointSeries t=0,1,2 z=5 y=0 x=0 => 3 tzyx t -
+VerticalProfile t=0 z=5,6 y=0 x=0 => 2 tzyx z -
+MultiPoint t=0 at=1/2/0/0,3/4/0/0 => 2 tyx composite xy
+MultiPoint at=1/2/3/0 own=z => 1 zyx - xyz
+Trajectory z=5 at=1/2/0/3 => 1 tzyx - txy
+Trajectory at=1/2/3/4,1/2/3/4 own=z => 2 tzyx composite txyz
+";
+
+// The value of a word, where a line has it.
+fn word<'a>(line: &'a str, name: &str) -> Option<&'a str> {
+    for part in line.split(' ') {
+        if let Some((key, value)) = part.split_once('=') {
+            if key == name {
+                return Some(value);
+            }
+        }
+    }
+    None
+}
+
+fn number(text: &str) -> Result<i64, Fail> {
+    Ok(text.parse::<i64>().ok().ok_or("no number")?)
+}
+
+fn number_in(line: &str, name: &str) -> Result<Option<i64>, Fail> {
+    match word(line, name) {
+        Some(text) => Ok(Some(number(text)?)),
+        None => Ok(None),
+    }
+}
+
+// The number of a word, and 0 where a line hasn't it.
+fn number_or_zero(line: &str, name: &str) -> Result<i64, Fail> {
+    Ok(number_in(line, name)?.unwrap_or(0))
+}
+
+fn axis_in(alloc: Global, line: &str, name: &str) -> Result<Option<Axis>, Fail> {
+    let Some(text) = word(line, name) else {
+        return Ok(None);
+    };
+    let mut values = Vec::new(alloc);
+    for part in text.split(',') {
+        values.push(number(part)?)?;
+    }
+    Ok(Some(Axis::of(alloc, &values)?))
+}
+
+fn axis(alloc: Global, line: &str, name: &str) -> Result<Axis, Fail> {
+    Ok(axis_in(alloc, line, name)?.ok_or("no axis")?)
+}
+
+fn tuple(text: &str) -> Result<Position, Fail> {
+    let (x, rest) = text.split_once('/').ok_or("no y")?;
+    let (y, rest) = rest.split_once('/').ok_or("no z")?;
+    let (z, m) = rest.split_once('/').ok_or("no m")?;
+    Ok(Position {
+        x: number(x)?,
+        y: number(y)?,
+        z: number(z)?,
+        m: number(m)?,
+    })
+}
+
+fn tuples(alloc: Global, line: &str) -> Result<Items<Position>, Fail> {
+    let mut items = Vec::new(alloc);
+    if let Some(text) = word(line, "at") {
+        for part in text.split(',') {
+            items.push(tuple(part)?)?;
+        }
+    }
+    Ok(Items::of(items))
+}
+
+fn grid(alloc: Global, line: &str) -> Result<Domain, Fail> {
+    Ok(Domain::Grid {
+        t: axis_in(alloc, line, "t")?,
+        z: axis_in(alloc, line, "z")?,
+        y: axis(alloc, line, "y")?,
+        x: axis(alloc, line, "x")?,
+    })
+}
+
+fn point(line: &str) -> Result<Domain, Fail> {
+    Ok(Domain::Point {
+        t: number_in(line, "t")?,
+        z: number_in(line, "z")?,
+        y: number_or_zero(line, "y")?,
+        x: number_or_zero(line, "x")?,
+    })
+}
+
+fn point_series(alloc: Global, line: &str) -> Result<Domain, Fail> {
+    Ok(Domain::PointSeries {
+        t: axis(alloc, line, "t")?,
+        z: number_in(line, "z")?,
+        y: number_or_zero(line, "y")?,
+        x: number_or_zero(line, "x")?,
+    })
+}
+
+fn vertical_profile(alloc: Global, line: &str) -> Result<Domain, Fail> {
+    Ok(Domain::VerticalProfile {
+        t: number_in(line, "t")?,
+        z: axis(alloc, line, "z")?,
+        y: number_or_zero(line, "y")?,
+        x: number_or_zero(line, "x")?,
+    })
+}
+
+fn domain(alloc: Global, line: &str) -> Result<Domain, Fail> {
+    let has_z = word(line, "own").is_some();
+    let (kind, _) = line.split_once(' ').unwrap_or((line, ""));
+    match kind {
+        "Grid" => grid(alloc, line),
+        "Point" => point(line),
+        "PointSeries" => point_series(alloc, line),
+        "VerticalProfile" => vertical_profile(alloc, line),
+        "MultiPoint" => Ok(Domain::MultiPoint {
+            t: number_in(line, "t")?,
+            has_z,
+            spots: tuples(alloc, line)?,
+        }),
+        "Trajectory" => Ok(Domain::Trajectory {
+            z: number_in(line, "z")?,
+            has_z,
+            steps: tuples(alloc, line)?,
+        }),
+        _ => Err(Fail::new("no domain type")),
+    }
+}
+
+// A text, with a byte that is no UTF-8 for each `?`.
+fn text_of(alloc: Global, word: &str) -> Result<Text, Fail> {
+    let mut bytes = Vec::new(alloc);
+    for byte in word.bytes() {
+        bytes.push(if byte == b'?' { 0xff } else { byte })?;
+    }
+    Ok(Text::from_vec(bytes))
+}
+
+fn text_in(alloc: Global, line: &str, name: &str) -> Result<Option<Text>, Fail> {
+    match word(line, name) {
+        Some(text) => Ok(Some(text_of(alloc, text)?)),
+        None => Ok(None),
+    }
+}
+
+fn parameter(alloc: Global, id: &str) -> Result<Parameter, Fail> {
     Ok(Parameter {
-        id: Text::of(alloc, id)?,
+        id: text_of(alloc, id)?,
         lang: Text::of(alloc, b"en")?,
         label: Text::of(alloc, b"A")?,
         unit: None,
     })
 }
 
-fn parameters(alloc: Global, ids: &[&[u8]]) -> Result<Items<Parameter>, OutOfMemory> {
-    let mut items = Vec::new(alloc);
-    for id in ids {
-        items.push(parameter(alloc, id)?)?;
+// The values of the line.
+fn range(alloc: Global, line: &str) -> Result<NdArray, Fail> {
+    let mut values = Vec::new(alloc);
+    if let Some(text) = word(line, "values") {
+        for part in text.split(',') {
+            let value = if part == "-" {
+                None
+            } else {
+                Some(number(part)?)
+            };
+            values.push(value)?;
+        }
     }
-    Ok(Items::of(items))
-}
-
-fn range(alloc: Global, values: &[Option<i64>]) -> Result<NdArray, OutOfMemory> {
     Ok(NdArray {
-        values: Items::of(Vec::from_slice(alloc, values)?),
+        values: Items::of(values),
     })
 }
 
-// So many ranges of the same values.
-fn ranges(
-    alloc: Global,
-    count: usize,
-    values: &[Option<i64>],
-) -> Result<Items<NdArray>, OutOfMemory> {
-    let mut items = Vec::new(alloc);
-    for _ in 0..count {
-        items.push(range(alloc, values)?)?;
+fn coverage(alloc: Global, line: &str) -> Result<Coverage, Fail> {
+    let mut parameters = Vec::new(alloc);
+    let mut ranges = Vec::new(alloc);
+    if let Some(ids) = word(line, "ids") {
+        for id in ids.split(',') {
+            parameters.push(parameter(alloc, id)?)?;
+            ranges.push(range(alloc, line)?)?;
+        }
     }
-    Ok(Items::of(items))
-}
-
-fn unnamed(alloc: Global) -> Result<Referencing, OutOfMemory> {
-    Ok(Referencing {
-        crs: Text::of(alloc, b"")?,
-        vertical: None,
-    })
-}
-
-// A coverage of these parameters, of which each has the same values.
-fn coverage(
-    alloc: Global,
-    domain: Domain,
-    ids: &[&[u8]],
-    values: &[Option<i64>],
-) -> Result<Coverage, OutOfMemory> {
+    let referencing = Referencing {
+        crs: text_of(alloc, word(line, "crs").unwrap_or(""))?,
+        vertical: text_in(alloc, line, "vertical")?,
+    };
     Ok(Coverage {
-        id: None,
-        domain,
-        referencing: unnamed(alloc)?,
-        parameters: parameters(alloc, ids)?,
-        ranges: ranges(alloc, ids.len(), values)?,
+        id: text_in(alloc, line, "id")?,
+        domain: domain(alloc, line)?,
+        referencing,
+        parameters: Items::of(parameters),
+        ranges: Items::of(ranges),
     })
 }
 
-fn is_valid(
-    alloc: Global,
-    domain: Domain,
-    ids: &[&[u8]],
-    values: &[Option<i64>],
-) -> Result<bool, OutOfMemory> {
-    Ok(coverage(alloc, domain, ids, values)?.is_valid())
-}
-
-fn point(t: Option<i64>, z: Option<i64>) -> Domain {
-    Domain::Point { t, z, y: 0, x: 0 }
-}
-
-// ---- names, parameters and ranges
-
-#[test]
-fn names(rt: HostRuntime) {
-    let long = [b'a'; 129];
-    for (text, valid) in [
-        (b"temp".as_slice(), true),
-        (b"", false),
-        (b"a,b", false),
-        (b"a b", true),
-        (b"a\x1f", false),
-        (b"a\x7f", false),
-        (b"\xc3\xa5", true),
-        (b"\xc3", false),
-        (&long[..128], true),
-        (&long, false),
-    ] {
-        assert_eq!(rt; is_name(text), valid, "{text:?}");
-    }
-}
-
-// The ids of the parameters, the values of each, and whether that is valid.
-const PARTS: [(&[&[u8]], &[Option<i64>], bool); 10] = [
-    (&[b"a"], &[Some(1)], true),
-    (&[b"a", b"b"], &[None], true),
-    (&[b"a", b"aa", b"b"], &[Some(0)], true),
-    (&[], &[Some(1)], false),
-    (&[b"b", b"a"], &[Some(1)], false),
-    (&[b"a", b"a"], &[Some(1)], false),
-    (&[b"a,"], &[Some(1)], false),
-    (&[b"a"], &[], false),
-    (&[b"a"], &[Some(1), Some(2)], false),
-    (&[b"a"], &[Some(-9_007_199_254_740_992)], false),
-];
-
-// The first row that isn't as it has to be.
-fn first_wrong_part(alloc: Global) -> Result<Option<usize>, OutOfMemory> {
-    for (place, (ids, values, valid)) in PARTS.iter().enumerate() {
-        if is_valid(alloc, point(None, None), ids, values)? != *valid {
-            return Ok(Some(place));
-        }
-    }
-    Ok(None)
-}
-
-fn is_valid_without_ranges(alloc: Global) -> Result<bool, OutOfMemory> {
-    let mut one = coverage(alloc, point(None, None), &[b"a"], &[None])?;
-    one.ranges = ranges(alloc, 0, &[])?;
-    Ok(one.is_valid())
-}
-
-#[test]
-fn parameters_and_ranges(rt: HostRuntime) -> Result<(), Fail> {
-    assert_eq!(rt; first_wrong_part(rt.alloc())?, None);
-    assert!(rt; !is_valid_without_ranges(rt.alloc())?);
-    Ok(())
-}
-
-// ---- domains
-
-// The time, the level, y and x of a Point, and whether that is valid.
-const POINTS: [(Option<i64>, Option<i64>, i64, i64, bool); 8] = [
-    (None, None, 100_000_000, -100_000_000, true),
-    (Some(-62_167_219_200), Some(0), 0, 0, true),
-    (Some(-62_167_219_201), None, 0, 0, false),
-    (Some(253_402_300_799), None, 0, 0, true),
-    (Some(253_402_300_800), None, 0, 0, false),
-    (None, Some(100_000_001), 0, 0, false),
-    (None, None, i64::MIN, 0, false),
-    (None, None, 0, 100_000_001, false),
-];
-
-fn first_wrong_point(alloc: Global) -> Result<Option<usize>, OutOfMemory> {
-    for (place, (t, z, y, x, valid)) in POINTS.iter().enumerate() {
-        let domain = Domain::Point {
-            t: *t,
-            z: *z,
-            y: *y,
-            x: *x,
-        };
-        if is_valid(alloc, domain, &[b"a"], &[None])? != *valid {
-            return Ok(Some(place));
-        }
-    }
-    Ok(None)
-}
-
-// Tuples of x, y, z and m.
-fn tuples(alloc: Global, numbers: &[[i64; 4]]) -> Result<Items<Position>, OutOfMemory> {
-    let mut items = Vec::new(alloc);
-    for [x, y, z, m] in numbers {
-        items.push(Position {
-            x: *x,
-            y: *y,
-            z: *z,
-            m: *m,
-        })?;
-    }
-    Ok(Items::of(items))
-}
-
-// The time of a MultiPoint, whether its places have levels, the places, the values, and whether that is valid.
-const SPOTS: [(Option<i64>, bool, &[[i64; 4]], &[Option<i64>], bool); 14] = [
-    (None, false, &[[1, 2, 0, 0]], &[None], true),
-    (Some(0), true, &[[1, 2, 3, 0]], &[None], true),
-    // One place twice, and in any order.
-    (
-        None,
-        false,
-        &[[2, 2, 0, 0], [1, 1, 0, 0], [2, 2, 0, 0]],
-        &[None, None, None],
-        true,
-    ),
-    (None, false, &[], &[], false),
-    (None, true, &[], &[None], false),
-    // A level where there are none, and a time.
-    (None, false, &[[1, 2, 3, 0]], &[None], false),
-    (None, false, &[[1, 2, 0, 3]], &[None], false),
-    (None, true, &[[1, 2, 3, -1]], &[None], false),
-    (None, true, &[[1, 2, 100_000_001, 0]], &[None], false),
-    (
-        None,
-        false,
-        &[[0, 0, 0, 0], [1, -100_000_001, 0, 0]],
-        &[None, None],
-        false,
-    ),
-    (None, false, &[[i64::MIN, 0, 0, 0]], &[None], false),
-    (
-        Some(253_402_300_800),
-        false,
-        &[[1, 2, 0, 0]],
-        &[None],
-        false,
-    ),
-    // Too few values, and too many.
-    (None, false, &[[1, 2, 0, 0], [3, 4, 0, 0]], &[None], false),
-    (Some(0), false, &[[1, 2, 0, 0]], &[None, None], false),
-];
-
-fn first_wrong_spots(alloc: Global) -> Result<Option<usize>, OutOfMemory> {
-    for (place, (t, has_z, numbers, values, valid)) in SPOTS.iter().enumerate() {
-        let domain = Domain::MultiPoint {
-            t: *t,
-            has_z: *has_z,
-            spots: tuples(alloc, numbers)?,
-        };
-        if is_valid(alloc, domain, &[b"a"], values)? != *valid {
-            return Ok(Some(place));
-        }
-    }
-    Ok(None)
-}
-
-// The level of a Trajectory, whether its places have levels of their own, the places, the values, and whether that is valid.
-const STEPS: [(Option<i64>, bool, &[[i64; 4]], &[Option<i64>], bool); 16] = [
-    (None, false, &[[1, 2, 0, 7]], &[None], true),
-    (None, true, &[[1, 2, 3, 7]], &[None], true),
-    (Some(3), false, &[[1, 2, 0, 7]], &[None], true),
-    // A level of all and levels of their own.
-    (Some(3), true, &[[1, 2, 3, 7]], &[None], false),
-    (Some(100_000_001), false, &[[1, 2, 0, 7]], &[None], false),
-    (None, false, &[], &[], false),
-    (None, false, &[[1, 2, 3, 7]], &[None], false),
-    (None, true, &[[1, 2, -100_000_001, 7]], &[None], false),
-    (None, false, &[[100_000_001, 0, 0, 2]], &[None], false),
-    (None, false, &[[1, 2, 0, 253_402_300_800]], &[None], false),
-    (
-        None,
-        false,
-        &[[1, 2, 0, -62_167_219_200], [1, 2, 0, 253_402_300_799]],
-        &[None, None],
-        true,
-    ),
-    // Times that stand still, and times that fall.
-    (
-        None,
-        false,
-        &[[1, 2, 0, 7], [3, 4, 0, 7]],
-        &[None, None],
-        true,
-    ),
-    (
-        None,
-        false,
-        &[[1, 2, 0, 7], [1, 2, 0, 6]],
-        &[None, None],
-        false,
-    ),
-    (
-        None,
-        true,
-        &[[0, 0, 5, 1], [0, 0, 4, 3], [0, 0, 3, 3]],
-        &[None, None, None],
-        true,
-    ),
-    (
-        None,
-        true,
-        &[[0, 0, 5, 1], [0, 0, 4, 3], [0, 0, 3, 2]],
-        &[None, None, None],
-        false,
-    ),
-    (None, false, &[[1, 2, 0, 7], [3, 4, 0, 7]], &[None], false),
-];
-
-fn first_wrong_steps(alloc: Global) -> Result<Option<usize>, OutOfMemory> {
-    for (place, (z, has_z, numbers, values, valid)) in STEPS.iter().enumerate() {
-        let domain = Domain::Trajectory {
-            z: *z,
-            has_z: *has_z,
-            steps: tuples(alloc, numbers)?,
-        };
-        if is_valid(alloc, domain, &[b"a"], values)? != *valid {
-            return Ok(Some(place));
-        }
-    }
-    Ok(None)
-}
-
-// Whether a PointSeries of two times is valid with these values.
-fn series_is_valid(alloc: Global, values: &[Option<i64>]) -> Result<bool, Fail> {
-    let domain = Domain::PointSeries {
-        t: Axis::of(alloc, &[-1, 0])?,
-        z: Some(9),
-        y: 0,
-        x: 0,
+fn document(alloc: Global, line: &str) -> Result<Document, Fail> {
+    let Some(lines) = line.strip_prefix('[') else {
+        return Ok(Document::One(coverage(alloc, line)?));
     };
-    Ok(is_valid(alloc, domain, &[b"a"], values)?)
-}
-
-// Whether a VerticalProfile of two levels is valid with these values.
-fn profile_is_valid(alloc: Global, values: &[Option<i64>]) -> Result<bool, Fail> {
-    let domain = Domain::VerticalProfile {
-        t: None,
-        z: Axis::of(alloc, &[-1, 0])?,
-        y: 0,
-        x: 0,
-    };
-    Ok(is_valid(alloc, domain, &[b"a"], values)?)
-}
-
-#[test]
-fn domains(rt: HostRuntime) -> Result<(), Fail> {
-    assert_eq!(rt; first_wrong_point(rt.alloc())?, None);
-    assert_eq!(rt; first_wrong_spots(rt.alloc())?, None);
-    assert_eq!(rt; first_wrong_steps(rt.alloc())?, None);
-    assert!(rt; series_is_valid(rt.alloc(), &[None, None])?);
-    assert!(rt; !series_is_valid(rt.alloc(), &[None])?);
-    assert!(rt; profile_is_valid(rt.alloc(), &[None, None])?);
-    assert!(rt; !profile_is_valid(rt.alloc(), &[None])?);
-    Ok(())
-}
-
-// ---- texts
-
-fn is_valid_with_id(alloc: Global, id: &[u8]) -> Result<bool, OutOfMemory> {
-    let mut one = coverage(alloc, point(None, None), &[b"a"], &[None])?;
-    one.id = Some(Text::of(alloc, id)?);
-    Ok(one.is_valid())
-}
-
-fn is_valid_with_systems(
-    alloc: Global,
-    domain: Domain,
-    crs: &[u8],
-    vertical: &[u8],
-) -> Result<bool, OutOfMemory> {
-    let mut one = coverage(alloc, domain, &[b"a"], &[None])?;
-    one.referencing = Referencing {
-        crs: Text::of(alloc, crs)?,
-        vertical: Some(Text::of(alloc, vertical)?),
-    };
-    Ok(one.is_valid())
-}
-
-// Whether a MultiPoint of one place is valid with a vertical system.
-fn spot_is_valid_with_vertical(alloc: Global, has_z: bool) -> Result<bool, OutOfMemory> {
-    let domain = Domain::MultiPoint {
-        t: None,
-        has_z,
-        spots: tuples(alloc, &[[1, 2, 0, 0]])?,
-    };
-    is_valid_with_systems(alloc, domain, b"m", b"depth")
-}
-
-#[test]
-fn texts(rt: HostRuntime) -> Result<(), Fail> {
-    let alloc = rt.alloc();
-    assert!(rt; is_valid_with_id(alloc, b"a")? && !is_valid_with_id(alloc, b"\xff")?);
-    let level = Some(1);
-    assert!(rt; is_valid_with_systems(alloc, point(None, level), b"m", b"depth")?);
-    assert!(rt; !is_valid_with_systems(alloc, point(None, level), b"\xff", b"depth")?);
-    assert!(rt; !is_valid_with_systems(alloc, point(None, level), b"m", b"\xff")?);
-    // A vertical system wants levels, along an axis or in the tuples.
-    assert!(rt; !is_valid_with_systems(alloc, point(None, None), b"m", b"depth")?);
-    assert!(rt; spot_is_valid_with_vertical(alloc, true)?);
-    assert!(rt; !spot_is_valid_with_vertical(alloc, false)?);
-    Ok(())
-}
-
-// ---- documents
-
-// A coverage that is valid, or one that isn't.
-fn coverage_for(alloc: Global, valid: bool) -> Result<Coverage, OutOfMemory> {
-    let id: &[u8] = if valid { b"a" } else { b"," };
-    coverage(alloc, point(None, None), &[id], &[None])
-}
-
-fn one_is_valid(alloc: Global, valid: bool) -> Result<bool, OutOfMemory> {
-    Ok(Document::One(coverage_for(alloc, valid)?).is_valid())
-}
-
-fn many_are_valid(alloc: Global, valid: &[bool]) -> Result<bool, OutOfMemory> {
+    let lines = lines.strip_suffix(']').unwrap_or(lines);
     let mut coverages = Vec::new(alloc);
-    for each in valid {
-        coverages.push(coverage_for(alloc, *each)?)?;
+    if !lines.is_empty() {
+        for line in lines.split(';') {
+            coverages.push(coverage(alloc, line)?)?;
+        }
     }
-    Ok(Document::Many(Items::of(coverages)).is_valid())
+    Ok(Document::Many(Items::of(coverages)))
 }
 
 #[test]
 fn documents(rt: HostRuntime) -> Result<(), Fail> {
-    assert!(rt; one_is_valid(rt.alloc(), true)? && !one_is_valid(rt.alloc(), false)?);
-    assert!(rt; many_are_valid(rt.alloc(), &[])?);
-    assert!(rt; many_are_valid(rt.alloc(), &[true, true])?);
-    assert!(rt; !many_are_valid(rt.alloc(), &[true, false])?);
-    assert!(rt; !many_are_valid(rt.alloc(), &[false, true])?);
+    for line in DOCUMENTS.lines() {
+        if line.starts_with('#') {
+            continue;
+        }
+        let (words, answer) = line.split_once(" => ").ok_or("a line without an answer")?;
+        let valid = document(rt.alloc(), words)?.is_valid();
+        assert!(rt; valid == (answer == "valid"), "{line}");
+    }
+    Ok(())
+}
+
+// A range for each parameter is wanted.
+#[test]
+fn a_parameter_without_a_range(rt: HostRuntime) -> Result<(), Fail> {
+    let mut one = coverage(rt.alloc(), "Point y=0 x=0 ids=a values=-")?;
+    assert!(rt; one.is_valid());
+    one.ranges = Items::of(Vec::new(rt.alloc()));
+    assert!(rt; !one.is_valid());
     Ok(())
 }
 
 // ---- axes
 
-fn grid(alloc: Global) -> Result<Domain, Fail> {
-    Ok(Domain::Grid {
-        t: None,
-        z: Some(Axis::of(alloc, &[1, 2])?),
-        y: Axis::of(alloc, &[3])?,
-        x: Axis::of(alloc, &[4, 5, 6])?,
-    })
-}
+const NAMES: [CoordinateName; 4] = [
+    CoordinateName::T,
+    CoordinateName::Z,
+    CoordinateName::Y,
+    CoordinateName::X,
+];
 
-// Whether the domain has the coordinate, and whether its ranges have the axis.
-fn has_and_stands(domain: &Domain, name: CoordinateName) -> (bool, bool) {
-    (domain.has(name), domain.range_axis(name).is_some())
-}
-
-#[test]
-fn axes_of_a_grid(rt: HostRuntime) -> Result<(), Fail> {
-    let grid = grid(rt.alloc())?;
-    assert!(rt; grid.count() == Some(6) && grid.is_grid() && grid.type_name() == "Grid");
-    assert!(rt; has_and_stands(&grid, CoordinateName::T) == (false, false));
-    assert!(rt; has_and_stands(&grid, CoordinateName::Z) == (true, true));
-    assert!(rt; has_and_stands(&grid, CoordinateName::Y) == (true, true));
-    assert!(rt; has_and_stands(&grid, CoordinateName::X) == (true, true));
-    Ok(())
-}
-
-#[test]
-fn axes_of_a_point(rt: HostRuntime) {
-    let point = point(Some(0), None);
-    assert!(rt; point.count() == Some(1) && !point.is_grid() && point.tuples().is_none());
-    assert!(rt; has_and_stands(&point, CoordinateName::T) == (true, false));
-    assert!(rt; has_and_stands(&point, CoordinateName::Z) == (false, false));
-    assert!(rt; CoordinateName::X.letter() == "x");
-}
-
-#[test]
-fn axes_of_a_trajectory(rt: HostRuntime) -> Result<(), Fail> {
-    let steps = tuples(rt.alloc(), &[[1, 2, 0, 3]])?;
-    let step = Domain::Trajectory {
-        z: Some(5),
-        has_z: false,
-        steps,
+// The letters of the coordinates that the domain has, that its ranges have as axes, and that its tuples have.
+fn shown(alloc: Global, domain: &Domain) -> Result<String, Fail> {
+    let mut had = String::new(alloc);
+    let mut along = String::new(alloc);
+    for name in NAMES {
+        if domain.has(name) {
+            had.push_str(name.letter())?;
+        }
+        if domain.range_axis(name).is_some() {
+            along.push_str(name.letter())?;
+        }
+    }
+    if domain.range_tuples().is_some() {
+        along.push_str(axis_key(AxisName::Composite))?;
+    }
+    let mut within = String::new(alloc);
+    for name in domain.coordinates() {
+        within.push_str(name.letter())?;
+    }
+    let count = domain.count().ok_or("too many values")?;
+    let along = if along.is_empty() {
+        "-"
+    } else {
+        along.as_str()
     };
-    assert!(rt; step.coordinates() == [CoordinateName::T, CoordinateName::X, CoordinateName::Y].as_slice());
-    assert!(rt; step.tuples().is_some() && step.range_tuples().is_none());
-    assert!(rt; step.is_in_tuples(CoordinateName::T) && !step.is_in_tuples(CoordinateName::Z));
-    assert!(rt; has_and_stands(&step, CoordinateName::Z) == (true, false));
-    assert!(rt; has_and_stands(&step, CoordinateName::X) == (true, false));
+    let within = if within.is_empty() {
+        "-"
+    } else {
+        within.as_str()
+    };
+    Ok(format!(in alloc; "{count} {} {along} {within}", had.as_str())?)
+}
+
+#[test]
+fn domains(rt: HostRuntime) -> Result<(), Fail> {
+    for line in DOMAINS.lines() {
+        let (words, answer) = line.split_once(" => ").ok_or("a line without an answer")?;
+        let domain = domain(rt.alloc(), words)?;
+        let (kind, _) = words.split_once(' ').ok_or("no words")?;
+        assert!(rt;
+            domain.type_name() == kind && domain.is_grid() == (kind == "Grid"),
+            "{line}"
+        );
+        let is_in_all = domain
+            .coordinates()
+            .iter()
+            .all(|name| domain.is_in_tuples(*name));
+        assert!(rt; is_in_all && domain.tuples().is_some() != domain.coordinates().is_empty());
+        let shown = shown(rt.alloc(), &domain)?;
+        assert!(rt; shown.as_str() == answer, "{line} {shown}");
+    }
     Ok(())
 }

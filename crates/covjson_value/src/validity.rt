@@ -9,17 +9,18 @@ ghost use Rattle.covjson_value.specs.Coverages.{IsSample, IsAxisValue, IsNamedAx
 
 use crate::coverages::{Coverage, Document, NdArray, Parameter, Referencing};
 use crate::domains::{CoordinateName, Domain};
-use edr_base::{COORDINATE_LIMIT, SAMPLE_LIMIT};
-use edr_base::{is_name, is_utf8, is_utf8_where_given};
-use edr_axes::{EARLIEST, LATEST};
-use edr_base::Position;
+use edr_base::{
+    COORDINATE_LIMIT, EARLIEST_TIME, LATEST_TIME, Position, SAMPLE_LIMIT, is_name, is_utf8,
+    is_utf8_where_given,
+};
 
 fn is_axis_value(name: CoordinateName, value: i64) -> bool
     ensures { IsTrue result ↔ IsAxisValue name value }
 {
     match name {
-        CoordinateName::T => EARLIEST <= value && value <= LATEST,
-        CoordinateName::Z | CoordinateName::Y | CoordinateName::X => value.unsigned_abs() <= COORDINATE_LIMIT,
+        CoordinateName::T => EARLIEST_TIME <= value && value <= LATEST_TIME,
+        CoordinateName::Z | CoordinateName::Y | CoordinateName::X => value.unsigned_abs()
+            <= COORDINATE_LIMIT,
     }
 }
 
@@ -56,10 +57,23 @@ fn is_tuple_value(is_coordinate: bool, name: CoordinateName, value: i64) -> bool
 fn is_tuple(domain: &Domain, tuple: &Position) -> bool
     ensures { IsTrue result ↔ IsTuple (coordinates_of domain.now) tuple.now }
 {
-    is_tuple_value(domain.is_in_tuples(CoordinateName::T), CoordinateName::T, tuple.m)
-        && is_tuple_value(domain.is_in_tuples(CoordinateName::Z), CoordinateName::Z, tuple.z)
-        && is_tuple_value(domain.is_in_tuples(CoordinateName::Y), CoordinateName::Y, tuple.y)
-        && is_tuple_value(domain.is_in_tuples(CoordinateName::X), CoordinateName::X, tuple.x)
+    is_tuple_value(
+        domain.is_in_tuples(CoordinateName::T),
+        CoordinateName::T,
+        tuple.m,
+    ) && is_tuple_value(
+        domain.is_in_tuples(CoordinateName::Z),
+        CoordinateName::Z,
+        tuple.z,
+    ) && is_tuple_value(
+        domain.is_in_tuples(CoordinateName::Y),
+        CoordinateName::Y,
+        tuple.y,
+    ) && is_tuple_value(
+        domain.is_in_tuples(CoordinateName::X),
+        CoordinateName::X,
+        tuple.x,
+    )
 }
 
 fn are_tuples(domain: &Domain, tuples: &[Position]) -> bool

@@ -5,17 +5,18 @@ use Rattle.std.proofs.lemmas.Int.{ints}
 use Rattle.std.proofs.lemmas.Bool.Decides.{nat_tests}
 use Rattle.edr_base.specs.declared.numbers.Whole.{Whole}
 use Rattle.edr_base.specs.declared.numbers.Whole.TheVariants.{Value, TooLarge, NotWhole}
+use Rattle.edr_base.specs.Limits.{coordinate_limit}
 use Rattle.edr_base.specs.Numbers.{IsWhole, MatchWhole}
 use Rattle.edr_base.specs.NumberParts.{NonePass}
-use Rattle.edr_base.proofs.NumberWords.{IsOutside, numeral-none_pass, whole-unique}
+use Rattle.edr_base.specs.NumberLaws.{IsOutside, numeral-none_pass, whole-unique}
 use Rattle.edr_axes.specs.Levels.{IsLevel, IsLevelText, IsRangeText, IsSeriesText, AreLevelTexts}
-use Rattle.edr_base.proofs.CutLemmas.{Contains-between}
+use Rattle.edr_base.specs.CutLaws.{Contains-between}
 use Rattle.edr_axes.proofs.SlashLemmas.{Lacks, Lacks-append}
 
 -- ---- one number
 
 -- a text that isn't answered with a value is no number within the limit
-pub level_none : (text : List ℕ) (answer : Whole) → ((value : ℤ) → answer ≢ Value value) → MatchWhole answer (IsWhole text) (pos 100_000_000) → (level : ℤ) → ¬ (IsLevelText text level)
+pub level_none : (text : List ℕ) (answer : Whole) → ((value : ℤ) → answer ≢ Value value) → MatchWhole answer (IsWhole text) (pos coordinate_limit) → (level : ℤ) → ¬ (IsLevelText text level)
 level_none text (Value v) other m level is = other v refl
 level_none text TooLarge other m level is =
     let same = whole-unique text level m.0 is.whole m.1 in

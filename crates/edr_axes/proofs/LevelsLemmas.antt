@@ -7,7 +7,7 @@ use Rattle.edr_axes.specs.declared.levels.Levels.TheVariants as variants
 use Rattle.edr_axes.specs.declared.levels.Levels.TheVariants.{At, Between, Series}
 use Rattle.edr_base.specs.Cuts.{IsCut}
 use Rattle.edr_axes.specs.Levels.{IsLevel, IsLevels, IsLevelText, IsRangeText, IsSeries, IsSeriesText, AreLevelTexts, IsLevelsText, HasNoLevels, LevelsAreUnique}
-use Rattle.edr_base.proofs.CutLemmas.{Contains-between, cut_unique}
+use Rattle.edr_base.specs.CutLaws.{Contains-between, cut_unique}
 use Rattle.edr_axes.proofs.SlashLemmas.{not_Contains-Lacks}
 use Rattle.edr_axes.proofs.LevelTexts.{level_unique, slash, comma, letter, level_lacks, range_lacks, series_lacks, range_contains, series_contains, list_contains}
 
@@ -219,6 +219,10 @@ two_or_more : (text : List ℕ) (levels : List ℤ) → ((level : ℤ) → ¬ (I
 two_or_more text [] none is = absurd is
 two_or_more text (level ∷ []) none is = absurd (none level is)
 two_or_more text (level ∷ (next ∷ levels)) none is = omega arith
+
+-- a text without a comma that is no number is no list
+pub no_list : (text : List ℕ) → ((level : ℤ) → ¬ (IsLevelText text level)) → ¬ (Contains text 44) → (levels : List ℤ) → ¬ (AreLevelTexts text levels)
+no_list text none lacks levels is = lacks (list_contains text levels (two_or_more text levels none is) is)
 
 pub list_levels : (text : List ℕ) (levels list : List ℤ) → list ≡ levels → ((level : ℤ) → ¬ (IsLevelText text level)) → AreLevelTexts text levels
     → IsLevelsText text (variants.List list) × IsLevels (variants.List list)

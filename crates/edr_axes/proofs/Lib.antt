@@ -1,5 +1,10 @@
 pub mod AxisLemmas
 pub mod CalendarLemmas
+pub mod ComputedDates
+pub mod ComputedInstants
+pub mod ComputedSeconds
+pub mod ComputedSteps
+pub mod ComputedZones
 pub mod InstantEnds
 pub mod InstantLemmas
 pub mod InstantTexts

@@ -5,6 +5,7 @@ use Rattle.std.proofs.Math.Nat.{div-eq_of_eq-mul_left, mul-le-mul}
 use Rattle.std.proofs.lemmas.Int.{ints, unsigned_abs-mul, fits_signed_from_abs}
 use Rattle.std.proofs.lemmas.Bool.Decides.{nat_tests}
 use Rattle.jiff_core.proofs.SignedLemmas.{signed_arith, one_part}
+use Rattle.edr_base.specs.Limits.{coordinate_limit}
 use Rattle.edr_axes.specs.Levels.{IsLevel, IsInSeries, IsSeries}
 
 -- ---- multiples of a step
@@ -97,6 +98,6 @@ series_fits n first step n_in first_in step_in =
       last = fits_signed_from_abs w64 (first +ℤ product) (omega arith);
     }
 
-pub series_test : (n first step : ℤ) → pos 1 ≤ℤ n → pos 1 ≤ℤ step → IsTrue (int_le (first +ℤ (n -ℤ pos 1) *ℤ step) (pos 100_000_000)) ↔ IsSeries n first step
+pub series_test : (n first step : ℤ) → pos 1 ≤ℤ n → pos 1 ≤ℤ step → IsTrue (int_le (first +ℤ (n -ℤ pos 1) *ℤ step) (pos coordinate_limit)) ↔ IsSeries n first step
 series_test n first step some rises =
     (λ t. record { some = some; rises = rises; last_in = grind (arith, ints) }, λ s. (let last = s.last_in in grind (arith, ints)))

@@ -6,7 +6,7 @@ use Rattle.edr_axes.specs.InstantGrammar.{IsInstant}
 use Rattle.edr_axes.specs.declared.times.Times.{Times}
 use Rattle.edr_axes.specs.declared.times.Times.TheVariants.{All, At, Between}
 use Rattle.edr_axes.specs.Times.{AreInOrder, HasNoTimes, IsIntervalText, IsSideText, IsSideTime, IsTimes, IsTimesText, TimesAreUnique, times_between}
-use Rattle.edr_base.proofs.CutLemmas.{Contains-between, cut_unique}
+use Rattle.edr_base.specs.CutLaws.{Contains-between, cut_unique}
 use Rattle.edr_axes.proofs.InstantWholes.{instant_unique}
 use Rattle.edr_axes.proofs.SlashLemmas.{Lacks, not_Contains-Lacks, instant_lacks}
 

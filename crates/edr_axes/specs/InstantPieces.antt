@@ -1,4 +1,4 @@
--- Pieces of an instant's text, with what follows them.
+-- For private clauses: pieces of an instant's text, with what follows them.
 use Rattle.std.specs.Prelude.{◌≡◌, ℕ, ◌+◌, ◌*◌, ◌<◌, ◌≤◌, List, ◌∷◌, ◌++◌, ℤ, pos}
 use Rattle.jiff_core.specs.Calendar.{days_from_civil}
 use Rattle.edr_axes.specs.Instants.{IsDay, pad2}

@@ -17,6 +17,16 @@ pub enum AxisFault {
     OutOfMemory,
 }
 
+impl From<AllocError> for AxisFault {
+    ghost use Rattle.edr_axes.specs.declared.axis.AxisFault.TheVariants.{OutOfMemory};
+
+    ghost from_gives = { λ _ fault. fault ≡ OutOfMemory };
+
+    fn from(_: AllocError) -> AxisFault {
+        AxisFault::OutOfMemory
+    }
+}
+
 /// An axis of a coverage (OGC 21-069r2, Axis objects): strictly ascending values, at least one.
 ///
 /// They are metres, or seconds since 1970-01-01T00:00:00Z. Contracts see the list.
@@ -110,10 +120,8 @@ impl Axis {
         if let Some(place) = first_fall(values) {
             return Err(AxisFault::NotAscending(place));
         }
-        match Vec::from_slice(alloc, values) {
-            Ok(values) => Ok(Axis { values }),
-            Err(_) => Err(AxisFault::OutOfMemory),
-        }
+        let values = Vec::from_slice(alloc, values)?;
+        Ok(Axis { values })
     }
 
     /// An equal axis, or want of memory.

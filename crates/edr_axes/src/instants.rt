@@ -4,12 +4,6 @@ ghost use Rattle.edr_axes.specs.Instants.{IsTime, civil_shown, civil_text, insta
 
 use jiff_core::civil::{Date, DateTime};
 
-/// The first time that has a text, 0000-01-01T00:00:00Z, in seconds since 1970-01-01T00:00:00Z.
-pub const EARLIEST: i64 = -62_167_219_200;
-
-/// The last time that has a text, 9999-12-31T23:59:59Z, in seconds since 1970-01-01T00:00:00Z.
-pub const LATEST: i64 = 253_402_300_799;
-
 fn tens(n: u16) -> u8
     requires { n < 100 }
     ensures { result ≡ 48 + n / 10 }

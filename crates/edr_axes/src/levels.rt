@@ -2,11 +2,8 @@
 ghost use Rattle.std.specs.Prelude.{◌≡◌, ◌*◌, ◌<◌, ◌≤ℤ◌, ◌↔◌, ℕ, ℤ, List, IsTrue, IfOk, IfSome, MatchOption, Contains, Err};
 ghost use Rattle.edr_axes.specs.Levels.{AreLevelTexts, HasLevel, HasNoLevels, IsInSeries, IsLevel, IsLevels, IsLevelText, IsLevelsText, IsRangeText, IsSeries, IsSeriesText, LevelsAreUnique};
 
-use edr_base::{Items, Whole, cut_at, whole_number, without_front};
+use edr_base::{COORDINATE_LIMIT, Items, Whole, cut_at, whole_number, without_front};
 use std::alloc::{AllocFailed, Global};
-
-/// The greatest size (absolute value) of a level, in metres, and of each number that selects levels.
-pub const LEVEL_LIMIT: i64 = 100_000_000;
 
 /// Levels that a request selects (OGC 19-086r6, the parameter `z`).
 #[derive(Debug, Drop)]
@@ -79,7 +76,7 @@ fn is_in_series(n: i64, first: i64, step: i64, level: i64) -> bool
 fn level_of(text: &[u8]) -> Option<i64>
     ensures { MatchOption result ((level : ℤ) → ¬ (IsLevelText text.now level)) (λ level. IsLevelText text.now level) }
 {
-    match whole_number(text, LEVEL_LIMIT) {
+    match whole_number(text, COORDINATE_LIMIT as i64) {
         Whole::Value(level) => Some(level),
         _ => None,
     }
@@ -111,7 +108,7 @@ fn is_series(n: i64, first: i64, step: i64) -> bool
     if step < 1 {
         return false;
     }
-    first + (n - 1) * step <= LEVEL_LIMIT
+    first + (n - 1) * step <= COORDINATE_LIMIT as i64
 }
 
 // The three numbers of a series.
@@ -155,12 +152,13 @@ fn list_of(alloc: Global, text: &[u8]) -> Result<Vec<i64>, LevelFault>
 ///
 /// It is a whole number, as `whole_number` reads it; or `min/max` with `min` not above `max`; or two whole numbers or
 /// more with commas between; or `Rn/min/step`, which is a series of `n` levels from `min` on. No size is above
-/// `LEVEL_LIMIT`, `n` and `step` are at least 1, and the last level of a series is at most `LEVEL_LIMIT`. Only a list
-/// takes memory.
+/// `COORDINATE_LIMIT`, `n` and `step` are at least 1, and the last level of a series is at most that. Only a list,
+/// which has a comma, takes memory.
 pub fn read_levels(alloc: Global, text: &[u8]) -> Result<Levels, LevelFault>
     ensures text { IfOk result (λ levels. IsLevelsText text.now levels) }
     ensures levels { IfOk result IsLevels }
     ensures none { result ≡ Err LevelFault.NotLevels → HasNoLevels text.now }
+    ensures memory { result ≡ Err LevelFault.OutOfMemory → Contains text.now 44 }
 {
     if let Some(only) = level_of(text) {
         return Ok(Levels::At(only));
@@ -171,6 +169,9 @@ pub fn read_levels(alloc: Global, text: &[u8]) -> Result<Levels, LevelFault>
     if let Some((n, first, step)) = series_of(text) {
         return Ok(Levels::Series { n, first, step });
     }
+    let Some(_) = cut_at(text, b',') else {
+        return Err(LevelFault::NotLevels);
+    };
     let levels = list_of(alloc, text)?;
     Ok(Levels::List(Items::of(levels)))
 }
@@ -194,53 +195,3 @@ impl Levels {
 pub fn levels_are_unique()
     ensures { LevelsAreUnique }
 {}
-
-#[cfg(test)]
-mod tests {
-    use super::Levels;
-    use edr_base::Items;
-    use std::rt::HostRuntime;
-    use std::test::Fail;
-
-    // Whether the levels have -1, 0, 10, 15, 20 and 30.
-    fn has_them(levels: &Levels) -> [bool; 6] {
-        [
-            levels.has(-1),
-            levels.has(0),
-            levels.has(10),
-            levels.has(15),
-            levels.has(20),
-            levels.has(30),
-        ]
-    }
-
-    // The series of these numbers.
-    fn series_of(n: i64, first: i64, step: i64) -> Levels {
-        Levels::Series { n, first, step }
-    }
-
-    #[test]
-    fn has(rt: HostRuntime) -> Result<(), Fail> {
-        let (yes, no) = (true, false);
-        let list = Levels::List(Items::of(Vec::from_slice(rt.alloc(), &[20, 0])?));
-        assert_eq!(rt; has_them(&Levels::All), [yes, yes, yes, yes, yes, yes]);
-        assert_eq!(rt; has_them(&Levels::At(10)), [no, no, yes, no, no, no]);
-        assert_eq!(rt;
-            has_them(&Levels::Between(0, 20)),
-            [no, yes, yes, yes, yes, no]
-        );
-        assert_eq!(rt; has_them(&list), [no, yes, no, no, yes, no]);
-        for (n, first, step, answers) in [
-            (3, 0, 10, [no, yes, yes, no, yes, no]),
-            (1, 10, 5, [no, no, yes, no, no, no]),
-            (0, 10, 5, [no, no, no, no, no, no]),
-            (2, 20, 0, [no, no, no, no, yes, no]),
-            (3, 20, -10, [no, yes, yes, no, yes, no]),
-        ] {
-            assert_eq!(rt; has_them(&series_of(n, first, step)), answers);
-        }
-        assert!(rt; series_of(2, i64::MIN, i64::MAX).has(-1));
-        assert!(rt; !series_of(i64::MAX, i64::MAX, i64::MIN).has(i64::MIN));
-        Ok(())
-    }
-}

@@ -10,7 +10,9 @@ mod tests;
 mod times;
 
 pub use axis::{Axis, AxisFault, nearest_is_one};
-pub use instants::{EARLIEST, LATEST, texts_tell_times, times_are_written, write_instant};
-pub use levels::{LEVEL_LIMIT, LevelFault, Levels, levels_are_unique, read_levels};
-pub use reading_instants::{instants_are_unique, read_instant, written_times_are_instants};
+pub use instants::{texts_tell_times, times_are_written, write_instant};
+pub use levels::{LevelFault, Levels, levels_are_unique, read_levels};
+pub use reading_instants::{
+    instants_are_read, instants_are_unique, read_instant, written_times_are_instants,
+};
 pub use times::{Times, read_times, times_are_unique};

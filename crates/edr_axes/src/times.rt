@@ -102,35 +102,3 @@ impl Times {
 pub fn times_are_unique()
     ensures { TimesAreUnique }
 {}
-
-#[cfg(test)]
-mod tests {
-    use super::Times;
-    use std::rt::HostRuntime;
-
-    const FIRST: i64 = 1_704_067_200;
-
-    const LAST: i64 = 1_704_070_800;
-
-    #[test]
-    fn has(rt: HostRuntime) {
-        for (times, before, first, last, after) in [
-            (Times::All, true, true, true, true),
-            (Times::At(FIRST), false, true, false, false),
-            (
-                Times::Between(Some(FIRST), Some(LAST)),
-                false,
-                true,
-                true,
-                false,
-            ),
-            (Times::Between(Some(FIRST), None), false, true, true, true),
-            (Times::Between(None, Some(LAST)), true, true, true, false),
-        ] {
-            assert_eq!(rt; times.has(FIRST - 1), before);
-            assert_eq!(rt; times.has(FIRST), first);
-            assert_eq!(rt; times.has(LAST), last);
-            assert_eq!(rt; times.has(LAST + 1), after);
-        }
-    }
-}

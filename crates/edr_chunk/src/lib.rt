@@ -3,7 +3,7 @@
 
 mod shapes;
 
-pub use shapes::{GridPlace, GridShape};
+pub use shapes::{GridPlace, GridShape, numbers_tell_places, row_major_tells_places};
 
 #[cfg(test)]
 mod tests;

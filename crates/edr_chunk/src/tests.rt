@@ -2,7 +2,7 @@ use crate::{GridPlace, GridShape};
 use std::rt::HostRuntime;
 
 #[test]
-fn nodes_are_numbered_with_x_fastest(rt: HostRuntime) {
+fn values_are_numbered_with_x_fastest(rt: HostRuntime) {
     let shape = GridShape {
         parameters: 2,
         times: 2,
@@ -10,23 +10,15 @@ fn nodes_are_numbered_with_x_fastest(rt: HostRuntime) {
         rows: 4,
         columns: 5,
     };
-    // t, z, y, x, and the number
-    let table: [(u32, u32, u32, u32, u64); 6] = [
-        (0, 0, 0, 0, 0),
-        (0, 0, 0, 4, 4),
-        (0, 0, 1, 0, 5),
-        (0, 1, 0, 0, 20),
-        (1, 0, 0, 0, 60),
-        (1, 2, 3, 4, 119),
-    ];
-    for (t, z, y, x, number) in table {
+    for n in 0..240u32 {
         let place = GridPlace {
-            parameter: 1,
-            t,
-            z,
-            y,
-            x,
+            parameter: (n / 120) as u64,
+            t: n / 60 % 2,
+            z: n / 20 % 3,
+            y: n / 5 % 4,
+            x: n % 5,
         };
-        assert!(rt; shape.node_number(place) == number);
+        assert!(rt; shape.number(place) == n as u64);
+        assert!(rt; shape.node_number(place) == (n % 120) as u64);
     }
 }

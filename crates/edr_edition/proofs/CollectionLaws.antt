@@ -1,18 +1,29 @@
--- Collections that are set and taken out in a list, and grids that may become instances.
-use Rattle.std.proofs.Common.{◌≡◌, ℕ, ◌<◌, not, List, [], ◌∷◌, length, get_or, slice_set, All, Option, Some, None, option_map, Result, Ok, Err, OnOk, refl, sym, ◌∙◌, subst}
-use Rattle.std.proofs.lemmas.List.Elements.{All-nil, All-cons, All-head, All-append, All-filter}
+-- Collections in the order of their ids, and what a change makes of them.
+use Rattle.std.proofs.Common.{◌≡◌, inl, inr, ℕ, zero, suc, ◌<◌, not, codes, List, [], ◌∷◌, length, get_or, slice_set, Contains, Option, Some, None, Result, Ok, Err, IfSome, unwrap_or, refl, sym, ap, ◌∙◌, subst, arith}
+use Rattle.std.proofs.lemmas.Bool.{cases_Bool}
+use Rattle.std.proofs.lemmas.List.Elements.{All-nil, All-append, All-cons, All-filter}
+use Rattle.std.proofs.lemmas.Slice.Eq.{bytes_eq-Decides}
+use Rattle.std.proofs.lemmas.Str.{IsUtf8-from_ascii}
 use Rattle.std.specs.List.{filter}
-use Rattle.covjson_value.specs.declared.coverages.Parameter.{Parameter}
-use Rattle.covjson_value.specs.Coverages.{AscendById}
-use Rattle.edr_ids.specs.Ids.{has_id, is_below, is_above, with_item, without_id}
-use Rattle.edr_ids.proofs.SortedLists.{with_item-found, item_of-found, AscendBy-with_item, AscendBy-without_id}
+use Rattle.std.specs.Str.{IsAscii}
+use Rattle.covjson_value.specs.declared.coverages.Coverage.{Coverage}
+use Rattle.covjson_value.specs.declared.coverages.Referencing.{Referencing}
+use Rattle.covjson_value.specs.Coverages.{IsReferencing, IsValid}
+use Rattle.edr_base.specs.FirstThatApplies.{NoneApplies}
+use Rattle.edr_base.specs.Names.{IsNameByte, IsName}
+use Rattle.edr_ids.specs.Ids.{has_id, is_below, is_above, item_of, with_item, without_id}
+use Rattle.edr_ids.specs.ListLaws.{with_item-found, item_of-found, AscendBy-with_item, AscendBy-without_id}
+use Rattle.edr_edition.specs.declared.kinds.Kind.TheVariants.{Grid as Grids}
+use Rattle.edr_edition.specs.declared.changes.Change.{Change}
+use Rattle.edr_edition.specs.declared.changes.Change.TheVariants.{Collection, Grid, DropCollection, DropInstance, Bare}
+use Rattle.edr_edition.specs.Values.{CollectionValue, collection_id}
+use Rattle.edr_edition.specs.Instances.{instance_of}
 use Rattle.edr_edition.specs.declared.changes.ChangeFault.{ChangeFault}
-use Rattle.edr_edition.specs.declared.changes.ChangeFault.TheVariants.{ParametersDiffer}
-use Rattle.edr_edition.specs.Values.{InstanceValue, CollectionValue, instance_id, collection_id, parameters_of}
-use Rattle.edr_edition.specs.Instances.{IsInstance}
 use Rattle.edr_edition.specs.Editions.{IsCollection, AreCollections}
-use Rattle.edr_edition.specs.Changes.{difference, parameters_fault, first_of, collection_in, Finds}
-use Rattle.edr_edition.proofs.ParameterLaws.{same_parameters}
+use Rattle.edr_edition.specs.Changes.{IsChange, collection_in, empty_collection, with_grid, without_instance, bare_collection, with_changed, made, AppliesToGrid, Applies}
+use Rattle.edr_edition.specs.Steps.{IsMade}
+use Rattle.edr_edition.proofs.FaultLaws.{fits}
+use Rattle.edr_edition.proofs.InstanceLaws.{put_keeps, take_keeps, empty_is_collection}
 
 -- ---- lists of collections
 
@@ -41,37 +52,114 @@ pub collection_set : (collections : List CollectionValue) (place : ℕ) (d : Col
     → (get_or collections place d).id ≡ collection.id → slice_set collections place collection ≡ with_item collection_id collection collections
 collection_set cs place d c are inside own = with_item-found collection_id c cs place d are.ascending inside own
 
--- ---- parameters
+-- ---- the item of an id
 
-parameters_ascend : (instance : InstanceValue) → IsInstance instance → AscendById instance.parameters
-parameters_ascend i is = subst (λ (j : InstanceValue). AscendById j.parameters) (sym is.is) is.grid.valid.ascending
+-- it is in the list, and has the id
+pub item_found : {V : Type 0} (key : V → List ℕ) (id : List ℕ) (xs : List V) (x : V) → item_of key id xs ≡ Some x → Contains xs x × (key x ≡ id)
+item_found key id [] x h = cc
+item_found key id (y ∷ xs) x h = elim (cases_Bool (has_id key id y)) [
+  | inl has ↦ (let found : Some y ≡ Some x = rw has at h in
+      let same : y ≡ x = cc in
+      ((0, omega arith, same), ap key (sym same) ∙ (bytes_eq-Decides (key y) id).0 has))
+  | inr lacks ↦ (let rest = item_found key id xs x (rw lacks at h) in ((suc rest.0.0, omega (arith, rest.0.1), rest.0.2), rest.1))
+]
 
-no_difference : (found : Option (List ℕ)) → option_map ParametersDiffer found ≡ None → found ≡ None
-no_difference None h = refl
-no_difference (Some id) h = cc
+pub found_is_collection : (cs : List CollectionValue) (id : List ℕ) (c : CollectionValue) → AreCollections cs → collection_in cs id ≡ Some c → IsCollection c
+found_is_collection cs id c are is =
+    let there = (item_found collection_id id cs c is).0 in subst IsCollection there.2 (are.each there.0 c there.1)
 
--- where the first of some instances has these parameters, and they all have the same
-all_have : (instances : List InstanceValue) (common parameters : List Parameter) → All IsInstance instances → All (λ (i : InstanceValue). i.parameters ≡ common) instances
-    → AscendById parameters → parameters_fault (first_of instances) parameters ≡ None → All (λ (i : InstanceValue). i.parameters ≡ parameters) instances
-all_have [] common parameters each same up none = All-nil (λ (i : InstanceValue). i.parameters ≡ parameters)
-all_have (i ∷ is) common parameters each same up none =
-    let ascend : AscendById i.parameters = parameters_ascend i (All-head IsInstance i is each) in
-    let first : i.parameters ≡ parameters = same_parameters i.parameters parameters ascend up (no_difference (difference i.parameters parameters) none) in
-    let whole : common ≡ parameters = sym (All-head (λ (j : InstanceValue). j.parameters ≡ common) i is same) ∙ first in
-    λ k d h. same k d h ∙ whole
+pub found_are_collections : (cs : List CollectionValue) (id : List ℕ) (found : Option CollectionValue) → AreCollections cs → collection_in cs id ≡ found → IfSome found IsCollection
+found_are_collections cs id None are is = tt
+found_are_collections cs id (Some c) are is = found_is_collection cs id c are is
 
--- a grid's parameters are those of all other instances, where no fault is found
-pub others_have : (collection : CollectionValue) (id : List ℕ) (parameters : List Parameter) → IsCollection collection → AscendById parameters
-    → parameters_fault (first_of (without_id instance_id id collection.instances)) parameters ≡ None
-    → All (λ (i : InstanceValue). i.parameters ≡ parameters) (without_id instance_id id collection.instances)
-others_have c id parameters is up none =
-    let kept = λ (i : InstanceValue). not (has_id instance_id id i) in
-    all_have (without_id instance_id id c.instances) (parameters_of c.instances) parameters (All-filter kept IsInstance c.instances is.instances.each)
-    (All-filter kept (λ (i : InstanceValue). i.parameters ≡ parameters_of c.instances) c.instances is.instances.same) up none
+-- ---- where bare coverages go to
 
-pub others_have_where_ok : {T : Type 0} (result : Result T ChangeFault) (collection : CollectionValue) (id : List ℕ) (given parameters : List Parameter) → IsCollection collection → AscendById parameters
-    → given ≡ parameters → Finds result (parameters_fault (first_of (without_id instance_id id collection.instances)) given)
-    → OnOk result (All (λ (i : InstanceValue). i.parameters ≡ parameters) (without_id instance_id id collection.instances))
-others_have_where_ok (Ok u) c id given parameters is up same found =
-    others_have c id parameters is up (subst (λ (ps : List Parameter). parameters_fault (first_of (without_id instance_id id c.instances)) ps ≡ None) same found)
-others_have_where_ok (Err fault) c id given parameters is up same found = tt
+grid_ascii : IsAscii (codes "grid")
+grid_ascii zero = omega arith
+grid_ascii (suc zero) = omega arith
+grid_ascii (suc (suc zero)) = omega arith
+grid_ascii (suc (suc (suc zero))) = omega arith
+grid_ascii (suc (suc (suc (suc k)))) = omega arith
+
+one_ascii : IsAscii (codes "1")
+one_ascii zero = omega arith
+one_ascii (suc k) = omega arith
+
+pub one_is_name : IsName (codes "1")
+one_is_name = record {
+  length_in = (omega arith, omega arith);
+  bytes = All-cons IsNameByte 49 [] (record { printed = (omega arith, omega arith); no_comma = omega arith }) (All-nil IsNameByte);
+  utf8 = IsUtf8-from_ascii (codes "1") one_ascii;
+}
+
+letter : (byte : ℕ) → 97 < byte → byte < 123 → IsNameByte byte
+letter byte low high = record { printed = (omega arith, omega arith); no_comma = omega arith }
+
+grid_is_name : IsName (codes "grid")
+grid_is_name = record {
+  length_in = (omega arith, omega arith);
+  bytes = All-cons IsNameByte 103 (114 ∷ 105 ∷ 100 ∷ []) (letter 103 (omega arith) (omega arith))
+      (All-cons IsNameByte 114 (105 ∷ 100 ∷ []) (letter 114 (omega arith) (omega arith))
+      (All-cons IsNameByte 105 (100 ∷ []) (letter 105 (omega arith) (omega arith))
+      (All-cons IsNameByte 100 [] (letter 100 (omega arith) (omega arith)) (All-nil IsNameByte))));
+  utf8 = IsUtf8-from_ascii (codes "grid") grid_ascii;
+}
+
+new_bare_is_collection : (referencing : Referencing) → IsReferencing referencing → IsCollection (bare_collection [] referencing)
+new_bare_is_collection referencing systems = empty_is_collection (codes "grid") Grids (codes "grid") referencing grid_is_name (IsUtf8-from_ascii (codes "grid") grid_ascii) systems
+
+-- the one that is there, or a new one
+bare_of : Option CollectionValue → Referencing → CollectionValue
+bare_of found referencing = unwrap_or found (empty_collection (codes "grid") Grids (codes "grid") referencing)
+
+bare_of_is_collection : (found : Option CollectionValue) (referencing : Referencing) → IfSome found IsCollection → IsReferencing referencing → IsCollection (bare_of found referencing)
+unfolding bare_of
+bare_of_is_collection None referencing is systems = new_bare_is_collection referencing systems
+bare_of_is_collection (Some c) referencing is systems = is
+
+pub bare_is_collection : (cs : List CollectionValue) (referencing : Referencing) → AreCollections cs → IsReferencing referencing → IsCollection (bare_collection cs referencing)
+unfolding bare_of
+bare_is_collection cs referencing are systems =
+    bare_of_is_collection (collection_in cs (codes "grid")) referencing (found_are_collections cs (codes "grid") (collection_in cs (codes "grid")) are refl) systems
+
+-- ---- what is made keeps the order and what collections keep
+
+grid_set_keeps : (c : CollectionValue) (id : List ℕ) (coverage : Coverage) → IsCollection c → IsName id → IsValid coverage → NoneApplies (AppliesToGrid (Some c) id coverage)
+    → IsCollection (with_grid id coverage c)
+grid_set_keeps c id coverage is named valid none =
+    let f = fits c id coverage is valid none in
+    put_keeps c (instance_of id coverage) is (record { id = named; coverage = coverage; grid = f.grid; is = refl }) f.kind f.same
+
+changed_keeps : (cs : List CollectionValue) (change : CollectionValue → CollectionValue) (found : Option CollectionValue) → AreCollections cs
+    → IfSome found (λ c. IsCollection (change c)) → AreCollections (with_changed change found cs)
+changed_keeps cs change None are is = are
+changed_keeps cs change (Some c) are is = collections_with (change c) cs is are
+
+set_keeps : (found : Option CollectionValue) (id : List ℕ) (coverage : Coverage) → IfSome found IsCollection → IsName id → IsValid coverage → NoneApplies (AppliesToGrid found id coverage)
+    → IfSome found (λ c. IsCollection (with_grid id coverage c))
+set_keeps None id coverage is named valid none = tt
+set_keeps (Some c) id coverage is named valid none = grid_set_keeps c id coverage is named valid none
+
+drop_keeps : (found : Option CollectionValue) (id : List ℕ) → IfSome found IsCollection → IfSome found (λ c. IsCollection (without_instance id c))
+drop_keeps None id is = tt
+drop_keeps (Some c) id is = take_keeps c id is
+
+pub made_are_collections : (cs : List CollectionValue) (change : Change) → AreCollections cs → IsChange change → NoneApplies (Applies cs change) → AreCollections (made cs change)
+made_are_collections cs (Collection id kind title crs vertical) are is none =
+    let systems : Referencing = record { crs = crs; vertical = vertical } in
+    collections_with (empty_collection id kind title systems) cs
+    (empty_is_collection id kind title systems is.0 is.1.0 (record { crs = is.1.1.0; vertical = is.1.1.1 })) are
+made_are_collections cs (Grid collection instance coverage) are is none =
+    let found = collection_in cs collection in
+    changed_keeps cs (with_grid instance coverage) found are (set_keeps found instance coverage (found_are_collections cs collection found are refl) is.1.0 is.1.1 none)
+made_are_collections cs (DropCollection collection) are is none = collections_without collection cs are
+made_are_collections cs (DropInstance collection instance) are is none =
+    let found = collection_in cs collection in
+    changed_keeps cs (without_instance instance) found are (drop_keeps found instance (found_are_collections cs collection found are refl))
+made_are_collections cs (Bare coverage) are is none =
+    let c = bare_collection cs coverage.referencing in
+    collections_with (with_grid (codes "1") coverage c) cs (grid_set_keeps c (codes "1") coverage (bare_is_collection cs coverage.referencing are is.referencing) one_is_name is none) are
+
+pub made_keeps : {T : Type 0} (r : Result T ChangeFault) (old new : List CollectionValue) (change : Change) → AreCollections old → IsChange change → IsMade old change r new → AreCollections new
+made_keeps (Ok u) old new change are is done = subst AreCollections (sym done.becomes) (made_are_collections old change are is done.finds)
+made_keeps (Err fault) old new change are is done = subst AreCollections (sym done.becomes) are

@@ -9,12 +9,12 @@ use Rattle.covjson_value.specs.declared.coverages.Parameter.{Parameter}
 use Rattle.covjson_value.specs.declared.coverages.NdArray.{NdArray}
 use Rattle.covjson_value.specs.Domains.{axis_length, count_of}
 use Rattle.covjson_value.specs.Coverages.{IsNamedAxis}
-use Rattle.covjson_value.proofs.Counts.{count_is}
+use Rattle.covjson_value.specs.CountLaws.{count_is}
 use Rattle.edr_chunk.specs.declared.shapes.GridShape.{GridShape}
 use Rattle.edr_chunk.specs.declared.shapes.GridPlace.{GridPlace}
 use Rattle.edr_chunk.specs.Grids.{value}
 use Rattle.edr_chunk.specs.Places.{Within, IsShape, nodes, node_number}
-use Rattle.edr_chunk.proofs.NodeNumbers.{node_steps}
+use Rattle.edr_chunk.specs.PlaceLaws.{node_number-below, number-by_node}
 use Rattle.edr_edition.specs.Instances.{IsTimedGrid, instance_of, shape_of, grid_of}
 
 abbrev pub shape : ℕ → ℕ → ℕ → ℕ → ℕ → GridShape
@@ -108,7 +108,7 @@ module _ (ts : List ℤ) (zs : Option (List ℤ)) (ys xs : List ℤ) (parameters
 
   pub node_inside : (range : NdArray) (node : ℕ) → range ≡ get_or ranges place.parameter range → node ≡ node_number (shape_of (grid_of ts zs ys xs parameters ranges)) place → node < length range.values
   node_inside range node is at =
-      let low = (node_steps (shape_of (grid_of ts zs ys xs parameters ranges)) place within).with_column in
+      let low = node_number-below (shape_of (grid_of ts zs ys xs parameters ranges)) place within in
       subst (λ n. node < n) (sym (long_range range is)) (subst (λ k. k < nodes (shape_of (grid_of ts zs ys xs parameters ranges))) (sym at) low)
 
   -- the value of a range at a node is the grid's at the place
@@ -116,6 +116,8 @@ module _ (ts : List ℤ) (zs : Option (List ℤ)) (ys xs : List ℤ) (parameters
       → get_or range.values node None ≡ value (instance_of [] (grid_of ts zs ys xs parameters ranges)).grid place
   range_value range node is at =
       let sides = shape_of (grid_of ts zs ys xs parameters ranges) in
+      let values = flat_map (λ (r : NdArray). r.values) ranges in
       ap (λ k. get_or range.values k None) at
-      ∙ sym (flat_at ranges (nodes sides) place.parameter (node_number sides place) range None
-      (λ k d low. (grid.valid.ranges k d low).count ∙ grid_count ts zs ys xs parameters ranges) place_has_range is (node_steps sides place within).with_column)
+      ∙ (sym (flat_at ranges (nodes sides) place.parameter (node_number sides place) range None
+      (λ k d low. (grid.valid.ranges k d low).count ∙ grid_count ts zs ys xs parameters ranges) place_has_range is (node_number-below sides place within))
+      ∙ ap (λ k. get_or values k None) (sym (number-by_node sides place)))

@@ -11,7 +11,7 @@ use Rattle.covjson_value.specs.declared.coverages.Referencing.{Referencing}
 use Rattle.covjson_value.specs.Coverages.{IsReferencing}
 use Rattle.edr_base.specs.Names.{IsName}
 use Rattle.edr_ids.specs.Ids.{order, has_id, is_below, is_above, with_item, without_id}
-use Rattle.edr_ids.proofs.SortedLists.{AscendBy-nil, AscendBy-with_item, AscendBy-without_id}
+use Rattle.edr_ids.specs.ListLaws.{AscendBy-nil, AscendBy-with_item, AscendBy-without_id}
 use Rattle.edr_edition.specs.declared.kinds.Kind.{Kind}
 use Rattle.edr_edition.specs.declared.kinds.Kind.TheVariants.{Grid}
 use Rattle.edr_edition.specs.Values.{InstanceValue, CollectionValue, instance_id, parameters_of}

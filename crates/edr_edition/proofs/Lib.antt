@@ -1,4 +1,6 @@
-pub mod Empty
+pub mod FaultLaws
+pub mod RefusalLaws
+pub mod OutcomeLaws
 pub mod InstanceLaws
 pub mod SharedLists
 pub mod SharedInstances

@@ -1,37 +1,36 @@
--- Parameters in ascending order of their ids, and where two lists of them differ.
-use Rattle.std.proofs.Common.{◌≡◌, inl, inr, ℕ, zero, suc, ◌+◌, ◌<◌, ◌≤◌, Bool, true, false, not, ◌&&◌, List, [], ◌∷◌, ◌++◌, length, drop, get_or, All, Option, Some, None, IfSome, Ordering, Less, Equal, Greater, bytes_eq, refl, sym, ap, ◌∙◌, subst, arith}
+-- Where parameters differ first.
+use Rattle.std.proofs.Common.{◌≡◌, ◌≢◌, ◌⊎◌, inl, inr, ℕ, ◌+◌, ◌<◌, ◌≤◌, true, false, if◌then◌else◌, List, [], ◌∷◌, ◌++◌, length, take, drop, get_or, All, Contains, Option, Some, None, Ordering, Less, Equal, Greater, bytes_eq, refl, sym, ap, ◌∙◌, subst, append_assoc}
 use Rattle.std.proofs.lemmas.Bool.{cases_Bool}
 use Rattle.std.proofs.lemmas.Cmp.{nat_list_cmp_total}
-use Rattle.std.proofs.lemmas.List.{append-nil, drop_more, drop_all}
-use Rattle.std.proofs.lemmas.List.Elements.{All-append, All-cons, All-head, All-tail, All-filter}
-use Rattle.std.proofs.lemmas.Map.Keys.{sorted_tail}
-use Rattle.std.proofs.lemmas.Map.Text.{is_eq-slice_cmp}
+use Rattle.std.proofs.lemmas.List.{append-nil, take-append-drop, take_more, drop_more, take_all}
+use Rattle.std.proofs.lemmas.List.Elements.{All-nil, All-cons, All-head, All-tail}
 use Rattle.std.proofs.lemmas.Slice.Eq.{bytes_eq-Decides}
-use Rattle.std.specs.List.{list_any}
-use Rattle.std.specs.Ordering.{is_lt, is_eq}
+use Rattle.std.specs.Ordering.{is_lt}
 use Rattle.covjson_value.specs.declared.coverages.Parameter.{Parameter}
-use Rattle.covjson_value.specs.Coverages.{ids_of, AscendById}
-use Rattle.edr_ids.specs.Ids.{order}
-use Rattle.edr_ids.proofs.SortedLists.{order_same, order_less_flips, order_greater_flips, keys_ascend}
-use Rattle.edr_edition.specs.Changes.{same_text_where_given, same_parameter, parameters_apart, lower_id, least_id, difference}
+use Rattle.covjson_value.specs.Coverages.{AscendById}
+use Rattle.edr_ids.specs.Ids.{order, has_id}
+use Rattle.edr_ids.specs.ListLaws.{order_same, order_less_flips, order_greater_flips, has_id_is, first_below, tail_ascends, item_of-none}
+use Rattle.edr_edition.specs.Values.{InstanceValue}
+use Rattle.edr_edition.specs.Parameters.{parameter_id, parameter_in, AnyDiffersAt, IsFirstDifference, DifferFirstAt}
 
--- ---- parameters that are the same
+-- ---- whether parameters are the same
 
-both_hold : (p q : Bool) → (p && q) ≡ true → (p ≡ true) × (q ≡ true)
-both_hold true q h = (refl, h)
-both_hold false q h = cc
+same_where_given : (a b : Option (List ℕ)) → (a ≡ b) ⊎ (a ≢ b)
+same_where_given None None = inl refl
+same_where_given None (Some b) = inr (λ h. cc)
+same_where_given (Some a) None = inr (λ h. cc)
+same_where_given (Some a) (Some b) = elim (cases_Bool (bytes_eq a b)) [
+  | inl same ↦ inl (ap Some ((bytes_eq-Decides a b).0 same))
+  | inr differ ↦ inr (λ h. (let equal : a ≡ b = cc in let same = (bytes_eq-Decides a b).1 equal in cc))
+]
 
-same_text_is : (a b : Option (List ℕ)) → same_text_where_given a b ≡ true → a ≡ b
-same_text_is None None h = refl
-same_text_is None (Some b) h = cc
-same_text_is (Some a) None h = cc
-same_text_is (Some a) (Some b) h = ap Some ((bytes_eq-Decides a b).0 h)
+pub same_text : (a b : List ℕ) → (a ≡ b) ⊎ (a ≢ b)
+same_text a b = elim (cases_Bool (bytes_eq a b)) [
+  | inl same ↦ inl ((bytes_eq-Decides a b).0 same)
+  | inr differ ↦ inr (λ equal. (let same = (bytes_eq-Decides a b).1 equal in cc))
+]
 
-same_text_itself : (a : Option (List ℕ)) → same_text_where_given a a ≡ true
-same_text_itself None = refl
-same_text_itself (Some a) = (bytes_eq-Decides a a).1 refl
-
-same_fields : (a b : Parameter) → a.id ≡ b.id → a.lang ≡ b.lang → a.label ≡ b.label → a.unit ≡ b.unit → a ≡ b
+pub same_fields : (a b : Parameter) → a.id ≡ b.id → a.lang ≡ b.lang → a.label ≡ b.label → a.unit ≡ b.unit → a ≡ b
 same_fields a b ids langs labels units =
     let P : List ℕ → List ℕ → List ℕ → Option (List ℕ) → Parameter = λ id lang label unit. record { id = id; lang = lang; label = label; unit = unit } in
     ap (λ id. P id a.lang a.label a.unit) ids
@@ -39,202 +38,188 @@ same_fields a b ids langs labels units =
     ∙ (ap (λ label. P b.id b.lang label a.unit) labels
     ∙ ap (λ unit. P b.id b.lang b.label unit) units))
 
-pub same_parameter_is : (a b : Parameter) → same_parameter a b ≡ true → a ≡ b
-same_parameter_is a b h =
-    let by_id = both_hold (bytes_eq a.id b.id) (bytes_eq a.lang b.lang && (bytes_eq a.label b.label && same_text_where_given a.unit b.unit)) h in
-    let by_lang = both_hold (bytes_eq a.lang b.lang) (bytes_eq a.label b.label && same_text_where_given a.unit b.unit) by_id.1 in
-    let by_label = both_hold (bytes_eq a.label b.label) (same_text_where_given a.unit b.unit) by_lang.1 in
-    same_fields a b ((bytes_eq-Decides a.id b.id).0 by_id.0) ((bytes_eq-Decides a.lang b.lang).0 by_lang.0) ((bytes_eq-Decides a.label b.label).0 by_label.0) (same_text_is a.unit b.unit by_label.1)
-
-pub same_parameter_itself : (a : Parameter) → same_parameter a a ≡ true
-same_parameter_itself a =
-    rw ((bytes_eq-Decides a.id a.id).1 refl, (bytes_eq-Decides a.lang a.lang).1 refl, (bytes_eq-Decides a.label a.label).1 refl) (same_text_itself a.unit)
-
--- ---- parameters with other ids
-
-differ_by : (a b : Parameter) (o : Ordering) → order a.id b.id ≡ o → is_eq o ≡ false → same_parameter a b ≡ false
-differ_by a b o h unequal =
-    let ids : bytes_eq a.id b.id ≡ false = sym (is_eq-slice_cmp a.id b.id) ∙ (ap is_eq h ∙ unequal) in
-    rw ids refl
-
--- the parameter's id is above that one
-abbrev IsAboveId : List ℕ → Parameter → Type 0
-IsAboveId id p = order id p.id ≡ Less
-
--- the parameter's id isn't below that one
-abbrev IsFrom : List ℕ → Parameter → Type 0
-IsFrom id p = is_lt (order p.id id) ≡ false
-
-from_above : (id : List ℕ) (p : Parameter) → IsAboveId id p → IsFrom id p
-from_above id p h = ap is_lt (order_less_flips id p.id h)
-
-all_from : (id : List ℕ) (ps : List Parameter) → All (IsAboveId id) ps → All (IsFrom id) ps
-all_from id ps h = λ k d low. from_above id (get_or ps k d) (h k d low)
-
-absent_above : (a : Parameter) (others : List Parameter) → All (IsAboveId a.id) others → list_any (same_parameter a) others ≡ false
-absent_above a [] h = refl
-absent_above a (b ∷ others) h =
-    rw (differ_by a b Less (All-head (IsAboveId a.id) b others h) refl) (absent_above a others (All-tail (IsAboveId a.id) b others h))
-
--- ---- the least id
-
-lower_from : (id one : List ℕ) (other : Option (List ℕ)) → is_lt (order one id) ≡ false → IfSome other (λ o. is_lt (order o id) ≡ false) → is_lt (order (lower_id one other) id) ≡ false
-lower_from id one None h k = h
-lower_from id one (Some other) h k = elim (cases_Bool (is_lt (order other one))) [ inl lower ↦ rw lower k | inr not_lower ↦ rw not_lower h ]
-
-least_from : (id : List ℕ) (ps : List Parameter) → All (IsFrom id) ps → IfSome (least_id ps) (λ o. is_lt (order o id) ≡ false)
-least_from id [] h = tt
-least_from id (p ∷ ps) h = lower_from id p.id (least_id ps) (All-head (IsFrom id) p ps h) (least_from id ps (All-tail (IsFrom id) p ps h))
-
-lower_stays : (id : List ℕ) (other : Option (List ℕ)) → IfSome other (λ o. is_lt (order o id) ≡ false) → lower_id id other ≡ id
-lower_stays id None h = refl
-lower_stays id (Some other) h = rw h refl
-
-least_first : (p : Parameter) (ps : List Parameter) → All (IsFrom p.id) ps → least_id (p ∷ ps) ≡ Some p.id
-least_first p ps h = ap Some (lower_stays p.id (least_id ps) (least_from p.id ps h))
-
-least_later : (front : List Parameter) (p : Parameter) (back : List Parameter) → All (IsAboveId p.id) front → All (IsFrom p.id) back → least_id (front ++ p ∷ back) ≡ Some p.id
-least_later [] p back h k = least_first p back k
-least_later (x ∷ front) p back h k =
-    let above : order p.id x.id ≡ Less = All-head (IsAboveId p.id) x front h in
-    rw (least_later front p back (All-tail (IsAboveId p.id) x front h) k, above) refl
-
--- ---- the first of each side
-
-module _ (a b : Parameter) (one other : List Parameter) where
-  head_stays : same_parameter a b ≡ false → All (IsAboveId a.id) other → parameters_apart (a ∷ one) (b ∷ other) ≡ a ∷ parameters_apart one (b ∷ other)
-  head_stays differ above = rw (differ, absent_above a other above) refl
-
-  head_goes : same_parameter a b ≡ true → parameters_apart (a ∷ one) (b ∷ other) ≡ parameters_apart one (b ∷ other)
-  head_goes same = rw same refl
-
-  all_above : AscendById (a ∷ one) → All (IsAboveId a.id) one
-  all_above up k d h = keys_ascend (λ (p : Parameter). p.id) (a ∷ one) up 0 (suc k) d (omega arith) (omega arith)
-
--- what is above a parameter doesn't look at it
-apart_skips : (b : Parameter) (side other : List Parameter) → All (IsAboveId b.id) side → parameters_apart side (b ∷ other) ≡ parameters_apart side other
-apart_skips b [] other h = refl
-apart_skips b (a ∷ side) other h =
-    let differ : same_parameter a b ≡ false = differ_by a b Greater (order_less_flips b.id a.id (All-head (IsAboveId b.id) a side h)) refl in
-    rw (differ, apart_skips b side other (All-tail (IsAboveId b.id) a side h)) refl
-
-module _ (a b : Parameter) (one other : List Parameter) (up : AscendById (a ∷ one)) (up' : AscendById (b ∷ other)) where
-  difference_tails : same_parameter a b ≡ true → difference (a ∷ one) (b ∷ other) ≡ difference one other
-  difference_tails same =
-      let equal : a ≡ b = same_parameter_is a b same in
-      let back : same_parameter b a ≡ true = ap (same_parameter b) equal ∙ same_parameter_itself b in
-      let above : All (IsAboveId b.id) one = subst (λ (p : Parameter). All (IsAboveId p.id) one) equal (all_above a b one other up) in
-      let above' : All (IsAboveId a.id) other = subst (λ (p : Parameter). All (IsAboveId p.id) other) (sym equal) (all_above b a other one up') in
-      let left : parameters_apart (a ∷ one) (b ∷ other) ≡ parameters_apart one other = head_goes a b one other same ∙ apart_skips b one other above in
-      let right : parameters_apart (b ∷ other) (a ∷ one) ≡ parameters_apart other one = head_goes b a other one back ∙ apart_skips a other one above' in
-      ap (λ (ps : List Parameter). least_id (ps ++ parameters_apart (b ∷ other) (a ∷ one))) left
-      ∙ ap (λ (ps : List Parameter). least_id (parameters_apart one other ++ ps)) right
-
-  one_lower : same_parameter a b ≡ false → IsFrom a.id b → All (IsAboveId a.id) other → difference (a ∷ one) (b ∷ other) ≡ Some a.id
-  one_lower differ from above =
-      ap (λ (ps : List Parameter). least_id (ps ++ parameters_apart (b ∷ other) (a ∷ one))) (head_stays a b one other differ above)
-      ∙ least_first a (parameters_apart one (b ∷ other) ++ parameters_apart (b ∷ other) (a ∷ one))
-      (All-append (IsFrom a.id) (parameters_apart one (b ∷ other)) (parameters_apart (b ∷ other) (a ∷ one))
-      (All-filter (λ p. not (list_any (same_parameter p) (b ∷ other))) (IsFrom a.id) one (all_from a.id one (all_above a b one other up)))
-      (All-filter (λ p. not (list_any (same_parameter p) (a ∷ one))) (IsFrom a.id) (b ∷ other) (All-cons (IsFrom a.id) b other from (all_from a.id other above))))
-
-  other_lower : order b.id a.id ≡ Less → All (IsAboveId b.id) one → difference (a ∷ one) (b ∷ other) ≡ Some b.id
-  other_lower less above =
-      ap (λ (ps : List Parameter). least_id (parameters_apart (a ∷ one) (b ∷ other) ++ ps)) (head_stays b a other one (differ_by b a Less less refl) above)
-      ∙ least_later (parameters_apart (a ∷ one) (b ∷ other)) b (parameters_apart other (a ∷ one))
-      (All-filter (λ p. not (list_any (same_parameter p) (b ∷ other))) (IsAboveId b.id) (a ∷ one) (All-cons (IsAboveId b.id) a one less above))
-      (All-filter (λ p. not (list_any (same_parameter p) (a ∷ one))) (IsFrom b.id) other (all_from b.id other (all_above b a other one up')))
-
-  difference_heads_by : (o : Ordering) → order b.id a.id ≡ o → same_parameter a b ≡ false → difference (a ∷ one) (b ∷ other) ≡ Some (lower_id a.id (Some b.id))
-  difference_heads_by Less h differ =
-      rw h (other_lower h (λ k d low. nat_list_cmp_total.trans b.id a.id (get_or one k d).id h (all_above a b one other up k d low)))
-  difference_heads_by Equal h differ =
-      let ids : b.id ≡ a.id = order_same b.id a.id h in
-      rw h (one_lower differ (ap is_lt h) (subst (λ id. All (IsAboveId id) other) ids (all_above b a other one up')))
-  difference_heads_by Greater h differ =
-      let less : order a.id b.id ≡ Less = order_greater_flips b.id a.id h in
-      rw h (one_lower differ (ap is_lt h) (λ k d low. nat_list_cmp_total.trans a.id b.id (get_or other k d).id less (all_above b a other one up' k d low)))
-
-  difference_heads : same_parameter a b ≡ false → difference (a ∷ one) (b ∷ other) ≡ Some (lower_id a.id (Some b.id))
-  difference_heads differ = difference_heads_by (order b.id a.id) refl differ
-
--- ---- one side has no more
-
-apart_none : (ps : List Parameter) → parameters_apart ps [] ≡ ps
-apart_none [] = refl
-apart_none (p ∷ ps) = ap (λ (qs : List Parameter). p ∷ qs) (apart_none ps)
-
-none_apart : (a : Parameter) (one : List Parameter) → AscendById (a ∷ one) → least_id (a ∷ one) ≡ Some a.id
-none_apart a one up = least_first a one (all_from a.id one (all_above a a one one up))
-
-pub difference_left : (a : Parameter) (one : List Parameter) → AscendById (a ∷ one) → difference (a ∷ one) [] ≡ Some a.id
-difference_left a one up =
-    ap (λ (ps : List Parameter). least_id (ps ++ [])) (apart_none (a ∷ one)) ∙ (ap least_id (append-nil (a ∷ one)) ∙ none_apart a one up)
-
-pub difference_right : (b : Parameter) (other : List Parameter) → AscendById (b ∷ other) → difference [] (b ∷ other) ≡ Some b.id
-difference_right b other up = ap least_id (apart_none (b ∷ other)) ∙ none_apart b other up
-
--- ---- lists with no difference are the same
-
-AscendById-tail : (a : Parameter) (one : List Parameter) → AscendById (a ∷ one) → AscendById one
-AscendById-tail a one up = sorted_tail order a.id (ids_of one) up
-
-pub same_parameters : (one other : List Parameter) → AscendById one → AscendById other → difference one other ≡ None → one ≡ other
-same_parameters [] [] up up' h = refl
-same_parameters [] (b ∷ other) up up' h = (let found = difference_right b other up' in cc)
-same_parameters (a ∷ one) [] up up' h = (let found = difference_left a one up in cc)
-same_parameters (a ∷ one) (b ∷ other) up up' h =
-    elim (cases_Bool (same_parameter a b)) [
-      | inl same ↦ (let rest : one ≡ other = same_parameters one other (AscendById-tail a one up) (AscendById-tail b other up') (sym (difference_tails a b one other up up' same) ∙ h) in
-          ap (λ (p : Parameter). p ∷ one) (same_parameter_is a b same) ∙ ap (λ (ps : List Parameter). b ∷ ps) rest)
-      | inr differ ↦ (let found = difference_heads a b one other up up' differ in cc)
+same_or_not : (a b : Parameter) → (a ≡ b) ⊎ (a ≢ b)
+same_or_not a b = elim (same_text a.id b.id) [
+  | inr differ ↦ inr (λ h. differ (ap parameter_id h))
+  | inl ids ↦ elim (same_text a.lang b.lang) [
+    | inr differ ↦ inr (λ h. differ (ap (λ (p : Parameter). p.lang) h))
+    | inl langs ↦ elim (same_text a.label b.label) [
+      | inr differ ↦ inr (λ h. differ (ap (λ (p : Parameter). p.label) h))
+      | inl labels ↦ elim (same_where_given a.unit b.unit) [
+        | inr differ ↦ inr (λ h. differ (ap (λ (p : Parameter). p.unit) h))
+        | inl units ↦ inl (same_fields a b ids langs labels units)
+      ]
     ]
+  ]
+]
 
--- ---- where both sides are the same up to a place
+-- ---- a parameter by its id
 
-AscendById-drop : (k : ℕ) (ps : List Parameter) → AscendById ps → AscendById (drop k ps)
-AscendById-drop zero ps up = up
-AscendById-drop (suc k) [] up = up
-AscendById-drop (suc k) (p ∷ ps) up = AscendById-drop k ps (AscendById-tail p ps up)
+-- no parameter has an id below the first
+absent_below : (id : List ℕ) (p : Parameter) (ps : List Parameter) → AscendById (p ∷ ps) → order id p.id ≡ Less → parameter_in (p ∷ ps) id ≡ None
+absent_below id p ps up less =
+    item_of-none parameter_id id (p ∷ ps)
+    (All-cons (λ q. has_id parameter_id id q ≡ false) p ps (has_id_is parameter_id id p Greater (order_less_flips id p.id less))
+    (λ k d h. has_id_is parameter_id id (get_or ps k d) Greater
+    (order_less_flips id (get_or ps k d).id (nat_list_cmp_total.trans id p.id (get_or ps k d).id less (first_below parameter_id p ps up k d h)))))
 
-at_place : (ps : List Parameter) (k : ℕ) (p : Parameter) → k < length ps → p ≡ get_or ps k p → drop k ps ≡ p ∷ drop (k + 1) ps
-at_place ps k p low is = drop_more ps k p low ∙ ap (λ (q : Parameter). q ∷ drop (k + 1) ps) (sym is)
+first_has_it : (p : Parameter) (ps : List Parameter) (id : List ℕ) → p.id ≡ id → parameter_in (p ∷ ps) id ≡ Some p
+first_has_it p ps id own = let has : has_id parameter_id id p ≡ true = (bytes_eq-Decides p.id id).1 own in rw has refl
 
-difference_cut : (one one' other other' : List Parameter) → one ≡ one' → other ≡ other' → difference one other ≡ difference one' other'
-difference_cut one one' other other' left right = ap (λ (ps : List Parameter). difference ps other) left ∙ ap (λ (ps : List Parameter). difference one' ps) right
+-- behind a common front
+same_behind : (front one other : List Parameter) (id : List ℕ) → parameter_in one id ≡ parameter_in other id → parameter_in (front ++ one) id ≡ parameter_in (front ++ other) id
+same_behind [] one other id same = same
+same_behind (p ∷ front) one other id same = elim (cases_Bool (has_id parameter_id id p)) [
+  | inl has ↦ rw has refl
+  | inr lacks ↦ rw lacks (same_behind front one other id same)
+]
+
+-- behind a front that lacks it
+behind : (front ps : List Parameter) (id : List ℕ) → All (λ (p : Parameter). order p.id id ≡ Less) front → parameter_in (front ++ ps) id ≡ parameter_in ps id
+behind [] ps id low = refl
+behind (p ∷ front) ps id low =
+    let lacks : has_id parameter_id id p ≡ false = has_id_is parameter_id id p Less (All-head (λ (q : Parameter). order q.id id ≡ Less) p front low) in
+    rw lacks (behind front ps id (All-tail (λ (q : Parameter). order q.id id ≡ Less) p front low))
+
+middle : (P : Parameter → Type 0) (front : List Parameter) (p : Parameter) (ps : List Parameter) → All P (front ++ p ∷ ps) → P p
+middle P [] p ps h = All-head P p ps h
+middle P (q ∷ front) p ps h = middle P front p ps (All-tail P q (front ++ p ∷ ps) h)
+
+front_below : (front : List Parameter) (p : Parameter) (ps : List Parameter) → AscendById (front ++ p ∷ ps) → All (λ (q : Parameter). order q.id p.id ≡ Less) front
+front_below [] p ps up = All-nil (λ (q : Parameter). order q.id p.id ≡ Less)
+front_below (q ∷ front) p ps up =
+    All-cons (λ (r : Parameter). order r.id p.id ≡ Less) q front
+    (middle (λ (r : Parameter). order q.id r.id ≡ Less) front p ps (first_below parameter_id q (front ++ p ∷ ps) up))
+    (front_below front p ps (tail_ascends parameter_id q (front ++ p ∷ ps) up))
+
+back_ascends : (front ps : List Parameter) → AscendById (front ++ ps) → AscendById ps
+back_ascends [] ps up = up
+back_ascends (q ∷ front) ps up = back_ascends front ps (tail_ascends parameter_id q (front ++ ps) up)
+
+-- ---- the first difference of two lists
+
+turned : (one other : List Parameter) (id : List ℕ) → DifferFirstAt one other id → DifferFirstAt other one id
+turned one other id d = record { differ = λ h. d.differ (sym h); same_below = λ lower less. sym (d.same_below lower less) }
+
+-- at a parameter behind a common front, which the other list hasn't, nor anything below it
+first_at : (front : List Parameter) (a : Parameter) (left right : List Parameter) → AscendById (front ++ a ∷ left) → ((id : List ℕ) → order id a.id ≡ Less → parameter_in right id ≡ None)
+    → parameter_in right a.id ≢ Some a → DifferFirstAt (front ++ a ∷ left) (front ++ right) a.id
+first_at front a left right up none other = record {
+  differ = λ h. (let low = front_below front a left up in
+      other (sym (behind front right a.id low) ∙ (sym h ∙ (behind front (a ∷ left) a.id low ∙ first_has_it a left a.id refl))));
+  same_below = λ lower less. same_behind front (a ∷ left) right lower (absent_below lower a left (back_ascends front (a ∷ left) up) less ∙ sym (none lower less));
+}
+
+-- the lower of two ids
+abbrev pub lower_of : List ℕ → List ℕ → List ℕ
+lower_of one other = if is_lt (order other one) then other else one
+
+module _ (front : List Parameter) (a b : Parameter) (left right : List Parameter) (up : AscendById (front ++ a ∷ left)) (up' : AscendById (front ++ b ∷ right)) (apart : a ≢ b) where
+  fork_by : (o : Ordering) → order b.id a.id ≡ o → DifferFirstAt (front ++ a ∷ left) (front ++ b ∷ right) (lower_of a.id b.id)
+  fork_by Less h =
+      let back = back_ascends front (a ∷ left) up in
+      let missing : parameter_in (a ∷ left) b.id ≡ None = absent_below b.id a left back h in
+      rw h (turned (front ++ b ∷ right) (front ++ a ∷ left) b.id
+      (first_at front b right (a ∷ left) up' (λ id less. absent_below id a left back (nat_list_cmp_total.trans id b.id a.id less h)) (λ e. cc)))
+  fork_by Equal h =
+      let ids : b.id ≡ a.id = order_same b.id a.id h in
+      let there : parameter_in (b ∷ right) a.id ≡ Some b = first_has_it b right a.id ids in
+      rw h (first_at front a left (b ∷ right) up (λ id less. absent_below id b right (back_ascends front (b ∷ right) up') (ap (order id) ids ∙ less)) (λ e. apart cc))
+  fork_by Greater h =
+      let back = back_ascends front (b ∷ right) up' in
+      let less' : order a.id b.id ≡ Less = order_greater_flips b.id a.id h in
+      let missing : parameter_in (b ∷ right) a.id ≡ None = absent_below a.id b right back less' in
+      rw h (first_at front a left (b ∷ right) up (λ id less. absent_below id b right back (nat_list_cmp_total.trans id a.id b.id less less')) (λ e. cc))
+
+  -- both go on, and with other parameters
+  fork : DifferFirstAt (front ++ a ∷ left) (front ++ b ∷ right) (lower_of a.id b.id)
+  fork = fork_by (order b.id a.id) refl
+
+-- only one goes on
+goes_on : (front : List Parameter) (a : Parameter) (left : List Parameter) → AscendById (front ++ a ∷ left) → DifferFirstAt (front ++ a ∷ left) front a.id
+goes_on front a left up =
+    subst (λ other. DifferFirstAt (front ++ a ∷ left) other a.id) (append-nil front) (first_at front a left [] up (λ id less. refl) (λ e. cc))
+
+abbrev SameOrDiffer : List Parameter → List Parameter → Type 0
+SameOrDiffer one other = (one ≡ other) ⊎ ((id : List ℕ) × DifferFirstAt one other id)
+
+same_or_differ_behind : (front one other : List Parameter) → AscendById (front ++ one) → AscendById (front ++ other) → SameOrDiffer (front ++ one) (front ++ other)
+same_or_differ_behind front [] [] up up' = inl refl
+same_or_differ_behind front (a ∷ left) [] up up' =
+    inr (a.id, subst (λ other. DifferFirstAt (front ++ a ∷ left) other a.id) (sym (append-nil front)) (goes_on front a left up))
+same_or_differ_behind front [] (b ∷ right) up up' =
+    inr (b.id, subst (λ one. DifferFirstAt one (front ++ b ∷ right) b.id) (sym (append-nil front)) (turned (front ++ b ∷ right) front b.id (goes_on front b right up')))
+same_or_differ_behind front (a ∷ left) (b ∷ right) up up' = elim (same_or_not a b) [
+  | inr apart ↦ inr (lower_of a.id b.id, fork front a b left right up up' apart)
+  | inl same ↦ (let one : (front ++ a ∷ []) ++ left ≡ front ++ a ∷ left = append_assoc front (a ∷ []) left in
+      let other : (front ++ a ∷ []) ++ right ≡ front ++ b ∷ right = append_assoc front (a ∷ []) right ∙ ap (λ (p : Parameter). front ++ p ∷ right) same in
+      subst (λ (ps : List Parameter). SameOrDiffer ps (front ++ b ∷ right)) one (subst (SameOrDiffer ((front ++ a ∷ []) ++ left)) other
+      (same_or_differ_behind (front ++ a ∷ []) left right (subst AscendById (sym one) up) (subst AscendById (sym other) up'))))
+]
+
+-- two lists are the same, or there is a first difference
+pub same_or_differ : (one other : List Parameter) → AscendById one → AscendById other → SameOrDiffer one other
+same_or_differ one other up up' = same_or_differ_behind [] one other up up'
+
+-- ---- where both are the same up to a place
+
+at_place : (ps : List Parameter) (k : ℕ) (p : Parameter) → k < length ps → p ≡ get_or ps k p → take k ps ++ p ∷ drop (k + 1) ps ≡ ps
+at_place ps k p low is =
+    ap (λ (q : Parameter). take k ps ++ q ∷ drop (k + 1) ps) is ∙ (ap (λ (qs : List Parameter). take k ps ++ qs) (sym (drop_more ps k p low)) ∙ take-append-drop k ps)
 
 -- one place more
-pub difference_next : (one other : List Parameter) (k : ℕ) (a b : Parameter) → AscendById one → AscendById other → k < length one → k < length other → a ≡ get_or one k a → b ≡ get_or other k b
-    → same_parameter a b ≡ true → difference (drop k one) (drop k other) ≡ difference (drop (k + 1) one) (drop (k + 1) other)
-difference_next one other k a b up up' low low' is is' same =
-    let cut = at_place one k a low is in
-    let cut' = at_place other k b low' is' in
-    difference_cut (drop k one) (a ∷ drop (k + 1) one) (drop k other) (b ∷ drop (k + 1) other) cut cut'
-    ∙ (difference_tails a b (drop (k + 1) one) (drop (k + 1) other) (subst AscendById cut (AscendById-drop k one up)) (subst AscendById cut' (AscendById-drop k other up')) same)
+pub same_so_far : (one other : List Parameter) (k : ℕ) (a b : Parameter) → k < length one → k < length other → a ≡ get_or one k a → b ≡ get_or other k b → take k one ≡ take k other → a ≡ b
+    → take (k + 1) one ≡ take (k + 1) other
+same_so_far one other k a b low low' is is' same equal =
+    take_more one k a low ∙ (ap (λ (p : Parameter). take k one ++ p ∷ []) (sym is ∙ (equal ∙ is')) ∙ (ap (λ (ps : List Parameter). ps ++ get_or other k b ∷ []) same ∙ sym (take_more other k b low')))
 
--- the first place where they differ
-pub difference_here : (one other : List Parameter) (k : ℕ) (a b : Parameter) → AscendById one → AscendById other → k < length one → k < length other → a ≡ get_or one k a → b ≡ get_or other k b
-    → same_parameter a b ≡ false → difference (drop k one) (drop k other) ≡ Some (lower_id a.id (Some b.id))
-difference_here one other k a b up up' low low' is is' differ =
-    let cut = at_place one k a low is in
-    let cut' = at_place other k b low' is' in
-    difference_cut (drop k one) (a ∷ drop (k + 1) one) (drop k other) (b ∷ drop (k + 1) other) cut cut'
-    ∙ (difference_heads a b (drop (k + 1) one) (drop (k + 1) other) (subst AscendById cut (AscendById-drop k one up)) (subst AscendById cut' (AscendById-drop k other up')) differ)
+pub differ_here : (one other : List Parameter) (k : ℕ) (a b : Parameter) → AscendById one → AscendById other → k < length one → k < length other → a ≡ get_or one k a → b ≡ get_or other k b
+    → take k one ≡ take k other → a ≢ b → DifferFirstAt one other (lower_of a.id b.id)
+differ_here one other k a b up up' low low' is is' same apart =
+    let left : take k one ++ a ∷ drop (k + 1) one ≡ one = at_place one k a low is in
+    let right : take k one ++ b ∷ drop (k + 1) other ≡ other = ap (λ (ps : List Parameter). ps ++ b ∷ drop (k + 1) other) same ∙ at_place other k b low' is' in
+    subst (λ ps. DifferFirstAt ps other (lower_of a.id b.id)) left (subst (λ ps. DifferFirstAt (take k one ++ a ∷ drop (k + 1) one) ps (lower_of a.id b.id)) right
+    (fork (take k one) a b (drop (k + 1) one) (drop (k + 1) other) (subst AscendById (sym left) up) (subst AscendById (sym right) up') apart))
 
--- the first place that only the first side has
-pub difference_more_left : (one other : List Parameter) (k : ℕ) (a : Parameter) → AscendById one → k < length one → length other ≤ k → a ≡ get_or one k a → difference (drop k one) (drop k other) ≡ Some a.id
-difference_more_left one other k a up low over is =
-    let cut = at_place one k a low is in
-    difference_cut (drop k one) (a ∷ drop (k + 1) one) (drop k other) [] cut (drop_all k other over)
-    ∙ (difference_left a (drop (k + 1) one) (subst AscendById cut (AscendById-drop k one up)))
+pub differ_more : (one other : List Parameter) (k : ℕ) (a : Parameter) → AscendById one → k < length one → length other ≤ k → a ≡ get_or one k a
+    → take k one ≡ take k other → DifferFirstAt one other a.id
+differ_more one other k a up low over is same =
+    let left : take k one ++ a ∷ drop (k + 1) one ≡ one = at_place one k a low is in
+    subst (λ ps. DifferFirstAt ps other a.id) left (subst (λ ps. DifferFirstAt (take k one ++ a ∷ drop (k + 1) one) ps a.id) (same ∙ take_all k other over)
+    (goes_on (take k one) a (drop (k + 1) one) (subst AscendById (sym left) up)))
 
--- the first place that only the second side has
-pub difference_more_right : (one other : List Parameter) (k : ℕ) (b : Parameter) → AscendById other → length one ≤ k → k < length other → b ≡ get_or other k b → difference (drop k one) (drop k other) ≡ Some b.id
-difference_more_right one other k b up over low is =
-    let cut = at_place other k b low is in
-    difference_cut (drop k one) [] (drop k other) (b ∷ drop (k + 1) other) (drop_all k one over) cut
-    ∙ (difference_right b (drop (k + 1) other) (subst AscendById cut (AscendById-drop k other up)))
+pub differ_more' : (one other : List Parameter) (k : ℕ) (b : Parameter) → AscendById other → length one ≤ k → k < length other → b ≡ get_or other k b
+    → take k one ≡ take k other → DifferFirstAt one other b.id
+differ_more' one other k b up over low is same = turned other one b.id (differ_more other one k b up low over is (sym same))
 
--- no place more
-pub difference_none : (one other : List Parameter) (k : ℕ) → length one ≤ k → length other ≤ k → difference (drop k one) (drop k other) ≡ None
-difference_none one other k over over' = rw (drop_all k one over, drop_all k other over') refl
+pub same_to_end : (one other : List Parameter) (k : ℕ) → length one ≤ k → length other ≤ k → take k one ≡ take k other → one ≡ other
+same_to_end one other k over over' same = sym (take_all k one over) ∙ (same ∙ take_all k other over')
+
+-- ---- the first difference from the other instances
+
+abbrev pub HaveParameters : List Parameter → List InstanceValue → Type 0
+HaveParameters parameters instances = All (λ (i : InstanceValue). i.parameters ≡ parameters) instances
+
+pub among_have : (parameters : List Parameter) (others : List InstanceValue) (other : InstanceValue) → HaveParameters parameters others → Contains others other → other.parameters ≡ parameters
+among_have parameters others other all there = ap (λ (i : InstanceValue). i.parameters) (sym there.2) ∙ all there.0 other there.1
+
+pub no_difference : (others : List InstanceValue) (parameters : List Parameter) → HaveParameters parameters others → (id : List ℕ) → ¬ (AnyDiffersAt others parameters id)
+no_difference others parameters all id any =
+    any.4 (ap (λ (ps : List Parameter). parameter_in ps id) (among_have parameters others any.1 all (any.0, any.2, any.3)))
+
+-- all have the parameters of one of them
+pub differs_first : (common parameters : List Parameter) (others : List InstanceValue) (other : InstanceValue) (id : List ℕ) → HaveParameters common others → Contains others other
+    → DifferFirstAt other.parameters parameters id → IsFirstDifference others parameters id
+differs_first common parameters others other id all there d = record {
+  differs = (there.0, other, there.1, there.2, d.differ);
+  none_below = λ lower less any. any.4 (ap (λ (ps : List Parameter). parameter_in ps lower)
+      (among_have common others any.1 all (any.0, any.2, any.3) ∙ sym (among_have common others other all there)) ∙ d.same_below lower less);
+}
+
+pub first_difference_once : (others : List InstanceValue) (parameters : List Parameter) (a b : List ℕ) → IsFirstDifference others parameters a → IsFirstDifference others parameters b → a ≡ b
+first_difference_once others parameters a b first first' = by_order (order a b) refl
+  where
+    by_order : (o : Ordering) → order a b ≡ o → a ≡ b
+    by_order Less h = absurd (first'.none_below a h first.differs)
+    by_order Equal h = order_same a b h
+    by_order Greater h = absurd (first.none_below b (order_greater_flips a b h) first'.differs)

@@ -1,5 +1,5 @@
 -- Collections whose instances are shared: an instance set, taken out or found.
-use Rattle.std.proofs.Common.{◌≡◌, inl, inr, ℕ, ◌<◌, ◌+◌, ◌-◌, Bool, true, false, not, cond, List, [], ◌∷◌, ◌++◌, length, map, take, drop, get_or, All, Result, Ok, Err, Some, OnOk, OnErr, refl, sym, ap, ◌∙◌, subst, arith}
+use Rattle.std.proofs.Common.{◌≡◌, inl, inr, ℕ, ◌<◌, ◌+◌, ◌-◌, Bool, true, false, not, cond, List, [], ◌∷◌, ◌++◌, length, map, take, drop, get_or, All, Contains, Result, Ok, Err, Some, OnOk, OnErr, refl, sym, ap, ◌∙◌, subst, arith}
 use Rattle.std.proofs.lemmas.Bool.{cases_eq}
 use Rattle.std.proofs.lemmas.List.{get_or_default, get_or-map, length-map, map-append, take_more, take-append-drop}
 use Rattle.std.proofs.lemmas.List.Elements.{filter_more, filter-append}
@@ -8,13 +8,13 @@ use Rattle.std.specs.List.{slice_get, filter}
 use Rattle.std.specs.declared.cmp.Ordering.TheVariants.{Less}
 use Rattle.covjson_value.specs.declared.coverages.Referencing.{Referencing}
 use Rattle.edr_ids.specs.Ids.{order, AscendBy, has_id, with_item, without_id}
-use Rattle.edr_ids.proofs.SortedLists.{keys_ascend}
+use Rattle.edr_ids.specs.ListLaws.{keys_ascend}
 use Rattle.edr_edition.specs.declared.kinds.Kind.{Kind}
 use Rattle.edr_edition.specs.declared.kinds.Kind.TheVariants.{Grid}
 use Rattle.edr_edition.specs.Values.{InstanceValue, CollectionValue, instance_id}
 use Rattle.edr_edition.specs.Instances.{IsInstance}
 use Rattle.edr_edition.specs.Editions.{IsCollection, IsNewest}
-use Rattle.edr_edition.specs.Changes.{with_instances, first_of}
+use Rattle.edr_edition.specs.Changes.{with_instances}
 use Rattle.edr_edition.proofs.SharedLists.{with_item_shared, without_id_shared}
 use Rattle.edr_edition.proofs.InstanceLaws.{put_keeps}
 
@@ -95,13 +95,13 @@ module _ {X : Type 0} (f : X → InstanceValue) (xs ys : List X) (is : List Inst
         filter_more other is k (f x) (place_inside k inside)
         ∙ (ap (λ js. js ++ cond (other (get_or is k (f x))) (get_or is k (f x) ∷ []) []) before ∙ ap (λ i. cond (other i) (i ∷ []) []) (at_place k x inside here))
 
-    -- the first one with another id
-    pub other_is_first : (found : InstanceValue) → found ≡ f x → not (has_id instance_id id (f x)) ≡ true → Some found ≡ first_of (without_id instance_id id is)
-    other_is_first found own differs =
+    -- one with another id
+    pub other_is_among : (found : InstanceValue) → found ≡ f x → not (has_id instance_id id (f x)) ≡ true → Contains (without_id instance_id id is) found
+    other_is_among found own differs =
         let start : filter other (take (k + 1) is) ≡ f x ∷ [] = kept_before ∙ rw differs refl in
         let split : filter other is ≡ filter other (take (k + 1) is) ++ filter other (drop (k + 1) is) =
         ap (filter other) (sym (take-append-drop (k + 1) is)) ∙ filter-append other (take (k + 1) is) (drop (k + 1) is) in
-        ap Some own ∙ sym (ap first_of (split ∙ ap (λ js. js ++ filter other (drop (k + 1) is)) start))
+        subst (λ js. Contains js found) (sym (split ∙ ap (λ js. js ++ filter other (drop (k + 1) is)) start)) (0, omega arith, sym own)
 
     -- one more has the id
     pub no_other_more : not (has_id instance_id id (f x)) ≡ false → without_id instance_id id (take (k + 1) is) ≡ []

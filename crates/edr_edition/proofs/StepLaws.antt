@@ -1,25 +1,31 @@
 -- What the steps of a change make of collections.
-use Rattle.std.proofs.Common.{◌≡◌, inl, inr, ℕ, ◌<◌, true, false, is_some, List, [], ◌∷◌, length, get_or, slice_set, All, Some, None, Result, Ok, Err, refl, sym, ap, ◌∙◌, subst}
+use Rattle.std.proofs.Common.{◌≡◌, ◌≢◌, inl, inr, ℕ, ◌<◌, true, false, is_some, codes, List, [], ◌∷◌, length, get_or, slice_set, Option, Some, None, Result, Ok, Err, IsErrAnd, refl, sym, ap, ◌∙◌, subst}
 use Rattle.std.proofs.lemmas.Bool.{cases_Bool}
 use Rattle.std.proofs.lemmas.List.{get_or_default, set-get_or}
-use Rattle.std.specs.Result.{is_ok}
 use Rattle.covjson_value.specs.declared.coverages.Coverage.{Coverage}
-use Rattle.edr_base.specs.Names.{IsName}
+use Rattle.covjson_value.specs.declared.coverages.Referencing.{Referencing}
+use Rattle.std.specs.Result.{is_ok}
+use Rattle.edr_base.specs.FirstThatApplies.{IsLeast, NoneApplies}
 use Rattle.edr_ids.specs.Ids.{has_id, item_of, with_item, without_id, IsPlaceOf}
-use Rattle.edr_ids.proofs.SortedLists.{item_of-missing}
-use Rattle.edr_edition.specs.declared.kinds.Kind.TheVariants.{Grid}
+use Rattle.edr_ids.specs.ListLaws.{item_of-missing}
+use Rattle.edr_edition.specs.declared.kinds.Kind.{Kind}
+use Rattle.edr_edition.specs.declared.kinds.Kind.TheVariants.{Grid as Grids}
+use Rattle.edr_edition.specs.declared.changes.Change.TheVariants.{Collection, Grid, DropCollection, DropInstance, Bare}
 use Rattle.edr_edition.specs.declared.changes.ChangeFault.{ChangeFault}
-use Rattle.edr_edition.specs.declared.changes.ChangeFault.TheVariants.{SameCollection, UnknownCollection, UnknownInstance, WrongKind}
+use Rattle.edr_edition.specs.declared.changes.ChangeFault.TheVariants.{SameCollection, UnknownCollection, WrongKind, UnknownInstance, OutOfMemory}
 use Rattle.edr_edition.specs.Values.{InstanceValue, CollectionValue, instance_id, collection_id}
-use Rattle.edr_edition.specs.Instances.{instance_of, IsInstance, IsTimedGrid}
-use Rattle.edr_edition.specs.Editions.{IsCollection, AreCollections}
-use Rattle.edr_edition.specs.Changes.{Made, added, instance_set, grid_fault, set_in, set_unless, dropped, instance_dropped, bare_collection, empty_collection, collection_in, with_instances, is_of_grids}
-use Rattle.edr_edition.proofs.CollectionLaws.{collections_with, collection_at, collection_set}
-use Rattle.edr_edition.proofs.InstanceLaws.{put_keeps, take_keeps}
+use Rattle.edr_edition.specs.Instances.{instance_of}
+use Rattle.edr_edition.specs.Editions.{AreCollections}
+use Rattle.edr_edition.specs.Changes.{collection_in, empty_collection, with_instances, with_grid, without_instance, bare_collection, with_changed, made, rank, AppliesToGrid, AppliesToDrop, Applies, IsRefused}
+use Rattle.edr_edition.specs.Steps.{Finds, Becomes, IsMade}
+use Rattle.edr_edition.proofs.ParameterLaws.{HaveParameters}
+use Rattle.edr_edition.proofs.FaultLaws.{Fits}
+use Rattle.edr_edition.proofs.CollectionLaws.{collection_at, collection_set}
+use Rattle.edr_edition.proofs.RefusalLaws.{same_refuses, none_to_add, unknown_refuses, none_to_drop, grid_unknown, drop_unknown, drop_wrong_kind, drop_unknown_instance, drop_no_fault}
 
 -- what stands where a list ends
-no_collection : CollectionValue
-no_collection = empty_collection [] Grid [] (record { crs = []; vertical = None })
+pub no_collection : CollectionValue
+no_collection = empty_collection [] Grids [] (record { crs = []; vertical = None })
 
 without_missing : {V : Type 0} (key : V → List ℕ) (xs : List V) (id : List ℕ) → is_some (item_of key id xs) ≡ false → without_id key id xs ≡ xs
 without_missing key [] id lacks = refl
@@ -29,105 +35,89 @@ without_missing key (x ∷ xs) id lacks =
       | inr differs ↦ (let rest : is_some (item_of key id xs) ≡ false = rw differs at lacks in rw differs (ap (λ ys. x ∷ ys) (without_missing key xs id rest)))
     ]
 
--- ---- whether there is a collection of an id
+-- ---- where a collection is
 
-pub same_where_ok : (cs : List CollectionValue) (c : CollectionValue) (r : Result ℕ ℕ) → AreCollections cs → IsPlaceOf collection_id c.id cs r → is_ok r ≡ true
-    → added cs c (collection_in cs c.id) ≡ Err SameCollection
-same_where_ok cs c (Ok place) are at ok = ap (added cs c) (collection_at cs place c c.id are at.0 (at.1 c))
-same_where_ok cs c (Err place) are at ok = cc
+pub found_at : (cs : List CollectionValue) (id : List ℕ) (place : ℕ) → AreCollections cs → IsPlaceOf collection_id id cs (Ok place) → collection_in cs id ≡ Some (get_or cs place no_collection)
+found_at cs id place are at = collection_at cs place no_collection id are at.0 (at.1 no_collection)
 
-pub added_where_err : (cs new : List CollectionValue) (c : CollectionValue) (r : Result ℕ ℕ) → IsPlaceOf collection_id c.id cs r → is_ok r ≡ false → new ≡ with_item collection_id c cs
-    → added cs c (collection_in cs c.id) ≡ Ok new
-added_where_err cs new c (Ok place) at ok put = cc
-added_where_err cs new c (Err place) at ok put = ap (added cs c) (item_of-missing collection_id c.id cs place at) ∙ ap Ok (sym put)
+pub missing_at : (cs : List CollectionValue) (id : List ℕ) (place : ℕ) → IsPlaceOf collection_id id cs (Err place) → collection_in cs id ≡ None
+missing_at cs id place at = item_of-missing collection_id id cs place at
+
+-- what stands at one place is one
+pub same_at : (cs : List CollectionValue) (place : ℕ) (one other : CollectionValue) → place < length cs → one ≡ get_or cs place one → other ≡ get_or cs place other → one ≡ other
+same_at cs place one other inside at at' = at ∙ (get_or_default cs place one other inside ∙ sym at')
 
 -- ---- a grid set
 
--- a collection with an instance that a checked grid is
-pub grid_put : (c : CollectionValue) (bytes id : List ℕ) (coverage : Coverage) (i : InstanceValue) → IsCollection c → IsName id → IsTimedGrid coverage → c.kind ≡ Grid → bytes ≡ id → i ≡ instance_of id coverage
-    → All (λ (o : InstanceValue). o.parameters ≡ coverage.parameters) (without_id instance_id bytes c.instances)
-    → IsCollection (with_instances c (with_item instance_id i c.instances))
-grid_put c bytes id coverage i is named grid kind same made others =
-    let one : IsInstance (instance_of id coverage) = record { id = named; coverage = coverage; grid = grid; is = refl } in
-    let apart : All (λ (o : InstanceValue). o.parameters ≡ coverage.parameters) (without_id instance_id id c.instances) =
-    subst (λ b. All (λ (o : InstanceValue). o.parameters ≡ coverage.parameters) (without_id instance_id b c.instances)) same others in
-    subst (λ j. IsCollection (with_instances c (with_item instance_id j c.instances))) (sym made) (put_keeps c (instance_of id coverage) is one kind apart)
+-- one collection is changed at its place: it is now, and was found there
+module _ (cs : List CollectionValue) (place : ℕ) (c new : CollectionValue) (id : List ℕ) (coverage : Coverage) (i : InstanceValue) (are : AreCollections cs) (inside : place < length cs) (at : c ≡ get_or cs place c)
+    (put : new ≡ with_instances c (with_item instance_id i c.instances)) (is : i ≡ instance_of id coverage) where
+  pub grid_put : (d : CollectionValue) → slice_set cs place new ≡ with_item collection_id (with_grid id coverage (get_or cs place d)) cs
+  grid_put d =
+      let there : c ≡ get_or cs place d = at ∙ get_or_default cs place c d inside in
+      let whole : new ≡ with_grid id coverage c = put ∙ ap (λ j. with_instances c (with_item instance_id j c.instances)) is in
+      ap (slice_set cs place) whole ∙ (collection_set cs place c (with_grid id coverage c) are inside (ap collection_id (sym at)) ∙ ap (λ b. with_item collection_id (with_grid id coverage b) cs) there)
 
--- the collections with one changed at its place: it is now, and was found there
-module _ (cs : List CollectionValue) (place : ℕ) (c new : CollectionValue) (i : InstanceValue) (are : AreCollections cs) (inside : place < length cs) (at : c ≡ get_or cs place c)
-    (put : new ≡ with_instances c (with_item instance_id i c.instances)) where
-  set_is : slice_set cs place new ≡ with_item collection_id (with_instances c (with_item instance_id i c.instances)) cs
-  set_is = ap (slice_set cs place) put ∙ collection_set cs place c (with_instances c (with_item instance_id i c.instances)) are inside (ap collection_id (sym at))
+-- as a change of the collection of an id
+pub set_is_made : {T : Type 0} (r : Result T ChangeFault) (cs new : List CollectionValue) (collection instance : List ℕ) (coverage : Coverage) (c : CollectionValue) → collection_in cs collection ≡ Some c
+    → Finds (AppliesToGrid (Some c) instance coverage) r → Becomes cs (with_item collection_id (with_grid instance coverage c) cs) r new
+    → IsMade cs (Grid collection instance coverage) r new
+set_is_made r cs new collection instance coverage c is finds becomes = record {
+  finds = subst (λ (o : Option CollectionValue). Finds (AppliesToGrid o instance coverage) r) (sym is) finds;
+  becomes = subst (λ (o : Option CollectionValue). Becomes cs (with_changed (with_grid instance coverage) o cs) r new) (sym is) becomes;
+}
 
-  module _ (found : CollectionValue) (bytes id : List ℕ) (coverage : Coverage) (shown : found ≡ get_or cs place found) (same : bytes ≡ id) (made : i ≡ instance_of id coverage) where
-    found_is_it : found ≡ c
-    found_is_it = shown ∙ (get_or_default cs place found c inside ∙ sym at)
+pub bare_is_made : {T : Type 0} (r : Result T ChangeFault) (cs new : List CollectionValue) (one : List ℕ) (coverage : Coverage) (c : CollectionValue) → bare_collection cs coverage.referencing ≡ c → one ≡ codes "1"
+    → Finds (AppliesToGrid (Some c) one coverage) r → Becomes cs (with_item collection_id (with_grid one coverage c) cs) r new
+    → IsMade cs (Bare coverage) r new
+bare_is_made r cs new one coverage c is name finds becomes = record {
+  finds = subst (λ b. Finds (AppliesToGrid (Some b) (codes "1") coverage) r) (sym is) (subst (λ i. Finds (AppliesToGrid (Some c) i coverage) r) name finds);
+  becomes = subst (λ b. Becomes cs (with_item collection_id (with_grid (codes "1") coverage b) cs) r new) (sym is)
+      (subst (λ i. Becomes cs (with_item collection_id (with_grid i coverage c) cs) r new) name becomes);
+}
 
-    pub grid_stands : grid_fault found bytes coverage ≡ None → (d : CollectionValue) → set_in cs (get_or cs place d) id coverage ≡ Ok (slice_set cs place new)
-    grid_stands none d =
-        let there : get_or cs place d ≡ c = get_or_default cs place d c inside ∙ sym at in
-        let clear : grid_fault c id coverage ≡ None = subst (λ b. grid_fault c b coverage ≡ None) same (subst (λ b. grid_fault b bytes coverage ≡ None) found_is_it none) in
-        ap (λ b. set_in cs b id coverage) there
-        ∙ (ap (λ f. set_unless f cs (with_instances c (with_item instance_id (instance_of id coverage) c.instances))) clear
-        ∙ ap Ok (ap (λ j. with_item collection_id (with_instances c (with_item instance_id j c.instances)) cs) (sym made) ∙ sym set_is))
+pub bare_found : (cs : List CollectionValue) (coverage : Coverage) (c : CollectionValue) → collection_in cs (codes "grid") ≡ Some c → bare_collection cs coverage.referencing ≡ c
+bare_found cs coverage c is = rw is refl
 
-    pub grid_keeps : IsName id → IsTimedGrid coverage → found.kind ≡ Grid → All (λ (o : InstanceValue). o.parameters ≡ coverage.parameters) (without_id instance_id bytes found.instances)
-        → AreCollections (slice_set cs place new)
-    grid_keeps named grid kind others =
-        let is : IsCollection c = subst IsCollection (sym at) (are.each place c inside) in
-        let kind' : c.kind ≡ Grid = subst (λ (b : CollectionValue). b.kind ≡ Grid) found_is_it kind in
-        let others' : All (λ (o : InstanceValue). o.parameters ≡ coverage.parameters) (without_id instance_id bytes c.instances) =
-        subst (λ (b : CollectionValue). All (λ (o : InstanceValue). o.parameters ≡ coverage.parameters) (without_id instance_id bytes b.instances)) found_is_it others in
-        subst AreCollections (sym set_is)
-        (collections_with (with_instances c (with_item instance_id i c.instances)) cs (grid_put c bytes id coverage i is named grid kind' same made others') are)
+pub bare_missing : (cs : List CollectionValue) (coverage : Coverage) → collection_in cs (codes "grid") ≡ None → bare_collection cs coverage.referencing ≡ bare_collection [] coverage.referencing
+bare_missing cs coverage is = rw is refl
 
--- as a step of a change: the collection at a place is that of its id
-pub made_at : {T : Type 0} (r : Result T ChangeFault) (cs new : List CollectionValue) (place : ℕ) (id instance : List ℕ) (coverage : Coverage) → AreCollections cs → IsPlaceOf collection_id id cs (Ok place)
-    → ((d : CollectionValue) → Made r cs new (set_in cs (get_or cs place d) instance coverage)) → Made r cs new (instance_set cs (collection_in cs id) instance coverage)
-made_at r cs new place id instance coverage are at made =
-    subst (λ found. Made r cs new (instance_set cs found instance coverage)) (sym (collection_at cs place no_collection id are at.0 (at.1 no_collection))) (made no_collection)
+-- a collection that isn't there
+pub set_unknown : (cs : List CollectionValue) (collection instance : List ℕ) (coverage : Coverage) → collection_in cs collection ≡ None → IsLeast rank (Applies cs (Grid collection instance coverage)) UnknownCollection
+set_unknown cs collection instance coverage is =
+    subst (λ (o : Option CollectionValue). IsLeast rank (AppliesToGrid o instance coverage) UnknownCollection) (sym is) (grid_unknown instance coverage)
 
-pub bare_at : {T : Type 0} (r : Result T ChangeFault) (cs new : List CollectionValue) (place : ℕ) (id instance one : List ℕ) (coverage : Coverage) → AreCollections cs → IsPlaceOf collection_id id cs (Ok place) → instance ≡ one
-    → ((d : CollectionValue) → Made r cs new (set_in cs (get_or cs place d) instance coverage))
-    → Made r cs new (set_in cs (bare_collection (collection_in cs id) coverage.referencing) one coverage)
-bare_at r cs new place id instance one coverage are at same made =
-    subst (λ found. Made r cs new (set_in cs (bare_collection found coverage.referencing) one coverage)) (sym (collection_at cs place no_collection id are at.0 (at.1 no_collection)))
-    (subst (λ i. Made r cs new (set_in cs (get_or cs place no_collection) i coverage)) same (made no_collection))
-
-pub bare_added : {T : Type 0} (r : Result T ChangeFault) (cs new : List CollectionValue) (place : ℕ) (id instance one : List ℕ) (c : CollectionValue) (coverage : Coverage) → IsPlaceOf collection_id id cs (Err place) → instance ≡ one
-    → c ≡ bare_collection None coverage.referencing → Made r cs new (set_in cs c instance coverage)
-    → Made r cs new (set_in cs (bare_collection (collection_in cs id) coverage.referencing) one coverage)
-bare_added r cs new place id instance one c coverage at same empty made =
-    subst (λ found. Made r cs new (set_in cs (bare_collection found coverage.referencing) one coverage)) (sym (item_of-missing collection_id id cs place at))
-    (subst (λ i. Made r cs new (set_in cs (bare_collection None coverage.referencing) i coverage)) same (subst (λ b. Made r cs new (set_in cs b instance coverage)) empty made))
+pub dropping_unknown : (cs : List CollectionValue) (collection instance : List ℕ) → collection_in cs collection ≡ None → IsLeast rank (Applies cs (DropInstance collection instance)) UnknownCollection
+dropping_unknown cs collection instance is =
+    subst (λ (o : Option CollectionValue). IsLeast rank (AppliesToDrop o instance) UnknownCollection) (sym is) (drop_unknown instance)
 
 -- ---- an instance dropped
 
 -- of the collection at a place
-module _ (cs : List CollectionValue) (place : ℕ) (c : CollectionValue) (id instance : List ℕ) (are : AreCollections cs) (there : IsPlaceOf collection_id id cs (Ok place)) (at : c ≡ get_or cs place c) where
-  found_is : collection_in cs id ≡ Some c
-  found_is = collection_at cs place c id are there.0 (there.1 c) ∙ ap Some (sym at)
+module _ (cs : List CollectionValue) (place : ℕ) (c : CollectionValue) (collection instance : List ℕ) (are : AreCollections cs) (there : IsPlaceOf collection_id collection cs (Ok place)) (at : c ≡ get_or cs place c) where
+  found_is : collection_in cs collection ≡ Some c
+  found_is = collection_at cs place c collection are there.0 (there.1 c) ∙ ap Some (sym at)
 
   pub unchanged : slice_set cs place c ≡ cs
   unchanged = ap (slice_set cs place) at ∙ set-get_or cs place c
 
-  pub wrong_kind : is_of_grids c.kind ≡ false → instance_dropped cs (collection_in cs id) instance ≡ Err WrongKind
-  wrong_kind other = ap (λ found. instance_dropped cs found instance) found_is ∙ rw other refl
+  pub dropping_wrong_kind : c.kind ≢ Grids → IsLeast rank (Applies cs (DropInstance collection instance)) WrongKind
+  dropping_wrong_kind other =
+      subst (λ (o : Option CollectionValue). IsLeast rank (AppliesToDrop o instance) WrongKind) (sym found_is) (drop_wrong_kind c instance other)
 
-  module _ (new : CollectionValue) (grids : is_of_grids c.kind ≡ true) (left : new ≡ with_instances c (without_id instance_id instance c.instances)) where
-    left_is : slice_set cs place new ≡ with_item collection_id (with_instances c (without_id instance_id instance c.instances)) cs
-    left_is = ap (slice_set cs place) left ∙ collection_set cs place c (with_instances c (without_id instance_id instance c.instances)) are there.0 (ap collection_id (sym at))
+  pub dropping_unknown_instance : c.kind ≡ Grids → is_some (item_of instance_id instance c.instances) ≡ false → IsLeast rank (Applies cs (DropInstance collection instance)) UnknownInstance
+  dropping_unknown_instance kind lacks =
+      subst (λ (o : Option CollectionValue). IsLeast rank (AppliesToDrop o instance) UnknownInstance) (sym found_is) (drop_unknown_instance c instance kind lacks)
 
-    pub instance_left : is_some (item_of instance_id instance c.instances) ≡ true → instance_dropped cs (collection_in cs id) instance ≡ Ok (slice_set cs place new)
-    instance_left has = ap (λ found. instance_dropped cs found instance) found_is ∙ (rw (grids, has) (ap Ok (sym left_is)))
+  pub dropping_no_fault : c.kind ≡ Grids → is_some (item_of instance_id instance c.instances) ≡ true → NoneApplies (Applies cs (DropInstance collection instance))
+  dropping_no_fault kind has =
+      subst (λ (o : Option CollectionValue). NoneApplies (AppliesToDrop o instance)) (sym found_is) (drop_no_fault c instance kind has)
 
-    pub left_keeps : AreCollections (slice_set cs place new)
-    left_keeps =
-        let is : IsCollection c = subst IsCollection (sym at) (are.each place c there.0) in
-        subst AreCollections (sym left_is) (collections_with (with_instances c (without_id instance_id instance c.instances)) cs (take_keeps c instance is) are)
-
-    pub unknown_instance : is_some (item_of instance_id instance c.instances) ≡ false → instance_dropped cs (collection_in cs id) instance ≡ Err UnknownInstance
-    unknown_instance lacks = ap (λ found. instance_dropped cs found instance) found_is ∙ rw (grids, lacks) refl
+  module _ (new : CollectionValue) (left : new ≡ without_instance instance c) where
+    pub instance_left : slice_set cs place new ≡ made cs (DropInstance collection instance)
+    instance_left =
+        ap (slice_set cs place) left ∙ (collection_set cs place c (without_instance instance c) are there.0 (ap collection_id (sym at))
+        ∙ ap (λ o. with_changed (without_instance instance) o cs) (sym found_is))
 
     -- what there was not, is not taken out
     pub none_left : is_some (item_of instance_id instance c.instances) ≡ false → slice_set cs place new ≡ cs
@@ -135,12 +125,38 @@ module _ (cs : List CollectionValue) (place : ℕ) (c : CollectionValue) (id ins
 
 -- ---- a collection dropped
 
-pub made_dropped : (r : Result (Unit {0}) ChangeFault) (cs new : List CollectionValue) (id : List ℕ) (found : CollectionValue) → r ≡ Ok tt → Some found ≡ collection_in cs id → new ≡ without_id collection_id id cs
-    → Made r cs new (dropped cs id (collection_in cs id))
-made_dropped r cs new id found is there left =
-    subst (λ t. Made t cs new (dropped cs id (collection_in cs id))) (sym is) (ap (dropped cs id) (sym there) ∙ ap Ok (sym left))
+pub collection_dropped : (cs new : List CollectionValue) (id : List ℕ) (found : CollectionValue) → Some found ≡ collection_in cs id → new ≡ without_id collection_id id cs
+    → IsMade {T = Unit {0}} cs (DropCollection id) (Ok tt) new
+collection_dropped cs new id found there left = record { finds = none_to_drop cs id found (sym there); becomes = left }
 
-pub made_unknown : (r : Result (Unit {0}) ChangeFault) (cs new : List CollectionValue) (id : List ℕ) → r ≡ Err UnknownCollection → None ≡ collection_in cs id → new ≡ without_id collection_id id cs
-    → Made r cs new (dropped cs id (collection_in cs id))
-made_unknown r cs new id is lacks left =
-    subst (λ t. Made t cs new (dropped cs id (collection_in cs id))) (sym is) (left ∙ without_missing collection_id cs id (ap is_some (sym lacks)), inr (ap (dropped cs id) (sym lacks)))
+pub nothing_dropped : (cs new : List CollectionValue) (id : List ℕ) → None ≡ collection_in cs id → new ≡ without_id collection_id id cs
+    → IsMade {T = Unit {0}} cs (DropCollection id) (Err UnknownCollection) new
+nothing_dropped cs new id lacks left = record {
+  finds = λ _. unknown_refuses cs id (sym lacks);
+  becomes = left ∙ without_missing collection_id cs id (ap is_some (sym lacks));
+}
+
+-- ---- a collection added
+
+module _ (cs : List CollectionValue) (id : List ℕ) (kind : Kind) (title : List ℕ) (referencing : Referencing) where
+  pub there_refuses : (r : Result ℕ ℕ) → AreCollections cs → IsPlaceOf collection_id id cs r → is_ok r ≡ true → IsRefused cs (Collection id kind title referencing.crs referencing.vertical) SameCollection
+  there_refuses (Ok place) are at ok = same_refuses cs id kind title referencing.crs referencing.vertical (get_or cs place no_collection) (found_at cs id place are at)
+  there_refuses (Err place) are at ok = cc
+
+  pub nothing_there : (r : Result ℕ ℕ) → IsPlaceOf collection_id id cs r → is_ok r ≡ false → NoneApplies (Applies cs (Collection id kind title referencing.crs referencing.vertical))
+  nothing_there (Ok place) at ok = cc
+  nothing_there (Err place) at ok = none_to_add cs id kind title referencing.crs referencing.vertical (missing_at cs id place at)
+
+-- ---- a fault that is handed on
+
+pub still_finds : {T : Type 0} (Applying : ChangeFault → Type 0) (r : Result T ChangeFault) (fault : ChangeFault) → IsErrAnd r (λ e. e ≡ fault) → (fault ≢ OutOfMemory → IsLeast rank Applying fault) → Finds Applying r
+still_finds Applying (Ok u) fault same found = absurd same
+still_finds Applying (Err e) fault same found = λ other. subst (IsLeast rank Applying) (sym same) (found (λ own. other (same ∙ own)))
+
+-- ---- an instance that fits
+
+pub fits_instance : (c : CollectionValue) (bytes id : List ℕ) (coverage : Coverage) (i : InstanceValue) → Fits c bytes coverage → bytes ≡ id → i ≡ instance_of id coverage
+    → HaveParameters i.parameters (without_id instance_id i.id c.instances)
+fits_instance c bytes id coverage i f same is =
+    subst (λ (j : InstanceValue). HaveParameters j.parameters (without_id instance_id j.id c.instances)) (sym is)
+    (subst (λ b. HaveParameters coverage.parameters (without_id instance_id b c.instances)) same f.same)

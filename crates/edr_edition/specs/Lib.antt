@@ -1,4 +1,7 @@
 pub mod Values
 pub mod Instances
+pub mod Parameters
 pub mod Editions
 pub mod Changes
+pub mod Outcomes
+pub mod Steps

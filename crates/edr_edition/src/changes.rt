@@ -1,8 +1,9 @@
 //! Changes of a draft.
+ghost use Rattle.std.specs.Prelude.{◌≡◌};
 
 use crate::kinds::Kind;
 use covjson_value::Coverage;
-use edr_base::Text;
+use edr_base::{OutOfMemory, Text};
 
 /// One change of the collections of a draft. Ids are names, other texts are UTF-8, and coverages are valid.
 #[derive(Debug, Drop)]
@@ -53,11 +54,21 @@ pub enum ChangeFault {
     NoTimes,
     /// The coverage's coordinate reference system is given, and isn't the collection's.
     CrsDiffers,
-    /// The grid has that many nodes, and more than `NODE_LIMIT`.
+    /// The grid has that many nodes, and more than `edr_base::NODE_LIMIT`.
     TooManyNodes(usize),
     /// The parameters aren't those of the collection's other instances: the least id that only one side has, or at which the
     /// two sides differ in language, label or unit.
     ParametersDiffer(Text),
-    /// Memory was wanting.
+    /// Memory was wanting. No change has this fault by itself.
     OutOfMemory,
+}
+
+impl From<OutOfMemory> for ChangeFault {
+    ghost use Rattle.edr_edition.specs.declared.changes.ChangeFault.TheVariants.{OutOfMemory};
+
+    ghost from_gives = { λ _ fault. fault ≡ OutOfMemory };
+
+    fn from(_: OutOfMemory) -> ChangeFault {
+        ChangeFault::OutOfMemory
+    }
 }

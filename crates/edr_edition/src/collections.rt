@@ -1,5 +1,5 @@
 //! Collections.
-ghost use Rattle.std.specs.Prelude.{◌≡◌, ◌<◌, [], length, All, is_some, option_map, IfOk, OnOk, OnErr, MatchOption, IsUtf8};
+ghost use Rattle.std.specs.Prelude.{◌≡◌, ◌<◌, [], length, All, Contains, is_some, option_map, IfOk, OnOk, OnErr, MatchOption, IsUtf8};
 ghost use Rattle.std.specs.List.{slice_index_or};
 ghost use Rattle.covjson_value.specs.Coverages.{IsReferencing};
 ghost use Rattle.edr_base.specs.Names.{IsName};
@@ -8,7 +8,7 @@ ghost use Rattle.edr_ids.specs.Ids.{with_item, without_id};
 ghost use Rattle.edr_edition.specs.Values.{InstanceValue, instance_id, parameters_of};
 ghost use Rattle.edr_edition.specs.Instances.{IsInstance};
 ghost use Rattle.edr_edition.specs.Editions.{IsCollection, IsNewest};
-ghost use Rattle.edr_edition.specs.Changes.{empty_collection, with_instances, first_of};
+ghost use Rattle.edr_edition.specs.Changes.{empty_collection, with_instances, without_instance};
 ghost use Rattle.edr_edition.specs.declared.kinds.Kind.TheVariants.{Grid};
 
 use crate::instances::GridInstance;
@@ -190,9 +190,11 @@ impl CollectionData {
         })
     }
 
-    // An instance of another id, where there is one.
+    // An instance of another id; None exactly where there is none.
     pub(crate) fn other_than(&self, id: &[u8]) -> Option<&GridInstance>
-        ensures { option_map (λ instance. instance.now) result ≡ first_of (without_id instance_id id.now self.now.instances) }
+        ensures other { MatchOption result (without_id instance_id id.now self.now.instances ≡ [])
+            (λ instance. Contains (without_id instance_id id.now self.now.instances) instance.now) }
+        ensures collection { IsCollection self.now }
     {
         for instance in &self.instances {
             if instance.id() != id {
@@ -217,7 +219,7 @@ impl CollectionData {
     // Takes out the instance of an id, and says whether there was one.
     pub(crate) fn take_out(&mut self, id: &[u8]) -> bool
         ensures was { result ≡ is_some (ids.item_of instance_id id.now self.old.instances) }
-        ensures without { self.new ≡ with_instances self.old (without_id instance_id id.now self.old.instances) }
+        ensures without { self.new ≡ without_instance id.now self.old }
     {
         take_item(&mut self.instances, id).is_some()
     }

@@ -1,15 +1,16 @@
 //! How the parameters of two instances differ.
-ghost use Rattle.std.specs.Prelude.{◌≡◌, Some, option_map};
+ghost use Rattle.std.specs.Prelude.{◌≡◌, ◌↔◌, if◌then◌else◌, IsTrue, MatchOption};
+ghost use Rattle.std.specs.Ordering.{is_lt};
 ghost use Rattle.covjson_value.specs.Coverages.{AscendById};
-ghost use Rattle.edr_edition.specs.Changes.{difference};
-ghost use Rattle.edr_edition.specs.Changes as changes;
+ghost use Rattle.edr_ids.specs.Ids.{order};
+ghost use Rattle.edr_edition.specs.Parameters.{DifferFirstAt};
 
 use covjson_value::Parameter;
 use edr_base::Text;
 use std::cmp::Ordering;
 
 fn same_text_where_given(one: &Option<Text>, other: &Option<Text>) -> bool
-    ensures { result ≡ changes.same_text_where_given one.now other.now }
+    ensures { IsTrue result ↔ (one.now ≡ other.now) }
 {
     match (one, other) {
         (Some(one), Some(other)) => one.bytes() == other.bytes(),
@@ -19,7 +20,7 @@ fn same_text_where_given(one: &Option<Text>, other: &Option<Text>) -> bool
 }
 
 fn same_parameter(one: &Parameter, other: &Parameter) -> bool
-    ensures { result ≡ changes.same_parameter one.now other.now }
+    ensures { IsTrue result ↔ (one.now ≡ other.now) }
 {
     one.id.bytes() == other.id.bytes()
         && one.lang.bytes() == other.lang.bytes()
@@ -28,7 +29,7 @@ fn same_parameter(one: &Parameter, other: &Parameter) -> bool
 }
 
 fn lower_id<'a>(one: &'a Parameter, other: &'a Parameter) -> &'a [u8]
-    ensures { result.now ≡ changes.lower_id one.now.id (Some other.now.id) }
+    ensures { result.now ≡ (if is_lt (order other.now.id one.now.id) then other.now.id else one.now.id) }
 {
     match other.id.bytes().cmp(one.id.bytes()) {
         Ordering::Less => other.id.bytes(),
@@ -36,11 +37,11 @@ fn lower_id<'a>(one: &'a Parameter, other: &'a Parameter) -> &'a [u8]
     }
 }
 
-/// The least id that only one side has, or at which the sides differ.
+/// The least id that only one side has, or at which the sides differ; None exactly where they are the same.
 pub fn first_difference<'a>(one: &'a [Parameter], other: &'a [Parameter]) -> Option<&'a [u8]>
     requires one { AscendById one.now }
     requires other { AscendById other.now }
-    ensures { option_map (λ id. id.now) result ≡ difference one.now other.now }
+    ensures { MatchOption result (one.now ≡ other.now) (λ id. DifferFirstAt one.now other.now id.now) }
 {
     let both = one.len().min(other.len());
     for place in 0..both {

@@ -1,12 +1,13 @@
 //! Drafts.
-ghost use Rattle.std.specs.Prelude.{◌≡◌, [], IfOk};
+ghost use Rattle.std.specs.Prelude.{◌≡◌, ◌≢◌, [], IfOk, IfErr, OnOk, OnErr};
 ghost use Rattle.edr_edition.specs.Editions.{AreCollections};
-ghost use Rattle.edr_edition.specs.Changes.{IsChange, Made, changed};
+ghost use Rattle.edr_edition.specs.Changes.{IsChange, Changes, IsRefused};
+ghost use Rattle.edr_edition.specs.Steps.{IsMade};
 
 use crate::changes::{Change, ChangeFault};
 use crate::collections::CollectionData;
 use crate::editions::Edition;
-use crate::steps::{add, drop_collection, drop_instance, set_bare, set_instance};
+use crate::steps::{add_collection, drop_collection, drop_instance, set_bare, set_instance};
 use covjson_value::Referencing;
 use edr_base::OutOfMemory;
 use std::alloc::Global;
@@ -39,8 +40,7 @@ fn change_collections(
 ) -> Result<(), ChangeFault>
     requires collections { AreCollections collections.old.items }
     requires change { IsChange change }
-    ensures made { Made result collections.old.items collections.new.items (changed collections.old.items change) }
-    ensures collections { AreCollections collections.new.items }
+    ensures made { IsMade collections.old.items change result collections.new.items }
 {
     match change {
         Change::Collection {
@@ -49,11 +49,14 @@ fn change_collections(
             title,
             crs,
             vertical,
-        } => {
-            let referencing = Referencing { crs, vertical };
-            let collection = CollectionData::empty(alloc, id, kind, title, referencing)?;
-            add(collections, collection)
-        }
+        } => add_collection(
+            alloc,
+            collections,
+            id,
+            kind,
+            title,
+            Referencing { crs, vertical },
+        ),
         Change::Grid {
             collection,
             instance,
@@ -72,7 +75,8 @@ fn change_collections(
 impl Draft {
     /// A draft without collections. It takes no memory.
     pub fn empty(alloc: Global) -> Draft
-        ensures { result ≡ [] }
+        ensures none { result ≡ [] }
+        ensures collections { AreCollections result }
     {
         Draft {
             alloc,
@@ -95,7 +99,9 @@ impl Draft {
     /// the change is given up.
     pub fn apply(&mut self, change: Change) -> Result<(), ChangeFault>
         requires { IsChange change }
-        ensures { Made result self.old self.new (changed self.old change) }
+        ensures made { OnOk result (Changes self.old change self.new) }
+        ensures refused { IfErr result (λ fault. fault ≢ ChangeFault.OutOfMemory → IsRefused self.old change fault) }
+        ensures kept { OnErr result (self.new ≡ self.old) }
     {
         change_collections(self.alloc, &mut self.collections, change)
     }

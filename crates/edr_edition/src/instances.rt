@@ -15,7 +15,7 @@ use std::marker::Model;
 /// One grid of a collection, such as one run of a forecast (OGC 19-086r6, instances).
 ///
 /// It stands for a valid coverage of CoverageJSON whose domain is a Grid (OGC 21-069r2, domain types) with times and at
-/// most `NODE_LIMIT` nodes; contracts see its axes, and its values in the order parameter, t, z, y, x.
+/// most `edr_base::NODE_LIMIT` nodes; contracts see its axes, and its values in the order parameter, t, z, y, x.
 #[derive(Drop)]
 pub struct GridInstance {
     id: Text,

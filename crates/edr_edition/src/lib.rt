@@ -9,7 +9,7 @@ mod drafts;
 mod editions;
 mod instances;
 mod kinds;
-mod limits;
+mod laws;
 mod steps;
 
 pub use changes::{Change, ChangeFault};
@@ -18,7 +18,7 @@ pub use drafts::Draft;
 pub use editions::Edition;
 pub use instances::GridInstance;
 pub use kinds::Kind;
-pub use limits::NODE_LIMIT;
+pub use laws::{changes_have_one_outcome, changes_keep_others, newest_is_one};
 
 #[cfg(test)]
 mod tests;

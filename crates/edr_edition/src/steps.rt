@@ -1,11 +1,14 @@
 //! The steps of a change, on the collections of a draft.
-ghost use Rattle.std.specs.Prelude.{◌≡◌, ◌<◌, None, IfOk, codes, length};
+ghost use Rattle.std.specs.Prelude.{◌≡◌, ◌<◌, Some, [], IfOk, IsUtf8, length};
 ghost use Rattle.std.specs.List.{slice_index_or};
 ghost use Rattle.covjson_value.specs.Coverages.{IsReferencing, IsValid};
 ghost use Rattle.edr_base.specs.Names.{IsName};
+ghost use Rattle.edr_ids.specs.Ids.{with_item};
+ghost use Rattle.edr_edition.specs.declared.changes.Change.TheVariants.{Collection, Grid, DropCollection, DropInstance, Bare};
 ghost use Rattle.edr_edition.specs.Values.{CollectionValue, collection_id};
-ghost use Rattle.edr_edition.specs.Editions.{IsCollection, AreCollections};
-ghost use Rattle.edr_edition.specs.Changes.{Made, added, instance_set, set_in, dropped, instance_dropped, bare_collection, collection_in};
+ghost use Rattle.edr_edition.specs.Editions.{AreCollections};
+ghost use Rattle.edr_edition.specs.Changes.{AppliesToGrid, with_grid, bare_collection};
+ghost use Rattle.edr_edition.specs.Steps.{Finds, Becomes, IsMade};
 
 use crate::changes::ChangeFault;
 use crate::checks::check_grid;
@@ -14,33 +17,28 @@ use crate::instances::GridInstance;
 use crate::kinds::Kind;
 use covjson_value::{Coverage, Referencing};
 use edr_base::{OutOfMemory, Text};
-use edr_ids::{Identified, place_of, put_item, take_item};
+use edr_ids::{place_of, put_item, take_item};
 use std::alloc::Global;
 
-impl From<OutOfMemory> for ChangeFault {
-    ghost use Rattle.edr_edition.specs.declared.changes.ChangeFault.TheVariants.{OutOfMemory};
-
-    ghost from_gives = { λ _ fault. fault ≡ OutOfMemory };
-
-    fn from(_: OutOfMemory) -> ChangeFault {
-        ChangeFault::OutOfMemory
-    }
-}
-
-/// Adds a collection: SameCollection.
-pub fn add(
+/// Adds an empty collection: SameCollection.
+pub fn add_collection(
+    alloc: Global,
     collections: &mut Vec<CollectionData>,
-    collection: CollectionData,
+    id: Text,
+    kind: Kind,
+    title: Text,
+    referencing: Referencing,
 ) -> Result<(), ChangeFault>
     requires collections { AreCollections collections.old.items }
-    requires collection { IsCollection collection }
-    ensures made { Made result collections.old.items collections.new.items
-        (added collections.old.items collection (collection_in collections.old.items collection.id)) }
-    ensures collections { AreCollections collections.new.items }
+    requires id { IsName id }
+    requires title { IsUtf8 title }
+    requires referencing { IsReferencing referencing }
+    ensures made { IsMade collections.old.items (Collection id kind title referencing.crs referencing.vertical) result collections.new.items }
 {
-    if place_of(collections, collection.id()).is_ok() {
+    if place_of(collections, id.bytes()).is_ok() {
         return Err(ChangeFault::SameCollection);
     }
+    let collection = CollectionData::empty(alloc, id, kind, title, referencing)?;
     put_item(collections, collection)?;
     Ok(())
 }
@@ -57,9 +55,9 @@ fn set_at(
     requires place { place < length collections.old.items }
     requires id { IsName id }
     requires coverage { IsValid coverage }
-    ensures made { (d : CollectionValue) → Made result collections.old.items collections.new.items
-        (set_in collections.old.items (slice_index_or collections.old.items place d) id coverage) }
-    ensures collections { AreCollections collections.new.items }
+    ensures finds { (d : CollectionValue) → Finds (AppliesToGrid (Some (slice_index_or collections.old.items place d)) id coverage) result }
+    ensures becomes { (d : CollectionValue) → Becomes collections.old.items
+        (with_item collection_id (with_grid id coverage (slice_index_or collections.old.items place d)) collections.old.items) result collections.new.items }
 {
     check_grid(alloc, &collections[place], id.bytes(), &coverage)?;
     let instance = GridInstance::of(id, coverage);
@@ -79,9 +77,7 @@ pub fn set_instance(
     requires collections { AreCollections collections.old.items }
     requires id { IsName id }
     requires coverage { IsValid coverage }
-    ensures made { Made result collections.old.items collections.new.items
-        (instance_set collections.old.items (collection_in collections.old.items collection.now) id coverage) }
-    ensures collections { AreCollections collections.new.items }
+    ensures made { IsMade collections.old.items (Grid collection.now id coverage) result collections.new.items }
 {
     match place_of(collections, collection) {
         Ok(place) => set_at(alloc, collections, place, id, coverage),
@@ -92,9 +88,7 @@ pub fn set_instance(
 /// Drops a collection: UnknownCollection.
 pub fn drop_collection(collections: &mut Vec<CollectionData>, id: &[u8]) -> Result<(), ChangeFault>
     requires collections { AreCollections collections.old.items }
-    ensures made { Made result collections.old.items collections.new.items
-        (dropped collections.old.items id.now (collection_in collections.old.items id.now)) }
-    ensures collections { AreCollections collections.new.items }
+    ensures made { IsMade collections.old.items (DropCollection id.now) result collections.new.items }
 {
     match take_item(collections, id) {
         Some(_) => Ok(()),
@@ -109,9 +103,7 @@ pub fn drop_instance(
     id: &[u8],
 ) -> Result<(), ChangeFault>
     requires collections { AreCollections collections.old.items }
-    ensures made { Made result collections.old.items collections.new.items
-        (instance_dropped collections.old.items (collection_in collections.old.items collection.now) id.now) }
-    ensures collections { AreCollections collections.new.items }
+    ensures made { IsMade collections.old.items (DropInstance collection.now id.now) result collections.new.items }
 {
     let Ok(place) = place_of(collections, collection) else {
         return Err(ChangeFault::UnknownCollection);
@@ -120,11 +112,10 @@ pub fn drop_instance(
     if held.kind() != Kind::Grid {
         return Err(ChangeFault::WrongKind);
     }
-    if held.take_out(id) {
-        Ok(())
-    } else {
-        Err(ChangeFault::UnknownInstance)
+    if !held.take_out(id) {
+        return Err(ChangeFault::UnknownInstance);
     }
+    Ok(())
 }
 
 fn copy_where_given(alloc: Global, text: &Option<Text>) -> Result<Option<Text>, OutOfMemory>
@@ -151,7 +142,7 @@ fn empty_bare_collection(
     referencing: &Referencing,
 ) -> Result<CollectionData, OutOfMemory>
     requires { IsReferencing referencing.now }
-    ensures { IfOk result (λ collection. collection ≡ bare_collection None referencing.now) }
+    ensures { IfOk result (λ collection. collection ≡ bare_collection [] referencing.now) }
 {
     let id = Text::of(alloc, b"grid")?;
     let title = Text::of(alloc, b"grid")?;
@@ -168,11 +159,10 @@ fn add_with(
     coverage: Coverage,
 ) -> Result<(), ChangeFault>
     requires collections { AreCollections collections.old.items }
-    requires collection { IsCollection collection }
     requires id { IsName id }
     requires coverage { IsValid coverage }
-    ensures made { Made result collections.old.items collections.new.items (set_in collections.old.items collection id coverage) }
-    ensures collections { AreCollections collections.new.items }
+    ensures finds { Finds (AppliesToGrid (Some collection) id coverage) result }
+    ensures becomes { Becomes collections.old.items (with_item collection_id (with_grid id coverage collection) collections.old.items) result collections.new.items }
 {
     check_grid(alloc, &collection, id.bytes(), &coverage)?;
     let mut collection = collection;
@@ -189,9 +179,7 @@ pub fn set_bare(
 ) -> Result<(), ChangeFault>
     requires collections { AreCollections collections.old.items }
     requires coverage { IsValid coverage }
-    ensures made { Made result collections.old.items collections.new.items
-        (set_in collections.old.items (bare_collection (collection_in collections.old.items (codes "grid")) coverage.referencing) (codes "1") coverage) }
-    ensures collections { AreCollections collections.new.items }
+    ensures made { IsMade collections.old.items (Bare coverage) result collections.new.items }
 {
     let id = Text::of(alloc, b"1")?;
     match place_of(collections, b"grid") {

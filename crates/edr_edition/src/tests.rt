@@ -4,11 +4,10 @@ ghost use Rattle.edr_chunk.specs.Places.{Within};
 ghost use Rattle.edr_edition.specs.Instances.{IsTimedGrid};
 ghost use Rattle.edr_edition.specs.Changes.{IsChange};
 
-use crate::{Change, Draft, Edition, GridInstance, Kind, NODE_LIMIT};
+use crate::{Change, Draft, Edition, GridInstance, Kind};
 use covjson_value::{CoordinateName, Coverage, Domain, NdArray, Parameter, Referencing};
-use edr_base::{is_name};
 use edr_axes::Axis;
-use edr_base::{Items, OutOfMemory, Text};
+use edr_base::{Items, NODE_LIMIT, OutOfMemory, Text, is_name};
 use edr_chunk::{GridPlace, GridShape};
 use std::alloc::Global;
 use std::test::Fail;

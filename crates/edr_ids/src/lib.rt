@@ -3,7 +3,7 @@
 
 mod lists;
 
-pub use lists::{Identified, item_of, place_of, put_item, take_item};
+pub use lists::{Identified, item_of, items_are_by_id, place_of, put_item, take_item};
 
 #[cfg(test)]
 mod tests;

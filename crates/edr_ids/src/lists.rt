@@ -1,6 +1,6 @@
 //! Lists of items in strictly ascending order of their ids.
 ghost use Rattle.std.specs.Prelude.{◌≡◌, ℕ, List, None, option_map, OnOk, OnErr};
-ghost use Rattle.edr_ids.specs.Ids.{AscendBy, IsPlaceOf, with_item, without_id};
+ghost use Rattle.edr_ids.specs.Ids.{AreById, AscendBy, IsPlaceOf, with_item, without_id};
 ghost use Rattle.edr_ids.specs.Ids as ids;
 ghost use Rattle.std.specs.Arc.{arc_value};
 
@@ -78,3 +78,8 @@ pub fn take_item<T: Identified>(items: &mut Vec<T>, id: &[u8]) -> Option<T>
         Err(_) => None,
     }
 }
+
+/// The item of an id is the one that has it, and setting an item or taking one out leaves those of other ids.
+pub fn items_are_by_id<T: Identified>()
+    ensures { AreById T.id_of }
+{}

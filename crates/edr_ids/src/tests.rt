@@ -9,99 +9,60 @@ use std::sync::Arc;
 use std::test::Fail;
 
 #[derive(Clone, Copy, Debug, PartialEq, Eq)]
-struct Word {
-    id: &'static [u8],
-    number: usize,
-}
+struct Word(&'static str, usize);
 
 impl Identified for Word {
-    ghost id_of = { λ word. word.id.now };
+    ghost id_of = { λ word. word.0.now };
 
     fn id(&self) -> &[u8] {
-        self.id
+        self.0.as_bytes()
     }
 }
 
 // Words set one after another, numbered in that order.
-fn words(rt: HostRuntime, ids: &[&'static [u8]]) -> Result<Vec<Word>, Fail>
-    ensures { IfOk result (λ words. AscendBy (λ word. word.id.now) words.items) }
+fn words(alloc: Global, ids: &'static str) -> Result<Vec<Word>, Fail>
+    ensures { IfOk result (λ words. AscendBy (λ word. word.0.now) words.items) }
 {
-    let mut items = Vec::new(rt.alloc());
-    for (number, id) in ids.iter().enumerate() {
-        put_item(&mut items, Word { id: *id, number })?;
+    let mut items = Vec::new(alloc);
+    for (number, id) in ids.split(' ').enumerate() {
+        put_item(&mut items, Word(id, number))?;
     }
     Ok(items)
 }
 
-#[test]
-fn places(rt: HostRuntime) -> Result<(), Fail> {
-    let items = words(rt, &[b"d", b"b", b"f"])?;
-    for (id, place, number) in [
-        (b"".as_slice(), Err(0), None),
-        (b"a", Err(0), None),
-        (b"b", Ok(0), Some(1)),
-        (b"bb", Err(1), None),
-        (b"c", Err(1), None),
-        (b"d", Ok(1), Some(0)),
-        (b"e", Err(2), None),
-        (b"f", Ok(2), Some(2)),
-        (b"\xff", Err(3), None),
-    ] {
-        assert_eq!(rt; place_of(&items, id), place, "the place of {id:?}");
-        assert_eq!(rt;
-            item_of(&items, id).map(|word| word.number),
-            number,
-            "the word {id:?}"
-        );
-    }
-    Ok(())
-}
+// Words that are set in turn and an id: its place and the number of its word, and the words when it is taken out.
+const TABLE: &str = "\
+d b f/a => Err(0) None [Word(\"b\", 1), Word(\"d\", 0), Word(\"f\", 2)]
+d b f/b => Ok(0) Some(1) [Word(\"d\", 0), Word(\"f\", 2)]
+d b f/bb => Err(1) None [Word(\"b\", 1), Word(\"d\", 0), Word(\"f\", 2)]
+d b f/d => Ok(1) Some(0) [Word(\"b\", 1), Word(\"f\", 2)]
+d b f/e => Err(2) None [Word(\"b\", 1), Word(\"d\", 0), Word(\"f\", 2)]
+d b f/f => Ok(2) Some(2) [Word(\"b\", 1), Word(\"d\", 0)]
+d b f/~ => Err(3) None [Word(\"b\", 1), Word(\"d\", 0), Word(\"f\", 2)]
+d b f/ => Err(0) None [Word(\"b\", 1), Word(\"d\", 0), Word(\"f\", 2)]
+b d a/x => Err(3) None [Word(\"a\", 2), Word(\"b\", 0), Word(\"d\", 1)]
+b bb c/b => Ok(0) Some(0) [Word(\"bb\", 1), Word(\"c\", 2)]
+b d b/x => Err(2) None [Word(\"b\", 2), Word(\"d\", 1)]
+b b b/b => Ok(0) Some(2) []
+";
 
-// The ids and numbers of words, in their order.
-fn listed(rt: HostRuntime, items: &[Word]) -> Result<Vec<(&'static [u8], usize)>, Fail> {
-    let mut pairs = Vec::new(rt.alloc());
-    for item in items {
-        pairs.push((item.id, item.number))?;
-    }
-    Ok(pairs)
+fn answers(alloc: Global, ids: &'static str, id: &str) -> Result<String, Fail> {
+    let mut items = words(alloc, ids)?;
+    let place = place_of(&items, id.as_bytes());
+    let number = item_of(&items, id.as_bytes()).map(|word| word.1);
+    let taken = take_item(&mut items, id.as_bytes()).map(|word| word.1);
+    (number == taken)
+        .then_some(())
+        .ok_or("another word is taken out")?;
+    Ok(format!(in alloc; "{place:?} {number:?} {:?}", items.as_slice())?)
 }
 
 #[test]
-fn set(rt: HostRuntime) -> Result<(), Fail> {
-    for (ids, list) in [
-        (
-            [b"b".as_slice(), b"d", b"a"],
-            [(b"a".as_slice(), 2), (b"b", 0), (b"d", 1)].as_slice(),
-        ),
-        ([b"d", b"b", b"c"], &[(b"b", 1), (b"c", 2), (b"d", 0)]),
-        ([b"b", b"bb", b"c"], &[(b"b", 0), (b"bb", 1), (b"c", 2)]),
-        ([b"b", b"d", b"b"], &[(b"b", 2), (b"d", 1)]),
-        ([b"b", b"d", b"d"], &[(b"b", 0), (b"d", 2)]),
-        ([b"b", b"b", b"b"], &[(b"b", 2)]),
-    ] {
-        let items = words(rt, &ids)?;
-        assert_eq!(rt; listed(rt, &items)?.as_slice(), list, "{ids:?}");
-    }
-    Ok(())
-}
-
-#[test]
-fn taken_out(rt: HostRuntime) -> Result<(), Fail> {
-    for (id, number, list) in [
-        (
-            b"b".as_slice(),
-            Some(1),
-            [(b"d".as_slice(), 0), (b"f", 2)].as_slice(),
-        ),
-        (b"d", Some(0), &[(b"b", 1), (b"f", 2)]),
-        (b"f", Some(2), &[(b"b", 1), (b"d", 0)]),
-        (b"a", None, &[(b"b", 1), (b"d", 0), (b"f", 2)]),
-        (b"e", None, &[(b"b", 1), (b"d", 0), (b"f", 2)]),
-    ] {
-        let mut items = words(rt, &[b"d", b"b", b"f"])?;
-        let taken = take_item(&mut items, id);
-        assert_eq!(rt; taken.map(|word| word.number), number, "{id:?}");
-        assert_eq!(rt; listed(rt, &items)?.as_slice(), list, "without {id:?}");
+fn found_set_and_taken_out(rt: HostRuntime) -> Result<(), Fail> {
+    for line in TABLE.lines() {
+        let (asked, answer) = line.split_once(" => ").ok_or("a line without an answer")?;
+        let (ids, id) = asked.split_once('/').ok_or("a line without an id")?;
+        assert_eq!(rt; answers(rt.alloc(), ids, id)?.as_str(), answer, "{line}");
     }
     Ok(())
 }
@@ -109,27 +70,12 @@ fn taken_out(rt: HostRuntime) -> Result<(), Fail> {
 #[test]
 fn shared(rt: HostRuntime) -> Result<(), Fail> {
     let mut items: Vec<Arc<Word>> = Vec::new(rt.alloc());
-    for word in words(rt, &[b"d", b"b", b"f"])? {
+    for word in words(rt.alloc(), "d b f d")? {
         put_item(&mut items, Arc::new(rt.alloc(), word)?)?;
     }
-    put_item(
-        &mut items,
-        Arc::new(
-            rt.alloc(),
-            Word {
-                id: b"d",
-                number: 7,
-            },
-        )?,
-    )?;
-    assert_eq!(rt; items.len(), 3);
     assert_eq!(rt; place_of(&items, b"f"), Ok(2));
-    assert_eq!(rt; item_of(&items, b"d").map(|word| word.number), Some(7));
-    assert_eq!(rt;
-        take_item(&mut items, b"b").map(|word| word.number),
-        Some(1)
-    );
-    assert_eq!(rt; item_of(&items, b"b").is_none(), true);
+    assert_eq!(rt; item_of(&items, b"d").map(|word| word.1), Some(3));
+    assert_eq!(rt; take_item(&mut items, b"b").map(|word| word.1), Some(1));
     assert_eq!(rt; items.len(), 2);
     Ok(())
 }

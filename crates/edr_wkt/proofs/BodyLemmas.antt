@@ -8,7 +8,7 @@ use Rattle.edr_wkt.specs.declared.headings.Kind.TheVariants as k
 use Rattle.edr_wkt.specs.declared.headings.Kind.TheVariants.{Point, MultiPoint, LineString, MultiPolygon}
 use Rattle.edr_wkt.specs.declared.geometry.Polygon.{Polygon}
 use Rattle.edr_wkt.specs.declared.geometry.Geometry.TheVariants.{Points, Line, Polygons}
-use Rattle.edr_wkt.specs.Limits.{kept, kept_polygon, counted}
+use Rattle.edr_wkt.specs.Kept.{kept, kept_polygon, counted}
 use Rattle.edr_wkt.specs.Geometries.{positions_of, polygon_size}
 use Rattle.edr_wkt.specs.Grammar.{IsPosition, IsMember, AreItems, IsRing, IsPolygon}
 use Rattle.edr_wkt.specs.Reads.{ArePositions, AreRead, HasNoItems}

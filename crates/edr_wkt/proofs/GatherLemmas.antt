@@ -2,13 +2,17 @@
 use Rattle.std.proofs.Common.{◌≡◌, ℕ, subst, ◌+◌, ◌<◌, ◌≤◌, min, Bool, false, List, [], ◌∷◌, ◌++◌, length, map, refl, sym, ap, ap₂, ◌∙◌, arith}
 use Rattle.std.proofs.Common.{Result, Err}
 use Rattle.std.specs.List.{sum_by}
+use Rattle.std.specs.Prelude.{IsErr}
+use Rattle.std.specs.Result.{IsErrAnd}
+use Rattle.std.proofs.lemmas.Result.{err_from_is_err_and}
 use Rattle.std.proofs.lemmas.List.{length_push, map_push}
 use Rattle.std.proofs.lemmas.List.Sums.{sum_by_push}
 use Rattle.edr_base.specs.declared.places.Position.{Position}
 use Rattle.edr_wkt.specs.declared.geometry.Polygon.{Polygon}
 use Rattle.edr_wkt.specs.Geometries.{polygon_size}
-use Rattle.edr_wkt.specs.Limits.{kept, kept_polygon, counted}
-use Rattle.edr_wkt.specs.Grammar.{is_blank, IsMark, IsMember, AreItems, IsList, IsPosition, IsRing, IsPolygon}
+use Rattle.edr_wkt.specs.Kept.{kept, kept_polygon, counted}
+use Rattle.edr_base.specs.Names.{is_blank}
+use Rattle.edr_wkt.specs.Grammar.{IsMark, IsMember, AreItems, IsList, IsPosition, IsRing, IsPolygon}
 use Rattle.edr_wkt.specs.Reads.{ArePositions, HasNoMark, HasNoItem, HasNoItems, IsRead, AreRead}
 use Rattle.edr_wkt.proofs.WordLemmas.{mark-unique}
 use Rattle.edr_wkt.proofs.ListLemmas.{IsUnique, Continues, continues-start, continues-step, continues-end, list-unique}
@@ -150,9 +154,12 @@ error T e = Err e
 same-error : {T E : Type 0} (a b : E) → error T a ≡ error T b → a ≡ b
 same-error a b e = cc
 
--- the same error in another result
-pub error-along : {T U E : Type 0} (a b : E) → error T a ≡ error T b → error U a ≡ error U b
-error-along {T} {U} a b e = ap (error U) (same-error {T = T} a b e)
-
 pub error-same : {T E : Type 0} {a b : E} → a ≡ b → error T a ≡ error T b
 error-same {T} e = ap (error T) e
+
+-- an error that is passed on is the one that came
+pub passed_on : {T E : Type 0} (r : Result T E) (e : E) → IsErr r × IsErrAnd r (λ f. f ≡ e) → r ≡ Err e
+passed_on {T} r e h = let p = err_from_is_err_and r h.1 in p.1 ∙ ap (error T) p.2
+
+pub passed_back : {T U E : Type 0} (r : Result T E) (e f : E) → IsErr r × IsErrAnd r (λ g. g ≡ e) → r ≡ Err f → error U e ≡ error U f
+passed_back {T} {U} r e f h is = ap (error U) (same-error {T = T} e f (sym (passed_on r e h) ∙ is))

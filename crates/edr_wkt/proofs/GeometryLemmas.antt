@@ -1,24 +1,32 @@
 -- What is read is a geometry, and the faults of what is kept are those of the text.
-use Rattle.std.proofs.Common.{◌≡◌, ℕ, subst, ◌<◌, ◌≤◌, Bool, true, false, List, [], ◌∷◌, length, refl, sym, ap, ◌∙◌, arith, ℤ, inl, inr, Ok, Err}
+use Rattle.std.proofs.Common.{◌≡◌, ℕ, subst, ◌<◌, ◌≤◌, Bool, true, false, List, [], ◌∷◌, length, refl, sym, ap, ◌∙◌, arith, ℤ, inl, inr, Result, Ok, Err}
 use Rattle.std.specs.List.{flat_map, AllByRecursion}
 use Rattle.std.proofs.lemmas.List.{length-append, append-nil}
 use Rattle.edr_base.specs.declared.places.Position.{Position}
 use Rattle.edr_base.specs.NumberParts.{IsSplit}
-use Rattle.edr_base.proofs.NumberLemmas.{IsSplit-unique}
+use Rattle.edr_base.specs.SplitLaws.{IsSplit-unique}
 use Rattle.edr_wkt.specs.declared.headings.Kind.{Kind}
 use Rattle.edr_wkt.specs.declared.geometry.Polygon.{Polygon}
 use Rattle.edr_wkt.specs.declared.geometry.Geometry.{Geometry}
 use Rattle.edr_wkt.specs.declared.geometry.Geometry.TheVariants.{Points, Line, Polygons}
 use Rattle.edr_wkt.specs.declared.faults.WktFault.{WktFault}
 use Rattle.edr_wkt.specs.declared.faults.WktFault.TheVariants.{NotWkt, TooManyPositions, OutOfRange, OpenRing, DecreasingM, OutOfMemory}
-use Rattle.edr_wkt.specs.Limits.{counted}
+use Rattle.edr_wkt.specs.Kept.{counted}
 use Rattle.edr_wkt.specs.Geometries.{positions_of, rings_of}
 use Rattle.edr_wkt.specs.Grammar.{AreBlanks, IsNumberIf, IsPosition, IsMember, IsMore, AreItems, IsRing, IsPolygon}
 use Rattle.edr_wkt.specs.Wkt.{has_z_of, has_m_of, IsInside, IsWkt}
 use Rattle.edr_wkt.specs.Reads.{not_blank}
 use Rattle.edr_wkt.specs.HeadingReads.{BeginsWithHeading}
 use Rattle.edr_wkt.specs.BodyReads.{kept_geometry, IsBodyRead}
-use Rattle.edr_wkt.specs.Faults.{IsInRange, IsFirstBad, HasFault, IsFaultless, IsAbsent, HasOnly, IsLong, HasRings, HasCounts, IsGeometry, MatchWkt}
+use Rattle.edr_wkt.specs.Faults.{IsInRange, IsFirstBad, IsFaultless, IsAbsent, HasOnly, IsLong, HasRings, HasCounts, IsGeometry, MatchWkt}
+use Rattle.edr_wkt.specs.Checks.{IsFound}
+use Rattle.edr_wkt.specs.declared.lists.Stop.{Stop}
+use Rattle.edr_wkt.specs.declared.lists.Stop.TheVariants as stops
+use Rattle.edr_wkt.specs.Stops.{fault_of}
+use Rattle.std.specs.Prelude.{IsErr}
+use Rattle.std.specs.Result.{IsErrAnd}
+use Rattle.edr_wkt.proofs.GatherLemmas.{passed_on}
+use Rattle.edr_wkt.proofs.FaultLemmas.{found_least}
 use Rattle.edr_wkt.proofs.WordLemmas.{blanks-none, blanks-all}
 use Rattle.edr_wkt.proofs.CheckLemmas.{all-append}
 use Rattle.edr_wkt.proofs.KeptLemmas.{positions_of-kept, length-kept, length-rings_kept, geometry-kept_same, first_bad-kept}
@@ -134,19 +142,28 @@ blanks-from text blanks (c ∷ front) s e = absurd (omega (arith, e))
 few-kept : (g : Geometry) → length (positions_of (kept_geometry g)) ≤ 10000 → length (positions_of g) ≤ 10000
 few-kept g h = omega (arith, length-kept g, h)
 
-fault-along : (fault : WktFault) (g h : Geometry) → g ≡ h → HasFault fault g → HasFault fault h
-fault-along fault g h e f = let P : Geometry → Type 0 = λ x. HasFault fault x in subst P e f
+found-along : (fault : WktFault) (g h : Geometry) → g ≡ h → IsFound fault g → IsFound fault h
+found-along fault g h e f = let P : Geometry → Type 0 = λ x. IsFound fault x in subst P e f
 
--- a fault of what is kept is the text's
-pub wkt-fault : (fault : WktFault) (g : Geometry) (text : List ℕ) → IsWkt text g → HasFault fault (kept_geometry g) → MatchWkt (Err fault) text
+-- what is found of what is kept is found of the text's geometry
+found-kept : (fault : WktFault) (g : Geometry) → IsFound fault (kept_geometry g) → IsFound fault g
+found-kept NotWkt g f = f
+found-kept OutOfMemory g f = f
+found-kept TooManyPositions g f = omega (arith, length-kept g, f)
+found-kept (OutOfRange place) g f =
+    let P : List Position → Type 0 = λ l. IsFirstBad IsInRange l place in
+    (few-kept g f.0, first_bad-kept (positions_of g) place (subst P (positions_of-kept g) f.1))
+found-kept (OpenRing place) g f = found-along (OpenRing place) (kept_geometry g) g (geometry-kept_same g f.1) f
+found-kept (DecreasingM place) g f = found-along (DecreasingM place) (kept_geometry g) g (geometry-kept_same g f.1) f
+
+-- and answered
+pub wkt-fault : (fault : WktFault) (g : Geometry) (text : List ℕ) → IsWkt text g → IsFound fault g → MatchWkt (Err fault) text
 wkt-fault NotWkt g text w f = absurd f
 wkt-fault OutOfMemory g text w f = absurd f
-wkt-fault TooManyPositions g text w f = (g, w, omega (arith, length-kept g, f))
-wkt-fault (OutOfRange place) g text w f =
-    let P : List Position → Type 0 = λ l. IsFirstBad IsInRange l place in
-    (g, w, (few-kept g f.0, first_bad-kept (positions_of g) place (subst P (positions_of-kept g) f.1)))
-wkt-fault (OpenRing place) g text w f = (g, w, fault-along (OpenRing place) (kept_geometry g) g (geometry-kept_same g f.1) f)
-wkt-fault (DecreasingM place) g text w f = (g, w, fault-along (DecreasingM place) (kept_geometry g) g (geometry-kept_same g f.1) f)
+wkt-fault TooManyPositions g text w f = (g, w, found_least TooManyPositions g f)
+wkt-fault (OutOfRange place) g text w f = (g, w, found_least (OutOfRange place) g f)
+wkt-fault (OpenRing place) g text w f = (g, w, found_least (OpenRing place) g f)
+wkt-fault (DecreasingM place) g text w f = (g, w, found_least (DecreasingM place) g f)
 
 -- without a fault what is kept is the text's geometry
 pub wkt-sound : (g : Geometry) (text : List ℕ) → IsWkt text g → IsFaultless (kept_geometry g) → MatchWkt (Ok (kept_geometry g)) text
@@ -168,12 +185,12 @@ read-few_rings kind z m inside after read rest b h =
 
 pub read-many : (text : List ℕ) (kind : Kind) (z m : Bool) (inside : List ℕ) (after : ℕ) (read : Geometry) (rest : List ℕ) → BeginsWithHeading text kind z m inside → IsBodyRead kind z m inside 0 after read rest → AreBlanks rest
     → 10000 < after → MatchWkt (Err TooManyPositions) text
-read-many text kind z m inside after read rest h b all many = (b.geometry, wkt-from text kind z m inside 0 after read rest h b all, omega (arith, b.after_is, many))
+read-many text kind z m inside after read rest h b all many = wkt-fault TooManyPositions b.geometry text (wkt-from text kind z m inside 0 after read rest h b all) (omega (arith, b.after_is, many))
 
 pub read-fault : (text : List ℕ) (kind : Kind) (z m : Bool) (inside : List ℕ) (after : ℕ) (read : Geometry) (rest : List ℕ) (fault : WktFault) → BeginsWithHeading text kind z m inside
-    → IsBodyRead kind z m inside 0 after read rest → AreBlanks rest → after ≤ 10000 → HasFault fault read → MatchWkt (Err fault) text
+    → IsBodyRead kind z m inside 0 after read rest → AreBlanks rest → after ≤ 10000 → IsFound fault read → MatchWkt (Err fault) text
 read-fault text kind z m inside after read rest fault h b all few f =
-    wkt-fault fault b.geometry text (wkt-from text kind z m inside 0 after read rest h b all) (fault-along fault read (kept_geometry b.geometry) (b.read_is few) f)
+    wkt-fault fault b.geometry text (wkt-from text kind z m inside 0 after read rest h b all) (found-kept fault b.geometry (found-along fault read (kept_geometry b.geometry) (b.read_is few) f))
 
 pub read-sound : (text : List ℕ) (kind : Kind) (z m : Bool) (inside : List ℕ) (after : ℕ) (read : Geometry) (rest : List ℕ) → BeginsWithHeading text kind z m inside → IsBodyRead kind z m inside 0 after read rest → AreBlanks rest
     → after ≤ 10000 → IsFaultless read → MatchWkt (Ok read) text
@@ -181,3 +198,8 @@ read-sound text kind z m inside after read rest h b all few f =
     let same = b.read_is few in
     let P : Geometry → Type 0 = λ g. MatchWkt (Ok g) text in
     subst P (sym same) (wkt-sound b.geometry text (wkt-from text kind z m inside 0 after read rest h b all) (subst IsFaultless same f))
+
+-- where the brackets weren't read, the text stands for nothing, or memory was wanting
+pub answer-stopped : (r : Result Geometry WktFault) (stop : Stop) (text : List ℕ) → IsErr r × IsErrAnd r (λ f. f ≡ fault_of stop) → (stop ≡ stops.NotWkt → (g : Geometry) → ¬ (IsWkt text g)) → MatchWkt r text
+answer-stopped r stops.NotWkt text h none = rw (passed_on r NotWkt h) (none refl)
+answer-stopped r stops.OutOfMemory text h none = rw (passed_on r OutOfMemory h) tt

@@ -4,11 +4,12 @@ use Rattle.std.specs.Char.{to_ascii_lowercase}
 use Rattle.std.proofs.lemmas.List.{length-append, length-map, map-append, take_at, drop_at}
 use Rattle.std.proofs.lemmas.Bool.Decides.{nat_tests}
 use Rattle.edr_base.specs.NumberParts.{NonePass, Stops, IsSplit}
-use Rattle.edr_base.proofs.NumberLemmas.{IsSplit-unique}
+use Rattle.edr_base.specs.SplitLaws.{IsSplit-unique}
 use Rattle.edr_wkt.specs.declared.headings.Kind.{Kind}
 use Rattle.edr_wkt.specs.declared.headings.Kind.TheVariants as k
 use Rattle.edr_wkt.specs.declared.headings.Kind.TheVariants.{Point, MultiPoint, LineString, MultiPolygon}
-use Rattle.edr_wkt.specs.Grammar.{is_blank, is_end, AreBlanks, IsMark}
+use Rattle.edr_base.specs.Names.{is_blank}
+use Rattle.edr_wkt.specs.Grammar.{is_end, AreBlanks, IsMark}
 use Rattle.edr_wkt.specs.Headings.{IsAnyCase, tag_text, dims_text, IsHeading}
 use Rattle.edr_wkt.specs.HeadingReads.{HasNoLetters, BeginsWithKind, HasNoKind, BeginsWithHeading, HasNoHeading}
 use Rattle.edr_wkt.specs.Reads.{not_blank, BeginsWithWord}

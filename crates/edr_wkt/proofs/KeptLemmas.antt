@@ -8,7 +8,7 @@ use Rattle.edr_base.specs.declared.places.Position.{Position}
 use Rattle.edr_wkt.specs.declared.geometry.Polygon.{Polygon}
 use Rattle.edr_wkt.specs.declared.geometry.Geometry.{Geometry}
 use Rattle.edr_wkt.specs.declared.geometry.Geometry.TheVariants.{Points, Line, Polygons}
-use Rattle.edr_wkt.specs.Limits.{kept_number, kept, kept_polygon}
+use Rattle.edr_wkt.specs.Kept.{kept_number, kept, kept_polygon}
 use Rattle.edr_wkt.specs.Geometries.{positions_of, rings_of}
 use Rattle.edr_wkt.specs.Faults.{IsInRange, IsFirstBad}
 use Rattle.edr_wkt.specs.BodyReads.{kept_geometry}

@@ -2,6 +2,7 @@ pub mod WordLemmas
 pub mod PositionLemmas
 pub mod ListLemmas
 pub mod MemberLemmas
+pub mod FaultLemmas
 pub mod GatherLemmas
 pub mod HeadingLemmas
 pub mod BodyLemmas

@@ -5,8 +5,8 @@ use Rattle.std.proofs.lemmas.List.{length-append}
 use Rattle.std.proofs.lemmas.Bool.{false≢true}
 use Rattle.edr_base.specs.declared.places.Position.{Position}
 use Rattle.edr_base.specs.NumberParts.{NonePass}
-use Rattle.edr_base.proofs.NumberLemmas.{IsSplit-unique}
-use Rattle.edr_base.proofs.NumberWords.{numeral-none_pass, numeral-some}
+use Rattle.edr_base.specs.SplitLaws.{IsSplit-unique}
+use Rattle.edr_base.specs.NumberLaws.{numeral-none_pass, numeral-some}
 use Rattle.edr_wkt.specs.declared.geometry.Polygon.{Polygon}
 use Rattle.edr_wkt.specs.Grammar.{is_end, IsMark, IsNumber, IsNumberIf, IsPosition, AreItems, IsMember, IsRing, IsPolygon}
 use Rattle.edr_wkt.specs.Reads.{not_blank, HasNoNumber, HasNoPosition, HasNoClosed, HasNoMember}

@@ -4,8 +4,8 @@ use Rattle.std.specs.Int.RustNames.{unsigned_abs}
 use Rattle.std.proofs.lemmas.Bool.Decides.{nat_tests}
 use Rattle.std.proofs.lemmas.Int.{ints}
 use Rattle.edr_base.specs.declared.places.Position.{Position}
-use Rattle.edr_base.proofs.NumberSigns.{numeral-unique}
-use Rattle.edr_wkt.specs.Limits.{kept_number}
+use Rattle.edr_base.specs.NumberLaws.{numeral-unique}
+use Rattle.edr_wkt.specs.Kept.{kept_number}
 use Rattle.edr_wkt.specs.Grammar.{IsNumber, IsNumberIf, IsPosition}
 use Rattle.edr_wkt.specs.Reads.{HasNoNumber, BeginsWithNumber, HasNoNumberIf, BeginsWithNumberIf, HasNoPosition, BeginsWithPosition}
 use Rattle.edr_wkt.proofs.WordLemmas.{number-split, number-word}

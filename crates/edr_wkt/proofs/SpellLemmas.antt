@@ -6,7 +6,7 @@ use Rattle.std.specs.List.{flat_map, AllByRecursion}
 use Rattle.std.proofs.lemmas.Int.{ints}
 use Rattle.std.proofs.lemmas.List.{append-nil}
 use Rattle.edr_base.specs.declared.places.Position.{Position}
-use Rattle.edr_base.proofs.NumberSigns.{numeral-decimal}
+use Rattle.edr_base.specs.NumberLaws.{numeral-decimal}
 use Rattle.edr_base.specs.NumberParts.{Stops}
 use Rattle.edr_wkt.specs.declared.headings.Kind.{Kind}
 use Rattle.edr_wkt.specs.declared.geometry.Polygon.{Polygon}

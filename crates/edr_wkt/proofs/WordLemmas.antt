@@ -5,9 +5,10 @@ use Rattle.std.proofs.lemmas.Bool.{false≢true}
 use Rattle.std.proofs.lemmas.Bool.Decides.{nat_tests}
 use Rattle.edr_base.specs.Numbers.{IsNumeral}
 use Rattle.edr_base.specs.NumberParts.{NonePass, Stops, IsSplit}
-use Rattle.edr_base.proofs.NumberLemmas.{IsSplit-unique}
-use Rattle.edr_base.proofs.NumberWords.{IsOutside, numeral-none_pass, numeral-some}
-use Rattle.edr_wkt.specs.Grammar.{is_blank, is_end, AreBlanks, IsMark, IsNumber}
+use Rattle.edr_base.specs.SplitLaws.{IsSplit-unique}
+use Rattle.edr_base.specs.NumberLaws.{IsOutside, numeral-none_pass, numeral-some}
+use Rattle.edr_base.specs.Names.{is_blank}
+use Rattle.edr_wkt.specs.Grammar.{is_end, AreBlanks, IsMark, IsNumber}
 use Rattle.edr_wkt.specs.Reads.{not_blank, HasNoMark, BeginsWithMark}
 
 not-not : (b : Bool) → not b ≡ false → b ≡ true
@@ -29,6 +30,13 @@ blanks-all (c ∷ cs) none = (not-not (is_blank c) none.0, blanks-all cs none.1)
 -- a mark is the end of the blanks at the front
 pub mark-split : (mark : ℕ) (text rest : List ℕ) → is_blank mark ≡ false → (m : IsMark mark text rest) → IsSplit not_blank text m.blanks (mark ∷ rest)
 mark-split mark text rest e m = record { text_is = m.text_is; before = blanks-none m.blanks m.are_blanks; stops = ap not e }
+
+-- what stands behind a mark at the front, and that there is none
+pub behind-some : (mark : ℕ) (text blanks front rest : List ℕ) → IsSplit not_blank text blanks front → front ≡ mark ∷ rest → IsMark mark text rest
+behind-some mark text blanks front rest s e = record { blanks = blanks; are_blanks = blanks-all blanks s.before; text_is = s.text_is ∙ ap (λ l. blanks ++ l) e }
+
+pub behind-none : (mark : ℕ) (text blanks front : List ℕ) → is_blank mark ≡ false → IsSplit not_blank text blanks front → ((rest : List ℕ) → ¬ (front ≡ mark ∷ rest)) → (rest : List ℕ) → ¬ (IsMark mark text rest)
+behind-none mark text blanks front e s none rest m = none rest (IsSplit-unique not_blank text _ _ _ _ s (mark-split mark text rest e m)).1
 
 -- one mark stands at the front
 pub mark-unique : (a b : ℕ) (text x y : List ℕ) → is_blank a ≡ false → is_blank b ≡ false → IsMark a text x → IsMark b text y → (a ≡ b) × (x ≡ y)

@@ -1,9 +1,10 @@
--- What the calls that read the brackets of a geometry answer.
+-- For private clauses: what the calls that read the brackets of a geometry answer.
 use Rattle.std.specs.Prelude.{◌≡◌, ℕ, ◌≤◌, Bool, List, length, map}
+use Rattle.edr_base.specs.Limits.{position_limit}
 use Rattle.edr_wkt.specs.declared.headings.Kind.{Kind}
 use Rattle.edr_wkt.specs.declared.geometry.Geometry.{Geometry}
 use Rattle.edr_wkt.specs.declared.geometry.Geometry.TheVariants.{Points, Line, Polygons}
-use Rattle.edr_wkt.specs.Limits.{kept, kept_polygon, counted}
+use Rattle.edr_wkt.specs.Kept.{kept, kept_polygon, counted}
 use Rattle.edr_wkt.specs.Geometries.{positions_of}
 use Rattle.edr_wkt.specs.Wkt.{kind_of, has_z_of, has_m_of, IsInside}
 
@@ -25,7 +26,7 @@ pub record IsBodyRead (kind : Kind) (has_z has_m : Bool) (text : List ℕ) (befo
   pub has_heading : HasHeading geometry kind has_z has_m
   pub is_inside : IsInside geometry text rest
   pub after_is : after ≡ counted before (length (positions_of geometry))
-  pub read_is : after ≤ 10000 → read ≡ kept_geometry geometry
+  pub read_is : after ≤ position_limit → read ≡ kept_geometry geometry
 
 -- no geometry of this heading has such brackets
 abbrev pub HasNoBody : Kind → Bool → Bool → List ℕ → Type 0

@@ -1,4 +1,4 @@
--- What the calls that read tags and dims answer.
+-- For private clauses: what the calls that read tags and dims answer.
 use Rattle.std.specs.Prelude.{◌≡◌, ℕ, Bool, List, ◌++◌}
 use Rattle.edr_wkt.specs.declared.headings.Kind.{Kind}
 use Rattle.edr_wkt.specs.Grammar.{IsMark}

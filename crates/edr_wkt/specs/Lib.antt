@@ -1,4 +1,4 @@
-pub mod Limits
+pub mod Kept
 pub mod Geometries
 pub mod Grammar
 pub mod Headings
@@ -9,3 +9,4 @@ pub mod Reads
 pub mod BodyReads
 pub mod Faults
 pub mod Checks
+pub mod Stops

@@ -1,10 +1,12 @@
--- What the calls that read a piece answer.
+-- For private clauses: what the calls that read a piece answer.
 use Rattle.std.specs.Prelude.{◌≡◌, ℕ, ℤ, Bool, false, not, ◌≤◌, List, [], ◌∷◌, length, map, min}
 use Rattle.std.specs.List.{sum_by}
+use Rattle.edr_base.specs.Limits.{position_limit}
 use Rattle.edr_base.specs.declared.places.Position.{Position}
 use Rattle.edr_base.specs.NumberParts.{IsSplit}
-use Rattle.edr_wkt.specs.Grammar.{is_blank, is_end, IsMark, IsNumber, IsNumberIf, IsPosition, IsMember, AreItems}
-use Rattle.edr_wkt.specs.Limits.{kept_number, kept, counted}
+use Rattle.edr_base.specs.Names.{is_blank}
+use Rattle.edr_wkt.specs.Grammar.{is_end, IsMark, IsNumber, IsNumberIf, IsPosition, IsMember, AreItems}
+use Rattle.edr_wkt.specs.Kept.{kept_number, kept, counted}
 
 abbrev pub not_blank : ℕ → Bool
 not_blank c = not (is_blank c)
@@ -58,7 +60,7 @@ pub record ArePositions (multi has_z has_m : Bool) (text : List ℕ) (before aft
   pub are_items : AreItems (IsMember multi has_z has_m) text positions rest
   pub len_is : len ≡ min (length positions) 4
   pub after_is : after ≡ counted before (length positions)
-  pub read_is : after ≤ 10000 → read ≡ map kept positions
+  pub read_is : after ≤ position_limit → read ≡ map kept positions
 
 -- the text has no such list at its front
 abbrev pub HasNoItems : {A : Type 0} → (List ℕ → A → List ℕ → Type 0) → List ℕ → Type 0
@@ -72,11 +74,11 @@ pub record IsRead {A B : Type 0} (Item : List ℕ → A → List ℕ → Type 0)
   pub item : A
   pub is_item : Item text item rest
   pub after_is : after ≡ counted before (size item)
-  pub read_is : after ≤ 10000 → read ≡ keep item
+  pub read_is : after ≤ position_limit → read ≡ keep item
 
 -- the same of the items of a list
 pub record AreRead {A B : Type 0} (Item : List ℕ → A → List ℕ → Type 0) (size : A → ℕ) (keep : A → B) (text : List ℕ) (before after : ℕ) (read : List B) (rest : List ℕ) : Type 0 where
   pub items : List A
   pub are_items : AreItems Item text items rest
   pub after_is : after ≡ counted before (sum_by size items)
-  pub read_is : after ≤ 10000 → read ≡ map keep items
+  pub read_is : after ≤ position_limit → read ≡ map keep items

@@ -1,6 +1,7 @@
 //! Rings and polygons.
-ghost use Rattle.std.specs.Prelude.{◌≡◌, ◌≤◌, IfOk, Err, length, map};
-ghost use Rattle.edr_wkt.specs.Limits.{kept, kept_polygon};
+ghost use Rattle.std.specs.Prelude.{◌≡◌, ◌+◌, ◌≤◌, IfOk, Err, length, map};
+ghost use Rattle.edr_base.specs.Limits.{position_limit};
+ghost use Rattle.edr_wkt.specs.Kept.{kept, kept_polygon};
 ghost use Rattle.edr_wkt.specs.Geometries.{polygon_size};
 ghost use Rattle.edr_wkt.specs.Grammar.{IsRing, IsPolygon};
 ghost use Rattle.edr_wkt.specs.Reads.{HasNoItem, IsRead, AreRead, HasNoItems};
@@ -8,7 +9,7 @@ ghost use Rattle.edr_wkt.specs.Reads.{HasNoItem, IsRead, AreRead, HasNoItems};
 use crate::geometry::Polygon;
 use crate::lists::{Stop, keep, read_positions};
 use crate::words::{behind, read_mark};
-use edr_base::{Items, OutOfMemory, Position};
+use edr_base::{Items, Position};
 use std::alloc::Global;
 
 // The ring at the front, and what stands behind it.
@@ -19,22 +20,18 @@ fn read_ring<'a>(
     text: &'a [u8],
     count: &mut usize,
 ) -> Result<(Items<Position>, &'a [u8]), Stop>
-    requires { count.old ≤ 10001 }
+    requires { count.old ≤ position_limit + 1 }
     ensures read { IfOk result (λ r. IsRead (IsRing has_z has_m) length (map kept) text.now count.old count.new r.0 r.1.now) }
     ensures not_wkt { result ≡ Err Stop.NotWkt → HasNoItem (IsRing has_z has_m) text.now }
 {
     let Some(inside) = behind(text, b'(') else {
         return Err(Stop::NotWkt);
     };
-    match read_positions(alloc, false, has_z, has_m, inside, count) {
-        Ok((positions, len, rest)) => {
-            if len < 4 {
-                return Err(Stop::NotWkt);
-            }
-            Ok((positions, rest))
-        }
-        Err(stop) => Err(stop),
+    let (positions, len, rest) = read_positions(alloc, false, has_z, has_m, inside, count)?;
+    if len < 4 {
+        return Err(Stop::NotWkt);
     }
+    Ok((positions, rest))
 }
 
 /// The rings of a list, and what stands behind it.
@@ -45,21 +42,15 @@ pub fn read_rings<'a>(
     text: &'a [u8],
     count: &mut usize,
 ) -> Result<(Items<Items<Position>>, &'a [u8]), Stop>
-    requires { count.old ≤ 10001 }
+    requires { count.old ≤ position_limit + 1 }
     ensures read { IfOk result (λ r. AreRead (IsRing has_z has_m) length (map kept) text.now count.old count.new r.0 r.1.now) }
     ensures not_wkt { result ≡ Err Stop.NotWkt → HasNoItems (IsRing has_z has_m) text.now }
 {
     let mut rings = Vec::new(alloc);
     let mut rest = text;
     'rings: loop {
-        let (ring, after) = match read_ring(alloc, has_z, has_m, rest, count) {
-            Ok(read) => read,
-            Err(stop) => return Err(stop),
-        };
-        match keep(&mut rings, ring, *count) {
-            Ok(()) => {}
-            Err(OutOfMemory) => return Err(Stop::OutOfMemory),
-        }
+        let (ring, after) = read_ring(alloc, has_z, has_m, rest, count)?;
+        keep(&mut rings, ring, *count)?;
         let Some((mark, next)) = read_mark(after) else {
             return Err(Stop::NotWkt);
         };
@@ -81,17 +72,15 @@ fn read_polygon<'a>(
     text: &'a [u8],
     count: &mut usize,
 ) -> Result<(Polygon, &'a [u8]), Stop>
-    requires { count.old ≤ 10001 }
+    requires { count.old ≤ position_limit + 1 }
     ensures read { IfOk result (λ r. IsRead (IsPolygon has_z has_m) polygon_size kept_polygon text.now count.old count.new r.0 r.1.now) }
     ensures not_wkt { result ≡ Err Stop.NotWkt → HasNoItem (IsPolygon has_z has_m) text.now }
 {
     let Some(inside) = behind(text, b'(') else {
         return Err(Stop::NotWkt);
     };
-    match read_rings(alloc, has_z, has_m, inside, count) {
-        Ok((rings, rest)) => Ok((Polygon { rings }, rest)),
-        Err(stop) => Err(stop),
-    }
+    let (rings, rest) = read_rings(alloc, has_z, has_m, inside, count)?;
+    Ok((Polygon { rings }, rest))
 }
 
 /// The polygons of a list, and what stands behind it.
@@ -102,21 +91,15 @@ pub fn read_polygons<'a>(
     text: &'a [u8],
     count: &mut usize,
 ) -> Result<(Items<Polygon>, &'a [u8]), Stop>
-    requires { count.old ≤ 10001 }
+    requires { count.old ≤ position_limit + 1 }
     ensures read { IfOk result (λ r. AreRead (IsPolygon has_z has_m) polygon_size kept_polygon text.now count.old count.new r.0 r.1.now) }
     ensures not_wkt { result ≡ Err Stop.NotWkt → HasNoItems (IsPolygon has_z has_m) text.now }
 {
     let mut polygons = Vec::new(alloc);
     let mut rest = text;
     'polygons: loop {
-        let (polygon, after) = match read_polygon(alloc, has_z, has_m, rest, count) {
-            Ok(read) => read,
-            Err(stop) => return Err(stop),
-        };
-        match keep(&mut polygons, polygon, *count) {
-            Ok(()) => {}
-            Err(OutOfMemory) => return Err(Stop::OutOfMemory),
-        }
+        let (polygon, after) = read_polygon(alloc, has_z, has_m, rest, count)?;
+        keep(&mut polygons, polygon, *count)?;
         let Some((mark, next)) = read_mark(after) else {
             return Err(Stop::NotWkt);
         };

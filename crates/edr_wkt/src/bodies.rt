@@ -1,5 +1,6 @@
 //! The brackets of each kind of geometry.
-ghost use Rattle.std.specs.Prelude.{◌≡◌, ◌≤◌, ◌∷◌, [], IfOk, Err};
+ghost use Rattle.std.specs.Prelude.{◌≡◌, ◌+◌, ◌≤◌, ◌∷◌, [], IfOk, Err};
+ghost use Rattle.edr_base.specs.Limits.{position_limit};
 ghost use Rattle.edr_wkt.specs.declared.headings.Kind.TheVariants as k;
 ghost use Rattle.edr_wkt.specs.BodyReads.{IsBodyRead, HasNoBody};
 
@@ -18,27 +19,21 @@ fn read_point<'a>(
     text: &'a [u8],
     count: &mut usize,
 ) -> Result<(Geometry, &'a [u8]), Stop>
-    requires { count.old ≤ 10001 }
+    requires { count.old ≤ position_limit + 1 }
     ensures read { IfOk result (λ r. IsBodyRead k.Point has_z has_m text.now count.old count.new r.0 r.1.now) }
     ensures not_wkt { result ≡ Err Stop.NotWkt → HasNoBody k.Point has_z has_m text.now }
 {
-    match read_positions(alloc, false, has_z, has_m, text, count) {
-        Ok((positions, len, rest)) => {
-            if len != 1 {
-                return Err(Stop::NotWkt);
-            }
-            Ok((
-                Geometry::Points {
-                    multi: false,
-                    has_z,
-                    has_m,
-                    positions,
-                },
-                rest,
-            ))
-        }
-        Err(stop) => Err(stop),
+    let (positions, len, rest) = read_positions(alloc, false, has_z, has_m, text, count)?;
+    if len != 1 {
+        return Err(Stop::NotWkt);
     }
+    let geometry = Geometry::Points {
+        multi: false,
+        has_z,
+        has_m,
+        positions,
+    };
+    Ok((geometry, rest))
 }
 
 // The inside of MULTIPOINT.
@@ -49,22 +44,18 @@ fn read_multi_point<'a>(
     text: &'a [u8],
     count: &mut usize,
 ) -> Result<(Geometry, &'a [u8]), Stop>
-    requires { count.old ≤ 10001 }
+    requires { count.old ≤ position_limit + 1 }
     ensures read { IfOk result (λ r. IsBodyRead k.MultiPoint has_z has_m text.now count.old count.new r.0 r.1.now) }
     ensures not_wkt { result ≡ Err Stop.NotWkt → HasNoBody k.MultiPoint has_z has_m text.now }
 {
-    match read_positions(alloc, true, has_z, has_m, text, count) {
-        Ok((positions, _, rest)) => Ok((
-            Geometry::Points {
-                multi: true,
-                has_z,
-                has_m,
-                positions,
-            },
-            rest,
-        )),
-        Err(stop) => Err(stop),
-    }
+    let (positions, _, rest) = read_positions(alloc, true, has_z, has_m, text, count)?;
+    let geometry = Geometry::Points {
+        multi: true,
+        has_z,
+        has_m,
+        positions,
+    };
+    Ok((geometry, rest))
 }
 
 // The inside of LINESTRING.
@@ -75,26 +66,20 @@ fn read_line<'a>(
     text: &'a [u8],
     count: &mut usize,
 ) -> Result<(Geometry, &'a [u8]), Stop>
-    requires { count.old ≤ 10001 }
+    requires { count.old ≤ position_limit + 1 }
     ensures read { IfOk result (λ r. IsBodyRead k.LineString has_z has_m text.now count.old count.new r.0 r.1.now) }
     ensures not_wkt { result ≡ Err Stop.NotWkt → HasNoBody k.LineString has_z has_m text.now }
 {
-    match read_positions(alloc, false, has_z, has_m, text, count) {
-        Ok((positions, len, rest)) => {
-            if len < 2 {
-                return Err(Stop::NotWkt);
-            }
-            Ok((
-                Geometry::Line {
-                    has_z,
-                    has_m,
-                    positions,
-                },
-                rest,
-            ))
-        }
-        Err(stop) => Err(stop),
+    let (positions, len, rest) = read_positions(alloc, false, has_z, has_m, text, count)?;
+    if len < 2 {
+        return Err(Stop::NotWkt);
     }
+    let geometry = Geometry::Line {
+        has_z,
+        has_m,
+        positions,
+    };
+    Ok((geometry, rest))
 }
 
 // The inside of MULTIPOLYGON.
@@ -105,22 +90,18 @@ fn read_multi_polygon<'a>(
     text: &'a [u8],
     count: &mut usize,
 ) -> Result<(Geometry, &'a [u8]), Stop>
-    requires { count.old ≤ 10001 }
+    requires { count.old ≤ position_limit + 1 }
     ensures read { IfOk result (λ r. IsBodyRead k.MultiPolygon has_z has_m text.now count.old count.new r.0 r.1.now) }
     ensures not_wkt { result ≡ Err Stop.NotWkt → HasNoBody k.MultiPolygon has_z has_m text.now }
 {
-    match read_polygons(alloc, has_z, has_m, text, count) {
-        Ok((polygons, rest)) => Ok((
-            Geometry::Polygons {
-                multi: true,
-                has_z,
-                has_m,
-                polygons,
-            },
-            rest,
-        )),
-        Err(stop) => Err(stop),
-    }
+    let (polygons, rest) = read_polygons(alloc, has_z, has_m, text, count)?;
+    let geometry = Geometry::Polygons {
+        multi: true,
+        has_z,
+        has_m,
+        polygons,
+    };
+    Ok((geometry, rest))
 }
 
 // The list of one polygon.
@@ -140,25 +121,19 @@ fn read_one_polygon<'a>(
     text: &'a [u8],
     count: &mut usize,
 ) -> Result<(Geometry, &'a [u8]), Stop>
-    requires { count.old ≤ 10001 }
+    requires { count.old ≤ position_limit + 1 }
     ensures read { IfOk result (λ r. IsBodyRead k.Polygon has_z has_m text.now count.old count.new r.0 r.1.now) }
     ensures not_wkt { result ≡ Err Stop.NotWkt → HasNoBody k.Polygon has_z has_m text.now }
 {
-    match read_rings(alloc, has_z, has_m, text, count) {
-        Ok((rings, rest)) => match listed(alloc, Polygon { rings }) {
-            Ok(polygons) => Ok((
-                Geometry::Polygons {
-                    multi: false,
-                    has_z,
-                    has_m,
-                    polygons,
-                },
-                rest,
-            )),
-            Err(OutOfMemory) => Err(Stop::OutOfMemory),
-        },
-        Err(stop) => Err(stop),
-    }
+    let (rings, rest) = read_rings(alloc, has_z, has_m, text, count)?;
+    let polygons = listed(alloc, Polygon { rings })?;
+    let geometry = Geometry::Polygons {
+        multi: false,
+        has_z,
+        has_m,
+        polygons,
+    };
+    Ok((geometry, rest))
 }
 
 /// The inside of the brackets behind a heading.
@@ -168,7 +143,7 @@ pub fn read_body<'a>(
     text: &'a [u8],
     count: &mut usize,
 ) -> Result<(Geometry, &'a [u8]), Stop>
-    requires { count.old ≤ 10001 }
+    requires { count.old ≤ position_limit + 1 }
     ensures read { IfOk result (λ r. IsBodyRead heading.kind heading.has_z heading.has_m text.now count.old count.new r.0 r.1.now) }
     ensures not_wkt { result ≡ Err Stop.NotWkt → HasNoBody heading.kind heading.has_z heading.has_m text.now }
 {

@@ -1,29 +1,30 @@
 //! The faults of geometries.
-ghost use Rattle.std.specs.Prelude.{◌≡◌, ◌+◌, ◌^◌, ◌<◌, ◌≤◌, ◌↔◌, IsTrue, ℕ, List, length, MatchOption, pos, neg_ℤ, ◌≤ℤ◌, ◌<ℤ◌};
+ghost use Rattle.std.specs.Prelude.{◌≡◌, ◌+◌, ◌^◌, ◌<◌, ◌≤◌, ◌↔◌, IsTrue, ℕ, List, length, MatchOption, ◌≤ℤ◌, ◌<ℤ◌};
 ghost use Rattle.std.specs.Int.RustNames.{unsigned_abs};
 ghost use Rattle.std.specs.List.{flat_map, AllByRecursion};
+ghost use Rattle.edr_base.specs.Limits.{coordinate_limit, earliest_time, latest_time, position_limit};
 ghost use Rattle.edr_base.specs.declared.places.Position.{Position};
 ghost use Rattle.edr_wkt.specs.declared.geometry.Polygon.{Polygon};
-ghost use Rattle.edr_wkt.specs.Faults.{IsInRange, IsClosed, IsFaultless, HasFault, NeverFalls, IsFirstFall, IsFirstBad};
-ghost use Rattle.edr_wkt.specs.Checks.{MatchGood};
+ghost use Rattle.edr_wkt.specs.Faults.{IsInRange, IsClosed, IsFaultless, NeverFalls, IsFirstFall, IsFirstBad};
+ghost use Rattle.edr_wkt.specs.Checks.{IsFound, MatchGood};
 ghost use Rattle.edr_wkt.specs.Geometries.{positions_of, rings_of, line_of};
 
 use crate::faults::WktFault;
 use crate::geometry::{Geometry, Polygon};
-use edr_base::{Items, Position};
+use edr_base::{COORDINATE_LIMIT, EARLIEST_TIME, Items, LATEST_TIME, Position};
 
 // Whether a coordinate or a level is within its limit.
 fn is_within(number: i64) -> bool
-    ensures { IsTrue result ↔ (unsigned_abs number ≤ 100000000) }
+    ensures { IsTrue result ↔ (unsigned_abs number ≤ coordinate_limit) }
 {
-    number.unsigned_abs() <= 100_000_000
+    number.unsigned_abs() <= COORDINATE_LIMIT
 }
 
 // Whether an m is a time of the years 0000 to 9999.
 fn is_time(m: i64) -> bool
-    ensures { IsTrue result ↔ ((neg_ℤ (pos 62167219200) ≤ℤ m) × (m ≤ℤ pos 253402300799)) }
+    ensures { IsTrue result ↔ ((earliest_time ≤ℤ m) × (m ≤ℤ latest_time)) }
 {
-    m >= -62_167_219_200 && m <= 253_402_300_799
+    m >= EARLIEST_TIME && m <= LATEST_TIME
 }
 
 // Whether the numbers of a position are within the limits.
@@ -79,10 +80,7 @@ fn check_rings(rings: &[Items<Position>], before: usize) -> Result<usize, usize>
 {
     let mut count = before;
     for ring in rings {
-        count = match check_positions(ring.items(), count) {
-            Ok(count) => count,
-            Err(place) => return Err(place),
-        };
+        count = check_positions(ring.items(), count)?;
     }
     Ok(count)
 }
@@ -94,10 +92,7 @@ fn check_polygons(polygons: &[Polygon], before: usize) -> Result<usize, usize>
 {
     let mut count = before;
     for polygon in polygons {
-        count = match check_rings(polygon.rings.items(), count) {
-            Ok(count) => count,
-            Err(place) => return Err(place),
-        };
+        count = check_rings(polygon.rings.items(), count)?;
     }
     Ok(count)
 }
@@ -122,10 +117,7 @@ fn check_all_closed(polygons: &[Polygon], before: usize) -> Result<usize, usize>
 {
     let mut count = before;
     for polygon in polygons {
-        count = match check_closed(polygon.rings.items(), count) {
-            Ok(count) => count,
-            Err(place) => return Err(place),
-        };
+        count = check_closed(polygon.rings.items(), count)?;
     }
     Ok(count)
 }
@@ -151,7 +143,7 @@ fn first_fall(positions: &[Position]) -> Option<usize>
 
 // The first position of a geometry that isn't within the limits.
 fn first_out(geometry: &Geometry) -> Option<usize>
-    requires { length (positions_of geometry.now) ≤ 10000 }
+    requires { length (positions_of geometry.now) ≤ position_limit }
     ensures { MatchOption result (AllByRecursion IsInRange (positions_of geometry.now))
         (λ place. IsFirstBad IsInRange (positions_of geometry.now) place) }
 {
@@ -160,23 +152,17 @@ fn first_out(geometry: &Geometry) -> Option<usize>
         Geometry::Line { positions, .. } => check_positions(positions.items(), 0),
         Geometry::Polygons { polygons, .. } => check_polygons(polygons.items(), 0),
     };
-    match checked {
-        Ok(_) => None,
-        Err(place) => Some(place),
-    }
+    checked.err()
 }
 
 // The first ring of a geometry that isn't closed.
 fn first_open(geometry: &Geometry) -> Option<usize>
-    requires { length (rings_of geometry.now) ≤ 10000 }
+    requires { length (rings_of geometry.now) ≤ position_limit }
     ensures { MatchOption result (AllByRecursion IsClosed (rings_of geometry.now))
         (λ place. IsFirstBad IsClosed (rings_of geometry.now) place) }
 {
     match geometry {
-        Geometry::Polygons { polygons, .. } => match check_all_closed(polygons.items(), 0) {
-            Ok(_) => None,
-            Err(place) => Some(place),
-        },
+        Geometry::Polygons { polygons, .. } => check_all_closed(polygons.items(), 0).err(),
         _ => None,
     }
 }
@@ -193,9 +179,9 @@ fn first_decrease(geometry: &Geometry) -> Option<usize>
 
 /// The least fault of a geometry that has no more positions than the limit.
 pub fn fault_of(geometry: &Geometry) -> Option<WktFault>
-    requires few { length (positions_of geometry.now) ≤ 10000 }
-    requires rings { length (rings_of geometry.now) ≤ 10000 }
-    ensures { MatchOption result (IsFaultless geometry.now) (λ fault. HasFault fault geometry.now) }
+    requires few { length (positions_of geometry.now) ≤ position_limit }
+    requires rings { length (rings_of geometry.now) ≤ position_limit }
+    ensures { MatchOption result (IsFaultless geometry.now) (λ fault. IsFound fault geometry.now) }
 {
     if let Some(place) = first_out(geometry) {
         return Some(WktFault::OutOfRange(place));

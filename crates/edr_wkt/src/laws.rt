@@ -5,11 +5,17 @@ ghost use Rattle.edr_wkt.specs.declared.faults.WktFault.{WktFault};
 ghost use Rattle.edr_wkt.specs.declared.faults.WktFault.TheVariants as fault;
 ghost use Rattle.edr_wkt.specs.Wkt.{IsWkt};
 ghost use Rattle.edr_wkt.specs.Spelling.{spelled};
-ghost use Rattle.edr_wkt.specs.Faults.{IsGeometry, MatchWkt};
+ghost use Rattle.edr_wkt.specs.Faults.{Applies, IsFaultless, IsGeometry, MatchWkt};
+ghost use Rattle.edr_base.specs.FirstThatApplies.{NoneApplies};
 
 /// A text stands for at most one geometry.
 pub fn wkt_is_one()
     ensures { (text : List ℕ) (g h : Geometry) → IsWkt text g → IsWkt text h → g ≡ h }
+{}
+
+/// No fault applies to a geometry that is faultless.
+pub fn faultless_geometries_have_no_fault()
+    ensures { (g : Geometry) → IsFaultless g → NoneApplies (Applies g) }
 {}
 
 /// A text has one answer, unless memory is wanting.

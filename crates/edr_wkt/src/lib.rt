@@ -18,6 +18,8 @@ mod writing;
 
 pub use faults::WktFault;
 pub use geometry::{Geometry, Polygon};
-pub use laws::{wkt_answer_is_one, wkt_is_one, written_wkt_reads_back};
+pub use laws::{
+    faultless_geometries_have_no_fault, wkt_answer_is_one, wkt_is_one, written_wkt_reads_back,
+};
 pub use reading::read_wkt;
 pub use writing::write_wkt;

@@ -1,12 +1,13 @@
 //! Lists of positions.
 ghost use Rattle.std.specs.Prelude.{◌≡◌, ◌≤◌, ◌<◌, ◌++◌, ◌∷◌, [], min, ◌+◌, IfOk, OnOk, Err};
-ghost use Rattle.edr_wkt.specs.Limits.{counted};
+ghost use Rattle.edr_base.specs.Limits.{position_limit};
+ghost use Rattle.edr_wkt.specs.Kept.{counted};
 ghost use Rattle.edr_wkt.specs.Grammar.{IsMember};
 ghost use Rattle.edr_wkt.specs.Reads.{ArePositions, HasNoItems};
 
 use crate::positions::read_member;
 use crate::words::read_mark;
-use edr_base::{Items, OutOfMemory, Position};
+use edr_base::{Items, OutOfMemory, POSITION_LIMIT, Position};
 use std::alloc::Global;
 
 /// Why a piece wasn't read.
@@ -18,15 +19,22 @@ pub enum Stop {
     OutOfMemory,
 }
 
-/// The most positions of a geometry.
-pub const MOST_POSITIONS: usize = 10_000;
+impl From<OutOfMemory> for Stop {
+    ghost use Rattle.edr_wkt.specs.declared.lists.Stop.TheVariants as stops;
+
+    ghost from_gives = { λ _ stop. stop ≡ stops.OutOfMemory };
+
+    fn from(_: OutOfMemory) -> Stop {
+        Stop::OutOfMemory
+    }
+}
 
 /// One position more, up to one beyond the limit.
 pub fn counted(count: usize) -> usize
-    requires { count ≤ 10001 }
+    requires { count ≤ position_limit + 1 }
     ensures { result ≡ counted count 1 }
 {
-    if count <= MOST_POSITIONS {
+    if count <= POSITION_LIMIT {
         count + 1
     } else {
         count
@@ -42,10 +50,10 @@ fn longer(len: usize) -> usize
 
 /// Keeps an item behind the others, unless the count of positions is beyond the limit.
 pub fn keep<T: Drop>(items: &mut Vec<T>, item: T, count: usize) -> Result<(), OutOfMemory>
-    ensures kept { OnOk result (count ≤ 10000 → items.new.items ≡ items.old.items ++ item ∷ []) }
-    ensures full { 10000 < count → items.new.items ≡ items.old.items }
+    ensures kept { OnOk result (count ≤ position_limit → items.new.items ≡ items.old.items ++ item ∷ []) }
+    ensures full { position_limit < count → items.new.items ≡ items.old.items }
 {
-    if count <= MOST_POSITIONS {
+    if count <= POSITION_LIMIT {
         items.push(item)?;
     }
     Ok(())
@@ -60,7 +68,7 @@ pub fn read_positions<'a>(
     text: &'a [u8],
     count: &mut usize,
 ) -> Result<(Items<Position>, usize, &'a [u8]), Stop>
-    requires { count.old ≤ 10001 }
+    requires { count.old ≤ position_limit + 1 }
     ensures read { IfOk result (λ r. ArePositions multi has_z has_m text.now count.old count.new r.0 r.1 r.2.now) }
     ensures not_wkt { result ≡ Err Stop.NotWkt → HasNoItems (IsMember multi has_z has_m) text.now }
 {
@@ -73,10 +81,7 @@ pub fn read_positions<'a>(
         };
         *count = counted(*count);
         len = longer(len);
-        match keep(&mut positions, position, *count) {
-            Ok(()) => {}
-            Err(OutOfMemory) => return Err(Stop::OutOfMemory),
-        }
+        keep(&mut positions, position, *count)?;
         let Some((mark, next)) = read_mark(after) else {
             return Err(Stop::NotWkt);
         };

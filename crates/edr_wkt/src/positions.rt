@@ -3,19 +3,16 @@ ghost use Rattle.std.specs.Prelude.{MatchOption};
 ghost use Rattle.edr_wkt.specs.Reads.{HasNoNumber, BeginsWithNumber, HasNoNumberIf, BeginsWithNumberIf, HasNoPosition, BeginsWithPosition, HasNoMember, BeginsWithMember, HasNoClosed, BeginsWithClosed};
 
 use crate::words::{behind, read_word};
-use edr_base::{Position, Whole, numeral};
-
-// The greatest size that some number of a geometry may have.
-const LIMIT: i64 = 253_402_300_799;
+use edr_base::{LATEST_TIME, Position, Whole, numeral};
 
 // The number at the front, and what stands behind it.
 fn read_number(text: &[u8]) -> Option<(i64, &[u8])>
     ensures { MatchOption result (HasNoNumber text.now) (λ r. BeginsWithNumber text.now r.0 r.1.now) }
 {
     let (word, rest) = read_word(text);
-    match numeral(word, LIMIT) {
+    match numeral(word, LATEST_TIME) {
         Whole::Value(value) => Some((value, rest)),
-        Whole::TooLarge => Some((LIMIT + 1, rest)),
+        Whole::TooLarge => Some((LATEST_TIME + 1, rest)),
         Whole::NotWhole => None,
     }
 }

@@ -6,8 +6,8 @@ use crate::checks::fault_of;
 use crate::faults::WktFault;
 use crate::geometry::Geometry;
 use crate::headings::read_heading;
-use crate::lists::{MOST_POSITIONS, Stop};
 use crate::words::without_blanks;
+use edr_base::POSITION_LIMIT;
 use std::alloc::Global;
 
 /// The geometry that a text stands for (OGC 06-103r4, section 7), or the first fault that applies.
@@ -20,15 +20,11 @@ pub fn read_wkt(alloc: Global, text: &[u8]) -> Result<Geometry, WktFault>
         return Err(WktFault::NotWkt);
     };
     let mut count = 0;
-    let (geometry, rest) = match read_body(alloc, heading, inside, &mut count) {
-        Ok(read) => read,
-        Err(Stop::NotWkt) => return Err(WktFault::NotWkt),
-        Err(Stop::OutOfMemory) => return Err(WktFault::OutOfMemory),
-    };
+    let (geometry, rest) = read_body(alloc, heading, inside, &mut count)?;
     if !without_blanks(rest).is_empty() {
         return Err(WktFault::NotWkt);
     }
-    if count > MOST_POSITIONS {
+    if count > POSITION_LIMIT {
         return Err(WktFault::TooManyPositions);
     }
     match fault_of(&geometry) {

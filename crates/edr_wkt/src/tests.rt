@@ -167,25 +167,34 @@ fn blanks(rt: HostRuntime) {
     );
 }
 
-// The fault of a line of two positions, so many more, and an end.
-#[test]
-fn counts(rt: HostRuntime) {
-    let ends: [(usize, &[u8], Option<WktFault>); 6] = [
-        (9_998, b")", None),
-        (9_999, b")", Some(WktFault::TooManyPositions)),
-        (100_000, b")", Some(WktFault::TooManyPositions)),
-        (9_998, b",100000001 0)", Some(WktFault::TooManyPositions)),
-        (9_998, b"", Some(WktFault::NotWkt)),
-        (9_999, b"x)", Some(WktFault::NotWkt)),
-    ];
-    for (more, end, answer) in ends.iter() {
-        let mut text = Vec::new(rt.alloc());
-        assert!(rt; text.extend_from_slice(b"LINESTRING(1 2,3 4").is_ok());
-        for _ in 0..*more {
-            assert!(rt; text.extend_from_slice(b", 3 4").is_ok());
-        }
-        assert!(rt; text.extend_from_slice(end).is_ok());
-        let found = read_wkt(rt.alloc(), &text).err();
-        assert!(rt; found == *answer);
+// How many positions follow two of a line, how the text ends, and the fault.
+const COUNTS: &str = "\
+9998 ) => None
+9999 ) => Some(TooManyPositions)
+100000 ) => Some(TooManyPositions)
+9998 ,100000001 0) => Some(TooManyPositions)
+9998  => Some(NotWkt)
+9999 x) => Some(NotWkt)
+";
+
+// A line of two positions, so many more, and an end.
+fn line_of(rt: &HostRuntime, more: usize, end: &str) -> Result<Vec<u8>, Fail> {
+    let mut text = Vec::from_slice(rt.alloc(), b"LINESTRING(1 2,3 4")?;
+    for _ in 0..more {
+        text.extend_from_slice(b", 3 4")?;
     }
+    text.extend_from_slice(end.as_bytes())?;
+    Ok(text)
+}
+
+#[test]
+fn counts(rt: HostRuntime) -> Result<(), Fail> {
+    for line in COUNTS.lines() {
+        let (parts, answer) = line.split_once(" => ").ok_or("a line without an answer")?;
+        let (more, end) = parts.split_once(' ').ok_or("a line without an end")?;
+        let text = line_of(&rt, more.parse::<usize>()?, end)?;
+        let fault = format!(in rt.alloc(); "{:?}", read_wkt(rt.alloc(), &text).err())?;
+        assert_eq!(rt; fault.as_str(), answer, "{line}");
+    }
+    Ok(())
 }

@@ -1,14 +1,11 @@
 //! Blanks, brackets, commas and the words between them.
 ghost use Rattle.std.specs.Prelude.{◌≡◌, ℕ, List, not, false, MatchOption};
 ghost use Rattle.edr_base.specs.NumberParts.{IsSplit};
-ghost use Rattle.edr_wkt.specs.Grammar.{is_blank, is_end, IsMark};
+ghost use Rattle.edr_base.specs.Names.{is_blank};
+ghost use Rattle.edr_wkt.specs.Grammar.{is_end, IsMark};
 ghost use Rattle.edr_wkt.specs.Reads.{not_blank, HasNoMark, BeginsWithMark, BeginsWithWord};
 
-fn is_blank(byte: u8) -> bool
-    ensures { result ≡ is_blank byte }
-{
-    byte == b' ' || byte == b'\t' || byte == b'\n' || byte == b'\r'
-}
+use edr_base::{is_blank, without_front};
 
 // Whether a byte ends a word.
 fn is_end(byte: u8) -> bool
@@ -39,15 +36,12 @@ pub fn read_mark(text: &[u8]) -> Option<(u8, &[u8])>
     }
 }
 
-/// What stands behind a mark, if the text begins with it.
+/// What stands behind a mark, if the text begins with it, with blanks before it or without.
 pub fn behind(text: &[u8], mark: u8) -> Option<&[u8]>
     requires { is_blank mark ≡ false }
     ensures { MatchOption result ((rest : List ℕ) → ¬ (IsMark mark text.now rest)) (λ r. IsMark mark text.now r.now) }
 {
-    match read_mark(text) {
-        Some((first, rest)) => { if first == mark { Some(rest) } else { None } }
-        None => None,
-    }
+    without_front(without_blanks(text), &[mark])
 }
 
 /// The word behind the blanks at the front, and what stands behind it.

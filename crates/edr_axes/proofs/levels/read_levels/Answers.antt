@@ -1,4 +1,6 @@
-use Rattle.edr_axes.proofs.LevelsLemmas.{list_levels}
+use Rattle.std.proofs.Common.{ℕ, List, Contains, sym, subst}
+use Rattle.edr_base.specs.CutLaws.{Contains-between}
+use Rattle.edr_axes.proofs.LevelsLemmas.{list_levels, no_levels, no_list}
 use Rattle.edr_axes.proofs.levels.read_levels.Goals as goal
 
 pub returns-clause-text : goal.returns-clause-text
@@ -6,3 +8,12 @@ returns-clause-text c = (list_levels c.args.text.now c.in_ok-levels.levels.items
 
 pub returns-clause-levels : goal.returns-clause-levels
 returns-clause-levels c = (list_levels c.args.text.now c.in_ok-levels.levels.items c.of.result c.of.ensures c.in_default.ensures c.in_ok-levels.ensures.ok).1
+
+pub returns-in_default-cut_at-clause-none : goal.returns-in_default-cut_at-clause-none
+returns-in_default-cut_at-clause-none c e =
+    no_levels c.args.text.now c.in_default.ensures c.in_default-range_of.ensures c.in_default-series_of.ensures (no_list c.args.text.now c.in_default.ensures c.in_default-cut_at.ensures)
+
+pub returns-in_err-levels-clause-memory : goal.returns-in_err-levels-clause-memory
+returns-in_err-levels-clause-memory c e =
+    let cut = c.in-Some-cut_at.ensures in
+    subst (λ (t : List ℕ). Contains t 44) (sym cut.text_is) (Contains-between 44 _ _)

@@ -1,5 +1,5 @@
 use Rattle.std.proofs.Common.{to_z-of_z}
-use Rattle.edr_base.proofs.NumberTexts.{holds, fails}
+use Rattle.edr_base.specs.TestLaws.{holds, fails}
 use Rattle.edr_axes.proofs.SeriesLemmas.{level_fits}
 use Rattle.edr_axes.proofs.LevelsLemmas.{IsSeriesCut, AreSeriesTexts, series_slash, series_second, series_first, series_parts, series_from, series_wrong}
 use Rattle.edr_axes.proofs.levels.series_of.Goals as goal

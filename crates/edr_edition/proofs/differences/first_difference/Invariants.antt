@@ -1,6 +1,6 @@
-use Rattle.std.proofs.Common.{◌≡◌, drop}
-use Rattle.edr_edition.specs.Changes.{difference}
+use Rattle.std.proofs.Common.{◌≡◌, take}
 use Rattle.edr_edition.proofs.differences.first_difference.Given as goal
 
+-- the parameters so far are the same
 abbrev pub invariant-loop-place : goal.invariant-loop-place
-invariant-loop-place l = difference l.one l.other ≡ difference (drop l.place l.one) (drop l.place l.other)
+invariant-loop-place l = take l.place l.one ≡ take l.place l.other

@@ -1,5 +1,5 @@
 use Rattle.std.proofs.Common.{sym, ap, ◌∙◌, Some}
-use Rattle.edr_ids.proofs.SortedLists.{item_of-found, item_of-missing}
+use Rattle.edr_ids.specs.ListLaws.{item_of-found, item_of-missing}
 use Rattle.edr_ids.proofs.lists.item_of.Goals as goal
 
 pub returns-in-Ok : goal.returns-in-Ok

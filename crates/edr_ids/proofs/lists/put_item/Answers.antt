@@ -1,7 +1,7 @@
-use Rattle.std.proofs.Common.{◌≡◌, Ok, Err, Result, OnErr, None, slice_set, sym, ap, ◌∙◌, subst}
+use Rattle.std.proofs.Common.{◌≡◌, Ok, Err, Result, OnErr, slice_set, sym, subst}
 use Rattle.edr_ids.specs.Ids.{AscendBy, IsPlaceOf, with_item}
-use Rattle.edr_ids.specs.Ids as ids
-use Rattle.edr_ids.proofs.SortedLists.{place_at, item_of-missing, with_item-found, with_item-inserted, AscendBy-with_item}
+use Rattle.edr_ids.specs.ListLaws.{place_at, item_of-missing, with_item-found, AscendBy-with_item}
+use Rattle.edr_ids.proofs.SortedLists.{with_item-inserted}
 use Rattle.edr_ids.proofs.lists.put_item.Given as given
 use Rattle.edr_ids.proofs.lists.put_item.Goals as goal
 

@@ -1,6 +1,7 @@
 use Rattle.std.proofs.Common.{◌≡◌, Ok, Err, Some, refl, sym, subst, ap, ◌∙◌}
 use Rattle.edr_ids.specs.Ids.{AscendBy, IsPlaceOf, without_id}
-use Rattle.edr_ids.proofs.SortedLists.{place_at, item_of-found, item_of-missing, without_id-removed, without_id-missing, AscendBy-without_id}
+use Rattle.edr_ids.specs.ListLaws.{place_at, item_of-found, item_of-missing, AscendBy-without_id}
+use Rattle.edr_ids.proofs.SortedLists.{without_id-removed, without_id-missing}
 use Rattle.edr_ids.proofs.lists.take_item.Given as given
 use Rattle.edr_ids.proofs.lists.take_item.Goals as goal
 

@@ -1,21 +1,21 @@
 use Rattle.std.proofs.Common.{arith, refl, subst, ℕ}
-use Rattle.edr_wkt.specs.Limits.{kept_polygon}
+use Rattle.edr_wkt.specs.Kept.{kept_polygon}
 use Rattle.edr_wkt.specs.Geometries.{polygon_size}
 use Rattle.edr_wkt.specs.Grammar.{IsMark, IsPolygon}
 use Rattle.edr_wkt.proofs.ListLemmas.{continues-none, continues-no_mark, mark-shorter}
 use Rattle.edr_wkt.proofs.MemberLemmas.{unique_polygon, shorter_polygon}
-use Rattle.edr_wkt.proofs.GatherLemmas.{error-along, added-from, collects-next, collects-end, none-mark, other-mark}
+use Rattle.edr_wkt.proofs.GatherLemmas.{passed_back, added-from, collects-next, collects-end, none-mark, other-mark}
 use Rattle.edr_wkt.proofs.areas.read_polygons.Goals as goal
 
-pub returns-in-Err-clause-not_wkt : goal.returns-in-Err-clause-not_wkt
-returns-in-Err-clause-not_wkt c =
+pub returns-in_err-polygon-clause-not_wkt : goal.returns-in_err-polygon-clause-not_wkt
+returns-in_err-polygon-clause-not_wkt c =
     let i = c.polygons.invariant.0 in
-    λ e. continues-none (IsPolygon c.args.has_z c.args.has_m) c.args.text.now c.polygons.rest.now i.items i.continues (c.in-Err.ensures.not_wkt (error-along _ _ e))
+    λ e. continues-none (IsPolygon c.args.has_z c.args.has_m) c.args.text.now c.polygons.rest.now i.items i.continues (c.in_err-polygon.ensures.not_wkt (passed_back c.from_residual.result c.in_err-polygon.field-0.0 _ c.from_residual.ensures e))
 
 pub returns-in_default-clause-not_wkt : goal.returns-in_default-clause-not_wkt
 returns-in_default-clause-not_wkt c =
     let i = c.polygons.invariant.0 in
-    let r = c.in-Ok.ensures.read in
+    let r = c.in_ok-polygon.ensures.read in
     λ e. continues-no_mark (IsPolygon c.args.has_z c.args.has_m) c.args.text.now c.polygons.rest.now _ i.items r.item (unique_polygon _ _) i.continues r.is_item
     (none-mark _ 44 c.in_default.ensures refl) (none-mark _ 41 c.in_default.ensures refl)
 
@@ -23,27 +23,27 @@ pub returns-then-mark-eq41-clause-read : goal.returns-then-mark-eq41-clause-read
 returns-then-mark-eq41-clause-read c =
     let added =
     added-from (IsPolygon c.args.has_z c.args.has_m) polygon_size kept_polygon c.args.text.now c.args.count.now c.polygons.count c.read_polygon.new.count c.polygons.polygons.items c.keep.new.items.items
-    c.polygons.rest.now c.in-Ok.read.1.now c.in-Ok.read.0 c.polygons.invariant.0 c.in-Ok.ensures.read c.in-Ok-keep.ensures.kept in
-    let P : ℕ → Type 0 = λ mark. IsMark mark c.in-Ok.read.1.now c.in-Some.next.now in
+    c.polygons.rest.now c.in_ok-polygon.after.now c.in_ok-polygon.polygon c.polygons.invariant.0 c.in_ok-polygon.ensures.read c.in_ok-keep.ensures.kept in
+    let P : ℕ → Type 0 = λ mark. IsMark mark c.in_ok-polygon.after.now c.in-Some.next.now in
     rw c.of.ensures (collects-end _ _ _ _ _ _ _ _ _ _ added (subst P c.if-mark-eq41.true c.in-Some.ensures.1))
 
 pub returns-then-mark-ne44-clause-not_wkt : goal.returns-then-mark-ne44-clause-not_wkt
 returns-then-mark-ne44-clause-not_wkt c =
     let i = c.polygons.invariant.0 in
-    let r = c.in-Ok.ensures.read in
+    let r = c.in_ok-polygon.ensures.read in
     let m = c.in-Some.ensures in
     λ e. continues-no_mark (IsPolygon c.args.has_z c.args.has_m) c.args.text.now c.polygons.rest.now _ i.items r.item (unique_polygon _ _) i.continues r.is_item
     (other-mark _ _ _ 44 m.0 m.1 c.if-mark-ne44.true refl) (other-mark _ _ _ 41 m.0 m.1 c.if-mark-eq41.false refl)
 
 pub polygons-smaller : goal.polygons-smaller
 polygons-smaller c =
-    let r = c.in-Ok.ensures.read in
+    let r = c.in_ok-polygon.ensures.read in
     omega (arith, mark-shorter _ _ _ c.in-Some.ensures.1, (shorter_polygon c.args.has_z c.args.has_m).le c.polygons.rest.now r.item _ r.is_item)
 
 pub polygons-preserved : goal.polygons-preserved
 polygons-preserved c =
     let added =
     added-from (IsPolygon c.args.has_z c.args.has_m) polygon_size kept_polygon c.args.text.now c.args.count.now c.polygons.count c.read_polygon.new.count c.polygons.polygons.items c.keep.new.items.items
-    c.polygons.rest.now c.in-Ok.read.1.now c.in-Ok.read.0 c.polygons.invariant.0 c.in-Ok.ensures.read c.in-Ok-keep.ensures.kept in
-    let P : ℕ → Type 0 = λ mark. IsMark mark c.in-Ok.read.1.now c.in-Some.next.now in
-    (collects-next _ _ _ _ _ _ _ _ _ _ (unique_polygon _ _) added (subst P c.if-mark-ne44.false c.in-Some.ensures.1), omega (arith, c.in-Ok.ensures.read.after_is))
+    c.polygons.rest.now c.in_ok-polygon.after.now c.in_ok-polygon.polygon c.polygons.invariant.0 c.in_ok-polygon.ensures.read c.in_ok-keep.ensures.kept in
+    let P : ℕ → Type 0 = λ mark. IsMark mark c.in_ok-polygon.after.now c.in-Some.next.now in
+    (collects-next _ _ _ _ _ _ _ _ _ _ (unique_polygon _ _) added (subst P c.if-mark-ne44.false c.in-Some.ensures.1), omega (arith, c.in_ok-polygon.ensures.read.after_is))

@@ -1,5 +1,5 @@
 use Rattle.std.proofs.Common.{◌≤◌, length}
-use Rattle.edr_wkt.specs.Limits.{kept_polygon}
+use Rattle.edr_wkt.specs.Kept.{kept_polygon}
 use Rattle.edr_wkt.specs.Geometries.{polygon_size}
 use Rattle.edr_wkt.specs.Grammar.{IsPolygon}
 use Rattle.edr_wkt.proofs.GatherLemmas.{Collects}

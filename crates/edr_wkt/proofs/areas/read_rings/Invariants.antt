@@ -1,5 +1,5 @@
 use Rattle.std.proofs.Common.{◌≤◌, length, map}
-use Rattle.edr_wkt.specs.Limits.{kept}
+use Rattle.edr_wkt.specs.Kept.{kept}
 use Rattle.edr_wkt.specs.Grammar.{IsRing}
 use Rattle.edr_wkt.proofs.GatherLemmas.{Collects}
 use Rattle.edr_wkt.proofs.areas.read_rings.Given as goal

@@ -1,5 +1,5 @@
 use Rattle.edr_wkt.proofs.BodyLemmas.{multi_polygon-read}
 use Rattle.edr_wkt.proofs.bodies.read_multi_polygon.Goals as goal
 
-pub returns-in-Ok-clause-read : goal.returns-in-Ok-clause-read
-returns-in-Ok-clause-read c = multi_polygon-read c.args.has_z c.args.has_m c.args.text.now _ _ _ _ c.in-Ok.ensures.read
+pub returns-clause-read : goal.returns-clause-read
+returns-clause-read c = multi_polygon-read c.args.has_z c.args.has_m c.args.text.now _ _ _ _ c.in_ok-polygons.ensures.read

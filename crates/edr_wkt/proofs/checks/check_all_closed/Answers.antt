@@ -4,6 +4,7 @@ use Rattle.edr_wkt.specs.declared.geometry.Polygon.{Polygon}
 use Rattle.edr_wkt.specs.Faults.{IsClosed}
 use Rattle.edr_wkt.specs.Checks.{MatchGood}
 use Rattle.edr_wkt.proofs.CheckLemmas.{good-room, good-bad}
+use Rattle.edr_wkt.proofs.GatherLemmas.{passed_on}
 use Rattle.edr_wkt.proofs.checks.check_all_closed.Goals as goal
 
 abbrev rings : Polygon → List (List Position)
@@ -17,11 +18,12 @@ check_closed-requires c =
     let e : c.items.result.now ≡ f (get_or list at c.polygon-item.result) = c.items.ensures ∙ ap rings c.polygon-item.is in
     omega (arith, ap length e, good-room IsClosed f list c.args.before at c.loop-polygon.count c.polygon-item.result c.loop-polygon-test.true c.loop-polygon.invariant, c.requires)
 
-pub returns-in-Err : goal.returns-in-Err
-returns-in-Err c =
+pub returns-in_err-count : goal.returns-in_err-count
+returns-in_err-count c =
     let list = c.args.polygons.now in
     let at = c.loop-polygon.polygon-index in
     let f : Polygon → List (List Position) = λ p. p.rings in
     let e : c.items.result.now ≡ f (get_or list at c.polygon-item.result) = c.items.ensures ∙ ap rings c.polygon-item.is in
-    good-bad IsClosed f list c.args.before at c.loop-polygon.count c.in-Err.place c.polygon-item.result c.loop-polygon-test.true c.loop-polygon.invariant
-    (let P : List (List Position) → Type 0 = λ l. MatchGood (Err c.in-Err.place) IsClosed l c.loop-polygon.count in subst P e c.in-Err.ensures)
+    rw (passed_on c.from_residual.result c.in_err-count.field-0.0 c.from_residual.ensures)
+    (good-bad IsClosed f list c.args.before at c.loop-polygon.count c.in_err-count.field-0.0 c.polygon-item.result c.loop-polygon-test.true c.loop-polygon.invariant
+    (let P : List (List Position) → Type 0 = λ l. MatchGood (Err c.in_err-count.field-0.0) IsClosed l c.loop-polygon.count in subst P e c.in_err-count.ensures))

@@ -1,6 +1,6 @@
 use Rattle.std.proofs.Common.{◌≡◌, ◌∙◌, arith, List, get_or, subst}
 use Rattle.edr_base.specs.declared.places.Position.{Position}
-use Rattle.edr_base.proofs.NumberTexts.{fails}
+use Rattle.edr_base.specs.TestLaws.{fails}
 use Rattle.edr_wkt.specs.Faults.{IsClosed}
 use Rattle.edr_wkt.proofs.CheckLemmas.{first_bad-at}
 use Rattle.edr_wkt.proofs.checks.check_closed.Goals as goal

@@ -1,5 +1,5 @@
 use Rattle.std.proofs.Common.{arith}
-use Rattle.edr_base.proofs.NumberTexts.{fails}
+use Rattle.edr_base.specs.TestLaws.{fails}
 use Rattle.edr_wkt.specs.Faults.{IsInRange}
 use Rattle.edr_wkt.proofs.CheckLemmas.{first_bad-at}
 use Rattle.edr_wkt.proofs.checks.check_positions.Goals as goal

@@ -1,5 +1,5 @@
 use Rattle.std.proofs.Common.{arith}
-use Rattle.edr_base.proofs.NumberTexts.{holds, fails}
+use Rattle.edr_base.specs.TestLaws.{holds, fails}
 use Rattle.edr_wkt.proofs.CheckLemmas.{first_fall-behind, never_falls-behind, never_falls-whole}
 use Rattle.edr_wkt.proofs.checks.first_fall.Goals as goal
 

@@ -1,6 +1,6 @@
 use Rattle.std.proofs.Common.{ℤ, pos, neg_ℤ, ◌≤ℤ◌, ◌≤◌, FitsSigned, w64, rules}
 use Rattle.std.specs.Int.RustNames.{unsigned_abs}
-use Rattle.edr_base.proofs.NumberTexts.{holds}
+use Rattle.edr_base.specs.TestLaws.{holds}
 use Rattle.edr_wkt.proofs.CheckLemmas.{passed, passed-back}
 use Rattle.edr_wkt.proofs.checks.in_range.Goals as goal
 

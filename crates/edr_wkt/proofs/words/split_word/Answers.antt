@@ -1,5 +1,5 @@
 use Rattle.std.proofs.Common.{arith, ◌∙◌, sym}
-use Rattle.edr_base.proofs.NumberLemmas.{IsSplit-at, IsSplit-all}
+use Rattle.edr_base.specs.SplitLaws.{IsSplit-at, IsSplit-all}
 use Rattle.edr_wkt.specs.Grammar.{is_end}
 use Rattle.edr_wkt.proofs.words.split_word.Goals as goal
 

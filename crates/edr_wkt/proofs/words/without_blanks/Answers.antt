@@ -1,6 +1,6 @@
 use Rattle.std.proofs.Common.{arith, ◌∙◌, sym, ap, not}
 use Rattle.std.proofs.lemmas.List.{take_rest}
-use Rattle.edr_base.proofs.NumberLemmas.{IsSplit-at, IsSplit-all}
+use Rattle.edr_base.specs.SplitLaws.{IsSplit-at, IsSplit-all}
 use Rattle.edr_wkt.specs.Reads.{not_blank}
 use Rattle.edr_wkt.proofs.words.without_blanks.Goals as goal
 

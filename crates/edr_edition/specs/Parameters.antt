@@ -1,0 +1,33 @@
+-- Where the parameters of instances differ.
+use Rattle.std.specs.Prelude.{◌≡◌, ◌≢◌, ℕ, List, Any, Option}
+use Rattle.std.specs.declared.cmp.Ordering.TheVariants.{Less}
+use Rattle.covjson_value.specs.declared.coverages.Parameter.{Parameter}
+use Rattle.edr_ids.specs.Ids.{order, item_of}
+use Rattle.edr_edition.specs.Values.{InstanceValue}
+
+abbrev pub parameter_id : Parameter → List ℕ
+parameter_id parameter = parameter.id
+
+-- the parameter of an id, where there is one
+abbrev pub parameter_in : List Parameter → List ℕ → Option Parameter
+parameter_in parameters id = item_of parameter_id id parameters
+
+-- only one side has a parameter of the id, or the two differ there in language, label or unit
+abbrev pub DifferAt : List Parameter → List Parameter → List ℕ → Type 0
+DifferAt one other id = parameter_in one id ≢ parameter_in other id
+
+-- the parameters of one of these instances differ from the given ones at the id
+abbrev pub AnyDiffersAt : List InstanceValue → List Parameter → List ℕ → Type 0
+AnyDiffersAt instances parameters id = Any (λ (instance : InstanceValue). DifferAt instance.parameters parameters id) instances
+
+-- the id at which they differ with none below it, byte by byte
+pub record IsFirstDifference (instances : List InstanceValue) (parameters : List Parameter) (id : List ℕ) : Type 0 where
+  pub differs : AnyDiffersAt instances parameters id
+  pub none_below : (lower : List ℕ) → order lower id ≡ Less → ¬ (AnyDiffersAt instances parameters lower)
+
+-- ---- for private clauses
+
+-- the least id at which two lists of parameters differ
+pub record DifferFirstAt (one other : List Parameter) (id : List ℕ) : Type 0 where
+  pub differ : DifferAt one other id
+  pub same_below : (lower : List ℕ) → order lower id ≡ Less → parameter_in one lower ≡ parameter_in other lower
