@@ -1,14 +1,11 @@
 -- All ranges of a coverage: the answer is what stands, and the rows have it.
-use Rattle.std.specs.Prelude.{◌↔◌}
-use Rattle.std.proofs.Common.{◌≡◌, ◌≢◌, ◌<◌, ℕ, true, List, [], ◌∷◌, length, All, Some, Ok, Err, inl, codes, refl, sym, ap, ◌∙◌, subst, arith}
+use Rattle.std.proofs.Common.{◌≡◌, ◌≢◌, ◌<◌, ℕ, true, List, [], ◌∷◌, length, All, Some, Ok, inl, codes, refl, sym, ap, ◌∙◌, subst, arith}
 use Rattle.std.proofs.lemmas.List.Elements.{All-nil, All-cons, All-head, All-tail}
-use Rattle.serde_json.specs.Data.{Data, object, Items, no_items, item, Members, no_members, member}
-use Rattle.serde_json.specs.Find.{get, as_object}
-use Rattle.covjson_value.specs.declared.domains.Domain.{Domain}
+use Rattle.serde_json.specs.Data.{Data, object, Members, no_members, member}
+use Rattle.serde_json.specs.Find.{get}
 use Rattle.covjson_value.specs.declared.coverages.Parameter.{Parameter}
 use Rattle.covjson_value.specs.declared.coverages.NdArray.{NdArray}
 use Rattle.covjson_value.specs.Coverages.{ids_of}
-use Rattle.covjson_checks.specs.declared.turned.Turned.{Turned}
 use Rattle.covjson_checks.specs.declared.turned.ReadDomain.{ReadDomain}
 use Rattle.covjson_checks.specs.declared.faults.Member.TheVariants.{Parameters, Ranges}
 use Rattle.covjson_checks.specs.declared.faults.CovFault.TheVariants.{Missing, WrongType, WrongCount}
@@ -107,13 +104,16 @@ ranges_tell stand_for read parameters tree r h =
     let d = passed h in
     let m = passed d.2 in
     let s = passed m.2 in
-    let e = each_tells stand_for read parameters m.0 r s.1 in
-    (m.0, d.1 ∙ ap Some m.1, record {
-      some = some_stand (StandsForRange read.domain read.turned) m.0 r.ranges s.0 e.ranges_stand;
-      ids = e.ids;
-      parameters_stand = e.parameters_stand;
-      ranges_stand = e.ranges_stand;
-    })
+    let e = each_tells stand_for read parameters m.0 r s.1 in (
+      m.0,
+      d.1 ∙ ap Some m.1,
+      record {
+        some = some_stand (StandsForRange read.domain read.turned) m.0 r.ranges s.0 e.ranges_stand;
+        ids = e.ids;
+        parameters_stand = e.parameters_stand;
+        ranges_stand = e.ranges_stand;
+      },
+    )
 
 -- ---- what stands passes the rows
 
@@ -129,10 +129,19 @@ each_passes stand_for read parameters (member id d ms) (p ∷ kept) (range ∷ r
     let named : p.id ≡ id = cc in
     let others : ids_of kept ≡ names_of ms = cc in
     let here = All-head (StandsAmong parameters) p kept among in
-    inl (here.d, ap (λ k. get k parameters) (sym named) ∙ here.named,
-    inl (p, parameter_passes id here.d p (named, here.stands),
-    inl (range, (stand_for read d range).1 stand.0,
-    inl (record { parameters = kept; ranges = ranges }, each_passes stand_for read parameters ms kept ranges others (All-tail (StandsAmong parameters) p kept among) stand.1, refl))))
+    inl (
+      here.d,
+      ap (λ k. get k parameters) (sym named) ∙ here.named,
+      inl (
+        p,
+        parameter_passes id here.d p (named, here.stands),
+        inl (
+          range,
+          (stand_for read d range).1 stand.0,
+          inl (record { parameters = kept; ranges = ranges }, each_passes stand_for read parameters ms kept ranges others (All-tail (StandsAmong parameters) p kept among) stand.1, refl),
+        ),
+      ),
+    )
 
 -- ranges of which there are some stand in an object that isn't empty
 some_members : {V : Type 0} (R : Data → V → Type 0) (ms : Members) (values : List V) → 0 < length values → EachStands R (values_of ms) values → ms ≢ no_members
@@ -143,5 +152,15 @@ some_members R (member id d rest) values some h = λ e. cc
 pub ranges_pass : RangeRowsAreWhatStand → (read : ReadDomain) (parameters tree : Data) (r : ReadRanges) → AreRangesOf read parameters tree r → RangesRows read parameters tree (Ok r)
 ranges_pass stand_for read parameters tree r s =
     let t = s.2 in
-    inl (object s.0, s.1, inl (s.0, refl, inl (some_members (StandsForRange read.domain read.turned) s.0 r.ranges t.some t.ranges_stand,
-    each_passes stand_for read parameters s.0 r.parameters r.ranges t.ids t.parameters_stand t.ranges_stand)))
+    inl (
+      object s.0,
+      s.1,
+      inl (
+        s.0,
+        refl,
+        inl (
+          some_members (StandsForRange read.domain read.turned) s.0 r.ranges t.some t.ranges_stand,
+          each_passes stand_for read parameters s.0 r.parameters r.ranges t.ids t.parameters_stand t.ranges_stand,
+        ),
+      ),
+    )

@@ -1,14 +1,12 @@
 -- Coverages: the answer is what stands, and the rows have it.
-use Rattle.std.specs.Prelude.{◌↔◌, Result}
-use Rattle.std.proofs.Common.{◌≡◌, true, Some, Ok, Err, inl, option_and_then, bytes_eq, codes, refl, sym, ap, ◌∙◌, subst}
+use Rattle.std.proofs.Common.{◌≡◌, true, Some, Ok, inl, option_and_then, bytes_eq, codes, refl, sym, ap, ◌∙◌, subst}
 use Rattle.std.proofs.lemmas.Slice.Eq.{bytes_eq-Decides}
-use Rattle.serde_json.specs.Data.{Data, string, object, Members}
+use Rattle.serde_json.specs.Data.{Data, string, object}
 use Rattle.serde_json.specs.Find.{get, as_str}
 use Rattle.covjson_value.specs.declared.domains.CoordinateName.TheVariants.{Z}
 use Rattle.covjson_value.specs.declared.coverages.Coverage.{Coverage}
 use Rattle.covjson_value.specs.Domains.{has_coordinate}
 use Rattle.covjson_checks.specs.declared.turned.ReadDomain.{ReadDomain}
-use Rattle.covjson_checks.specs.declared.faults.CovFault.{CovFault}
 use Rattle.covjson_checks.specs.declared.faults.Member.TheVariants.{Kind, Coverages, Domain as DomainMember}
 use Rattle.covjson_checks.specs.declared.faults.CovFault.TheVariants.{Missing, WrongType}
 use Rattle.covjson_checks.specs.Members.{need, object_at, lent}
@@ -16,7 +14,7 @@ use Rattle.edr_json.specs.Trees.{text_or_empty}
 use Rattle.edr_json.specs.TreeLaws.{text_is}
 use Rattle.covjson_domains.specs.DomainAnswers.{domain_of}
 use Rattle.covjson_domains.specs.DomainRows.{DomainRows}
-use Rattle.covjson_domains.specs.Laws.{DomainRowsHaveOneAnswer, DomainAnswersFollowRows, DomainRowsAreWhatStand}
+use Rattle.covjson_domains.specs.Laws.{DomainRowsHaveOneAnswer, DomainAnswersFollowRows, DomainRowsAreWhatStands}
 use Rattle.covjson_ranges.specs.Laws.{RangeRowsAreWhatStand}
 use Rattle.covjson_read.specs.declared.collected.ReadRanges.{ReadRanges}
 use Rattle.covjson_read.specs.SystemAnswers.{referencing_of}
@@ -40,7 +38,7 @@ pub record PartsAnswered : Type 0 where
 
 -- and of which stand
 pub record PartsStand : Type 0 where
-  pub domains : DomainRowsAreWhatStand
+  pub domains : DomainRowsAreWhatStands
   pub ranges : RangeRowsAreWhatStand
 
 -- a member of the type Coverage
@@ -124,12 +122,42 @@ coverage_passes stand collection tree coverage s =
     let o = object_of (codes "type") tree (string (codes "Coverage")) s.kind in
     let i = object_of (codes "axes") s.domain (object s.domain_stands.members) s.domain_stands.axes in
     let id = s.id in
-    inl (o.0, o.1, inl (string (codes "Coverage"), s.kind, inl (refl, inl (s.domain, s.domain_at, inl (i.0, i.1,
-    inl (read, (stand.domains (type_of s.domain tree collection) s.domain read).1 s.domain_stands,
-    inl (coverage.referencing, rows_pass has_z (lent (codes "referencing") s.domain collection) coverage.referencing s.referencing_stands,
-    inl (s.parameters, parameters_pass (lent (codes "parameters") tree collection) s.parameters (s.parameters_at, s.parameters_are),
-    inl (ranges, ranges_pass stand.ranges read s.parameters tree ranges (s.ranges, s.ranges_at, s.ranges_stand),
-    (λ j. Ok (record { id = id j; domain = coverage.domain; referencing = coverage.referencing; parameters = coverage.parameters; ranges = coverage.ranges })))))))))))
+    inl (
+      o.0,
+      o.1,
+      inl (
+        string (codes "Coverage"),
+        s.kind,
+        inl (
+          refl,
+          inl (
+            s.domain,
+            s.domain_at,
+            inl (
+              i.0,
+              i.1,
+              inl (
+                read,
+                (stand.domains (type_of s.domain tree collection) s.domain read).1 s.domain_stands,
+                inl (
+                  coverage.referencing,
+                  rows_pass has_z (lent (codes "referencing") s.domain collection) coverage.referencing s.referencing_stands,
+                  inl (
+                    s.parameters,
+                    parameters_pass (lent (codes "parameters") tree collection) s.parameters (s.parameters_at, s.parameters_are),
+                    inl (
+                      ranges,
+                      ranges_pass stand.ranges read s.parameters tree ranges (s.ranges, s.ranges_at, s.ranges_stand),
+                      (λ j. Ok (record { id = id j; domain = coverage.domain; referencing = coverage.referencing; parameters = coverage.parameters; ranges = coverage.ranges })),
+                    ),
+                  ),
+                ),
+              ),
+            ),
+          ),
+        ),
+      ),
+    )
 
 -- ---- the answer is what stands
 

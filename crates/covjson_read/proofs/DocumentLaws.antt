@@ -1,26 +1,24 @@
 -- Documents: the rows have one answer, which the computation follows, and with a document they say what stands.
-use Rattle.std.specs.Prelude.{◌↔◌, Result}
-use Rattle.std.proofs.Common.{◌≡◌, ◌⊎◌, ℕ, List, [], ◌∷◌, bytes_eq, Bool, true, false, if◌then◌else◌, Option, Some, None, Ok, Err, inl, inr, codes, refl, sym, ap, ◌∙◌, subst}
+use Rattle.std.proofs.Common.{◌≡◌, ℕ, List, [], ◌∷◌, bytes_eq, Bool, true, false, if◌then◌else◌, Some, Ok, Err, inl, inr, codes, refl, sym, ap, ◌∙◌, subst}
 use Rattle.std.proofs.lemmas.Slice.Eq.{bytes_eq-Decides}
-use Rattle.serde_json.specs.Data.{Data, null, string, array, object, Items, no_items, item, Members}
-use Rattle.serde_json.specs.Find.{get, as_array}
+use Rattle.serde_json.specs.Data.{Data, null, string, array, object, Items, no_items, item}
+use Rattle.serde_json.specs.Find.{get}
 use Rattle.covjson_value.specs.declared.coverages.Coverage.{Coverage}
 use Rattle.covjson_value.specs.declared.coverages.Document.{Document}
 use Rattle.covjson_value.specs.declared.coverages.Document.TheVariants.{One, Many}
-use Rattle.covjson_checks.specs.declared.faults.CovFault.{CovFault}
 use Rattle.covjson_checks.specs.declared.faults.CovFault.TheVariants.{NotJson, Missing, WrongType}
 use Rattle.covjson_checks.specs.declared.faults.Member.TheVariants.{Document as TheDocument, Kind, Coverages}
 use Rattle.covjson_checks.specs.Answers.{Answer, each}
 use Rattle.covjson_checks.specs.Members.{need, object_at, list_at}
-use Rattle.covjson_checks.specs.RowLaws.{HaveAnswer, answer_is_one, Finds, find_answers, then_answers, gives_answers, passed, passed_then, HasOneAnswer, find_one}
+use Rattle.covjson_checks.specs.RowLaws.{HaveAnswer, answer_is_one, Finds, find_answers, then_answers, gives_answers, passed, passed_then, find_one}
 use Rattle.covjson_read.proofs.RowAnswers.{one_is_answer}
-use Rattle.edr_base.specs.FirstThatApplies.{Find, Then, Gives, and_then, or_fault}
-use Rattle.edr_json.specs.Json.{IsJson, IsNoJson, TextsHaveOneTree}
+use Rattle.edr_base.specs.FirstThatApplies.{Find}
+use Rattle.edr_json.specs.Json.{IsJson, TextsHaveOneTree}
 use Rattle.edr_json.specs.Trees.{EachStands, text_or_empty}
-use Rattle.edr_json.specs.TreeLaws.{text_is, as_array_some, as_object_some}
-use Rattle.covjson_read.specs.Standing.{StandsIn, StandsForCollection, TreeStandsFor, StandsForDocument}
+use Rattle.edr_json.specs.TreeLaws.{text_is}
+use Rattle.covjson_read.specs.Standing.{StandsIn, TreeStandsFor}
 use Rattle.covjson_read.specs.Rows.{CoverageRows, EachCoverageRows, RowsOfType, TreeRows, DocumentRows, DocumentType, single, collected, type_name}
-use Rattle.covjson_read.specs.CoverageAnswers.{coverage_in, one_coverage, many_coverages, document_of_type, document_of, AnswersText, CoverageAnswersFollowRows}
+use Rattle.covjson_read.specs.CoverageAnswers.{coverage_in, one_coverage, many_coverages, document_of, AnswersText, CoverageAnswersFollowRows}
 use Rattle.covjson_read.specs.Laws.{CoverageRowsHaveOneAnswer, CoverageRowsAreWhatStands, DocumentRowsHaveOneAnswer, DocumentRowsAreWhatStands, TextsHaveOneDocument}
 use Rattle.covjson_read.proofs.SystemLaws.{given_found, list_found}
 use Rattle.covjson_read.proofs.ParameterLaws.{object_of, object_found}
@@ -158,8 +156,19 @@ tree_passes stand tree (One coverage) s =
     inl (o.0, o.1, inl (string (codes "Coverage"), s.kind, inl (single, refl, inl (coverage, (stand null tree coverage).1 s, refl))))
 tree_passes stand tree (Many coverages) s =
     let o = object_of (codes "type") tree (string (codes "CoverageCollection")) s.kind in
-    inl (o.0, o.1, inl (string (codes "CoverageCollection"), s.kind, inl (collected, refl,
-    inl (array s.items, s.list, inl (s.items, refl, inl (coverages, each_passes stand tree s.items coverages s.coverages_stand, refl))))))
+    inl (
+      o.0,
+      o.1,
+      inl (
+        string (codes "CoverageCollection"),
+        s.kind,
+        inl (
+          collected,
+          refl,
+          inl (array s.items, s.list, inl (s.items, refl, inl (coverages, each_passes stand tree s.items coverages s.coverages_stand, refl))),
+        ),
+      ),
+    )
 
 pub document_stands : CoverageRowsAreWhatStands → DocumentRowsAreWhatStands
 document_stands stand text document = (

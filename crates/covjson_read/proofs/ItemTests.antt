@@ -1,5 +1,5 @@
 -- Tests of the items of a list, and what they tell of the items by their places.
-use Rattle.std.proofs.Common.{◌≡◌, ℕ, zero, suc, ◌<◌, Bool, true, false, ◌&&◌, ◌||◌, if◌then◌else◌, Option, Some, None, bytes_eq, List, refl, sym, ap, ◌∙◌, subst, arith, inl, inr}
+use Rattle.std.proofs.Common.{◌≡◌, ℕ, zero, suc, ◌<◌, Bool, true, false, if◌then◌else◌, Option, Some, None, List, refl, sym, ap, ◌∙◌, subst, arith, inl, inr}
 use Rattle.std.proofs.lemmas.Bool.{and_parts, and_from, or_cases, or_left, or_right}
 use Rattle.std.proofs.lemmas.Slice.Eq.{bytes_eq-Decides}
 use Rattle.serde_json.specs.Data.{Data, string, Items, no_items, item}
@@ -19,7 +19,6 @@ false_of true h = absurd (h refl)
 false_of false h = refl
 
 module _ (test : Data → Bool) (Is : Data → Type 0) (t : Tells test Is) where
-
   -- ---- each item
 
   all_at : (ds : Items) → all_that test ds ≡ true → (place : ℕ) (d : Data) → item_at ds place ≡ Some d → Is d

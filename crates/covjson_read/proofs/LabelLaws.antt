@@ -1,13 +1,12 @@
 -- Labels and units: what the answer tells of them, and the answer to those that stand for some.
-use Rattle.std.proofs.Common.{◌≡◌, ◌⊎◌, ℕ, List, true, ◌&&◌, is_some, Option, Some, None, Ok, inl, inr, refl, sym, ap, ◌∙◌, subst, codes}
+use Rattle.std.proofs.Common.{◌≡◌, ℕ, List, true, ◌&&◌, is_some, Option, Some, None, Ok, inl, inr, refl, sym, ap, ◌∙◌, subst, codes}
 use Rattle.serde_json.specs.Data.{Data, null, boolean, number, string, array, object, Members, no_members, member}
 use Rattle.serde_json.specs.Find.{get, get_member, as_str, as_object}
-use Rattle.covjson_value.specs.declared.coverages.Parameter.{Parameter}
 use Rattle.covjson_checks.specs.declared.faults.Member.{Member}
-use Rattle.covjson_checks.specs.declared.faults.Member.TheVariants.{ObservedProperty, Unit}
-use Rattle.covjson_checks.specs.declared.faults.CovFault.TheVariants.{Missing, WrongType}
+use Rattle.covjson_checks.specs.declared.faults.Member.TheVariants.{Unit}
+use Rattle.covjson_checks.specs.declared.faults.CovFault.TheVariants.{WrongType}
 use Rattle.edr_base.specs.FirstThatApplies.{or_fault, check}
-use Rattle.covjson_checks.specs.Members.{need, part, object_at, text_at}
+use Rattle.covjson_checks.specs.Members.{part, object_at, text_at}
 use Rattle.covjson_read.specs.Parameters.{EachIsText, IsSaid, StandsForLabel, StandsForLabelText, StandsForSymbol, StandsForUnit}
 use Rattle.covjson_read.specs.ParameterAnswers.{all_texts, said_in, label_at, unit_label, unit_by_symbol, unit_if, parameter_unit}
 use Rattle.covjson_checks.specs.RowLaws.{FaultIs, ok_fault, option_fault, check_fault, then_fault, Finds}

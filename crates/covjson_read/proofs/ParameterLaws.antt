@@ -1,6 +1,6 @@
 -- Parameters: the answer is what stands, and the rows have it.
-use Rattle.std.specs.Prelude.{⊤, ◌↔◌, Result}
-use Rattle.std.proofs.Common.{◌≡◌, ℕ, List, [], true, not, is_some, Option, Some, None, Ok, Err, inl, inr, refl, sym, ap, ◌∙◌, subst, codes}
+use Rattle.std.specs.Prelude.{◌↔◌}
+use Rattle.std.proofs.Common.{◌≡◌, ℕ, List, not, is_some, Option, Some, None, Ok, Err, inl, refl, sym, ap, subst, codes}
 use Rattle.serde_json.specs.Data.{Data, object, Members, no_members, member}
 use Rattle.serde_json.specs.Find.{get, as_object}
 use Rattle.covjson_value.specs.declared.coverages.Parameter.{Parameter}
@@ -9,13 +9,13 @@ use Rattle.covjson_checks.specs.declared.faults.Member.TheVariants.{Parameters a
 use Rattle.covjson_checks.specs.declared.faults.CovFault.TheVariants.{Missing, WrongType}
 use Rattle.covjson_checks.specs.Answers.{Answer}
 use Rattle.covjson_checks.specs.Members.{need, object_at}
-use Rattle.edr_base.specs.FirstThatApplies.{Check, Find, Then, Gives, and_then, or_fault, check}
+use Rattle.edr_base.specs.FirstThatApplies.{and_then, or_fault}
 use Rattle.edr_json.specs.AnswerLaws.{none_of}
 use Rattle.edr_json.specs.TreeLaws.{as_object_some, member_of_object}
 use Rattle.covjson_checks.specs.RowLaws.{HaveAnswer, Finds, option_finds, find_answers, check_answers, then_answers, gives_answers, passed, passed_then, find_within, check_within}
 use Rattle.covjson_read.proofs.RowAnswers.{answer_stands}
 use Rattle.covjson_read.specs.Parameters.{StandsForLabel, StandsForUnit, StandsForParameter, EachIsNamedObject, EachIsParameter, HoldsParameters}
-use Rattle.covjson_read.specs.ParameterAnswers.{all_named_objects, label_at, parameter_label, parameter_unit, parameter_form, parameter_forms, parameters_of, parameter_of}
+use Rattle.covjson_read.specs.ParameterAnswers.{all_named_objects, label_at, parameter_label, parameter_unit, parameter_forms, parameters_of, parameter_of}
 use Rattle.covjson_read.specs.Rows.{ParameterRows, EachParameterRows, ParametersRows}
 use Rattle.covjson_read.proofs.SystemLaws.{given_found}
 use Rattle.covjson_read.proofs.LabelLaws.{label_finds, unit_finds}

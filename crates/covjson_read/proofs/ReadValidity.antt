@@ -1,6 +1,6 @@
 -- What a tree that was read stands for is valid.
-use Rattle.std.specs.Prelude.{IfSome, IsSome, ⊤}
-use Rattle.std.proofs.Common.{◌≡◌, ◌⊎◌, ℕ, zero, suc, ◌<◌, ◌^◌, ℤ, Bool, true, false, List, [], ◌∷◌, length, All, Option, Some, None, option_and_then, codes, IsUtf8, inl, inr, refl, sym, ap, ◌∙◌, subst, arith}
+use Rattle.std.specs.Prelude.{IfSome, IsSome}
+use Rattle.std.proofs.Common.{◌≡◌, ℕ, suc, ℤ, Bool, true, false, List, [], ◌∷◌, length, All, Option, Some, None, option_and_then, codes, IsUtf8, inl, inr, refl, sym, ap, subst, arith}
 use Rattle.std.proofs.lemmas.Str.{IsUtf8-from_is_utf8}
 use Rattle.std.specs.Str.{is_utf8, chars}
 use Rattle.std.specs.Char.{encode_utf8}
@@ -10,7 +10,7 @@ use Rattle.std.specs.List.Sorted.{IsStrictlySortedBy}
 use Rattle.std.proofs.lemmas.List.{length-map}
 use Rattle.std.proofs.lemmas.List.Elements.{All-nil, All-cons, All-weaker}
 use Rattle.serde_json.specs.Data.{Data, null, boolean, number, string, array, object, Items, no_items, item, Members, no_members, member}
-use Rattle.serde_json.specs.Find.{get, get_member, as_str}
+use Rattle.serde_json.specs.Find.{get, as_str}
 use Rattle.edr_base.specs.declared.places.Position.{Position}
 use Rattle.edr_json.specs.ReadTrees.{IsTree, AreTrees, NameTrees, TextsHaveTrees}
 use Rattle.edr_json.specs.ReadTreeLaws.{tree_at, named_tree, tree_of_item, text_utf8, text_or_empty_utf8, found_tree, then_found_tree}
@@ -23,17 +23,16 @@ use Rattle.covjson_value.specs.declared.coverages.NdArray.{NdArray}
 use Rattle.covjson_value.specs.declared.coverages.Coverage.{Coverage}
 use Rattle.covjson_value.specs.declared.coverages.Document.{Document}
 use Rattle.covjson_value.specs.declared.coverages.Document.TheVariants.{One, Many}
-use Rattle.covjson_value.specs.Coverages.{IsNamedAxis, IsTuple, AreTuples, IsParameter, IsReferencing, ids_of, AscendById, IsRange, IsValid, IsValidDocument}
+use Rattle.covjson_value.specs.Coverages.{IsNamedAxis, IsTuple, AreTuples, IsParameter, IsReferencing, ids_of, IsRange, IsValid, IsValidDocument}
 use Rattle.covjson_checks.specs.declared.turned.Turned.{Turned}
 use Rattle.covjson_checks.specs.Members.{either, lent}
 use Rattle.covjson_domains.specs.Axes.{HasSameAxis}
 use Rattle.covjson_domains.specs.Tuples.{StandsForTuple, HasSameTuples}
-use Rattle.covjson_domains.specs.Domains.{StandsForDomain}
 use Rattle.covjson_ranges.specs.Ranges.{StandsForRange}
 use Rattle.covjson_ranges.specs.Laws.{RangesAreValid}
 use Rattle.covjson_read.specs.Systems.{StandsForReferencing, StandsForVertical, system_text, system_name}
 use Rattle.covjson_read.specs.Parameters.{IsSaid, StandsForLabel, StandsForSymbol, StandsForUnit, HoldsParameters, StandsAmong}
-use Rattle.covjson_read.specs.Standing.{StandsIn, TreeStandsFor, StandsForDocument}
+use Rattle.covjson_read.specs.Standing.{StandsIn, TreeStandsFor}
 use Rattle.covjson_read.specs.Laws.{ReadCoveragesAreValid, ReadDocumentsAreValid}
 use Rattle.covjson_read.proofs.ParameterNames.{named_found, have_names}
 

@@ -1,6 +1,6 @@
 -- Reference systems: the answer is what stands, and the rows have it.
-use Rattle.std.specs.Prelude.{⊤, ◌↔◌}
-use Rattle.std.proofs.Common.{◌≡◌, ◌⊎◌, ℕ, List, bytes_eq, Bool, true, false, if◌then◌else◌, Option, Some, None, option_and_then, Ok, Err, inl, inr, refl, sym, ap, ◌∙◌, subst, codes}
+use Rattle.std.specs.Prelude.{◌↔◌}
+use Rattle.std.proofs.Common.{◌≡◌, ℕ, List, bytes_eq, Bool, true, false, Option, Some, None, option_and_then, Ok, Err, inl, inr, refl, sym, ap, ◌∙◌, subst, codes}
 use Rattle.std.proofs.lemmas.Slice.Eq.{bytes_eq-Decides}
 use Rattle.serde_json.specs.Data.{Data, array, Items}
 use Rattle.serde_json.specs.Find.{as_array}
@@ -8,18 +8,16 @@ use Rattle.covjson_value.specs.declared.coverages.Referencing.{Referencing}
 use Rattle.covjson_checks.specs.declared.faults.CovFault.{CovFault}
 use Rattle.covjson_checks.specs.declared.faults.Member.TheVariants.{Referencing as SystemsMember}
 use Rattle.covjson_checks.specs.declared.faults.CovFault.TheVariants.{Missing, WrongType, UnsupportedSystem}
-use Rattle.covjson_checks.specs.Answers.{Answer}
 use Rattle.covjson_checks.specs.Members.{list_at}
-use Rattle.edr_base.specs.FirstThatApplies.{Check, Find, Then, Gives, and_then, or_fault, check}
-use Rattle.edr_json.specs.AnswerLaws.{and_then_ok, or_fault_ok, check_ok, and_then_given, or_fault_given, check_given}
+use Rattle.edr_base.specs.FirstThatApplies.{or_fault}
 use Rattle.edr_json.specs.TreeLaws.{as_array_some}
 use Rattle.covjson_checks.specs.RowLaws.{HaveAnswer, Finds, option_finds, find_answers, then_answers, passed, passed_then, find_within, check_within}
 use Rattle.covjson_read.proofs.RowAnswers.{answer_stands}
 use Rattle.covjson_checks.specs.Places.{EachItem, NoItem, IsFirst}
 use Rattle.covjson_read.specs.Systems.{IsConnection, IsPlane, IsOtherCalendar, IsVertical, system_text, system_name, StandsForVertical, StandsForReferencing}
-use Rattle.covjson_read.specs.SystemAnswers.{all_that, first_that, is_connection, is_plane, is_other_calendar, is_vertical, vertical_name, only_gregorian, plane_in, referencing_of}
+use Rattle.covjson_read.specs.SystemAnswers.{all_that, first_that, is_connection, is_plane, is_other_calendar, is_vertical, vertical_name, only_gregorian, referencing_of}
 use Rattle.covjson_read.specs.Rows.{CalendarRows, GivesSystems, SystemRows}
-use Rattle.covjson_read.proofs.ItemTests.{Tells, all_tells, all_passes, first_tells, first_passes, none_tells, none_passes}
+use Rattle.covjson_read.proofs.ItemTests.{all_tells, all_passes, first_tells, first_passes, none_tells, none_passes}
 use Rattle.covjson_read.proofs.EntryTests.{connections, planes, other_calendars, verticals}
 
 -- ---- the vertical text

@@ -1,14 +1,12 @@
 -- What is written of a document stands for it.
-use Rattle.std.proofs.Common.{◌≡◌, Some, codes, refl}
-use Rattle.serde_json.specs.Data.{Data, null, string}
-use Rattle.serde_json.specs.Find.{get}
+use Rattle.std.proofs.Common.{refl}
+use Rattle.serde_json.specs.Data.{Data, null}
 use Rattle.serde_json.specs.View.{items_of}
 use Rattle.std.specs.Prelude.{map}
-use Rattle.covjson_value.specs.declared.coverages.Coverage.{Coverage}
 use Rattle.covjson_value.specs.declared.coverages.Document.{Document}
 use Rattle.covjson_value.specs.declared.coverages.Document.TheVariants.{One, Many}
 use Rattle.covjson_value.specs.Coverages.{IsValid, IsValidDocument}
-use Rattle.covjson_value.specs.Trees.{coverage_data, document_data, document_text}
+use Rattle.covjson_value.specs.Trees.{coverage_data, document_data}
 use Rattle.covjson_value.specs.Laws.{DocumentTextsReadBack}
 use Rattle.edr_json.specs.TreeLaws.{each_written}
 use Rattle.covjson_domains.specs.Laws.{WrittenDomainsStand}

@@ -89,4 +89,3 @@ parameter_of id d =
     and_then (parameter_label d) (λ label.
     and_then (parameter_unit d) (λ unit.
     Ok (record { id = id; lang = label.0; label = label.1; unit = unit })))
-

@@ -1,6 +1,6 @@
 -- CoverageJSON as it is read, row by row: what is looked at, in this order, and the fault where it isn't as it has to be. The
 -- rows of domains and of ranges stand in their own crates.
-use Rattle.std.specs.Prelude.{◌≡◌, ◌≢◌, ◌⊎◌, ℕ, List, [], ◌∷◌, codes, Bool, Result, ⊤, Option, Some, None, option_and_then, Ok, Err}
+use Rattle.std.specs.Prelude.{◌≡◌, ◌≢◌, ◌⊎◌, ℕ, List, [], ◌∷◌, codes, Bool, Result, ⊤, Option, Some, None, option_and_then, Err}
 use Rattle.serde_json.specs.Data.{Data, null, string, array, object, Items, no_items, item, Members, no_members, member}
 use Rattle.serde_json.specs.Find.{get, as_str}
 use Rattle.edr_base.specs.FirstThatApplies.{Check, Find, Then, Gives}

@@ -3,7 +3,7 @@ ghost use Rattle.covjson_read.specs.CoverageAnswers.{CoverageAnswersFollowRows, 
 ghost use Rattle.covjson_read.specs.Laws.{CoverageRowsHaveOneAnswer, CoverageRowsAreWhatStands, TreesStandForOne, ReadCoveragesAreValid, DocumentRowsHaveOneAnswer, DocumentRowsAreWhatStands, TextsHaveOneDocument, ReadDocumentsAreValid, WrittenDocumentsAreRead};
 
 use covjson_domains::{
-    domain_answers_follow_rows, domain_rows_are_what_stand, domain_rows_have_one_answer,
+    domain_answers_follow_rows, domain_rows_are_what_stands, domain_rows_have_one_answer,
     written_domains_stand,
 };
 use covjson_ranges::{
@@ -27,7 +27,7 @@ pub fn coverage_rows_have_one_answer()
 pub fn coverage_rows_are_what_stands()
     ensures { CoverageRowsAreWhatStands }
 {
-    domain_rows_are_what_stand();
+    domain_rows_are_what_stands();
     range_rows_are_what_stand();
 }
 

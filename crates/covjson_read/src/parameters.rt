@@ -8,7 +8,9 @@ ghost use Rattle.edr_base.specs.Names.{IsName};
 ghost use Rattle.covjson_read.specs.NameTests.{is_name};
 ghost use Rattle.covjson_read.specs.ParameterAnswers as parameters;
 
-use covjson_checks::{CovFault, Member, found_or_missing, need, object_at, part, text_at, text_of, text_where_given};
+use covjson_checks::{
+    CovFault, Member, found_or_missing, need, object_at, part, text_at, text_of, text_where_given,
+};
 use covjson_value::Parameter;
 use edr_base::is_name;
 use serde_json::{Map, Value};

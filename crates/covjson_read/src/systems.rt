@@ -7,9 +7,11 @@ ghost use Rattle.covjson_checks.specs.Answers.{GivesUnlessMemory};
 ghost use Rattle.covjson_read.specs.Systems as systems;
 ghost use Rattle.covjson_read.specs.SystemAnswers as answers;
 
-use covjson_checks::{CovFault, Member, found_or_missing, list_at, text_of, text_where_given, unsupported_system};
-use edr_json::{is_text, text_or_empty};
+use covjson_checks::{
+    CovFault, Member, found_or_missing, list_at, text_of, text_where_given, unsupported_system,
+};
 use covjson_value::Referencing;
+use edr_json::{is_text, text_or_empty};
 use serde_json::Value;
 use std::alloc::Global;
 

@@ -67,7 +67,6 @@ called P size ts p q h was =
     subst (λ r. WasRead P size ts r.0 r.1) same was
 
 module _ (n : ℕ) where
-
   -- ---- arrays
 
   -- what follows the bracket are tokens of the list

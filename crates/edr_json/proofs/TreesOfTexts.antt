@@ -34,7 +34,6 @@ unfolding IsStrictlySortedBy
 none_ascend = tt
 
 module _ (n : ℕ) (few : n < 2 ^ 64) where
-
   mutual
     tree_of : (j : json.Json) (d : Data) → ValueIs n j → of_json j ≡ Some d → IsTree d
     tree_of json.null d is h = let same : null ≡ d = cc in subst IsTree same tt

@@ -1,4 +1,4 @@
-use Rattle.std.proofs.Common.{◌≡◌, Ok, Err}
+use Rattle.std.proofs.Common.{Ok, Err}
 use Rattle.covjson_value.specs.declared.coverages.Document.{Document}
 use Rattle.covjson_read.specs.Standing.{StandsForDocument}
 use Rattle.covjson_read.specs.Rows.{DocumentRows}
