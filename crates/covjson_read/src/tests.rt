@@ -1,5 +1,6 @@
 //! What texts are read as, and what broken ones are refused with: the first check that fails.
-use crate::{CovFault, coverage_of, read_document};
+use crate::{coverage_of, read_document};
+use covjson_checks::CovFault;
 use covjson_value::document_tree;
 use edr_base::Text;
 use serde_json::Value;
