@@ -2,6 +2,7 @@
 -- differs from command to command.
 use Rattle.std.specs.Prelude.{◌≡◌, ◌⊎◌, ℕ, ◌++◌, ⊤, codes, List, [], Result, IsErrOf, IsNone, None, Some, option_map}
 use Rattle.std.specs.declared.option.Option.{Option}
+use Rattle.std.specs.Io.KnownBytes.{IsAtEnd}
 use Rattle.edr_base.specs.RefusalTable.{body_of}
 use Rattle.edr_base.specs.Outside.{Aside, Asked as AskedOf, Rose}
 use Rattle.edr_base.specs.Calls.{Writes, WrittenWhole, WrittenInPart, ReadsAtMost}
@@ -91,6 +92,16 @@ abbrev pub ReadsBy : Option Asked → Option (List ℕ) → Option (List ℕ) �
 ReadsBy None old new = new ≡ old
 ReadsBy (Some asked) old new = ReadsAtMost (read_at_most asked.command) old new
 
+-- where all was done, the input was read to its end
+abbrev pub IsReadByEnd : Ending → Option (List ℕ) → Type 0
+IsReadByEnd Done left = IsAtEnd left
+IsReadByEnd Usage left = ⊤
+IsReadByEnd NotFeedLine left = ⊤
+IsReadByEnd ReadFault left = ⊤
+IsReadByEnd WriteFault left = ⊤
+IsReadByEnd OutOfMemory left = ⊤
+IsReadByEnd (Refused refusal) left = ⊤
+
 -- a text was written, or a beginning of it: then a fault of that sink was counted, or memory was wanting
 pub record Tells (text : List ℕ) (old new : Option (List ℕ)) (before after : ℕ) : Type 0 where
   pub outcome : Result (Unit {0}) SendFault
@@ -125,6 +136,7 @@ pub record Ends (ending : Ending) (asked : Option Asked) (status : ℕ) (before 
   pub number : status ≡ status_of ending
   pub words : EndsByWords ending asked
   pub input : ReadsBy asked before.left after.left
+  pub ended : IsReadByEnd ending after.left
   pub output : OutputEnds ending (IsOutput asked before.left) before.written after.written after.flushed
   pub cause : HasCause ending asked before.left before.counts after.counts
   pub line : Tells (line_of ending) before.told after.told before.errors after.errors

@@ -2,7 +2,7 @@
 ghost use Rattle.std.specs.Prelude.{◌≡◌, ℕ, IsNone, Some};
 ghost use Rattle.edr_base.specs.Calls.{SourceLent, SinkLent};
 ghost use Rattle.edr.specs.Commands.{asked_by, IsOutput};
-ghost use Rattle.edr.specs.Ends.{Ends, EndsByWords, OutputEnds, HasCause, ReadsBy, AskedBeside, of_files, of_link};
+ghost use Rattle.edr.specs.Ends.{Ends, EndsByWords, OutputEnds, HasCause, IsReadByEnd, ReadsBy, AskedBeside, of_files, of_link};
 
 use crate::commands::{Command, asked_by};
 use crate::endings::{Ending, tell};
@@ -17,6 +17,7 @@ fn ask<S: Source, K: Sink>(alloc: Global, target: &[u8], input: &mut S, output: 
     ensures cause { (files link : ℕ) → HasCause result (Some (record { command = Command.Ask; argument = target.now })) (S.left input.old)
         (record { input = S.faults input.old; output = K.faults output.old; files = files; link = link })
         (record { input = S.faults input.new; output = K.faults output.new; files = files; link = link }) }
+    ensures ended { IsReadByEnd result (S.left input.new) }
     ensures read { ReadsBy (Some (record { command = Command.Ask; argument = target.now })) (S.left input.old) (S.left input.new) }
     ensures input { SourceLent (S.aside input.old) (S.aside input.new) (S.faults input.old) (S.faults input.new) }
     ensures lent { SinkLent (K.beside output.old) (K.beside output.new) (K.faults output.old) (K.faults output.new) }
@@ -46,6 +47,7 @@ fn carry_out<S: Source, K: Sink, F: Files, L: Link>(
         (record { input = S.faults input.old; output = K.faults output.old; files = F.faults files.old; link = L.faults link.old })
         (record { input = S.faults input.new; output = K.faults output.new; files = F.faults files.new; link = L.faults link.new }) }
     ensures unread { IsNone (asked_by words.now) → (input.new ≡ input.old) × (output.new ≡ output.old) }
+    ensures ended { IsReadByEnd result (S.left input.new) }
     ensures read { ReadsBy (asked_by words.now) (S.left input.old) (S.left input.new) }
     ensures input { SourceLent (S.aside input.old) (S.aside input.new) (S.faults input.old) (S.faults input.new) }
     ensures lent { SinkLent (K.beside output.old) (K.beside output.new) (K.faults output.old) (K.faults output.new) }

@@ -1,5 +1,6 @@
 //! The first reply: the sample of the nearest node of one grid.
-ghost use Rattle.std.specs.Prelude.{◌≡◌, ◌+◌, ◌<◌, ◌^◌, Err, IfOk, IfErr, IsErrOf};
+ghost use Rattle.std.specs.Prelude.{◌≡◌, ◌+◌, ◌<◌, ◌^◌, Err, IfOk, OnOk, IfErr, IsErrOf};
+ghost use Rattle.std.specs.Io.KnownBytes.{IsAtEnd};
 ghost use Rattle.edr_base.specs.Outside.{Rose};
 ghost use Rattle.edr_base.specs.Calls.{SourceLent, SinkLent, ReadsAtMost, buffer_size};
 ghost use Rattle.edr_base.specs.Limits.{line_limit};
@@ -135,6 +136,7 @@ pub fn ask_first<S: Source, K: Sink>(
     ensures refused { (refusal : TheRefusal) → result ≡ Err (FirstFault.Refused refusal)
         → IsRefusalOf (S.left source.old) target.now refusal }
     ensures none { IsErrOf result FirstFault.NotFeedLine → HoldsNoGridIn (S.left source.old) }
+    ensures ended { OnOk result (IsAtEnd (S.left source.new)) }
     ensures bounded { ReadsAtMost (line_limit + 1 + buffer_size) (S.left source.old) (S.left source.new) }
     ensures source { SourceLent (S.aside source.old) (S.aside source.new) (S.faults source.old) (S.faults source.new) }
     ensures sink { SinkLent (K.beside sink.old) (K.beside sink.new) (K.faults sink.old) (K.faults sink.new) }

@@ -1,6 +1,7 @@
 //! The one grid that an input stands for.
-ghost use Rattle.std.specs.Prelude.{◌≡◌, ◌≢◌, ◌+◌, ◌↔◌, IsTrue, IfOk, IfErr, IsErrOf};
+ghost use Rattle.std.specs.Prelude.{◌≡◌, ◌≢◌, ◌+◌, ◌↔◌, IsTrue, IfOk, OnOk, IfErr, IsErrOf};
 ghost use Rattle.serde_json.specs.View.{view};
+ghost use Rattle.std.specs.Io.KnownBytes.{IsAtEnd};
 ghost use Rattle.edr_base.specs.Outside.{Rose};
 ghost use Rattle.edr_base.specs.Calls.{SourceLent, ReadsAtMost, buffer_size};
 ghost use Rattle.edr_base.specs.Limits.{line_limit};
@@ -91,6 +92,7 @@ fn grid_in(alloc: Global, bytes: &[u8]) -> Result<Coverage, FirstFault>
 pub fn read_grid<S: Source>(alloc: Global, source: &mut S) -> Result<Coverage, FirstFault>
     ensures ok { IfOk result (λ coverage. IsInputOf (S.left source.old) coverage) }
     ensures valid { IfOk result IsValid }
+    ensures ended { OnOk result (IsAtEnd (S.left source.new)) }
     ensures bounded { ReadsAtMost (line_limit + 1 + buffer_size) (S.left source.old) (S.left source.new) }
     ensures none { IsErrOf result FirstFault.NotFeedLine → HoldsNoGridIn (S.left source.old) }
     ensures faults { IfErr result IsReadingFault }
