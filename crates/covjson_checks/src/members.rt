@@ -103,8 +103,8 @@ pub fn number_at(tree: &Value, member: Member) -> Result<&Number, CovFault>
     }
 }
 
-/// The number as it is held whole, or NotWhole.
-pub fn held_whole(number: &Number, member: Member) -> Result<i128, CovFault>
+// The number as it is held whole, or NotWhole.
+fn held_whole(number: &Number, member: Member) -> Result<i128, CovFault>
     ensures { result ≡ members.held_whole member (number_view number.now) }
 {
     match number.as_i128() {
@@ -120,8 +120,8 @@ pub fn is_within(value: i128, limit: u64) -> bool
     value.unsigned_abs() <= limit as u128
 }
 
-/// A whole number of at most that size: WrongType, NotWhole, OutOfRange.
-pub fn whole_within(tree: &Value, member: Member, limit: u64) -> Result<i64, CovFault>
+// A whole number of at most that size: WrongType, NotWhole, OutOfRange.
+fn whole_within(tree: &Value, member: Member, limit: u64) -> Result<i64, CovFault>
     requires { limit < 2 ^ 63 }
     ensures { result ≡ members.whole_within member limit (view tree.now) }
 {
@@ -133,8 +133,8 @@ pub fn whole_within(tree: &Value, member: Member, limit: u64) -> Result<i64, Cov
     Ok(whole as i64)
 }
 
-/// The same, where null stands for an absent number.
-pub fn whole_or_null(tree: &Value, member: Member, limit: u64) -> Result<Option<i64>, CovFault>
+// The same, where null stands for an absent number.
+fn whole_or_null(tree: &Value, member: Member, limit: u64) -> Result<Option<i64>, CovFault>
     requires { limit < 2 ^ 63 }
     ensures { result ≡ members.whole_or_null member limit (view tree.now) }
 {

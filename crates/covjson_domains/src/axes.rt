@@ -3,11 +3,11 @@ ghost use Rattle.std.specs.Prelude.{◌≡◌, IfOk, false};
 ghost use Rattle.serde_json.specs.View.{view, items_view};
 ghost use Rattle.covjson_checks.specs.Answers.{Gives, GivesUnlessMemory};
 ghost use Rattle.covjson_domains.specs.AxisAnswers.{times_from};
-ghost use Rattle.covjson_domains.specs.DomainTypes.{member_of};
+ghost use Rattle.covjson_domains.specs.DomainTypes.{axis_name, member_of, presence};
 ghost use Rattle.covjson_domains.specs.AxisAnswers as axes;
 ghost use Rattle.covjson_domains.specs.AxisAnswers.{IfNeeded};
 
-use crate::domain_types::{Presence, is_single, left_out};
+use crate::domain_types::{DomainType, Presence, axis_name, is_single, left_out, presence_of};
 use crate::spans::spanned;
 use covjson_checks::{
     CovFault, Member, Wanted, list_at, need_form, need_wholes, object_at, part, text_at, wholes,
@@ -177,17 +177,18 @@ fn need_count(read: &ReadAxis, name: CoordinateName, wanted: Presence) -> Result
     }
 }
 
-/// The axis of a name: Missing where it is needed, then its form, its values and their order, and WrongCount where its
-/// domain type has a single value.
+/// The axis of a name as a domain of the type has it: Missing where that needs it, then its form, its values and their
+/// order, and WrongCount where it has a single value.
 pub fn axis_by(
     alloc: Global,
     tree: &Value,
     name: CoordinateName,
-    wanted: Presence,
+    kind: DomainType,
 ) -> Result<Option<ReadAxis>, CovFault>
-    ensures answer { GivesUnlessMemory (λ r. r) result (axes.axis_by wanted name (view tree.now)) }
-    ensures needed { IfOk result (λ r. IfNeeded wanted r) }
+    ensures answer { GivesUnlessMemory (λ r. r) result (axes.axis_by (presence kind (axis_name name)) name (view tree.now)) }
+    ensures needed { IfOk result (λ r. IfNeeded (presence kind (axis_name name)) r) }
 {
+    let wanted = presence_of(kind, axis_name(name));
     match tree.get(name.letter()) {
         Some(axis) => {
             let read = axis_read(alloc, axis, name)?;

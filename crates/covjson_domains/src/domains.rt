@@ -110,30 +110,10 @@ fn axes_read(alloc: Global, axes: &Value, kind: DomainType) -> Result<ReadAxes, 
     ensures needed { IfOk result (λ r. HasNeeded kind r) }
     ensures counted { IfOk result (λ r. CompositeCounted r.composite) }
 {
-    let t = axis_by(
-        alloc,
-        axes,
-        CoordinateName::T,
-        presence_of(kind, AxisName::T),
-    )?;
-    let z = axis_by(
-        alloc,
-        axes,
-        CoordinateName::Z,
-        presence_of(kind, AxisName::Z),
-    )?;
-    let y = axis_by(
-        alloc,
-        axes,
-        CoordinateName::Y,
-        presence_of(kind, AxisName::Y),
-    )?;
-    let x = axis_by(
-        alloc,
-        axes,
-        CoordinateName::X,
-        presence_of(kind, AxisName::X),
-    )?;
+    let t = axis_by(alloc, axes, CoordinateName::T, kind)?;
+    let z = axis_by(alloc, axes, CoordinateName::Z, kind)?;
+    let y = axis_by(alloc, axes, CoordinateName::Y, kind)?;
+    let x = axis_by(alloc, axes, CoordinateName::X, kind)?;
     let tuples = tuple_kind(kind, z.is_some());
     let composite = composite_by(alloc, axes, presence_of(kind, AxisName::Composite), tuples)?;
     Ok(ReadAxes {
