@@ -21,7 +21,7 @@ use Rattle.covjson_value.specs.declared.domains.CoordinateName.TheVariants.{T, Z
 use Rattle.covjson_value.specs.Coverages.{IsCoordinate, IsAxisValue}
 use Rattle.covjson_value.specs.Trees.{gap, gaps, are_equal, is_regular, is_spanned, list_data, span_data, axis_data}
 
--- three or more values, as many as are written so at most, with neighbours as far apart as the first two
+-- three values or more, and no more than may be read from a span, all neighbours as far apart as the first two
 pub record AreRegular (values : List ℤ) : Type 0 where
   pub several : 3 ≤ length values
   pub few : length values ≤ node_limit
@@ -81,7 +81,7 @@ regular_given values h =
     let several = h.several in
     gap_at values place further ∙ h.even place further ∙ sym (gap_at values 0 (omega arith))))
 
--- an axis that is written short is one of numbers, and they are regular
+-- a spanned axis is one of numbers, and they are regular
 pub record IsSpanned (name : CoordinateName) (values : List ℤ) : Type 0 where
   pub regular : is_regular values ≡ true
   pub numbers : All (IsAxisValue name) values → All IsCoordinate values

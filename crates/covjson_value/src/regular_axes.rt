@@ -22,8 +22,8 @@ fn gap_at(values: &[i64], place: usize) -> i64
     values[place] - values[place - 1]
 }
 
-/// Whether an axis of these numbers is written short: three or more, as many as may be read so at most, and neighbours
-/// equally far apart.
+/// Whether an axis of these numbers is written short: three or more, no more than may be read so, all neighbours equally
+/// far apart. One pass over them, and no memory.
 pub fn is_regular(values: &[i64]) -> bool
     requires { All IsCoordinate values.now }
     ensures { result ≡ is_regular values.now }

@@ -45,7 +45,8 @@ fn object_of(
 }
 
 /// The tree of a coverage (OGC 21-069r2, Coverage objects) that is valid (`Coverage::is_valid`), with the members of each
-/// object in ascending order of their keys. Want of memory is the only error.
+/// object in ascending order of their keys. An axis x, y or z of 3 to `NODE_LIMIT` values that are equally far apart is
+/// written by `num`, `start` and `stop`; every other axis lists its values. Want of memory is the only error.
 pub fn tree_of(alloc: Global, coverage: &Coverage) -> Result<Value, OutOfMemory>
     requires { IsValid coverage.now }
     ensures tree { IfOk result (λ v. view v ≡ coverage_data coverage.now) }

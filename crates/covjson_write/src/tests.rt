@@ -201,7 +201,11 @@ fn parameter(alloc: Global) -> Result<Parameter, OutOfMemory> {
 fn range(alloc: Global, line: &str) -> Result<NdArray, Fail> {
     let mut values = Vec::new(alloc);
     for part in word(line, "values").ok_or("no values")?.split(',') {
-        let value = if part == "-" { None } else { Some(number(part)?) };
+        let value = if part == "-" {
+            None
+        } else {
+            Some(number(part)?)
+        };
         values.push(value)?;
     }
     Ok(NdArray {
@@ -285,7 +289,8 @@ fn two_parameters(alloc: Global) -> Result<Coverage, Fail> {
     Ok(one)
 }
 
-const TWO_PARAMETERS: &str = "{\"domain\":{\"axes\":{\"x\":{\"values\":[1]},\"y\":{\"values\":[2]}},\"domainType\":\"Point\",\"referencing\":[{\"coordinates\":[\"x\",\"y\"],\"system\":{\"id\":\"m\",\"type\":\"ProjectedCRS\"}}],\"type\":\"Domain\"},\"id\":\"s 1\",\"parameters\":{\"B\":{\"observedProperty\":{\"label\":{\"de\":\"H\u{f6}he\\n\"}},\"type\":\"Parameter\",\"unit\":{\"symbol\":\"m\"}},\"a\":{\"observedProperty\":{\"label\":{\"en\":\"A\"}},\"type\":\"Parameter\"}},\"ranges\":{\"B\":{\"dataType\":\"integer\",\"type\":\"NdArray\",\"values\":[9007199254740991]},\"a\":{\"dataType\":\"integer\",\"type\":\"NdArray\",\"values\":[null]}},\"type\":\"Coverage\"}";
+const TWO_PARAMETERS: &str =
+    "{\"domain\":{\"axes\":{\"x\":{\"values\":[1]},\"y\":{\"values\":[2]}},\"domainType\":\"Point\",\"referencing\":[{\"coordinates\":[\"x\",\"y\"],\"system\":{\"id\":\"m\",\"type\":\"ProjectedCRS\"}}],\"type\":\"Domain\"},\"id\":\"s 1\",\"parameters\":{\"B\":{\"observedProperty\":{\"label\":{\"de\":\"H\u{f6}he\\n\"}},\"type\":\"Parameter\",\"unit\":{\"symbol\":\"m\"}},\"a\":{\"observedProperty\":{\"label\":{\"en\":\"A\"}},\"type\":\"Parameter\"}},\"ranges\":{\"B\":{\"dataType\":\"integer\",\"type\":\"NdArray\",\"values\":[9007199254740991]},\"a\":{\"dataType\":\"integer\",\"type\":\"NdArray\",\"values\":[null]}},\"type\":\"Coverage\"}";
 
 #[test]
 fn parameters(rt: HostRuntime) -> Result<(), Fail> {
