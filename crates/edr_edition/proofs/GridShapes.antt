@@ -9,7 +9,7 @@ use Rattle.covjson_value.specs.declared.coverages.Parameter.{Parameter}
 use Rattle.covjson_value.specs.declared.coverages.NdArray.{NdArray}
 use Rattle.covjson_value.specs.Domains.{axis_length, count_of}
 use Rattle.covjson_value.specs.Coverages.{IsNamedAxis}
-use Rattle.covjson_value.proofs.Counts.{count_is}
+use Rattle.covjson_value.specs.CountLaws.{count_is}
 use Rattle.edr_chunk.specs.declared.shapes.GridShape.{GridShape}
 use Rattle.edr_chunk.specs.declared.shapes.GridPlace.{GridPlace}
 use Rattle.edr_chunk.specs.Grids.{value}
