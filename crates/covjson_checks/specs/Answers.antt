@@ -1,5 +1,5 @@
 -- The answer to a tree: what it stands for, or the first check that it fails.
-use Rattle.std.specs.Prelude.{ℕ, Result, Ok, List, [], ◌∷◌, ◌++◌}
+use Rattle.std.specs.Prelude.{Result, Ok, List, [], ◌∷◌, ◌++◌}
 use Rattle.serde_json.specs.Data.{Data, Items, no_items, item}
 use Rattle.edr_base.specs.FirstThatApplies.{and_then, IsAnswer, IsAnswerUnless}
 use Rattle.covjson_checks.specs.declared.faults.CovFault.{CovFault}

@@ -1,15 +1,17 @@
 -- Laws of checks of trees.
 use Rattle.std.specs.Prelude.{Result, IfOk, ⊤}
-use Rattle.std.proofs.Common.{◌≡◌, if◌then◌else◌, subst, ℕ, ◌≤◌, ◌++◌, ℤ, List, [], ◌∷◌, All, Bool, true, false, Option, Some, None, Ok, Err, refl, ap, ◌∙◌, append_assoc, unsigned_abs}
+use Rattle.std.proofs.Common.{◌≡◌, if◌then◌else◌, subst, ℕ, ◌≤◌, ◌++◌, ℤ, pos, negsuc, List, [], ◌∷◌, All, Bool, true, false, Option, Some, Ok, Err, refl, ap, ◌∙◌, append_assoc, unsigned_abs, bytes_eq}
 use Rattle.std.proofs.lemmas.List.Elements.{All-cons, All-nil, All-head, All-tail}
 use Rattle.std.proofs.lemmas.Bool.{leb-true, le-leb, and_from}
 use Rattle.std.proofs.Math.Dec.{leb}
+use Rattle.std.proofs.lemmas.Slice.Eq.{bytes_eq-Decides}
 use Rattle.serde_json.specs.Data.{Data, null, boolean, number, string, array, object, Items, no_items, item, Members, Num}
 use Rattle.serde_json.specs.Find.{get, as_array, as_object, as_str, as_number, as_integer}
 use Rattle.edr_base.specs.FirstThatApplies.{and_then, or_fault}
 use Rattle.edr_json.specs.Trees.{EachStands, StandsForWhole, whole_of}
 use Rattle.edr_json.specs.AnswerLaws.{and_then_ok, or_fault_ok, and_then_given, or_fault_given}
 use Rattle.edr_json.specs.TreeLaws.{as_array_some, as_object_some, as_str_some, member_of_object}
+use Rattle.covjson_value.specs.Trees.{integer}
 use Rattle.covjson_checks.specs.declared.faults.Member.{Member}
 use Rattle.covjson_checks.specs.declared.faults.CovFault.{CovFault}
 use Rattle.covjson_checks.specs.declared.faults.CovFault.TheVariants.{OutOfRange}
@@ -128,3 +130,19 @@ all_wanted_given wanted R one no_items (v ∷ vs) stand = absurd stand
 all_wanted_given wanted R one (item d ds) [] stand = absurd stand
 all_wanted_given wanted R one (item d ds) (v ∷ vs) stand =
     and_from (is_wanted wanted d) _ (one d v stand.0) (all_wanted_given wanted R one ds vs stand.1)
+
+-- what is written of a whole number stands for it
+pub whole_written : (value : ℤ) → StandsForWhole (integer value) value
+whole_written (pos n) = refl
+whole_written (negsuc n) = refl
+
+-- where a name is that of one kind of several, it is the name of the kind that is chosen
+this_or_other : {K : Type 0} (key_of : K → List ℕ) (b : Bool) (name : List ℕ) (this kind : K) (others : Option K) → (b ≡ true → name ≡ key_of this) → (others ≡ Some kind → name ≡ key_of kind)
+    → (if b then Some this else others) ≡ Some kind → name ≡ key_of kind
+this_or_other key_of true name this kind others here later h = let same : this ≡ kind = cc in here refl ∙ ap key_of same
+this_or_other key_of false name this kind others here later h = later h
+
+-- a kind that is chosen by its name among others has that name
+pub named_one : {K : Type 0} (key_of : K → List ℕ) (name : List ℕ) (this kind : K) (others : Option K) → (others ≡ Some kind → name ≡ key_of kind)
+    → (if bytes_eq name (key_of this) then Some this else others) ≡ Some kind → name ≡ key_of kind
+named_one key_of name this kind others later h = this_or_other key_of (bytes_eq name (key_of this)) name this kind others ((bytes_eq-Decides name (key_of this)).0) later h

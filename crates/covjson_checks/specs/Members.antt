@@ -1,7 +1,7 @@
 -- Members of objects, and what each has to be.
-use Rattle.std.specs.Prelude.{ℕ, ℤ, unsigned_abs, nat_le, List, Bool, true, is_some, ◌||◌, ◌&&◌, if◌then◌else◌, codes, ⊤, Option, Some, None, option_and_then, Ok, Err}
-use Rattle.serde_json.specs.Data.{Data, null, boolean, number, string, array, object, Items, no_items, item, Members, Num}
-use Rattle.serde_json.specs.Find.{get, as_object, as_array, as_number, as_str, as_null, as_integer, as_u64}
+use Rattle.std.specs.Prelude.{ℕ, ℤ, unsigned_abs, nat_le, List, Bool, true, is_some, ◌||◌, ◌&&◌, if◌then◌else◌, ⊤, Option, Some, None, Ok, Err}
+use Rattle.serde_json.specs.Data.{Data, Items, no_items, item, Members, Num}
+use Rattle.serde_json.specs.Find.{get, as_object, as_array, as_number, as_str, as_null, as_integer}
 use Rattle.covjson_checks.specs.declared.faults.Member.{Member}
 use Rattle.covjson_checks.specs.declared.faults.CovFault.{CovFault}
 use Rattle.covjson_checks.specs.declared.faults.CovFault.TheVariants.{Missing, WrongType, NotWhole, OutOfRange}
@@ -9,6 +9,7 @@ use Rattle.covjson_checks.specs.declared.members.Wanted.{Wanted}
 use Rattle.covjson_checks.specs.declared.members.Wanted.TheVariants.{Texts, Numbers, Wholes, Naturals, NumbersOrNulls, WholesOrNulls}
 use Rattle.covjson_checks.specs.Answers.{Answer}
 use Rattle.edr_base.specs.FirstThatApplies.{and_then, or_fault, check}
+use Rattle.edr_json.specs.Trees.{whole_of, natural_of}
 
 -- the member of that name, or Missing
 abbrev pub need : List ℕ → Member → Data → Answer Data

@@ -1,5 +1,5 @@
 -- Which axes of a tree descend, so that they and the values over them are turned round.
-use Rattle.std.specs.Prelude.{Bool}
+use Rattle.std.specs.Prelude.{Bool, false}
 use Rattle.covjson_value.specs.declared.domains.CoordinateName.{CoordinateName}
 use Rattle.covjson_value.specs.declared.domains.CoordinateName.TheVariants.{T, Z, Y, X}
 use Rattle.covjson_checks.specs.declared.turned.Turned.{Turned}
@@ -10,3 +10,7 @@ is_turned turned T = turned.t
 is_turned turned Z = turned.z
 is_turned turned Y = turned.y
 is_turned turned X = turned.x
+
+-- no axis is turned
+abbrev pub unturned : Turned
+unturned = record { t = false; z = false; y = false; x = false }

@@ -1,8 +1,11 @@
 //! Why a text or a tree stands for no coverage.
-ghost use Rattle.std.specs.Prelude.{◌≡◌, ◌⊎◌};
+ghost use Rattle.std.specs.Prelude.{◌≡◌, IfOk};
+ghost use Rattle.covjson_checks.specs.declared.faults.CovFault.TheVariants.{OutOfMemory as WantsMemory};
+ghost use Rattle.covjson_checks.specs.TextFaults.{fault_of_text};
 
 use edr_base::{OutOfMemory, Text};
-use std::alloc::Global;
+use edr_json::JsonFault;
+use std::alloc::{AllocError, AllocFailed, Global};
 
 /// A member of a document, by which a fault says where it is (OGC 21-069r2, CoverageJSON objects).
 #[derive(Clone, Copy, Debug, PartialEq, Eq)]
@@ -79,37 +82,57 @@ pub enum CovFault {
 }
 
 impl From<OutOfMemory> for CovFault {
+    ghost from_gives = { λ _ fault. fault ≡ WantsMemory };
+
     fn from(_: OutOfMemory) -> CovFault {
         CovFault::OutOfMemory
     }
 }
 
-/// UnsupportedDomain with that text, or want of memory.
-pub fn unsupported_domain(alloc: Global, text: &str) -> CovFault
-    ensures { (result ≡ CovFault.UnsupportedDomain text.now) ⊎ (result ≡ CovFault.OutOfMemory) }
-{
-    match Text::of(alloc, text.as_bytes()) {
-        Ok(text) => CovFault::UnsupportedDomain(text),
-        Err(_) => CovFault::OutOfMemory,
+impl From<AllocError> for CovFault {
+    ghost from_gives = { λ _ fault. fault ≡ WantsMemory };
+
+    fn from(_: AllocError) -> CovFault {
+        CovFault::OutOfMemory
     }
 }
 
-/// UnsupportedSystem with that text, or want of memory.
-pub fn unsupported_system(alloc: Global, text: &str) -> CovFault
-    ensures { (result ≡ CovFault.UnsupportedSystem text.now) ⊎ (result ≡ CovFault.OutOfMemory) }
-{
-    match Text::of(alloc, text.as_bytes()) {
-        Ok(text) => CovFault::UnsupportedSystem(text),
-        Err(_) => CovFault::OutOfMemory,
+impl<T: Drop> From<AllocFailed<T>> for CovFault {
+    ghost from_gives = { λ _ fault. fault ≡ WantsMemory };
+
+    fn from(_failed: AllocFailed<T>) -> CovFault {
+        CovFault::OutOfMemory
     }
 }
 
-/// UnsupportedRange with that text, or want of memory.
-pub fn unsupported_range(alloc: Global, text: &str) -> CovFault
-    ensures { (result ≡ CovFault.UnsupportedRange text.now) ⊎ (result ≡ CovFault.OutOfMemory) }
-{
-    match Text::of(alloc, text.as_bytes()) {
-        Ok(text) => CovFault::UnsupportedRange(text),
-        Err(_) => CovFault::OutOfMemory,
+impl From<JsonFault> for CovFault {
+    ghost from_gives = { λ json fault. fault ≡ fault_of_text json };
+
+    fn from(json: JsonFault) -> CovFault {
+        match json {
+            JsonFault::NotJson => CovFault::NotJson,
+            JsonFault::OutOfMemory => CovFault::OutOfMemory,
+        }
     }
+}
+
+/// UnsupportedDomain with that text.
+pub fn unsupported_domain(alloc: Global, text: &str) -> Result<CovFault, OutOfMemory>
+    ensures { IfOk result (λ fault. fault ≡ CovFault.UnsupportedDomain text.now) }
+{
+    Ok(CovFault::UnsupportedDomain(Text::of(alloc, text.as_bytes())?))
+}
+
+/// UnsupportedSystem with that text.
+pub fn unsupported_system(alloc: Global, text: &str) -> Result<CovFault, OutOfMemory>
+    ensures { IfOk result (λ fault. fault ≡ CovFault.UnsupportedSystem text.now) }
+{
+    Ok(CovFault::UnsupportedSystem(Text::of(alloc, text.as_bytes())?))
+}
+
+/// UnsupportedRange with that text.
+pub fn unsupported_range(alloc: Global, text: &str) -> Result<CovFault, OutOfMemory>
+    ensures { IfOk result (λ fault. fault ≡ CovFault.UnsupportedRange text.now) }
+{
+    Ok(CovFault::UnsupportedRange(Text::of(alloc, text.as_bytes())?))
 }

@@ -3,13 +3,15 @@
 
 mod faults;
 mod members;
+#[cfg(test)]
+mod tests;
 mod texts;
 mod turned;
 
 pub use faults::{CovFault, Member, unsupported_domain, unsupported_range, unsupported_system};
 pub use members::{
-    Wanted, found_or_missing, held_whole, is_within, lent, list_at, need, need_form, need_wholes,
-    number_at, object_at, part, text_at, whole_or_null, whole_within, wholes, wholes_or_nulls,
+    Wanted, found_or_missing, is_within, lent, list_at, need, need_form, need_wholes, number_at,
+    object_at, part, text_at, wholes, wholes_or_nulls,
 };
 pub use texts::{text_of, text_where_given};
 pub use turned::{ReadDomain, Turned};

@@ -4,9 +4,11 @@ ghost use Rattle.serde_json.specs.View.{view, items_view, members_view, number_v
 ghost use Rattle.serde_json.specs.Find.{get};
 ghost use Rattle.covjson_checks.specs.Answers.{Gives, GivesUnlessMemory, each};
 ghost use Rattle.edr_base.specs.FirstThatApplies.{or_fault};
+ghost use Rattle.edr_json.specs.Trees.{whole_of};
 ghost use Rattle.covjson_checks.specs.Members as members;
 
 use crate::faults::{CovFault, Member};
+use edr_json::whole_of;
 use serde_json::{Map, Number, Value};
 use std::alloc::Global;
 
@@ -101,8 +103,8 @@ pub fn number_at(tree: &Value, member: Member) -> Result<&Number, CovFault>
     }
 }
 
-/// The number as it is held whole, or NotWhole.
-pub fn held_whole(number: &Number, member: Member) -> Result<i128, CovFault>
+// The number as it is held whole, or NotWhole.
+fn held_whole(number: &Number, member: Member) -> Result<i128, CovFault>
     ensures { result ≡ members.held_whole member (number_view number.now) }
 {
     match number.as_i128() {
@@ -118,8 +120,8 @@ pub fn is_within(value: i128, limit: u64) -> bool
     value.unsigned_abs() <= limit as u128
 }
 
-/// A whole number of at most that size: WrongType, NotWhole, OutOfRange.
-pub fn whole_within(tree: &Value, member: Member, limit: u64) -> Result<i64, CovFault>
+// A whole number of at most that size: WrongType, NotWhole, OutOfRange.
+fn whole_within(tree: &Value, member: Member, limit: u64) -> Result<i64, CovFault>
     requires { limit < 2 ^ 63 }
     ensures { result ≡ members.whole_within member limit (view tree.now) }
 {
@@ -131,8 +133,8 @@ pub fn whole_within(tree: &Value, member: Member, limit: u64) -> Result<i64, Cov
     Ok(whole as i64)
 }
 
-/// The same, where null stands for an absent number.
-pub fn whole_or_null(tree: &Value, member: Member, limit: u64) -> Result<Option<i64>, CovFault>
+// The same, where null stands for an absent number.
+fn whole_or_null(tree: &Value, member: Member, limit: u64) -> Result<Option<i64>, CovFault>
     requires { limit < 2 ^ 63 }
     ensures { result ≡ members.whole_or_null member limit (view tree.now) }
 {
@@ -205,14 +207,10 @@ pub fn wholes(
     requires { limit < 2 ^ 63 }
     ensures { GivesUnlessMemory (λ v. v.items) result (each (members.whole_within member limit) (items_view items.now.items)) }
 {
-    let Ok(mut found) = Vec::with_capacity(alloc, items.len()) else {
-        return Err(CovFault::OutOfMemory);
-    };
+    let mut found = Vec::with_capacity(alloc, items.len())?;
     for item in items {
         let whole = whole_within(item, member, limit)?;
-        if found.push(whole).is_err() {
-            return Err(CovFault::OutOfMemory);
-        }
+        found.push(whole)?;
     }
     Ok(found)
 }
@@ -227,14 +225,10 @@ pub fn wholes_or_nulls(
     requires { limit < 2 ^ 63 }
     ensures { GivesUnlessMemory (λ v. v.items) result (each (members.whole_or_null member limit) (items_view items.now.items)) }
 {
-    let Ok(mut found) = Vec::with_capacity(alloc, items.len()) else {
-        return Err(CovFault::OutOfMemory);
-    };
+    let mut found = Vec::with_capacity(alloc, items.len())?;
     for item in items {
         let whole = whole_or_null(item, member, limit)?;
-        if found.push(whole).is_err() {
-            return Err(CovFault::OutOfMemory);
-        }
+        found.push(whole)?;
     }
     Ok(found)
 }

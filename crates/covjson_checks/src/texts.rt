@@ -11,10 +11,7 @@ pub fn text_of(alloc: Global, text: &str) -> Result<Text, CovFault>
     ensures value { GivesUnlessMemory (λ t. t) result (Ok text.now) }
     ensures utf8 { IfOk result IsUtf8 }
 {
-    match Text::of(alloc, text.as_bytes()) {
-        Ok(text) => Ok(text),
-        Err(_) => Err(CovFault::OutOfMemory),
-    }
+    Ok(Text::of(alloc, text.as_bytes())?)
 }
 
 /// The text, where there is one.
@@ -23,10 +20,7 @@ pub fn text_where_given(alloc: Global, text: Option<&str>) -> Result<Option<Text
     ensures utf8 { IfOk result (λ t. IfSome t IsUtf8) }
 {
     match text {
-        Some(text) => {
-            let kept = text_of(alloc, text)?;
-            Ok(Some(kept))
-        }
+        Some(text) => Ok(Some(text_of(alloc, text)?)),
         None => Ok(None),
     }
 }

@@ -8,7 +8,7 @@ use Rattle.edr_axes.specs.Axes.{value_at, IsAscending, IsFirstFall}
 use Rattle.covjson_checks.specs.declared.faults.Member.{Member}
 use Rattle.covjson_checks.specs.declared.faults.CovFault.TheVariants.{NotMonotonic}
 use Rattle.covjson_domains.specs.AxisAnswers.{has_some, ascends, in_direction}
-use Rattle.covjson_ranges.proofs.OrderTests.{below_tells, below_given}
+use Rattle.covjson_domains.proofs.OrderTests.{below_tells, below_given}
 
 -- no values make an empty list of items
 pub has_some-empty : (vs : List Value) → length vs ≡ 0 → has_some (items_view vs) ≡ false

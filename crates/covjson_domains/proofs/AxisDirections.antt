@@ -60,7 +60,7 @@ pub record IsInDirection (values : List ℤ) (r : ReadAxis) : Type 0 where
   pub held : turned_if r.turned r.axis ≡ values
 
 -- an axis, and whether it was turned round
-abbrev read_as : List ℤ → Bool → ReadAxis
+abbrev pub read_as : List ℤ → Bool → ReadAxis
 read_as values turned = record { axis = values; turned = turned }
 
 -- by the two tests

@@ -1,25 +1,23 @@
 -- The laws of axes: an axis is the answer exactly where the tree stands for it.
-use Rattle.std.specs.Prelude.{is_some, ◌==◌}
-use Rattle.std.proofs.Common.{◌≡◌, ◌⊎◌, inl, inr, if◌then◌else◌, ◌<◌, ℤ, List, [], ◌∷◌, length, All, Bool, false, Option, Some, None, Ok, refl, sym, ap, ◌∙◌, subst, arith, codes}
-use Rattle.std.proofs.lemmas.Bool.{eqb-true, false_from_ne_true}
+use Rattle.std.specs.Prelude.{is_some}
+use Rattle.std.proofs.Common.{◌≡◌, ◌⊎◌, inl, inr, if◌then◌else◌, ◌<◌, ℤ, List, [], ◌∷◌, length, All, Bool, Option, Some, None, Ok, refl, sym, ap, ◌∙◌, subst, arith, codes}
 use Rattle.serde_json.specs.Data.{Data, array}
 use Rattle.serde_json.specs.Find.{get}
 use Rattle.edr_axes.specs.Axes.{value_at}
+use Rattle.edr_axes.specs.InstantComputed.{InstantsAreRead}
 use Rattle.covjson_value.specs.declared.domains.CoordinateName.{CoordinateName}
 use Rattle.covjson_value.specs.declared.domains.CoordinateName.TheVariants.{T, Z, Y, X}
 use Rattle.covjson_value.specs.Coverages.{IsCoordinate, IsAxisValue}
 use Rattle.covjson_domains.specs.declared.axes.ReadAxis.{ReadAxis}
 use Rattle.covjson_checks.specs.declared.faults.Member.{Member}
 use Rattle.covjson_checks.specs.declared.faults.Member.TheVariants.{Z as LevelAxis, Y as RowAxis, X as ColumnAxis}
-use Rattle.covjson_checks.specs.declared.faults.CovFault.TheVariants.{WrongCount}
 use Rattle.covjson_checks.specs.Answers.{Answer}
 use Rattle.covjson_checks.specs.Members.{object_at}
 use Rattle.edr_json.specs.Trees.{EachStands}
 use Rattle.covjson_domains.specs.Axes.{StandsForAxisValue, ListsValues, SpansValues, HoldsValues, turned_if, StandsForAxis}
-use Rattle.covjson_domains.specs.AxisAnswers.{coordinates, spanned, axis_numbers, axis_values, in_direction, member_of, axis_read, one_value, value_read}
-use Rattle.edr_json.specs.AnswerLaws.{and_then_ok}
-use Rattle.covjson_checks.specs.CheckLaws.{passed}
-use Rattle.edr_json.specs.AnswerLaws.{and_then_given}
+use Rattle.covjson_domains.specs.DomainTypes.{member_of}
+use Rattle.covjson_domains.specs.AxisAnswers.{coordinates, spanned, axis_numbers, axis_values, in_direction, axis_read}
+use Rattle.edr_json.specs.AnswerLaws.{and_then_ok, and_then_given}
 use Rattle.covjson_checks.specs.CheckLaws.{object_given}
 use Rattle.covjson_domains.proofs.AxisLists.{coordinates_stand, coordinates_given, axis_times_stand, axis_times_given}
 use Rattle.covjson_domains.proofs.AxisSpans.{spanned_stand, spanned_given, start_there}
@@ -71,26 +69,26 @@ listed_as name other axis vs same (inl h) =
 listed_as name other axis vs same (inr h) = inr h
 
 -- the values of an answer are those that the tree holds
-values_stand : (name : CoordinateName) (axis : Data) (vs : List ℤ) → axis_values name axis ≡ Ok vs → HoldsValues name axis vs × All (IsAxisValue name) vs × (0 < length vs)
-values_stand T axis vs h = axis_times_stand axis vs h
-values_stand Z axis vs h = let a = numbers_stand LevelAxis axis vs h in (listed_as X Z axis vs refl a.0, a.1, a.2)
-values_stand Y axis vs h = let a = numbers_stand RowAxis axis vs h in (listed_as X Y axis vs refl a.0, a.1, a.2)
-values_stand X axis vs h = numbers_stand ColumnAxis axis vs h
+pub values_stand : InstantsAreRead → (name : CoordinateName) (axis : Data) (vs : List ℤ) → axis_values name axis ≡ Ok vs → HoldsValues name axis vs × All (IsAxisValue name) vs × (0 < length vs)
+values_stand instants T axis vs h = axis_times_stand instants axis vs h
+values_stand instants Z axis vs h = let a = numbers_stand LevelAxis axis vs h in (listed_as X Z axis vs refl a.0, a.1, a.2)
+values_stand instants Y axis vs h = let a = numbers_stand RowAxis axis vs h in (listed_as X Y axis vs refl a.0, a.1, a.2)
+values_stand instants X axis vs h = numbers_stand ColumnAxis axis vs h
 
 -- and those that it holds are the answer
-values_given : (name : CoordinateName) (axis : Data) (vs : List ℤ) → HoldsValues name axis vs → All (IsAxisValue name) vs → 0 < length vs → axis_values name axis ≡ Ok vs
-values_given T axis vs held all some = axis_times_given axis vs held some
-values_given Z axis vs held all some = numbers_given LevelAxis axis vs (listed_as Z X axis vs refl held) all some
-values_given Y axis vs held all some = numbers_given RowAxis axis vs (listed_as Y X axis vs refl held) all some
-values_given X axis vs held all some = numbers_given ColumnAxis axis vs held all some
+pub values_given : InstantsAreRead → (name : CoordinateName) (axis : Data) (vs : List ℤ) → HoldsValues name axis vs → All (IsAxisValue name) vs → 0 < length vs → axis_values name axis ≡ Ok vs
+values_given instants T axis vs held all some = axis_times_given instants axis vs held some
+values_given instants Z axis vs held all some = numbers_given LevelAxis axis vs (listed_as Z X axis vs refl held) all some
+values_given instants Y axis vs held all some = numbers_given RowAxis axis vs (listed_as Y X axis vs refl held) all some
+values_given instants X axis vs held all some = numbers_given ColumnAxis axis vs held all some
 
 -- ---- axes
 
 -- the tree stands for the axis that is the answer
-pub axis_stands : (name : CoordinateName) (axis : Data) (r : ReadAxis) → axis_read name axis ≡ Ok r → StandsForAxis name axis r.turned r.axis
-axis_stands name axis r h =
+pub axis_stands : InstantsAreRead → (name : CoordinateName) (axis : Data) (r : ReadAxis) → axis_read name axis ≡ Ok r → StandsForAxis name axis r.turned r.axis
+axis_stands instants name axis r h =
     let a = and_then_ok (axis_values name axis) _ r h in
-    let v = values_stand name axis a.0 a.1 in
+    let v = values_stand instants name axis a.0 a.1 in
     let d = direction_tells (member_of name) a.0 r v.2 a.2 in
     let back : turned_if r.turned a.0 ≡ r.axis = ap (turned_if r.turned) (sym d.held) ∙ turned_back r.turned r.axis in
     record {
@@ -101,44 +99,18 @@ axis_stands name axis r h =
     }
 
 -- and an axis for which it stands is the answer
-pub axis_answers : (name : CoordinateName) (axis : Data) (turned : Bool) (values : List ℤ) → StandsForAxis name axis turned values
+pub axis_answers : InstantsAreRead → (name : CoordinateName) (axis : Data) (turned : Bool) (values : List ℤ) → StandsForAxis name axis turned values
     → axis_read name axis ≡ Ok (record { axis = values; turned = turned })
-axis_answers name axis turned values s =
+axis_answers instants name axis turned values s =
     let vs = turned_if turned values in
     let some : 0 < length vs = rw (length_turned turned values) s.ascending.some in
-    let given = values_given name axis vs s.held (all_turned (IsAxisValue name) turned values s.within) some in
+    let given = values_given instants name axis vs s.held (all_turned (IsAxisValue name) turned values s.within) some in
     and_then_given (axis_values name axis) (in_direction (member_of name)) vs _ given (direction_given (member_of name) turned values s.ascending s.several)
 
 -- ---- axes of a single value
 
--- one value, counted
-only_value : (values : List ℤ) → length values ≡ 1 → values ≡ value_at values 0 ∷ []
+-- one value is all of its axis
+pub only_value : (values : List ℤ) → length values ≡ 1 → values ≡ value_at values 0 ∷ []
 only_value [] h = absurd (omega arith)
 only_value (v ∷ []) h = refl
 only_value (v ∷ (w ∷ values)) h = absurd (omega arith)
-
--- a single value is all of its axis
-one_stands : (name : CoordinateName) (r : ReadAxis) (v : ℤ) → one_value name r ≡ Ok v → r.axis ≡ v ∷ []
-one_stands name r v h =
-    let t = passed (length r.axis == 1) (value_at r.axis 0) v (WrongCount (member_of name) 1 (length r.axis)) h in
-    only_value r.axis (eqb-true (length r.axis) 1 t.0) ∙ ap (λ (w : ℤ). w ∷ []) t.1
-
--- which is not turned round
-one_as_it_stands : (name : CoordinateName) (axis : Data) (turned : Bool) (v : ℤ) → StandsForAxis name axis turned (v ∷ []) → turned ≡ false
-one_as_it_stands name axis turned v s = false_from_ne_true turned (λ yes. let several : 1 < length (v ∷ []) = s.several yes in absurd (omega arith))
-
--- the tree stands for the single value that is the answer
-pub single_stands : (name : CoordinateName) (axis : Data) (v : ℤ) → value_read name axis ≡ Ok v → StandsForAxis name axis false (v ∷ [])
-single_stands name axis v h =
-    let a = and_then_ok (axis_read name axis) _ v h in
-    let r = a.0 in
-    let one = one_stands name r v a.2 in
-    let s : StandsForAxis name axis r.turned (v ∷ []) = subst (λ (vs : List ℤ). StandsForAxis name axis r.turned vs) one (axis_stands name axis r a.1) in
-    subst (λ (turned : Bool). StandsForAxis name axis turned (v ∷ [])) (one_as_it_stands name axis r.turned v s) s
-
--- and a single value for which it stands is the answer
-pub single_answers : (name : CoordinateName) (axis : Data) (turned : Bool) (v : ℤ) → StandsForAxis name axis turned (v ∷ []) → (turned ≡ false) × (value_read name axis ≡ Ok v)
-single_answers name axis turned v s = (
-  one_as_it_stands name axis turned v s,
-  and_then_given (axis_read name axis) (one_value name) (record { axis = v ∷ []; turned = turned }) _ (axis_answers name axis turned (v ∷ []) s) refl,
-)

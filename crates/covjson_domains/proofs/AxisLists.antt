@@ -12,17 +12,13 @@ use Rattle.covjson_checks.specs.declared.faults.Member.TheVariants.{T as TimeAxi
 use Rattle.covjson_checks.specs.declared.faults.CovFault.TheVariants.{WrongType, NotWhole, BadTime}
 use Rattle.covjson_checks.specs.declared.members.Wanted.TheVariants.{Texts, Numbers, Wholes}
 use Rattle.edr_base.specs.FirstThatApplies.{check}
-use Rattle.edr_axes.specs.InstantComputed.{instant_of}
+use Rattle.edr_axes.specs.InstantComputed.{instant_of, InstantsAreRead}
 use Rattle.covjson_checks.specs.Members.{part, list_at, text_at, object_at, need_each, whole_within, all_wanted, is_wanted}
-use Rattle.edr_json.specs.Trees.{whole_of}
-use Rattle.edr_json.specs.Trees.{EachStands, StandsForWhole}
+use Rattle.edr_json.specs.Trees.{whole_of, EachStands, StandsForWhole}
 use Rattle.covjson_domains.specs.Axes.{StandsForTime, ListsValues}
 use Rattle.covjson_domains.specs.AxisAnswers.{has_some, value_items, coordinates, time_at, times_from, axis_times}
-use Rattle.edr_json.specs.AnswerLaws.{and_then_ok, or_fault_ok, check_ok}
-use Rattle.covjson_checks.specs.CheckLaws.{list_ok, text_ok, each_stands, each_all, whole_within_stands}
-use Rattle.edr_axes.proofs.InstantLemmas.{instants_read}
-use Rattle.edr_json.specs.AnswerLaws.{and_then_given, or_fault_given, check_given, some_is, first_given}
-use Rattle.covjson_checks.specs.CheckLaws.{object_given, whole_within_given, each_given, all_wanted_given}
+use Rattle.edr_json.specs.AnswerLaws.{and_then_ok, or_fault_ok, check_ok, and_then_given, or_fault_given, check_given, some_is}
+use Rattle.covjson_checks.specs.CheckLaws.{list_ok, text_ok, each_stands, each_all, whole_within_stands, object_given, whole_within_given, each_given, first_given, all_wanted_given}
 use Rattle.edr_json.specs.TreeLaws.{whole_is_number}
 
 -- ---- the items
@@ -72,7 +68,7 @@ coordinates_stand m axis vs h =
     )
 
 -- an item that stands for a whole number is held whole
-whole_wanted : (d : Data) (v : ℤ) → StandsForWhole d v → is_wanted Wholes d ≡ true
+pub whole_wanted : (d : Data) (v : ℤ) → StandsForWhole d v → is_wanted Wholes d ≡ true
 whole_wanted d v h = some_is (whole_of d) v h
 
 -- and is a number
@@ -92,34 +88,34 @@ coordinates_given m axis vs lists within some =
 -- ---- times
 
 -- a text gives a time exactly where it is an instant
-pub time_stands : (m : Member) (place : ℕ) (d : Data) (t : ℤ) → time_at m place d ≡ Ok t → StandsForTime d t
-time_stands m place d t h =
+pub time_stands : InstantsAreRead → (m : Member) (place : ℕ) (d : Data) (t : ℤ) → time_at m place d ≡ Ok t → StandsForTime d t
+time_stands instants m place d t h =
     let a = and_then_ok (text_at m d) _ t h in
     let is_text = text_ok m d a.0 a.1 in
-    (a.0, is_text, (instants_read a.0 t).0 (or_fault_ok (instant_of a.0) _ t a.2))
+    (a.0, is_text, (instants a.0 t).0 (or_fault_ok (instant_of a.0) _ t a.2))
 
 -- and an instant is taken
-pub time_given : (m : Member) (place : ℕ) (d : Data) (t : ℤ) → StandsForTime d t → time_at m place d ≡ Ok t
-time_given m place d t h =
-    rw h.1 (or_fault_given (instant_of h.0) (BadTime place) t ((instants_read h.0 t).1 h.2))
+pub time_given : InstantsAreRead → (m : Member) (place : ℕ) (d : Data) (t : ℤ) → StandsForTime d t → time_at m place d ≡ Ok t
+time_given instants m place d t h =
+    rw h.1 (or_fault_given (instant_of h.0) (BadTime place) t ((instants h.0 t).1 h.2))
 
 -- the times of the answer are those of the texts
-times_stand : (place : ℕ) (ds : Items) (ts : List ℤ) → times_from place ds ≡ Ok ts → EachStands StandsForTime ds ts
-times_stand place no_items [] h = tt
-times_stand place no_items (t ∷ ts) h = cc
-times_stand place (item d ds) ts h =
+pub times_stand : InstantsAreRead → (place : ℕ) (ds : Items) (ts : List ℤ) → times_from place ds ≡ Ok ts → EachStands StandsForTime ds ts
+times_stand instants place no_items [] h = tt
+times_stand instants place no_items (t ∷ ts) h = cc
+times_stand instants place (item d ds) ts h =
     let a = and_then_ok (time_at TimeAxis place d) _ ts h in
     let b = and_then_ok (times_from (suc place) ds) _ ts a.2 in
     let e : a.0 ∷ b.0 ≡ ts = cc (b.2) in
-    rw (← e) (time_stands TimeAxis place d a.0 a.1, times_stand (suc place) ds b.0 b.1)
+    rw (← e) (time_stands instants TimeAxis place d a.0 a.1, times_stand instants (suc place) ds b.0 b.1)
 
 -- and those of the texts are the answer
-times_given : (place : ℕ) (ds : Items) (ts : List ℤ) → EachStands StandsForTime ds ts → times_from place ds ≡ Ok ts
-times_given place no_items [] stand = refl
-times_given place no_items (t ∷ ts) stand = absurd stand
-times_given place (item d ds) [] stand = absurd stand
-times_given place (item d ds) (t ∷ ts) stand =
-    first_given (time_at TimeAxis place d) (times_from (suc place) ds) t ts (time_given TimeAxis place d t stand.0) (times_given (suc place) ds ts stand.1)
+pub times_given : InstantsAreRead → (place : ℕ) (ds : Items) (ts : List ℤ) → EachStands StandsForTime ds ts → times_from place ds ≡ Ok ts
+times_given instants place no_items [] stand = refl
+times_given instants place no_items (t ∷ ts) stand = absurd stand
+times_given instants place (item d ds) [] stand = absurd stand
+times_given instants place (item d ds) (t ∷ ts) stand =
+    first_given (time_at TimeAxis place d) (times_from (suc place) ds) t ts (time_given instants TimeAxis place d t stand.0) (times_given instants (suc place) ds ts stand.1)
 
 -- each lies in the years of times
 times_within : (ds : Items) (ts : List ℤ) → EachStands StandsForTime ds ts → All IsTime ts
@@ -133,22 +129,22 @@ text_wanted : (d : Data) (t : ℤ) → StandsForTime d t → is_wanted Texts d �
 text_wanted d t h = rw h.1
 
 -- the times of an answer are listed, within their limit, and some
-pub axis_times_stand : (axis : Data) (ts : List ℤ) → axis_times axis ≡ Ok ts → ListsValues T axis ts × All IsTime ts × (0 < length ts)
-axis_times_stand axis ts h =
+pub axis_times_stand : InstantsAreRead → (axis : Data) (ts : List ℤ) → axis_times axis ≡ Ok ts → ListsValues T axis ts × All IsTime ts × (0 < length ts)
+axis_times_stand instants axis ts h =
     let o = and_then_ok (object_at TimeAxis axis) _ ts h in
     let a = and_then_ok (value_items TimeAxis axis) _ ts o.2 in
     let w = and_then_ok (need_each Texts (WrongType TimeAxis) a.0) _ ts a.2 in
     let items = value_items_stand TimeAxis axis a.0 a.1 in
-    let stand = times_stand 0 a.0 ts w.2 in
+    let stand = times_stand instants 0 a.0 ts w.2 in
     (record { items = a.0; list = items.0; values_stand = stand }, times_within a.0 ts stand, stand_some StandsForTime a.0 ts stand items.1)
 
 -- and listed times are the answer
-pub axis_times_given : (axis : Data) (ts : List ℤ) → ListsValues T axis ts → 0 < length ts → axis_times axis ≡ Ok ts
-axis_times_given axis ts lists some =
+pub axis_times_given : InstantsAreRead → (axis : Data) (ts : List ℤ) → ListsValues T axis ts → 0 < length ts → axis_times axis ≡ Ok ts
+axis_times_given instants axis ts lists some =
     let ds = lists.items in
     let stand : EachStands StandsForTime ds ts = lists.values_stand in
     let held = object_given TimeAxis (codes "values") axis (array ds) lists.list in
     and_then_given (object_at TimeAxis axis) _ held.0 _ held.1
     (and_then_given (value_items TimeAxis axis) _ ds _ (value_items_given TimeAxis axis ds lists.list (some_stand StandsForTime ds ts stand some))
     (and_then_given (need_each Texts (WrongType TimeAxis) ds) _ tt _ (check_given (all_wanted Texts ds) _ (all_wanted_given Texts StandsForTime text_wanted ds ts stand))
-    (times_given 0 ds ts stand)))
+    (times_given instants 0 ds ts stand)))

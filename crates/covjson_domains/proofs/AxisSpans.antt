@@ -6,7 +6,7 @@ use Rattle.std.proofs.lemmas.Int.{ints}
 use Rattle.std.proofs.lemmas.List.Elements.{All-get_or}
 use Rattle.serde_json.specs.Data.{Data, Num}
 use Rattle.serde_json.specs.Find.{get, as_number, as_integer}
-use Rattle.edr_base.specs.Limits.{coordinate_limit}
+use Rattle.edr_base.specs.Limits.{coordinate_limit, node_limit}
 use Rattle.covjson_value.specs.Coverages.{IsCoordinate}
 use Rattle.covjson_checks.specs.declared.faults.Member.{Member}
 use Rattle.covjson_checks.specs.declared.faults.CovFault.TheVariants.{NotWhole, OutOfRange}
@@ -50,18 +50,18 @@ whole_given m key axis v h =
 -- ---- spans
 
 -- the bounds of a span
-span_within : (first last : ℤ) (count : ℕ) → is_span_within first last (pos count) ≡ true → IsCoordinate first × IsCoordinate last × (0 < count) × (count ≤ 4_000_000)
+span_within : (first last : ℤ) (count : ℕ) → is_span_within first last (pos count) ≡ true → IsCoordinate first × IsCoordinate last × (0 < count) × (count ≤ node_limit)
 span_within first last count h =
     let bounds = span_tells first last (pos count) h in
     (bounds.first_in, bounds.last_in, omega (arith, ints, bounds.some), omega (arith, ints, bounds.few))
 
 -- and bounds within their limits pass
-within_span : (first last : ℤ) (count : ℕ) → IsCoordinate first → IsCoordinate last → 0 < count → count ≤ 4_000_000 → is_span_within first last (pos count) ≡ true
+within_span : (first last : ℤ) (count : ℕ) → IsCoordinate first → IsCoordinate last → 0 < count → count ≤ node_limit → is_span_within first last (pos count) ≡ true
 within_span first last count a b some few =
     let first_in = le-leb (unsigned_abs first) coordinate_limit a in
     let last_in = le-leb (unsigned_abs last) coordinate_limit b in
     let ends = and_from (is_within coordinate_limit first) (is_within coordinate_limit last) first_in last_in in
-    and_from _ (int_le (pos count) (pos 4_000_000)) (and_from _ (int_le (pos 1) (pos count)) ends (le-leb 1 count some)) (le-leb count 4_000_000 few)
+    and_from _ (int_le (pos count) (pos node_limit)) (and_from _ (int_le (pos 1) (pos count)) ends (le-leb 1 count some)) (le-leb count node_limit few)
 
 -- a span of a whole count within its limits
 span_of : (axis : Data) (first last count : ℤ) (vs : List ℤ) → get (codes "values") axis ≡ None

@@ -1,71 +1,70 @@
--- The names of the members of an object: which it has, and which it hasn't.
-use Rattle.std.proofs.Common.{◌≡◌, if◌then◌else◌, inl, inr, ℕ, List, [], ◌∷◌, Bool, true, false, ◌&&◌, ◌||◌, bytes_eq, codes, Option, Some, None, Ordering, Less, Equal, Greater, nat_cmp, refl, sym, ap, ◌∙◌, subst}
-use Rattle.std.specs.Prelude.{⊤}
+-- The names of the members of an object, and the axes that they name.
+use Rattle.std.proofs.Common.{◌≡◌, ℕ, List, All, true, Decides, Option, Some, None, Ordering, Less, Equal, Greater, nat_cmp, inl, inr, refl, sym, ap, ◌∙◌, subst}
 use Rattle.std.specs.Ordering.{match_ordering}
 use Rattle.std.specs.Cmp.Lexicographic.{slice_cmp}
-use Rattle.std.proofs.lemmas.Bool.{and_parts, and_from, or_cases, true≢false}
-use Rattle.std.proofs.lemmas.Slice.Eq.{bytes_eq-Decides}
+use Rattle.std.proofs.lemmas.Bool.{and_parts, and_from, cases_Bool, true≢false}
 use Rattle.std.proofs.lemmas.Map.Lookups.{exact_bytes}
 use Rattle.std.proofs.lemmas.Cmp.{nat_list_cmp_total, tied_itself}
+use Rattle.std.proofs.lemmas.List.Elements.{All-nil, All-cons, All-head, All-tail}
 use Rattle.serde_json.specs.Data.{Data, Members, no_members, member}
 use Rattle.serde_json.specs.Find.{get_member}
-use Rattle.covjson_domains.specs.Domains.{is_axis_key, all_axis_keys}
-use Rattle.covjson_domains.specs.DomainAnswers.{is_key_among, all_keys_among}
+use Rattle.edr_json.specs.Trees.{names_of}
+use Rattle.covjson_value.specs.declared.axis_names.AxisName.{AxisName}
+use Rattle.covjson_value.specs.declared.axis_names.AxisName.TheVariants.{T, Z, Y, X, Composite}
+use Rattle.covjson_value.specs.AxisNames.{axis_key}
+use Rattle.covjson_checks.specs.CheckLaws.{named_one}
+use Rattle.covjson_domains.specs.declared.domain_types.DomainType.{DomainType}
+use Rattle.covjson_domains.specs.DomainTypes.{presence, IsAllowed, IsAxisOf}
+use Rattle.covjson_domains.specs.Domains.{IsAxisKey}
+use Rattle.covjson_domains.specs.TypeAnswers.{axis_named, is_allowed, is_axis_of, may_have, has_no_others}
+use Rattle.covjson_domains.proofs.DomainTypes.{allowed_decides}
 
--- ---- names
+-- ---- names of axes
 
--- where a name is that of one kind of several, it is the name of the kind that is chosen
-this_or_other : {K : Type 0} (key_of : K → List ℕ) (b : Bool) (name : List ℕ) (this kind : K) (others : Option K) → (b ≡ true → name ≡ key_of this) → (others ≡ Some kind → name ≡ key_of kind)
-    → (if b then Some this else others) ≡ Some kind → name ≡ key_of kind
-this_or_other key_of true name this kind others here later h = let same : this ≡ kind = cc in here refl ∙ ap key_of same
-this_or_other key_of false name this kind others here later h = later h
+-- an axis is named by its text alone
+axis_is_named : (key : List ℕ) (name : AxisName) → axis_named key ≡ Some name → key ≡ axis_key name
+axis_is_named key name h =
+    named_one axis_key key T name _ (named_one axis_key key Z name _ (named_one axis_key key Y name _ (named_one axis_key key X name _
+    (named_one axis_key key Composite name None (λ none. cc))))) h
 
--- chosen by its name
-pub named_one : {K : Type 0} (key_of : K → List ℕ) (name : List ℕ) (this kind : K) (others : Option K) → (others ≡ Some kind → name ≡ key_of kind)
-    → (if bytes_eq name (key_of this) then Some this else others) ≡ Some kind → name ≡ key_of kind
-named_one key_of name this kind others later h = this_or_other key_of (bytes_eq name (key_of this)) name this kind others ((bytes_eq-Decides name (key_of this)).0) later h
+-- and the text names it
+named_axis : (name : AxisName) → axis_named (axis_key name) ≡ Some name
+named_axis T = refl
+named_axis Z = refl
+named_axis Y = refl
+named_axis X = refl
+named_axis Composite = refl
 
--- each of some names passes a test
-abbrev pub all_pass : (List ℕ → Bool) → List (List ℕ) → Bool
-all_pass test [] = true
-all_pass test (key ∷ keys) = test key && all_pass test keys
+-- axes of one name are one
+one_name : (name other : AxisName) → axis_key name ≡ axis_key other → name ≡ other
+one_name name other h = let e : ◌≡◌ {A = Option AxisName} (Some name) (Some other) = sym (named_axis name) ∙ ap axis_named h ∙ named_axis other in cc
 
--- and so a name that is one of them passes it
-among_passes : (test : List ℕ → Bool) (keys : List (List ℕ)) → all_pass test keys ≡ true → (key : List ℕ) → is_key_among key keys ≡ true → test key ≡ true
-among_passes test [] h key among = cc
-among_passes test (other ∷ keys) h key among =
-    let parts = and_parts (test other) (all_pass test keys) h in
-    elim (or_cases (bytes_eq key other) (is_key_among key keys) among) [
-      | inl same ↦ subst (λ k. test k ≡ true) (sym ((bytes_eq-Decides key other).0 same)) parts.0
-      | inr later ↦ among_passes test keys parts.1 key later
-    ]
+-- what is found is the name of an axis that the type may have
+found_axis : (kind : DomainType) (key : List ℕ) (o : Option AxisName) → axis_named key ≡ o → is_axis_of kind o ≡ true → IsAxisOf kind key
+found_axis kind key None is h = cc
+found_axis kind key (Some name) is h = (name, axis_is_named key name is, (allowed_decides (presence kind name)).0 h)
 
--- the names of axes
-abbrev pub axis_keys : List (List ℕ)
-axis_keys = codes "t" ∷ codes "z" ∷ codes "y" ∷ codes "x" ∷ codes "composite" ∷ []
-
--- one of five tests
-one_of_five : (a b c d e : Bool) → (a || b || c || d || e) ≡ true → (a || (b || (c || (d || (e || false))))) ≡ true
-one_of_five true b c d e h = refl
-one_of_five false true c d e h = refl
-one_of_five false false true d e h = refl
-one_of_five false false false true e h = refl
-one_of_five false false false false true h = refl
-one_of_five false false false false false h = h
-
--- the name of an axis is among those names
-among_axis_keys : (key : List ℕ) → is_axis_key key ≡ true → is_key_among key axis_keys ≡ true
-among_axis_keys key h =
-    one_of_five (bytes_eq key (codes "t")) (bytes_eq key (codes "z")) (bytes_eq key (codes "y")) (bytes_eq key (codes "x")) (bytes_eq key (codes "composite")) h
+-- a name is tested to be that of an axis of the type
+pub may_have_decides : (kind : DomainType) (key : List ℕ) → Decides (may_have kind key) (IsAxisOf kind key)
+may_have_decides kind key = (
+  found_axis kind key (axis_named key) refl,
+  λ h. ap (may_have kind) h.1 ∙ ap (is_axis_of kind) (named_axis h.0) ∙ (allowed_decides (presence kind h.0)).1 h.2,
+)
 
 -- ---- members
 
--- where all members have names among some that are names of axes, each has the name of an axis
-pub all_axes : (keys : List (List ℕ)) → all_pass is_axis_key keys ≡ true → (members : Members) → all_keys_among keys members ≡ true → all_axis_keys members ≡ true
-all_axes keys names no_members h = refl
-all_axes keys names (member key d members) h =
-    let parts = and_parts (is_key_among key keys) (all_keys_among keys members) h in
-    and_from (is_axis_key key) (all_axis_keys members) (among_passes is_axis_key keys names key parts.0) (all_axes keys names members parts.1)
+-- all members are tested to have such names
+pub no_others_decides : (kind : DomainType) (members : Members) → Decides (has_no_others kind members) (All (IsAxisOf kind) (names_of members))
+no_others_decides kind no_members = (λ e. All-nil (IsAxisOf kind), λ h. refl)
+no_others_decides kind (member key d members) =
+    let here = may_have_decides kind key in
+    let later = no_others_decides kind members in (
+      λ e.
+          let parts = and_parts (may_have kind key) (has_no_others kind members) e in
+          All-cons (IsAxisOf kind) key (names_of members) (here.0 parts.0) (later.0 parts.1),
+      λ h. and_from (may_have kind key) (has_no_others kind members) (here.1 (All-head (IsAxisOf kind) key (names_of members) h))
+          (later.1 (All-tail (IsAxisOf kind) key (names_of members) h)),
+    )
 
 -- where nothing is found, neither this member nor a later one is
 found_nothing : (o : Ordering) (rest : Option Data) (d : Data) → match_ordering o rest (Some d) rest ≡ None → (o ≡ Equal → ⊥) × (rest ≡ None)
@@ -79,48 +78,48 @@ finds_nothing Less rest d other h = h
 finds_nothing Equal rest d other h = absurd (other refl)
 finds_nothing Greater rest d other h = h
 
--- where all members have names among some, nothing is found by another name
-pub no_other : (keys : List (List ℕ)) (key : List ℕ) → is_key_among key keys ≡ false → (members : Members) → all_keys_among keys members ≡ true → get_member key members ≡ None
-no_other keys key other no_members h = refl
-no_other keys key other (member here d members) h =
-    let parts = and_parts (is_key_among here keys) (all_keys_among keys members) h in
+-- nothing is found by a name that isn't as those of all members are
+not_found : (P : List ℕ → Type 0) (key : List ℕ) (members : Members) → All P (names_of members) → ¬ (P key) → get_member key members ≡ None
+not_found P key no_members all other = refl
+not_found P key (member here d members) all other =
     finds_nothing (slice_cmp nat_cmp key here) (get_member key members) d
-    (λ tie. true≢false (sym parts.0 ∙ ap (λ k. is_key_among k keys) (sym (exact_bytes key here tie)) ∙ other))
-    (no_other keys key other members parts.1)
+    (λ tie. other (subst P (sym (exact_bytes key here tie)) (All-head P here (names_of members) all)))
+    (not_found P key members (All-tail P here (names_of members) all) other)
 
--- nothing is found by any of some names
-abbrev pub AreAbsent : List (List ℕ) → Members → Type 0
-AreAbsent [] all = ⊤
-AreAbsent (key ∷ keys) members = (get_member key members ≡ None) × AreAbsent keys members
+-- so an axis that the type hasn't isn't found
+pub no_other : (kind : DomainType) (name : AxisName) (members : Members) → All (IsAxisOf kind) (names_of members) → ¬ (IsAllowed (presence kind name)) → get_member (axis_key name) members ≡ None
+no_other kind name members all absent =
+    not_found (IsAxisOf kind) (axis_key name) members all
+    (λ h. absent (subst (λ (n : AxisName). IsAllowed (presence kind n)) (sym (one_name name h.0 h.1)) h.2))
 
--- nothing is found by a name among those that are absent
-absent_among : (keys : List (List ℕ)) (members : Members) → AreAbsent keys members → (key : List ℕ) → is_key_among key keys ≡ true → get_member key members ≡ None
-absent_among [] all absent key among = cc
-absent_among (other ∷ keys) members absent key among = elim (or_cases (bytes_eq key other) (is_key_among key keys) among) [
-  | inl same ↦ subst (λ k. get_member k members ≡ None) (sym ((bytes_eq-Decides key other).0 same)) absent.0
-  | inr later ↦ absent_among keys members absent.1 key later
-]
+-- the names of axes of a type are names of axes
+pub all_axes : (kind : DomainType) (members : Members) → All (IsAxisOf kind) (names_of members) → All IsAxisKey (names_of members)
+all_axes kind no_members all = All-nil IsAxisKey
+all_axes kind (member key d members) all =
+    let here = All-head (IsAxisOf kind) key (names_of members) all in
+    All-cons IsAxisKey key (names_of members) (here.0, here.1) (all_axes kind members (All-tail (IsAxisOf kind) key (names_of members) all))
 
--- nor in the members after the first
-absent_later : (keys : List (List ℕ)) (key : List ℕ) (d : Data) (members : Members) → AreAbsent keys (member key d members) → AreAbsent keys members
-absent_later [] key d rest absent = tt
-absent_later (other ∷ keys) key d members absent =
-    ((found_nothing (slice_cmp nat_cmp other key) (get_member other members) d absent.0).1, absent_later keys key d members absent.1)
+-- a name by which nothing is found is no member's
+present : (key : List ℕ) (d : Data) (members : Members) → get_member key (member key d members) ≡ None → ⊥
+present key d members h = (found_nothing (slice_cmp nat_cmp key key) (get_member key members) d h).0 (tied_itself nat_list_cmp_total key)
 
--- a name among those that are absent is no member's
-present : (keys : List (List ℕ)) (key : List ℕ) (d : Data) (members : Members) → AreAbsent keys (member key d members) → is_key_among key keys ≡ true → ⊥
-present keys key d members absent among =
-    (found_nothing (slice_cmp nat_cmp key key) (get_member key members) d (absent_among keys (member key d members) absent key among)).0 (tied_itself nat_list_cmp_total key)
+-- nor is it that of one after the first
+absent_later : (key other : List ℕ) (d : Data) (members : Members) → get_member key (member other d members) ≡ None → get_member key members ≡ None
+absent_later key other d members h = (found_nothing (slice_cmp nat_cmp key other) (get_member key members) d h).1
 
--- where all members have names of axes, and nothing is found by some of these, all have names among the others
-pub all_left : (keys others : List (List ℕ)) → all_pass (λ key. is_key_among key keys || is_key_among key others) axis_keys ≡ true
-    → (members : Members) → all_axis_keys members ≡ true → AreAbsent others members → all_keys_among keys members ≡ true
-all_left keys others whole no_members h absent = refl
-all_left keys others whole (member key d members) h absent =
-    let parts = and_parts (is_axis_key key) (all_axis_keys members) h in
-    let either = among_passes (λ k. is_key_among k keys || is_key_among k others) axis_keys whole key (among_axis_keys key parts.0) in
-    let rest = all_left keys others whole members parts.1 (absent_later others key d members absent) in
-    elim (or_cases (is_key_among key keys) (is_key_among key others) either) [
-      | inl kept ↦ and_from (is_key_among key keys) (all_keys_among keys members) kept rest
-      | inr other ↦ absurd (present others key d members absent other)
+-- where all members have names of axes, and no axis is found that the type hasn't, all have names of its axes
+pub all_left : (kind : DomainType) (members : Members) → All IsAxisKey (names_of members)
+    → ((name : AxisName) → ¬ (IsAllowed (presence kind name)) → get_member (axis_key name) members ≡ None) → All (IsAxisOf kind) (names_of members)
+all_left kind no_members all absent = All-nil (IsAxisOf kind)
+all_left kind (member key d members) all absent =
+    let here = All-head IsAxisKey key (names_of members) all in
+    let name = here.0 in
+    let wanted = presence kind name in
+    let rest = all_left kind members (All-tail IsAxisKey key (names_of members) all) (λ other h. absent_later (axis_key other) key d members (absent other h)) in
+    let decides = allowed_decides wanted in
+    elim (cases_Bool (is_allowed wanted)) [
+      | inl kept ↦ All-cons (IsAxisOf kind) key (names_of members) (name, here.1, decides.0 kept) rest
+      | inr other ↦
+          let gone = absent name (λ h. true≢false (sym (decides.1 h) ∙ other)) in
+          absurd (present key d members (subst (λ k. get_member k (member key d members) ≡ None) (sym here.1) gone))
     ]

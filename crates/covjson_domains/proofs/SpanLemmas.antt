@@ -5,11 +5,12 @@ use Rattle.std.proofs.lemmas.Bool.{eqb-true, eqb-false, eq-eqb, ne_eqb, leb-true
 use Rattle.std.proofs.lemmas.Int.{ints, quot-rem, unsigned_abs-mul}
 use Rattle.std.proofs.Math.Nat.{mul-le-mul_left}
 use mir.Syntax.{w128}
-use Rattle.edr_base.specs.Limits.{coordinate_limit}
+use Rattle.edr_base.specs.Limits.{coordinate_limit, node_limit}
 use Rattle.covjson_value.specs.Coverages.{IsCoordinate}
 use Rattle.covjson_checks.specs.Members.{is_within}
+use Rattle.covjson_domains.specs.AxisRows.{IsSpan}
 use Rattle.covjson_domains.specs.AxisAnswers.{has_whole_steps, is_span_within, stepped, regular}
-use Rattle.covjson_ranges.proofs.OrderTests.{at_most_tells}
+use Rattle.covjson_domains.proofs.OrderTests.{at_most_tells}
 
 -- ---- values between the first and the last
 
@@ -80,24 +81,17 @@ pub several_steps : (first last count : ℤ) → int_lt count (pos 1) ≡ false 
     → has_whole_steps first last count ≡ (unsigned_abs (int_rem (last -ℤ first) (count -ℤ pos 1)) == 0)
 several_steps first last count some more = rw (some, more) refl
 
--- the bounds of a span that passes its test
-pub record IsSpan (first last count : ℤ) : Type 0 where
-  pub first_in : IsCoordinate first
-  pub last_in : IsCoordinate last
-  pub some : pos 1 ≤ℤ count
-  pub few : count ≤ℤ pos 4_000_000
-
 -- the test tells them
 pub span_tells : (first last count : ℤ) → is_span_within first last count ≡ true → IsSpan first last count
 span_tells first last count h =
-    let a = and_parts (is_within coordinate_limit first && is_within coordinate_limit last && int_le (pos 1) count) (int_le count (pos 4_000_000)) h in
+    let a = and_parts (is_within coordinate_limit first && is_within coordinate_limit last && int_le (pos 1) count) (int_le count (pos node_limit)) h in
     let b = and_parts (is_within coordinate_limit first && is_within coordinate_limit last) (int_le (pos 1) count) a.0 in
     let c = and_parts (is_within coordinate_limit first) (is_within coordinate_limit last) b.0 in
     record {
       first_in = leb-true (unsigned_abs first) coordinate_limit c.0;
       last_in = leb-true (unsigned_abs last) coordinate_limit c.1;
       some = at_most_tells (pos 1) count b.1;
-      few = at_most_tells count (pos 4_000_000) a.1;
+      few = at_most_tells count (pos node_limit) a.1;
     }
 
 -- a count above 0 is a natural number

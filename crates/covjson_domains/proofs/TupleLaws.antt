@@ -6,22 +6,21 @@ use Rattle.serde_json.specs.Data.{Data, string, array, Items}
 use Rattle.serde_json.specs.Find.{get}
 use Rattle.serde_json.specs.View.{items_of}
 use Rattle.edr_base.specs.declared.places.Position.{Position}
+use Rattle.edr_axes.specs.InstantComputed.{InstantsAreRead}
 use Rattle.covjson_value.specs.Trees.{keys_data}
 use Rattle.covjson_checks.specs.declared.faults.CovFault.TheVariants.{WrongType}
 use Rattle.covjson_checks.specs.declared.faults.Member.TheVariants.{Composite}
 use Rattle.covjson_domains.specs.declared.tuples.ReadTuples.{ReadTuples}
 use Rattle.covjson_domains.specs.declared.tuples.TupleKind.{TupleKind}
 use Rattle.edr_base.specs.FirstThatApplies.{check}
-use Rattle.covjson_checks.specs.Members.{need, part, object_at, list_at}
+use Rattle.covjson_checks.specs.Members.{part, object_at, list_at}
 use Rattle.edr_json.specs.Trees.{text_or_empty}
 use Rattle.covjson_domains.specs.AxisAnswers.{value_items}
 use Rattle.covjson_domains.specs.Tuples.{StandsForTuple, StandsForTuples}
-use Rattle.covjson_domains.specs.TupleAnswers.{names_of, may_have_z, has_z_by_keys, tuples_of_items, axis_has_z, composite_at}
-use Rattle.edr_json.specs.AnswerLaws.{and_then_ok, or_fault_ok, check_ok}
-use Rattle.covjson_checks.specs.CheckLaws.{list_ok}
+use Rattle.covjson_domains.specs.TupleAnswers.{names_of, may_have_z, has_z_by_keys, tuples_of_items, axis_has_z, tuples_read}
+use Rattle.edr_json.specs.AnswerLaws.{and_then_ok, or_fault_ok, check_ok, and_then_given, or_fault_given, check_given}
 use Rattle.edr_json.specs.TreeLaws.{text_is}
-use Rattle.edr_json.specs.AnswerLaws.{and_then_given, or_fault_given, check_given}
-use Rattle.covjson_checks.specs.CheckLaws.{object_given}
+use Rattle.covjson_checks.specs.CheckLaws.{list_ok, object_given}
 use Rattle.covjson_domains.proofs.AxisLists.{value_items_stand, value_items_given, some_stand, stand_some}
 use Rattle.covjson_domains.proofs.TupleOrder.{key_data, keys_tell, keys_choose, keys_chosen}
 use Rattle.covjson_domains.proofs.TupleNames.{finds_each}
@@ -30,7 +29,7 @@ use Rattle.covjson_domains.proofs.TupleSteps.{items_stand, items_answer}
 -- ---- parts of a composite axis
 
 -- what is a tuple's kind of axis says so
-type_tells : (o : Option Data) → bytes_eq (text_or_empty o) (codes "tuple") ≡ true → o ≡ Some (string (codes "tuple"))
+pub type_tells : (o : Option Data) → bytes_eq (text_or_empty o) (codes "tuple") ≡ true → o ≡ Some (string (codes "tuple"))
 type_tells o h = text_is o _ _ ((bytes_eq-Decides (text_or_empty o) (codes "tuple")).0 h)
 
 -- the type and the names of an axis whose tuples may have levels
@@ -65,27 +64,19 @@ names_answer kind axis has_z h =
 
 -- ---- the laws
 
--- what the answer says of the tree
-abbrev Told : TupleKind → Data → ReadTuples → Type 0
-Told kind axes r =
-    (axis : Data) × (get (codes "composite") axes ≡ Some axis) × StandsForTuples (names_of kind r.has_z) axis r.tuples × (r.has_z ≡ true → may_have_z kind ≡ true)
-
 -- the tuples that are read are those that the axis stands for
-pub tuples_stand : (kind : TupleKind) (axes : Data) (r : ReadTuples) → composite_at kind axes ≡ Ok r
-    → (axis : Data) × (get (codes "composite") axes ≡ Some axis) × StandsForTuples (names_of kind r.has_z) axis r.tuples × (r.has_z ≡ true → may_have_z kind ≡ true)
-tuples_stand kind axes r h =
-    let a = and_then_ok (need (codes "composite") Composite axes) _ r h in
-    let z = and_then_ok (axis_has_z kind a.0) _ r a.2 in
-    let i = and_then_ok (value_items Composite a.0) _ r z.2 in
+pub tuples_stand : InstantsAreRead → (kind : TupleKind) (axis : Data) (r : ReadTuples) → tuples_read kind axis ≡ Ok r
+    → StandsForTuples (names_of kind r.has_z) axis r.tuples × (r.has_z ≡ true → may_have_z kind ≡ true)
+tuples_stand instants kind axis r h =
+    let z = and_then_ok (axis_has_z kind axis) _ r h in
+    let i = and_then_ok (value_items Composite axis) _ r z.2 in
     let t = and_then_ok (tuples_of_items (names_of kind z.0) i.0) _ r i.2 in
     let found : ReadTuples = record { tuples = t.0; has_z = z.0 } in
     let same : found ≡ r = cc in
-    let names = names_stand kind a.0 z.0 z.1 in
-    let values = value_items_stand Composite a.0 i.0 i.1 in
-    let stand = items_stand (names_of kind z.0) (finds_each kind z.0) i.0 t.0 t.1 in
-    let told : Told kind axes found = (
-      a.0,
-      or_fault_ok (get (codes "composite") axes) _ a.0 a.1,
+    let names = names_stand kind axis z.0 z.1 in
+    let values = value_items_stand Composite axis i.0 i.1 in
+    let stand = items_stand instants (names_of kind z.0) (finds_each kind z.0) i.0 t.0 t.1 in
+    let told : StandsForTuples (names_of kind z.0) axis t.0 × (z.0 ≡ true → may_have_z kind ≡ true) = (
       record {
         data_type = names.0;
         coordinates = names.1;
@@ -97,15 +88,13 @@ tuples_stand kind axes r h =
       },
       names.2,
     ) in
-    subst (λ (q : ReadTuples). Told kind axes q) same told
+    subst (λ (q : ReadTuples). StandsForTuples (names_of kind q.has_z) axis q.tuples × (q.has_z ≡ true → may_have_z kind ≡ true)) same told
 
 -- and the tuples that an axis stands for are read
-pub tuples_answer : (kind : TupleKind) (axes axis : Data) (has_z : Bool) (tuples : List Position) → get (codes "composite") axes ≡ Some axis
-    → (has_z ≡ true → may_have_z kind ≡ true) → StandsForTuples (names_of kind has_z) axis tuples → composite_at kind axes ≡ Ok (record { tuples = tuples; has_z = has_z })
-tuples_answer kind axes axis has_z tuples found may x =
-    let read : ReadTuples = record { tuples = tuples; has_z = has_z } in
+pub tuples_answer : InstantsAreRead → (kind : TupleKind) (axis : Data) (has_z : Bool) (tuples : List Position) → (has_z ≡ true → may_have_z kind ≡ true)
+    → StandsForTuples (names_of kind has_z) axis tuples → tuples_read kind axis ≡ Ok (record { tuples = tuples; has_z = has_z })
+tuples_answer instants kind axis has_z tuples may x =
     let names = names_of kind has_z in
-    and_then_given (need (codes "composite") Composite axes) _ axis _ (or_fault_given (get (codes "composite") axes) _ axis found)
-    (and_then_given (axis_has_z kind axis) _ has_z _ (names_answer kind axis has_z (x.data_type, x.coordinates, may))
+    and_then_given (axis_has_z kind axis) _ has_z _ (names_answer kind axis has_z (x.data_type, x.coordinates, may))
     (and_then_given (value_items Composite axis) _ x.items _ (value_items_given Composite axis x.items x.list (some_stand (StandsForTuple names) x.items tuples x.each x.some))
-    (and_then_given (tuples_of_items names x.items) _ tuples _ (items_answer names x.items tuples x.each x.in_time) refl)))
+    (and_then_given (tuples_of_items names x.items) _ tuples _ (items_answer instants names x.items tuples x.each x.in_time) refl))

@@ -8,6 +8,7 @@ use Rattle.serde_json.specs.Find.{as_array, as_str}
 use Rattle.serde_json.specs.View.{view, items_view}
 use Rattle.serde_json.specs.declared.value.Value.{Value}
 use Rattle.edr_base.specs.declared.places.Position.{Position}
+use Rattle.edr_base.specs.Limits.{coordinate_limit}
 use Rattle.covjson_value.specs.declared.domains.CoordinateName.{CoordinateName}
 use Rattle.covjson_value.specs.declared.domains.CoordinateName.TheVariants.{T, Z, Y, X}
 use Rattle.covjson_value.specs.Domains.{coordinate_key, coordinate}
@@ -17,11 +18,10 @@ use Rattle.covjson_domains.specs.declared.tuples.Test.TheVariants.{Within}
 use Rattle.covjson_checks.specs.Answers.{Answer, onto}
 use Rattle.edr_base.specs.FirstThatApplies.{and_then}
 use Rattle.covjson_checks.specs.Members.{list_at}
-use Rattle.edr_json.specs.Trees.{whole_of}
-use Rattle.edr_json.specs.Trees.{is_text}
+use Rattle.edr_json.specs.Trees.{is_text, whole_of}
 use Rattle.covjson_domains.specs.TupleAnswers.{are_keys, is_whole_within, passes, all_pass, list_passes, tuples_pass, value_of, whole_or_zero, number_of, tuple_at, tuples_from, never_falls}
 use Rattle.edr_json.specs.AnswerLaws.{or_fault_ok}
-use Rattle.edr_json.specs.AnswerLaws.{onto_more}
+use Rattle.covjson_checks.specs.CheckLaws.{onto_more}
 use Rattle.covjson_domains.proofs.TupleReads.{within_tells}
 use Rattle.covjson_domains.proofs.TupleValues.{same_name}
 
@@ -88,10 +88,10 @@ number_passing X d not pass = pass
 
 -- a number of a tuple within the limits
 pub number_within : (name : CoordinateName) (names : List CoordinateName) (ds : Items) (d : Data) (number : ℤ) → ¬ (name ≡ T) → all_pass Within names ds ≡ true
-    → value_of name names ds ≡ Some d → whole_of d ≡ Some number → unsigned_abs number ≤ 100_000_000
+    → value_of name names ds ≡ Some d → whole_of d ≡ Some number → unsigned_abs number ≤ coordinate_limit
 number_within name names ds d number not pass found whole =
     let tells = within_tells (whole_of d) (number_passing name d not (value_passing Within name names ds d pass found)) in
-    subst (λ (z : ℤ). unsigned_abs z ≤ 100_000_000) (ap whole_or_zero whole) tells.1
+    subst (λ (z : ℤ). unsigned_abs z ≤ coordinate_limit) (ap whole_or_zero whole) tells.1
 
 -- the number of a name is that of its value
 pub number_found : (name : CoordinateName) (names : List CoordinateName) (ds : Items) (d : Data) (number : ℤ) → value_of name names ds ≡ Some d

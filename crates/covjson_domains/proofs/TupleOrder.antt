@@ -15,7 +15,7 @@ use Rattle.covjson_domains.specs.declared.tuples.TupleKind.TheVariants.{Places, 
 use Rattle.edr_json.specs.Trees.{is_text}
 use Rattle.covjson_domains.specs.TupleAnswers.{names_of, may_have_z, are_keys, has_z_by_keys, is_at_most_first, never_falls}
 use Rattle.edr_json.specs.TreeLaws.{as_str_some}
-use Rattle.covjson_ranges.proofs.OrderTests.{at_most_tells, at_most_given}
+use Rattle.covjson_domains.proofs.OrderTests.{at_most_tells, at_most_given}
 
 -- ---- names of coordinates
 

@@ -4,6 +4,8 @@ use Rattle.std.proofs.Common.{◌≡◌, ℕ, ℤ, pos, unsigned_abs, true, true
 use Rattle.std.proofs.lemmas.Bool.{leb-true, le-leb}
 use Rattle.serde_json.specs.Data.{Data}
 use Rattle.serde_json.specs.Find.{as_str}
+use Rattle.edr_axes.specs.InstantComputed.{InstantsAreRead}
+use Rattle.edr_base.specs.Limits.{coordinate_limit}
 use Rattle.covjson_value.specs.declared.domains.CoordinateName.{CoordinateName}
 use Rattle.covjson_value.specs.declared.domains.CoordinateName.TheVariants.{T, Z, Y, X}
 use Rattle.covjson_value.specs.Coverages.{IsCoordinate, IsAxisValue}
@@ -20,13 +22,13 @@ use Rattle.covjson_domains.proofs.AxisLists.{number_wanted, time_stands, time_gi
 -- a number within the limit is a coordinate
 pub within_tells : (o : Option ℤ) → is_whole_within o ≡ true → (o ≡ Some (whole_or_zero o)) × IsCoordinate (whole_or_zero o)
 within_tells None h = absurd (true≢false (sym h))
-within_tells (Some value) h = (refl, leb-true (unsigned_abs value) 100_000_000 h)
+within_tells (Some value) h = (refl, leb-true (unsigned_abs value) coordinate_limit h)
 
 -- a coordinate passes each test of a number
 coordinate_passes : (test : Test) (d : Data) (value : ℤ) → whole_of d ≡ Some value → IsCoordinate value → number_passes test d ≡ true
 coordinate_passes Form d value h within = number_wanted d value h
 coordinate_passes Whole d value h within = ap is_some h
-coordinate_passes Within d value h within = ap is_whole_within h ∙ le-leb (unsigned_abs value) 100_000_000 within
+coordinate_passes Within d value h within = ap is_whole_within h ∙ le-leb (unsigned_abs value) coordinate_limit within
 
 -- an instant passes each test of a time
 instant_passes : (test : Test) (d : Data) (value : ℤ) → StandsForTime d value → time_passes test d ≡ true
@@ -57,19 +59,19 @@ number_stands d value read pass =
     (tells.0 ∙ ap Some read, subst (λ (z : ℤ). IsCoordinate z) read tells.1)
 
 -- what is read of a datum within the limits is what it stands for
-pub value_stands : (place : ℕ) (name : CoordinateName) (d : Data) (value : ℤ) → IsReadAs place name (Some d) value → passes Within name d ≡ true
+pub value_stands : InstantsAreRead → (place : ℕ) (name : CoordinateName) (d : Data) (value : ℤ) → IsReadAs place name (Some d) value → passes Within name d ≡ true
     → StandsForAxisValue name d value × IsAxisValue name value
-value_stands place T d value read pass = let time = time_stands Composite place d value read in (time, time.2.time_in)
-value_stands place Z d value read pass = number_stands d value read pass
-value_stands place Y d value read pass = number_stands d value read pass
-value_stands place X d value read pass = number_stands d value read pass
+value_stands instants place T d value read pass = let time = time_stands instants Composite place d value read in (time, time.2.time_in)
+value_stands instants place Z d value read pass = number_stands d value read pass
+value_stands instants place Y d value read pass = number_stands d value read pass
+value_stands instants place X d value read pass = number_stands d value read pass
 
 -- what a datum stands for is read of it
-pub value_read : (place : ℕ) (name : CoordinateName) (d : Data) (value : ℤ) → StandsForAxisValue name d value → IsReadAs place name (Some d) value
-value_read place T d value h = time_given Composite place d value h
-value_read place Z d value h = ap whole_or_zero h
-value_read place Y d value h = ap whole_or_zero h
-value_read place X d value h = ap whole_or_zero h
+pub value_read : InstantsAreRead → (place : ℕ) (name : CoordinateName) (d : Data) (value : ℤ) → StandsForAxisValue name d value → IsReadAs place name (Some d) value
+value_read instants place T d value h = time_given instants Composite place d value h
+value_read instants place Z d value h = ap whole_or_zero h
+value_read instants place Y d value h = ap whole_or_zero h
+value_read instants place X d value h = ap whole_or_zero h
 
 -- where there is none, 0 is read
 pub none_read : (place : ℕ) (name : CoordinateName) → IsReadAs place name None (pos 0)

@@ -5,6 +5,7 @@ use Rattle.std.proofs.lemmas.Bool.{and_parts, and_from, or_left, or_right, or_pa
 use Rattle.std.proofs.lemmas.Slice.Eq.{bytes_eq-Decides}
 use Rattle.serde_json.specs.Data.{Data, Items, no_items, item}
 use Rattle.edr_base.specs.declared.places.Position.{Position}
+use Rattle.edr_axes.specs.InstantComputed.{InstantsAreRead}
 use Rattle.covjson_value.specs.declared.domains.CoordinateName.{CoordinateName}
 use Rattle.covjson_value.specs.declared.domains.CoordinateName.TheVariants.{T, Z, Y, X}
 use Rattle.covjson_value.specs.Domains.{coordinate_key, coordinate, is_among}
@@ -13,6 +14,7 @@ use Rattle.covjson_domains.specs.declared.tuples.Test.{Test}
 use Rattle.covjson_domains.specs.declared.tuples.Test.TheVariants.{Within}
 use Rattle.covjson_domains.specs.Axes.{StandsForAxisValue}
 use Rattle.covjson_domains.specs.Tuples.{EachCoordinate}
+use Rattle.covjson_domains.specs.TupleRows.{EachNamed}
 use Rattle.covjson_domains.specs.TupleAnswers.{passes, all_pass, value_of}
 use Rattle.covjson_domains.proofs.TupleReads.{IsReadAs, value_passes, value_stands, value_read, none_read, none_zero}
 
@@ -26,20 +28,13 @@ same_name Y Y e = refl
 same_name X X e = refl
 same_name one other e = absurd (true≢false (sym e))
 
--- each datum is as a relation says of the name at its place
-abbrev EachIs : (CoordinateName → Data → Type 0) → List CoordinateName → Items → Type 0
-EachIs P [] no_items = ⊤
-EachIs P [] (item d ds) = ⊥
-EachIs P (name ∷ names) no_items = ⊥
-EachIs P (name ∷ names) (item d ds) = P name d × EachIs P names ds
-
 -- a name that isn't the first is among the others
 later_among : (here later : Bool) → here ≡ false → (here || later) ≡ true → later ≡ true
 later_among true later h among = cc
 later_among false later h among = among
 
 -- a name among these has a datum, which is as the relation says
-has_value : (P : CoordinateName → Data → Type 0) (name : CoordinateName) (names : List CoordinateName) (ds : Items) → EachIs P names ds → is_among name names ≡ true
+pub has_value : (P : CoordinateName → Data → Type 0) (name : CoordinateName) (names : List CoordinateName) (ds : Items) → EachNamed P names ds → is_among name names ≡ true
     → (d : Data) × (value_of name names ds ≡ Some d) × P name d
 has_value P name [] ds each among = absurd (true≢false (sym among))
 has_value P name (other ∷ names) no_items each among = absurd each
@@ -53,7 +48,7 @@ has_value P name (other ∷ names) (item d ds) each among =
     ]
 
 -- a name that isn't among these has none
-no_value : (name : CoordinateName) (names : List CoordinateName) (ds : Items) → is_among name names ≡ false → value_of name names ds ≡ None
+pub no_value : (name : CoordinateName) (names : List CoordinateName) (ds : Items) → is_among name names ≡ false → value_of name names ds ≡ None
 no_value name [] ds h = refl
 no_value name (other ∷ names) no_items h = refl
 no_value name (other ∷ names) (item d ds) h =
@@ -76,14 +71,14 @@ each_passes test (name ∷ names) (item d ds) tuple each within =
     and_from (passes test name d) (all_pass test names ds) here later
 
 -- the data of a tuple stand for its coordinates, name by name
-each_stand : (names : List CoordinateName) (ds : Items) (tuple : Position) → EachCoordinate names ds tuple → EachIs (λ name d. StandsForAxisValue name d (coordinate name tuple)) names ds
+each_stand : (names : List CoordinateName) (ds : Items) (tuple : Position) → EachCoordinate names ds tuple → EachNamed (λ name d. StandsForAxisValue name d (coordinate name tuple)) names ds
 each_stand [] no_items tuple each = tt
 each_stand [] (item d ds) tuple each = each
 each_stand (name ∷ names) no_items tuple each = each
 each_stand (name ∷ names) (item d ds) tuple each = (each.0, each_stand names ds tuple each.1)
 
 -- data that pass the test pass it name by name
-each_within : (names : List CoordinateName) (ds : Items) → all_pass Within names ds ≡ true → EachIs (λ name d. passes Within name d ≡ true) names ds
+each_within : (names : List CoordinateName) (ds : Items) → all_pass Within names ds ≡ true → EachNamed (λ name d. passes Within name d ≡ true) names ds
 each_within [] no_items pass = tt
 each_within [] (item d ds) pass = true≢false (sym pass)
 each_within (name ∷ names) no_items pass = true≢false (sym pass)
@@ -92,14 +87,14 @@ each_within (name ∷ names) (item d ds) pass =
     (parts.0, each_within names ds parts.1)
 
 -- what is read of the data of a tuple is the tuple's
-pub tuple_read : (place : ℕ) (names : List CoordinateName) (ds : Items) (tuple : Position) → EachCoordinate names ds tuple → IsTuple names tuple
+pub tuple_read : InstantsAreRead → (place : ℕ) (names : List CoordinateName) (ds : Items) (tuple : Position) → EachCoordinate names ds tuple → IsTuple names tuple
     → (name : CoordinateName) → IsReadAs place name (value_of name names ds) (coordinate name tuple)
-tuple_read place names ds tuple each within name =
+tuple_read instants place names ds tuple each within name =
     let value = coordinate name tuple in
     elim (cases_Bool (is_among name names)) [
       | inl among ↦
           let found = has_value (λ n d. StandsForAxisValue n d (coordinate n tuple)) name names ds (each_stand names ds tuple each) among in
-          subst (λ (o : Option Data). IsReadAs place name o value) (sym found.1) (value_read place name found.0 value found.2)
+          subst (λ (o : Option Data). IsReadAs place name o value) (sym found.1) (value_read instants place name found.0 value found.2)
       | inr apart ↦
           let zero : value ≡ pos 0 = subst (λ (b : Bool). IsTupleValue b name value) apart (within name) in
           let none : IsReadAs place name None value = subst (λ (z : ℤ). IsReadAs place name None z) (sym zero) (none_read place name) in
@@ -107,15 +102,15 @@ tuple_read place names ds tuple each within name =
     ]
 
 -- what is read of data within the limits is a tuple
-pub tuple_within : (place : ℕ) (names : List CoordinateName) (ds : Items) (tuple : Position) → all_pass Within names ds ≡ true
+pub tuple_within : InstantsAreRead → (place : ℕ) (names : List CoordinateName) (ds : Items) (tuple : Position) → all_pass Within names ds ≡ true
     → ((name : CoordinateName) → IsReadAs place name (value_of name names ds) (coordinate name tuple)) → IsTuple names tuple
-tuple_within place names ds tuple pass read name =
+tuple_within instants place names ds tuple pass read name =
     let value = coordinate name tuple in
     elim (cases_Bool (is_among name names)) [
       | inl among ↦
           let found = has_value (λ n d. passes Within n d ≡ true) name names ds (each_within names ds pass) among in
           let here : IsReadAs place name (Some found.0) value = subst (λ (o : Option Data). IsReadAs place name o value) found.1 (read name) in
-          subst (λ (b : Bool). IsTupleValue b name value) (sym among) (value_stands place name found.0 value here found.2).1
+          subst (λ (b : Bool). IsTupleValue b name value) (sym among) (value_stands instants place name found.0 value here found.2).1
       | inr apart ↦
           let none : IsReadAs place name None value = subst (λ (o : Option Data). IsReadAs place name o value) (no_value name names ds apart) (read name) in
           subst (λ (b : Bool). IsTupleValue b name value) (sym apart) (none_zero place name value none)
@@ -129,13 +124,13 @@ HasEach find (name ∷ names) no_items = ⊥
 HasEach find (name ∷ names) (item d ds) = (find name ≡ Some d) × HasEach find names ds
 
 -- what is read of data within the limits is what they stand for
-pub each_stands_read : (place : ℕ) (find : CoordinateName → Option Data) (tuple : Position) → ((name : CoordinateName) → IsReadAs place name (find name) (coordinate name tuple))
+pub each_stands_read : InstantsAreRead → (place : ℕ) (find : CoordinateName → Option Data) (tuple : Position) → ((name : CoordinateName) → IsReadAs place name (find name) (coordinate name tuple))
     → (names : List CoordinateName) (ds : Items) → HasEach find names ds → all_pass Within names ds ≡ true → EachCoordinate names ds tuple
-each_stands_read place find tuple read [] no_items has pass = tt
-each_stands_read place find tuple read [] (item d ds) has pass = has
-each_stands_read place find tuple read (name ∷ names) no_items has pass = has
-each_stands_read place find tuple read (name ∷ names) (item d ds) has pass =
+each_stands_read instants place find tuple read [] no_items has pass = tt
+each_stands_read instants place find tuple read [] (item d ds) has pass = has
+each_stands_read instants place find tuple read (name ∷ names) no_items has pass = has
+each_stands_read instants place find tuple read (name ∷ names) (item d ds) has pass =
     let parts = and_parts (passes Within name d) (all_pass Within names ds) pass in
     let value = coordinate name tuple in
     let here : IsReadAs place name (Some d) value = subst (λ (o : Option Data). IsReadAs place name o value) has.0 (read name) in
-    ((value_stands place name d value here parts.0).0, each_stands_read place find tuple read names ds has.1 parts.1)
+    ((value_stands instants place name d value here parts.0).0, each_stands_read instants place find tuple read names ds has.1 parts.1)

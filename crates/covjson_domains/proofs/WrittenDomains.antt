@@ -1,7 +1,13 @@
 -- What is written of a domain stands for it.
-use Rattle.std.proofs.Common.{◌≡◌, ℕ, List, codes, Bool, true, false, Option, Some, None, option_map, refl, sym, ◌∙◌, subst}
+use Rattle.std.proofs.Common.{◌≡◌, All, codes, Bool, false, Option, Some, None, option_map, refl, sym, ◌∙◌, subst}
+use Rattle.std.proofs.lemmas.List.Elements.{All-nil, All-cons}
 use Rattle.serde_json.specs.Data.{Data, string, object, Members, no_members}
 use Rattle.serde_json.specs.Find.{get, get_member}
+use Rattle.edr_axes.specs.InstantGrammar.{WrittenTimesAreInstants}
+use Rattle.edr_json.specs.Trees.{names_of}
+use Rattle.covjson_value.specs.declared.axis_names.AxisName.{AxisName}
+use Rattle.covjson_value.specs.declared.axis_names.AxisName.TheVariants as axis
+use Rattle.covjson_value.specs.AxisNames.{axis_key}
 use Rattle.covjson_value.specs.declared.domains.CoordinateName.{CoordinateName}
 use Rattle.covjson_value.specs.declared.domains.CoordinateName.TheVariants.{T, Z, Y, X}
 use Rattle.covjson_value.specs.declared.domains.Domain.{Domain}
@@ -9,18 +15,13 @@ use Rattle.covjson_value.specs.declared.coverages.Referencing.{Referencing}
 use Rattle.covjson_value.specs.Domains.{coordinate_key, axis_of, tuples_of, coordinates_of}
 use Rattle.covjson_value.specs.Coverages.{HasAxes, HasTuples}
 use Rattle.covjson_value.specs.Trees.{member_if, axis_data, composite_data, domain_type, domain_data}
-use Rattle.covjson_checks.specs.declared.turned.Turned.{Turned}
 use Rattle.covjson_domains.specs.Axes.{HasSameAxis}
-use Rattle.covjson_checks.specs.Turns.{is_turned}
+use Rattle.covjson_checks.specs.Turns.{is_turned, unturned}
 use Rattle.covjson_domains.specs.Tuples.{HasSameTuples}
-use Rattle.covjson_domains.specs.Domains.{is_axis_key, all_axis_keys, StandsForDomain}
+use Rattle.covjson_domains.specs.Domains.{IsAxisKey, StandsForDomain}
 use Rattle.covjson_value.specs.MemberLaws.{member_passed, member_found}
 use Rattle.covjson_domains.proofs.WrittenAxes.{same_axis_written}
 use Rattle.covjson_domains.proofs.WrittenTuples.{same_tuples_written}
-
--- no axis is turned
-abbrev pub unturned : Turned
-unturned = record { t = false; z = false; y = false; x = false }
 
 -- ---- the members for the axes
 
@@ -90,18 +91,18 @@ z_found composite t x y z =
     ∙ member_found (codes "z") z no_members (λ d. refl) refl)))
 
 -- a member with the name of an axis before others
-key_if : (key : List ℕ) (given : Option Data) (rest : Members) → is_axis_key key ≡ true → all_axis_keys rest ≡ true → all_axis_keys (member_if key given rest) ≡ true
-key_if key None rest own all = all
-key_if key (Some d) rest own all = rw own all
+key_if : (name : AxisName) (given : Option Data) (rest : Members) → All IsAxisKey (names_of rest) → All IsAxisKey (names_of (member_if (axis_key name) given rest))
+key_if name None rest all = all
+key_if name (Some d) rest all = All-cons IsAxisKey (axis_key name) (names_of rest) (name, refl) all
 
 -- all written members have names of axes
-keys_are_axes : (composite t x y z : Option Data) → all_axis_keys (members composite t x y z) ≡ true
+keys_are_axes : (composite t x y z : Option Data) → All IsAxisKey (names_of (members composite t x y z))
 keys_are_axes composite t x y z =
-    key_if (codes "composite") composite (times t x y z) refl
-    (key_if (codes "t") t (columns x y z) refl
-    (key_if (codes "x") x (rows y z) refl
-    (key_if (codes "y") y (levels z) refl
-    (key_if (codes "z") z no_members refl refl))))
+    key_if axis.Composite composite (times t x y z)
+    (key_if axis.T t (columns x y z)
+    (key_if axis.X x (rows y z)
+    (key_if axis.Y y (levels z)
+    (key_if axis.Z z no_members (All-nil IsAxisKey)))))
 
 -- ---- the axes of a domain
 
@@ -132,17 +133,17 @@ never_turned Y = refl
 never_turned X = refl
 
 -- each axis of the domain is in the tree
-axes_written : (domain : Domain) → HasAxes domain → (name : CoordinateName) → HasSameAxis name (get (coordinate_key name) (object (members_of domain))) (is_turned unturned name) (axis_of domain name)
-axes_written domain h name =
-    let same = same_axis_written name (axis_of domain name) (h name) in
+axes_written : WrittenTimesAreInstants → (domain : Domain) → HasAxes domain → (name : CoordinateName) → HasSameAxis name (get (coordinate_key name) (object (members_of domain))) (is_turned unturned name) (axis_of domain name)
+axes_written instants domain h name =
+    let same = same_axis_written instants name (axis_of domain name) (h name) in
     let P : Option Data → Type 0 = λ found. HasSameAxis name found false (axis_of domain name) in
     let Q : Bool → Type 0 = λ turned. HasSameAxis name (get (coordinate_key name) (object (members_of domain))) turned (axis_of domain name) in
     subst Q (sym (never_turned name)) (subst P (sym (axis_found domain name)) same)
 
 -- a domain is written by its type, with its axes and no others
-pub domain_written : (domain : Domain) (referencing : Referencing) → HasAxes domain → HasTuples domain
+pub domain_written : WrittenTimesAreInstants → (domain : Domain) (referencing : Referencing) → HasAxes domain → HasTuples domain
     → StandsForDomain (Some (string (domain_type domain))) (domain_data domain referencing) unturned domain
-domain_written domain referencing axes tuples =
+domain_written instants domain referencing axes tuples =
     let P : Option Data → Type 0 = λ found. HasSameTuples (coordinates_of domain) found (tuples_of domain) in
     let found = composite_found (tuples_given domain) (axis_given domain T) (axis_given domain X) (axis_given domain Y) (axis_given domain Z) in
     record {
@@ -150,7 +151,7 @@ domain_written domain referencing axes tuples =
       members = members_of domain;
       axes = refl;
       no_others = keys_are_axes (tuples_given domain) (axis_given domain T) (axis_given domain X) (axis_given domain Y) (axis_given domain Z);
-      same_axes = axes_written domain axes;
-      same_tuples = subst P (sym found) (same_tuples_written (coordinates_of domain) (tuples_of domain) tuples.tuples);
+      same_axes = axes_written instants domain axes;
+      same_tuples = subst P (sym found) (same_tuples_written instants (coordinates_of domain) (tuples_of domain) tuples.tuples);
       once = tuples.once;
     }

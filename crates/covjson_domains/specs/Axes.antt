@@ -1,14 +1,13 @@
 -- The axes of a tree (OGC 21-069r2, Axis objects), and what they stand for.
-use Rattle.std.specs.Prelude.{◌≡◌, ◌⊎◌, ℕ, ◌-◌, ◌<◌, ◌≤◌, ℤ, pos, ◌-ℤ◌, ◌*ℤ◌, List, [], ◌∷◌, length, reverse, All, codes, Bool, true, false, ⊤, Option, Some, None, option_and_then}
-use Rattle.serde_json.specs.Data.{Data, string, array, Items, no_items, item}
+use Rattle.std.specs.Prelude.{◌≡◌, ◌⊎◌, ℕ, ◌-◌, ◌<◌, ◌≤◌, ℤ, pos, ◌-ℤ◌, ◌*ℤ◌, List, length, reverse, All, codes, Bool, true, false, Option, Some, None, option_and_then}
+use Rattle.serde_json.specs.Data.{Data, string, array, Items}
 use Rattle.serde_json.specs.Find.{get}
 use Rattle.edr_axes.specs.Axes.{value_at, IsAxis}
 use Rattle.edr_axes.specs.InstantGrammar.{IsInstant}
 use Rattle.covjson_value.specs.declared.domains.CoordinateName.{CoordinateName}
 use Rattle.covjson_value.specs.declared.domains.CoordinateName.TheVariants.{T, Z, Y, X}
 use Rattle.covjson_value.specs.Coverages.{IsAxisValue}
-use Rattle.covjson_checks.specs.declared.turned.Turned.{Turned}
-use Rattle.edr_json.specs.Trees.{whole_of}
+use Rattle.edr_json.specs.Trees.{whole_of, EachStands, StandsForWhole}
 use Rattle.edr_base.specs.Limits.{node_limit}
 
 -- a text that is an instant

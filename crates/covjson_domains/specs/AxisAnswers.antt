@@ -1,13 +1,15 @@
 -- The axes of a tree: their values, or the first check that fails.
-use Rattle.std.specs.Prelude.{ℕ, zero, suc, ◌-◌, ◌==◌, ℤ, pos, ◌+ℤ◌, ◌-ℤ◌, int_lt, int_le, int_div, int_rem, unsigned_abs, List, [], ◌∷◌, length, reverse, codes, Bool, true, false, is_some, ◌&&◌, if◌then◌else◌, Option, Some, None, Ok, Err}
+use Rattle.std.specs.Prelude.{◌≡◌, ℕ, zero, suc, ◌-◌, ◌==◌, ℤ, pos, ◌+ℤ◌, ◌-ℤ◌, int_lt, int_le, int_div, int_rem, unsigned_abs, List, [], ◌∷◌, length, reverse, codes, Bool, true, false, not, is_some, ◌&&◌, ◌||◌, if◌then◌else◌, ⊤, Option, Some, None, IsSome, Ok, Err}
 use Rattle.serde_json.specs.Data.{Data, Items, no_items, item, Num}
 use Rattle.serde_json.specs.Find.{get}
-use Rattle.edr_axes.specs.Axes.{value_at}
 use Rattle.covjson_value.specs.declared.domains.CoordinateName.{CoordinateName}
 use Rattle.covjson_value.specs.declared.domains.CoordinateName.TheVariants.{T, Z, Y, X}
 use Rattle.edr_base.specs.Limits.{coordinate_limit, node_limit}
 use Rattle.covjson_value.specs.Domains.{coordinate_key}
 use Rattle.covjson_domains.specs.declared.axes.ReadAxis.{ReadAxis}
+use Rattle.covjson_domains.specs.declared.domain_types.Presence.{Presence}
+use Rattle.covjson_domains.specs.DomainTypes.{member_of}
+use Rattle.covjson_domains.specs.TypeAnswers.{is_needed, is_single, left_out}
 use Rattle.covjson_checks.specs.declared.faults.Member.{Member}
 use Rattle.covjson_checks.specs.declared.faults.Member.TheVariants.{T as TimeAxis, Z as LevelAxis, Y as RowAxis, X as ColumnAxis}
 use Rattle.covjson_checks.specs.declared.faults.CovFault.TheVariants.{WrongType, NotWhole, OutOfRange, BadTime, NotMonotonic, WrongCount}
@@ -15,14 +17,7 @@ use Rattle.covjson_checks.specs.declared.members.Wanted.TheVariants.{Texts, Numb
 use Rattle.covjson_checks.specs.Answers.{Answer, each}
 use Rattle.edr_base.specs.FirstThatApplies.{and_then, or_fault, check}
 use Rattle.edr_axes.specs.InstantComputed.{instant_of}
-use Rattle.covjson_checks.specs.Members.{need, part, object_at, list_at, text_at, number_at, held_whole, is_within, whole_within, need_each}
-
--- the member that an axis is
-abbrev pub member_of : CoordinateName → Member
-member_of T = TimeAxis
-member_of Z = LevelAxis
-member_of Y = RowAxis
-member_of X = ColumnAxis
+use Rattle.covjson_checks.specs.Members.{part, object_at, list_at, text_at, number_at, held_whole, is_within, whole_within, need_each}
 
 -- ---- listed values
 
@@ -140,28 +135,21 @@ in_direction m values =
 abbrev pub axis_read : CoordinateName → Data → Answer ReadAxis
 axis_read name axis = and_then (axis_values name axis) (in_direction (member_of name))
 
--- the one value that is wanted
-abbrev pub one_value : CoordinateName → ReadAxis → Answer ℤ
-one_value name read = if length read.axis == 1 then Ok (value_at read.axis 0) else Err (WrongCount (member_of name) 1 (length read.axis))
+-- as many values as the axis of its domain type has
+abbrev pub need_count : Presence → CoordinateName → ReadAxis → Answer ⊤
+need_count wanted name read = check (not (is_single wanted) || length read.axis == 1) (WrongCount (member_of name) 1 (length read.axis))
 
-abbrev pub value_read : CoordinateName → Data → Answer ℤ
-value_read name axis = and_then (axis_read name axis) (one_value name)
+-- what is read of an axis by what its domain type wants of it
+abbrev pub axis_if : Presence → CoordinateName → Option Data → Answer (Option ReadAxis)
+axis_if wanted name None = and_then (left_out wanted (member_of name)) (λ _. Ok None)
+axis_if wanted name (Some axis) =
+    and_then (axis_read name axis) (λ read.
+    and_then (need_count wanted name read) (λ _. Ok (Some read)))
 
--- what is read of an axis that may be left out
-abbrev pub if_given : {V : Type 0} → (Data → Answer V) → Option Data → Answer (Option V)
-if_given answer_of None = Ok None
-if_given answer_of (Some d) = and_then (answer_of d) (λ v. Ok (Some v))
+-- the axis of a name among the axes
+abbrev pub axis_by : Presence → CoordinateName → Data → Answer (Option ReadAxis)
+axis_by wanted name axes = axis_if wanted name (get (coordinate_key name) axes)
 
--- an axis that has to be there, and one that may be left out
-abbrev pub axis_at : CoordinateName → Data → Answer ReadAxis
-axis_at name axes = and_then (need (coordinate_key name) (member_of name) axes) (axis_read name)
-
-abbrev pub axis_if_given : CoordinateName → Data → Answer (Option ReadAxis)
-axis_if_given name axes = if_given (axis_read name) (get (coordinate_key name) axes)
-
--- the same of an axis of a single value
-abbrev pub single_at : CoordinateName → Data → Answer ℤ
-single_at name axes = and_then (need (coordinate_key name) (member_of name) axes) (value_read name)
-
-abbrev pub single_if_given : CoordinateName → Data → Answer (Option ℤ)
-single_if_given name axes = if_given (value_read name) (get (coordinate_key name) axes)
+-- what has to be there is
+abbrev pub IfNeeded : {V : Type 0} → Presence → Option V → Type 0
+IfNeeded wanted found = is_needed wanted ≡ true → IsSome found

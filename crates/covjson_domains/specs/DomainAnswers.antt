@@ -1,131 +1,32 @@
 -- The domain of a tree: its axes by its type, or the first check that fails.
-use Rattle.std.specs.Prelude.{ℕ, List, [], ◌∷◌, bytes_eq, codes, Bool, true, false, ◌||◌, ◌&&◌, if◌then◌else◌, ℤ, Option, Some, None, option_map, Ok}
-use Rattle.serde_json.specs.Data.{Data, Members, no_members, member}
+use Rattle.std.specs.Prelude.{◌<◌, ◌^◌, List, [], length, codes, Bool, false, is_some, if◌then◌else◌, ℤ, pos, Option, Some, None, IfSome, option_map, Ok}
+use Rattle.serde_json.specs.Data.{Data}
+use Rattle.serde_json.specs.Find.{get}
+use Rattle.edr_base.specs.FirstThatApplies.{and_then, or_fault, check}
+use Rattle.edr_axes.specs.Axes.{value_at}
 use Rattle.covjson_value.specs.declared.domains.CoordinateName.TheVariants.{T, Z, Y, X}
-use Rattle.covjson_value.specs.declared.domains.Domain.TheVariants.{Grid, Point, PointSeries, VerticalProfile, MultiPoint, Trajectory}
+use Rattle.covjson_value.specs.declared.axis_names.AxisName.TheVariants as axis
+use Rattle.covjson_value.specs.declared.domains.Domain.{Domain}
+use Rattle.covjson_value.specs.declared.domains.Domain.TheVariants as domain
+use Rattle.covjson_value.specs.Domains as domains
 use Rattle.covjson_checks.specs.declared.turned.Turned.{Turned}
-use Rattle.covjson_domains.specs.declared.axes.ReadAxis.{ReadAxis}
-use Rattle.covjson_domains.specs.declared.domains.DomainType.{DomainType}
-use Rattle.covjson_domains.specs.declared.domains.DomainType.TheVariants.{Grid as OfGrid, Point as OfPoint, PointSeries as OfPointSeries, VerticalProfile as OfVerticalProfile, MultiPoint as OfMultiPoint, Trajectory as OfTrajectory}
 use Rattle.covjson_checks.specs.declared.turned.ReadDomain.{ReadDomain}
-use Rattle.covjson_domains.specs.declared.tuples.TupleKind.{TupleKind}
-use Rattle.covjson_domains.specs.declared.tuples.TupleKind.TheVariants.{Places, Steps, LevelSteps}
-use Rattle.covjson_checks.specs.declared.faults.Member.TheVariants.{DomainType as TypeMember, Axes}
+use Rattle.covjson_checks.specs.declared.faults.Member.TheVariants.{DomainType as TypeMember, Axes, Composite}
 use Rattle.covjson_checks.specs.declared.faults.CovFault.TheVariants.{Missing, WrongType, UnsupportedDomain}
 use Rattle.covjson_checks.specs.Answers.{Answer}
-use Rattle.edr_base.specs.FirstThatApplies.{and_then, or_fault, check}
 use Rattle.covjson_checks.specs.Members.{need, object_at, text_at}
-use Rattle.covjson_domains.specs.AxisAnswers.{axis_at, axis_if_given, single_at, single_if_given}
-use Rattle.covjson_domains.specs.TupleAnswers.{composite_at}
-
--- ---- domain types
-
-abbrev pub type_named : List ℕ → Option DomainType
-type_named name =
-    if bytes_eq name (codes "Grid") then Some OfGrid
-    else if bytes_eq name (codes "Point") then Some OfPoint
-    else if bytes_eq name (codes "PointSeries") then Some OfPointSeries
-    else if bytes_eq name (codes "VerticalProfile") then Some OfVerticalProfile
-    else if bytes_eq name (codes "MultiPoint") then Some OfMultiPoint
-    else if bytes_eq name (codes "Trajectory") then Some OfTrajectory
-    else None
-
--- the names of the axes that a domain of a type may have
-abbrev pub keys_of : DomainType → List (List ℕ)
-keys_of OfGrid = codes "t" ∷ codes "z" ∷ codes "y" ∷ codes "x" ∷ []
-keys_of OfPoint = codes "t" ∷ codes "z" ∷ codes "y" ∷ codes "x" ∷ []
-keys_of OfPointSeries = codes "t" ∷ codes "z" ∷ codes "y" ∷ codes "x" ∷ []
-keys_of OfVerticalProfile = codes "t" ∷ codes "z" ∷ codes "y" ∷ codes "x" ∷ []
-keys_of OfMultiPoint = codes "t" ∷ codes "composite" ∷ []
-keys_of OfTrajectory = codes "z" ∷ codes "composite" ∷ []
-
-abbrev pub is_key_among : List ℕ → List (List ℕ) → Bool
-is_key_among key [] = false
-is_key_among key (other ∷ keys) = bytes_eq key other || is_key_among key keys
-
--- each member has one of these names
-abbrev pub all_keys_among : List (List ℕ) → Members → Bool
-all_keys_among keys no_members = true
-all_keys_among keys (member key d members) = is_key_among key keys && all_keys_among keys members
-
--- ---- the axes of each type, in the order t, z, y, x, composite
-
-abbrev pub axis_of_read : ReadAxis → List ℤ
-axis_of_read read = read.axis
-
-abbrev pub is_turned_round : Option ReadAxis → Bool
-is_turned_round None = false
-is_turned_round (Some read) = read.turned
-
--- no axis is turned round; a single value has no direction
-abbrev pub none_turned : Turned
-none_turned = record { t = false; z = false; y = false; x = false }
-
-abbrev pub grid_of : Data → Answer ReadDomain
-grid_of axes =
-    and_then (axis_if_given T axes) (λ t.
-    and_then (axis_if_given Z axes) (λ z.
-    and_then (axis_at Y axes) (λ y.
-    and_then (axis_at X axes) (λ x.
-    Ok (record {
-      domain = Grid (option_map axis_of_read t) (option_map axis_of_read z) y.axis x.axis;
-      turned = record { t = is_turned_round t; z = is_turned_round z; y = y.turned; x = x.turned };
-    })))))
-
-abbrev pub point_of : Data → Answer ReadDomain
-point_of axes =
-    and_then (single_if_given T axes) (λ t.
-    and_then (single_if_given Z axes) (λ z.
-    and_then (single_at Y axes) (λ y.
-    and_then (single_at X axes) (λ x.
-    Ok (record { domain = Point t z y x; turned = none_turned })))))
-
-abbrev pub series_of : Data → Answer ReadDomain
-series_of axes =
-    and_then (axis_at T axes) (λ t.
-    and_then (single_if_given Z axes) (λ z.
-    and_then (single_at Y axes) (λ y.
-    and_then (single_at X axes) (λ x.
-    Ok (record {
-      domain = PointSeries t.axis z y x;
-      turned = record { t = t.turned; z = false; y = false; x = false };
-    })))))
-
-abbrev pub profile_of : Data → Answer ReadDomain
-profile_of axes =
-    and_then (single_if_given T axes) (λ t.
-    and_then (axis_at Z axes) (λ z.
-    and_then (single_at Y axes) (λ y.
-    and_then (single_at X axes) (λ x.
-    Ok (record {
-      domain = VerticalProfile t z.axis y x;
-      turned = record { t = false; z = z.turned; y = false; x = false };
-    })))))
-
-abbrev pub multi_point_of : Data → Answer ReadDomain
-multi_point_of axes =
-    and_then (single_if_given T axes) (λ t.
-    and_then (composite_at Places axes) (λ composite.
-    Ok (record { domain = MultiPoint t composite.has_z composite.tuples; turned = none_turned })))
-
--- steps have levels of their own only where the trajectory has no level
-abbrev pub kind_of_steps : Option ℤ → TupleKind
-kind_of_steps None = Steps
-kind_of_steps (Some level) = LevelSteps
-
-abbrev pub trajectory_of : Data → Answer ReadDomain
-trajectory_of axes =
-    and_then (single_if_given Z axes) (λ z.
-    and_then (composite_at (kind_of_steps z) axes) (λ composite.
-    Ok (record { domain = Trajectory z composite.has_z composite.tuples; turned = none_turned })))
-
-abbrev pub domain_of_type : DomainType → Data → Answer ReadDomain
-domain_of_type OfGrid axes = grid_of axes
-domain_of_type OfPoint axes = point_of axes
-domain_of_type OfPointSeries axes = series_of axes
-domain_of_type OfVerticalProfile axes = profile_of axes
-domain_of_type OfMultiPoint axes = multi_point_of axes
-domain_of_type OfTrajectory axes = trajectory_of axes
+use Rattle.covjson_domains.specs.declared.axes.ReadAxis.{ReadAxis}
+use Rattle.covjson_domains.specs.declared.tuples.ReadTuples.{ReadTuples}
+use Rattle.covjson_domains.specs.declared.tuples.TupleKind.{TupleKind}
+use Rattle.covjson_domains.specs.declared.tuples.TupleKind.TheVariants.{Places, Steps, LevelSteps}
+use Rattle.covjson_domains.specs.declared.domains.ReadAxes.{ReadAxes}
+use Rattle.covjson_domains.specs.declared.domain_types.DomainType.{DomainType}
+use Rattle.covjson_domains.specs.declared.domain_types.DomainType.TheVariants.{Grid, Point, PointSeries, VerticalProfile, MultiPoint, Trajectory}
+use Rattle.covjson_domains.specs.declared.domain_types.Presence.{Presence}
+use Rattle.covjson_domains.specs.DomainTypes.{presence}
+use Rattle.covjson_domains.specs.TypeAnswers.{type_named, has_no_others, left_out}
+use Rattle.covjson_domains.specs.AxisAnswers.{axis_by, IfNeeded}
+use Rattle.covjson_domains.specs.TupleAnswers.{tuples_read}
 
 -- the type of a domain
 abbrev pub type_at : Option Data → Answer DomainType
@@ -139,10 +40,102 @@ abbrev pub axes_at : DomainType → Data → Answer Data
 axes_at kind tree =
     and_then (need (codes "axes") Axes tree) (λ axes.
     and_then (object_at Axes axes) (λ members.
-    and_then (check (all_keys_among (keys_of kind) members) (WrongType Axes)) (λ _. Ok axes)))
+    and_then (check (has_no_others kind members) (WrongType Axes)) (λ _. Ok axes)))
+
+-- ---- the axes, in the order t, z, y, x, composite
+
+-- the tuples of a type: those of a trajectory have levels of their own only where it has no axis of levels
+abbrev pub tuple_kind : DomainType → Bool → TupleKind
+tuple_kind Grid has_level = Places
+tuple_kind Point has_level = Places
+tuple_kind PointSeries has_level = Places
+tuple_kind VerticalProfile has_level = Places
+tuple_kind MultiPoint has_level = Places
+tuple_kind Trajectory has_level = if has_level then LevelSteps else Steps
+
+-- what is read of a composite axis
+abbrev pub composite_if : Presence → TupleKind → Option Data → Answer (Option ReadTuples)
+composite_if wanted kind None = and_then (left_out wanted Composite) (λ _. Ok None)
+composite_if wanted kind (Some axis) = and_then (tuples_read kind axis) (λ read. Ok (Some read))
+
+abbrev pub composite_by : Presence → TupleKind → Data → Answer (Option ReadTuples)
+composite_by wanted kind axes = composite_if wanted kind (get (codes "composite") axes)
+
+abbrev pub axes_read : DomainType → Data → Answer ReadAxes
+axes_read kind axes =
+    and_then (axis_by (presence kind axis.T) T axes) (λ t.
+    and_then (axis_by (presence kind axis.Z) Z axes) (λ z.
+    and_then (axis_by (presence kind axis.Y) Y axes) (λ y.
+    and_then (axis_by (presence kind axis.X) X axes) (λ x.
+    and_then (composite_by (presence kind axis.Composite) (tuple_kind kind (is_some z)) axes) (λ composite.
+    Ok (record { t = t; z = z; y = y; x = x; composite = composite }))))))
+
+-- ---- the domain of these axes
+
+abbrev pub is_turned_round : Option ReadAxis → Bool
+is_turned_round None = false
+is_turned_round (Some read) = read.turned
+
+abbrev pub axis_of_read : ReadAxis → List ℤ
+axis_of_read read = read.axis
+
+abbrev pub axis_in : Option ReadAxis → Option (List ℤ)
+axis_in read = option_map axis_of_read read
+
+-- the values of an axis, and none where it isn't there
+abbrev pub values_of : Option ReadAxis → List ℤ
+values_of None = []
+values_of (Some read) = read.axis
+
+-- the first value of an axis, and 0 where it isn't there
+abbrev pub value_of : Option ReadAxis → ℤ
+value_of None = pos 0
+value_of (Some read) = value_at read.axis 0
+
+abbrev pub value_in : Option ReadAxis → Option ℤ
+value_in None = None
+value_in (Some read) = Some (value_at read.axis 0)
+
+-- the tuples, and none where there is no composite axis
+abbrev pub tuples_of : Option ReadTuples → ReadTuples
+tuples_of None = record { tuples = []; has_z = false }
+tuples_of (Some read) = read
+
+abbrev pub domain_formed : DomainType → ReadAxes → Domain
+domain_formed Grid r = domain.Grid (axis_in r.t) (axis_in r.z) (values_of r.y) (values_of r.x)
+domain_formed Point r = domain.Point (value_in r.t) (value_in r.z) (value_of r.y) (value_of r.x)
+domain_formed PointSeries r = domain.PointSeries (values_of r.t) (value_in r.z) (value_of r.y) (value_of r.x)
+domain_formed VerticalProfile r = domain.VerticalProfile (value_in r.t) (values_of r.z) (value_of r.y) (value_of r.x)
+domain_formed MultiPoint r = domain.MultiPoint (value_in r.t) (tuples_of r.composite).has_z (tuples_of r.composite).tuples
+domain_formed Trajectory r = domain.Trajectory (value_in r.z) (tuples_of r.composite).has_z (tuples_of r.composite).tuples
+
+-- the axes that are turned round
+abbrev pub turned_in : ReadAxes → Turned
+turned_in r = record { t = is_turned_round r.t; z = is_turned_round r.z; y = is_turned_round r.y; x = is_turned_round r.x }
+
+abbrev pub formed : DomainType → ReadAxes → ReadDomain
+formed kind r = record { domain = domain_formed kind r; turned = turned_in r }
 
 -- the domain of a tree, whose type was found there or elsewhere
 abbrev pub domain_of : Option Data → Data → Answer ReadDomain
 domain_of found tree =
     and_then (type_at found) (λ kind.
-    and_then (axes_at kind tree) (λ axes. domain_of_type kind axes))
+    and_then (axes_at kind tree) (λ axes.
+    and_then (axes_read kind axes) (λ read. Ok (formed kind read))))
+
+-- ---- for private clauses
+
+-- each axis that a domain of the type needs is there
+pub record HasNeeded (kind : DomainType) (read : ReadAxes) : Type 0 where
+  pub t : IfNeeded (presence kind axis.T) read.t
+  pub z : IfNeeded (presence kind axis.Z) read.z
+  pub y : IfNeeded (presence kind axis.Y) read.y
+  pub x : IfNeeded (presence kind axis.X) read.x
+  pub composite : IfNeeded (presence kind axis.Composite) read.composite
+
+-- the tuples are as many as can be counted
+abbrev pub CompositeCounted : Option ReadTuples → Type 0
+CompositeCounted read = IfSome read (λ r. length r.tuples < 2 ^ 64)
+
+abbrev pub AreCounted : Domain → Type 0
+AreCounted d = IfSome (domains.tuples_of d) (λ tuples. length tuples < 2 ^ 64)

@@ -1,6 +1,13 @@
+pub mod DomainTypes
 pub mod Axes
-pub mod AxisAnswers
 pub mod Tuples
-pub mod TupleAnswers
 pub mod Domains
+pub mod RowWords
+pub mod AxisRows
+pub mod TupleRows
+pub mod DomainRows
+pub mod Laws
+pub mod TypeAnswers
+pub mod AxisAnswers
+pub mod TupleAnswers
 pub mod DomainAnswers

@@ -16,7 +16,7 @@ use Rattle.covjson_checks.specs.declared.faults.Member.TheVariants.{Composite}
 use Rattle.covjson_checks.specs.declared.faults.CovFault.TheVariants.{WrongType, NotWhole, OutOfRange, NotMonotonic}
 use Rattle.covjson_checks.specs.Answers.{Answer}
 use Rattle.edr_base.specs.FirstThatApplies.{and_then, or_fault, check}
-use Rattle.covjson_checks.specs.Members.{need, part, object_at, list_at, is_within}
+use Rattle.covjson_checks.specs.Members.{part, object_at, list_at, is_within}
 use Rattle.edr_json.specs.Trees.{text_or_empty, whole_of}
 use Rattle.edr_json.specs.Trees.{is_text}
 use Rattle.covjson_domains.specs.AxisAnswers.{value_items, time_at}
@@ -150,11 +150,10 @@ axis_has_z kind axis =
     and_then (list_at Composite list) (λ keys.
     or_fault (has_z_by_keys kind keys) (WrongType Composite)))))
 
--- the composite axis of a tree
-abbrev pub composite_at : TupleKind → Data → Answer ReadTuples
-composite_at kind axes =
-    and_then (need (codes "composite") Composite axes) (λ axis.
+-- the tuples of a composite axis
+abbrev pub tuples_read : TupleKind → Data → Answer ReadTuples
+tuples_read kind axis =
     and_then (axis_has_z kind axis) (λ has_z.
     and_then (value_items Composite axis) (λ ds.
     and_then (tuples_of_items (names_of kind has_z) ds) (λ tuples.
-    Ok (record { tuples = tuples; has_z = has_z })))))
+    Ok (record { tuples = tuples; has_z = has_z }))))

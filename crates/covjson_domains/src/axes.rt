@@ -1,16 +1,20 @@
 //! Axes of a domain (OGC 21-069r2, Axis objects).
-ghost use Rattle.std.specs.Prelude.{◌≡◌, option_map, false};
+ghost use Rattle.std.specs.Prelude.{◌≡◌, IfOk, false};
 ghost use Rattle.serde_json.specs.View.{view, items_view};
-ghost use Rattle.covjson_value.specs.Domains.{coordinate_key};
 ghost use Rattle.covjson_checks.specs.Answers.{Gives, GivesUnlessMemory};
 ghost use Rattle.covjson_domains.specs.AxisAnswers.{times_from};
+ghost use Rattle.covjson_domains.specs.DomainTypes.{axis_name, member_of, presence};
 ghost use Rattle.covjson_domains.specs.AxisAnswers as axes;
+ghost use Rattle.covjson_domains.specs.AxisAnswers.{IfNeeded};
 
-use covjson_checks::{CovFault, Member, Wanted, list_at, need, need_form, need_wholes, object_at, part, text_at, wholes};
+use crate::domain_types::{DomainType, Presence, axis_name, is_single, left_out, presence_of};
 use crate::spans::spanned;
+use covjson_checks::{
+    CovFault, Member, Wanted, list_at, need_form, need_wholes, object_at, part, text_at, wholes,
+};
 use covjson_value::CoordinateName;
+use edr_axes::{Axis, AxisFault, instants_are_read, read_instant};
 use edr_base::COORDINATE_LIMIT;
-use edr_axes::{Axis, AxisFault, read_instant};
 use serde_json::Value;
 use std::alloc::Global;
 
@@ -23,20 +27,8 @@ pub struct ReadAxis {
     pub turned: bool,
 }
 
-/// The name of the member for an axis.
-pub fn key_of(name: CoordinateName) -> &'static str
-    ensures { result.now ≡ coordinate_key name }
-{
-    match name {
-        CoordinateName::T => "t",
-        CoordinateName::Z => "z",
-        CoordinateName::Y => "y",
-        CoordinateName::X => "x",
-    }
-}
-
 fn member_of(name: CoordinateName) -> Member
-    ensures { result ≡ axes.member_of name }
+    ensures { result ≡ member_of name }
 {
     match name {
         CoordinateName::T => Member::T,
@@ -81,6 +73,7 @@ fn coordinates(alloc: Global, axis: &Value, member: Member) -> Result<Vec<i64>, 
 pub fn time_at(item: &Value, member: Member, place: usize) -> Result<i64, CovFault>
     ensures { result ≡ axes.time_at member place (view item.now) }
 {
+    instants_are_read();
     let text = text_at(item, member)?;
     match read_instant(text.as_bytes()) {
         Some(time) => Ok(time),
@@ -92,14 +85,10 @@ pub fn time_at(item: &Value, member: Member, place: usize) -> Result<i64, CovFau
 fn times(alloc: Global, items: &Vec<Value>) -> Result<Vec<i64>, CovFault>
     ensures { GivesUnlessMemory (λ v. v.items) result (times_from 0 (items_view items.now.items)) }
 {
-    let Ok(mut found) = Vec::with_capacity(alloc, items.len()) else {
-        return Err(CovFault::OutOfMemory);
-    };
+    let mut found = Vec::with_capacity(alloc, items.len())?;
     for (place, item) in items.iter().enumerate() {
         let time = time_at(item, Member::T, place)?;
-        if found.push(time).is_err() {
-            return Err(CovFault::OutOfMemory);
-        }
+        found.push(time)?;
     }
     Ok(found)
 }
@@ -132,7 +121,11 @@ fn axis_values(alloc: Global, axis: &Value, name: CoordinateName) -> Result<Vec<
 {
     match name {
         CoordinateName::T => axis_times(alloc, axis),
-        CoordinateName::Z | CoordinateName::Y | CoordinateName::X => axis_numbers(alloc, axis, member_of(name)),
+        CoordinateName::Z | CoordinateName::Y | CoordinateName::X => axis_numbers(
+            alloc,
+            axis,
+            member_of(name),
+        ),
     }
 }
 
@@ -172,65 +165,39 @@ fn axis_read(alloc: Global, axis: &Value, name: CoordinateName) -> Result<ReadAx
     in_direction(alloc, values, member_of(name))
 }
 
-// The one value of an axis: WrongCount.
-fn one_value(read: &ReadAxis, name: CoordinateName) -> Result<i64, CovFault>
-    ensures { result ≡ axes.one_value name read.now }
+// As many values as the axis of its domain type has: WrongCount.
+fn need_count(read: &ReadAxis, name: CoordinateName, wanted: Presence) -> Result<(), CovFault>
+    ensures { result ≡ axes.need_count wanted name read.now }
 {
-    match read.axis.values() {
-        [value] => Ok(*value),
-        values => Err(CovFault::WrongCount(member_of(name), 1, values.len() as u128)),
+    let count = read.axis.len();
+    if !is_single(wanted) || count == 1 {
+        Ok(())
+    } else {
+        Err(CovFault::WrongCount(member_of(name), 1, count as u128))
     }
 }
 
-fn value_read(alloc: Global, axis: &Value, name: CoordinateName) -> Result<i64, CovFault>
-    ensures { GivesUnlessMemory (λ v. v) result (axes.value_read name (view axis.now)) }
-{
-    let read = axis_read(alloc, axis, name)?;
-    one_value(&read, name)
-}
-
-/// The axis of a name: Missing, then its form, its values and their order.
-pub fn axis_at(alloc: Global, tree: &Value, name: CoordinateName) -> Result<ReadAxis, CovFault>
-    ensures { GivesUnlessMemory (λ r. r) result (axes.axis_at name (view tree.now)) }
-{
-    let axis = need(tree, key_of(name), member_of(name))?;
-    axis_read(alloc, axis, name)
-}
-
-/// The axis of a name, where it is there.
-pub fn axis_if_given(
+/// The axis of a name as a domain of the type has it: Missing where that needs it, then its form, its values and their
+/// order, and WrongCount where it has a single value.
+pub fn axis_by(
     alloc: Global,
     tree: &Value,
     name: CoordinateName,
+    kind: DomainType,
 ) -> Result<Option<ReadAxis>, CovFault>
-    ensures { GivesUnlessMemory (λ r. r) result (axes.axis_if_given name (view tree.now)) }
+    ensures answer { GivesUnlessMemory (λ r. r) result (axes.axis_by (presence kind (axis_name name)) name (view tree.now)) }
+    ensures needed { IfOk result (λ r. IfNeeded (presence kind (axis_name name)) r) }
 {
-    match tree.get(key_of(name)) {
+    let wanted = presence_of(kind, axis_name(name));
+    match tree.get(name.letter()) {
         Some(axis) => {
             let read = axis_read(alloc, axis, name)?;
+            need_count(&read, name, wanted)?;
             Ok(Some(read))
         }
-        None => Ok(None),
-    }
-}
-
-/// The single value of the axis of a name: as for an axis, and then WrongCount.
-pub fn single_at(alloc: Global, tree: &Value, name: CoordinateName) -> Result<i64, CovFault>
-    ensures { GivesUnlessMemory (λ v. v) result (axes.single_at name (view tree.now)) }
-{
-    let axis = need(tree, key_of(name), member_of(name))?;
-    value_read(alloc, axis, name)
-}
-
-/// The single value of the axis of a name, where it is there.
-pub fn single_if_given(alloc: Global, tree: &Value, name: CoordinateName) -> Result<Option<i64>, CovFault>
-    ensures { GivesUnlessMemory (λ v. v) result (axes.single_if_given name (view tree.now)) }
-{
-    match tree.get(key_of(name)) {
-        Some(axis) => {
-            let value = value_read(alloc, axis, name)?;
-            Ok(Some(value))
+        None => {
+            left_out(wanted, member_of(name))?;
+            Ok(None)
         }
-        None => Ok(None),
     }
 }

@@ -1,79 +1,128 @@
 //! The domain of a tree (OGC 21-069r2, Domain objects and domain types).
-ghost use Rattle.std.specs.Prelude.{◌≡◌, IfOk, option_map, map};
-ghost use Rattle.serde_json.specs.View.{view, members_view};
+ghost use Rattle.std.specs.Prelude.{◌≡◌, ◌≢◌, IfOk, IfErr, option_map, IsSome};
+ghost use Rattle.serde_json.specs.View.{view};
 ghost use Rattle.covjson_value.specs.Coverages.{HasAxes, HasTuples};
 ghost use Rattle.covjson_checks.specs.Answers.{Gives, GivesUnlessMemory};
-ghost use Rattle.covjson_domains.specs.Domains.{AreCounted};
+ghost use Rattle.covjson_checks.specs.declared.turned.ReadDomain.{ReadDomain};
+ghost use Rattle.covjson_domains.specs.Domains.{StandsForDomain};
+ghost use Rattle.covjson_domains.specs.DomainRows.{DomainRows};
+ghost use Rattle.covjson_domains.specs.AxisAnswers.{IfNeeded};
+ghost use Rattle.covjson_domains.specs.DomainAnswers.{HasNeeded, CompositeCounted, AreCounted};
 ghost use Rattle.covjson_domains.specs.DomainAnswers as domains;
 
-use crate::axes::{ReadAxis, axis_at, axis_if_given, single_at, single_if_given};
-use covjson_checks::{CovFault, Member, Turned, found_or_missing, need, object_at, text_at, unsupported_domain};
-use crate::tuples::{TupleKind, composite_at};
-use covjson_value::{CoordinateName, Domain};
-use edr_axes::Axis;
-use serde_json::{Map, Value};
+use crate::axes::{ReadAxis, axis_by};
+use crate::domain_types::{DomainType, Presence, has_no_others, left_out, presence_of, type_named};
+use crate::tuples::{ReadTuples, TupleKind, tuples_read};
+use covjson_checks::{
+    CovFault, Member, ReadDomain, Turned, found_or_missing, need, object_at, text_at,
+    unsupported_domain,
+};
+use covjson_value::{AxisName, CoordinateName, Domain};
+use edr_axes::{Axis, instants_are_read};
+use serde_json::Value;
 use std::alloc::Global;
 
-/// The type of a domain (OGC 21-069r2, domain types).
-#[derive(Clone, Copy, Debug, PartialEq, Eq)]
-pub enum DomainType {
-    /// All nodes of some axes.
-    Grid,
-    /// One place.
-    Point,
-    /// Several times at one place.
-    PointSeries,
-    /// Several levels at one place.
-    VerticalProfile,
-    /// Several places.
-    MultiPoint,
-    /// Several places at their times.
-    Trajectory,
+/// The axes of a domain, as they were read.
+#[derive(Debug, Drop)]
+pub struct ReadAxes {
+    /// The axis of times, where there is one.
+    pub t: Option<ReadAxis>,
+    /// The axis of levels, where there is one.
+    pub z: Option<ReadAxis>,
+    /// The axis of second coordinates, where there is one.
+    pub y: Option<ReadAxis>,
+    /// The axis of first coordinates, where there is one.
+    pub x: Option<ReadAxis>,
+    /// The axis of tuples, where there is one.
+    pub composite: Option<ReadTuples>,
 }
 
-fn type_named(name: &str) -> Option<DomainType>
-    ensures { result ≡ domains.type_named name.now }
+// The type of a domain: Missing, WrongType, UnsupportedDomain.
+fn type_at(alloc: Global, found: Option<&Value>) -> Result<DomainType, CovFault>
+    ensures { GivesUnlessMemory (λ k. k) result (domains.type_at (option_map (λ v. view v.now) found.entry)) }
 {
-    if name == "Grid" {
-        Some(DomainType::Grid)
-    } else if name == "Point" {
-        Some(DomainType::Point)
-    } else if name == "PointSeries" {
-        Some(DomainType::PointSeries)
-    } else if name == "VerticalProfile" {
-        Some(DomainType::VerticalProfile)
-    } else if name == "MultiPoint" {
-        Some(DomainType::MultiPoint)
-    } else if name == "Trajectory" {
-        Some(DomainType::Trajectory)
-    } else {
-        None
+    let found = found_or_missing(found, Member::DomainType)?;
+    let name = text_at(found, Member::DomainType)?;
+    match type_named(name) {
+        Some(kind) => Ok(kind),
+        None => Err(unsupported_domain(alloc, name)?),
     }
 }
 
-fn is_key(kind: DomainType, key: &str) -> bool
-    ensures { result ≡ domains.is_key_among key.now (domains.keys_of kind) }
+// The axes of a domain of a type, and no others: Missing, WrongType.
+fn axes_at(tree: &Value, kind: DomainType) -> Result<&Value, CovFault>
+    ensures { Gives (λ v. view v.now) result (domains.axes_at kind (view tree.now)) }
+{
+    let axes = need(tree, "axes", Member::Axes)?;
+    let members = object_at(axes, Member::Axes)?;
+    if !has_no_others(kind, members) {
+        return Err(CovFault::WrongType(Member::Axes));
+    }
+    Ok(axes)
+}
+
+// The tuples that a domain of a type has: those of a trajectory have levels of their own only where it has no axis of levels.
+fn tuple_kind(kind: DomainType, has_level: bool) -> TupleKind
+    ensures { result ≡ domains.tuple_kind kind has_level }
 {
     match kind {
+        DomainType::Trajectory => {
+            if has_level {
+                TupleKind::LevelSteps
+            } else {
+                TupleKind::Steps
+            }
+        }
         DomainType::Grid
         | DomainType::Point
         | DomainType::PointSeries
-        | DomainType::VerticalProfile => key == "t" || key == "z" || key == "y" || key == "x",
-        DomainType::MultiPoint => key == "t" || key == "composite",
-        DomainType::Trajectory => key == "z" || key == "composite",
+        | DomainType::VerticalProfile
+        | DomainType::MultiPoint => TupleKind::Places,
     }
 }
 
-// Each member has a name that the axes of a domain of that type have.
-fn all_keys(kind: DomainType, members: &Map<String, Value>) -> bool
-    ensures { result ≡ domains.all_keys_among (domains.keys_of kind) (members_view members.now.entries) }
+// The composite axis: Missing where it is needed, then its form, its numbers, its times and their order.
+fn composite_by(
+    alloc: Global,
+    axes: &Value,
+    wanted: Presence,
+    kind: TupleKind,
+) -> Result<Option<ReadTuples>, CovFault>
+    ensures answer { GivesUnlessMemory (λ r. r) result (domains.composite_by wanted kind (view axes.now)) }
+    ensures needed { IfOk result (λ r. IfNeeded wanted r) }
+    ensures counted { IfOk result (λ r. CompositeCounted r) }
 {
-    for (key, _) in members.iter() {
-        if !is_key(kind, key) {
-            return false;
+    match axes.get("composite") {
+        Some(axis) => {
+            let read = tuples_read(alloc, axis, kind)?;
+            Ok(Some(read))
+        }
+        None => {
+            left_out(wanted, Member::Composite)?;
+            Ok(None)
         }
     }
-    true
+}
+
+// The axes of a domain of a type: t, z, y, x and then composite, each as the type has it.
+fn axes_read(alloc: Global, axes: &Value, kind: DomainType) -> Result<ReadAxes, CovFault>
+    ensures answer { GivesUnlessMemory (λ r. r) result (domains.axes_read kind (view axes.now)) }
+    ensures needed { IfOk result (λ r. HasNeeded kind r) }
+    ensures counted { IfOk result (λ r. CompositeCounted r.composite) }
+{
+    let t = axis_by(alloc, axes, CoordinateName::T, kind)?;
+    let z = axis_by(alloc, axes, CoordinateName::Z, kind)?;
+    let y = axis_by(alloc, axes, CoordinateName::Y, kind)?;
+    let x = axis_by(alloc, axes, CoordinateName::X, kind)?;
+    let tuples = tuple_kind(kind, z.is_some());
+    let composite = composite_by(alloc, axes, presence_of(kind, AxisName::Composite), tuples)?;
+    Ok(ReadAxes {
+        t,
+        z,
+        y,
+        x,
+        composite,
+    })
 }
 
 // Whether an axis was turned round, where there is one.
@@ -87,7 +136,7 @@ fn is_turned_round(read: &Option<ReadAxis>) -> bool
 }
 
 fn axis_in(read: Option<ReadAxis>) -> Option<Axis>
-    ensures { result ≡ option_map domains.axis_of_read read }
+    ensures { result ≡ domains.axis_in read }
 {
     match read {
         Some(read) => Some(read.axis),
@@ -95,180 +144,142 @@ fn axis_in(read: Option<ReadAxis>) -> Option<Axis>
     }
 }
 
-// No axis is turned round.
-fn none_turned() -> Turned
-    ensures { result ≡ domains.none_turned }
+fn axis_of(read: Option<ReadAxis>) -> Axis
+    requires { IsSome read }
+    ensures { result ≡ domains.values_of read }
 {
-    Turned {
-        t: false,
-        z: false,
-        y: false,
-        x: false,
+    match read {
+        Some(read) => read.axis,
+        None => unreachable!(),
     }
 }
 
-fn grid_of(alloc: Global, axes: &Value) -> Result<ReadDomain, CovFault>
-    ensures answer { GivesUnlessMemory (λ r. r) result (domains.grid_of (view axes.now)) }
-    ensures counted { IfOk result (λ r. AreCounted r.domain) }
+// The first value of an axis, and 0 where there is none.
+fn value_of(read: &Option<ReadAxis>) -> i64
+    ensures { result ≡ domains.value_of read.now }
 {
-    let t = axis_if_given(alloc, axes, CoordinateName::T)?;
-    let z = axis_if_given(alloc, axes, CoordinateName::Z)?;
-    let y = axis_at(alloc, axes, CoordinateName::Y)?;
-    let x = axis_at(alloc, axes, CoordinateName::X)?;
-    let turned = Turned {
-        t: is_turned_round(&t),
-        z: is_turned_round(&z),
-        y: y.turned,
-        x: x.turned,
-    };
-    let domain = Domain::Grid {
-        t: axis_in(t),
-        z: axis_in(z),
-        y: y.axis,
-        x: x.axis,
-    };
-    Ok(ReadDomain { domain, turned })
+    match read {
+        Some(read) => read.axis.values()[0],
+        None => 0,
+    }
 }
 
-fn point_of(alloc: Global, axes: &Value) -> Result<ReadDomain, CovFault>
-    ensures answer { GivesUnlessMemory (λ r. r) result (domains.point_of (view axes.now)) }
-    ensures counted { IfOk result (λ r. AreCounted r.domain) }
+fn value_in(read: &Option<ReadAxis>) -> Option<i64>
+    ensures { result ≡ domains.value_in read.now }
 {
-    let t = single_if_given(alloc, axes, CoordinateName::T)?;
-    let z = single_if_given(alloc, axes, CoordinateName::Z)?;
-    let y = single_at(alloc, axes, CoordinateName::Y)?;
-    let x = single_at(alloc, axes, CoordinateName::X)?;
-    Ok(ReadDomain {
-        domain: Domain::Point { t, z, y, x },
-        turned: none_turned(),
-    })
+    match read {
+        Some(_) => Some(value_of(read)),
+        None => None,
+    }
 }
 
-fn series_of(alloc: Global, axes: &Value) -> Result<ReadDomain, CovFault>
-    ensures answer { GivesUnlessMemory (λ r. r) result (domains.series_of (view axes.now)) }
-    ensures counted { IfOk result (λ r. AreCounted r.domain) }
+// The domain of these axes.
+fn domain_formed(kind: DomainType, read: ReadAxes) -> Domain
+    requires needed { HasNeeded kind read }
+    requires counted { CompositeCounted read.composite }
+    ensures formed { result ≡ domains.domain_formed kind read }
+    ensures counted { AreCounted result }
 {
-    let t = axis_at(alloc, axes, CoordinateName::T)?;
-    let z = single_if_given(alloc, axes, CoordinateName::Z)?;
-    let y = single_at(alloc, axes, CoordinateName::Y)?;
-    let x = single_at(alloc, axes, CoordinateName::X)?;
-    let turned = Turned {
-        t: t.turned,
-        z: false,
-        y: false,
-        x: false,
-    };
-    let domain = Domain::PointSeries { t: t.axis, z, y, x };
-    Ok(ReadDomain { domain, turned })
-}
-
-fn profile_of(alloc: Global, axes: &Value) -> Result<ReadDomain, CovFault>
-    ensures answer { GivesUnlessMemory (λ r. r) result (domains.profile_of (view axes.now)) }
-    ensures counted { IfOk result (λ r. AreCounted r.domain) }
-{
-    let t = single_if_given(alloc, axes, CoordinateName::T)?;
-    let z = axis_at(alloc, axes, CoordinateName::Z)?;
-    let y = single_at(alloc, axes, CoordinateName::Y)?;
-    let x = single_at(alloc, axes, CoordinateName::X)?;
-    let turned = Turned {
-        t: false,
-        z: z.turned,
-        y: false,
-        x: false,
-    };
-    let domain = Domain::VerticalProfile { t, z: z.axis, y, x };
-    Ok(ReadDomain { domain, turned })
-}
-
-fn multi_point_of(alloc: Global, axes: &Value) -> Result<ReadDomain, CovFault>
-    ensures answer { GivesUnlessMemory (λ r. r) result (domains.multi_point_of (view axes.now)) }
-    ensures counted { IfOk result (λ r. AreCounted r.domain) }
-{
-    let t = single_if_given(alloc, axes, CoordinateName::T)?;
-    let composite = composite_at(alloc, axes, TupleKind::Places)?;
-    let domain = Domain::MultiPoint {
+    let ReadAxes {
         t,
-        has_z: composite.has_z,
-        spots: composite.tuples,
-    };
-    Ok(ReadDomain {
-        domain,
-        turned: none_turned(),
-    })
-}
-
-// Steps have levels of their own only where the trajectory has no level.
-fn kind_of_steps(level: Option<i64>) -> TupleKind
-    ensures { result ≡ domains.kind_of_steps level }
-{
-    match level {
-        Some(_) => TupleKind::LevelSteps,
-        None => TupleKind::Steps,
-    }
-}
-
-fn trajectory_of(alloc: Global, axes: &Value) -> Result<ReadDomain, CovFault>
-    ensures answer { GivesUnlessMemory (λ r. r) result (domains.trajectory_of (view axes.now)) }
-    ensures counted { IfOk result (λ r. AreCounted r.domain) }
-{
-    let z = single_if_given(alloc, axes, CoordinateName::Z)?;
-    let composite = composite_at(alloc, axes, kind_of_steps(z))?;
-    let domain = Domain::Trajectory {
         z,
-        has_z: composite.has_z,
-        steps: composite.tuples,
-    };
-    Ok(ReadDomain {
-        domain,
-        turned: none_turned(),
-    })
-}
-
-fn domain_of_type(alloc: Global, axes: &Value, kind: DomainType) -> Result<ReadDomain, CovFault>
-    ensures answer { GivesUnlessMemory (λ r. r) result (domains.domain_of_type kind (view axes.now)) }
-    ensures counted { IfOk result (λ r. AreCounted r.domain) }
-{
+        y,
+        x,
+        composite,
+    } = read;
     match kind {
-        DomainType::Grid => grid_of(alloc, axes),
-        DomainType::Point => point_of(alloc, axes),
-        DomainType::PointSeries => series_of(alloc, axes),
-        DomainType::VerticalProfile => profile_of(alloc, axes),
-        DomainType::MultiPoint => multi_point_of(alloc, axes),
-        DomainType::Trajectory => trajectory_of(alloc, axes),
+        DomainType::Grid => Domain::Grid {
+            t: axis_in(t),
+            z: axis_in(z),
+            y: axis_of(y),
+            x: axis_of(x),
+        },
+        DomainType::Point => Domain::Point {
+            t: value_in(&t),
+            z: value_in(&z),
+            y: value_of(&y),
+            x: value_of(&x),
+        },
+        DomainType::PointSeries => Domain::PointSeries {
+            t: axis_of(t),
+            z: value_in(&z),
+            y: value_of(&y),
+            x: value_of(&x),
+        },
+        DomainType::VerticalProfile => Domain::VerticalProfile {
+            t: value_in(&t),
+            z: axis_of(z),
+            y: value_of(&y),
+            x: value_of(&x),
+        },
+        DomainType::MultiPoint => {
+            let places = tuples_of(composite);
+            Domain::MultiPoint {
+                t: value_in(&t),
+                has_z: places.has_z,
+                spots: places.tuples,
+            }
+        }
+        DomainType::Trajectory => {
+            let places = tuples_of(composite);
+            Domain::Trajectory {
+                z: value_in(&z),
+                has_z: places.has_z,
+                steps: places.tuples,
+            }
+        }
     }
 }
 
-// The type of a domain: Missing, WrongType, UnsupportedDomain.
-fn type_at(alloc: Global, found: Option<&Value>) -> Result<DomainType, CovFault>
-    ensures { GivesUnlessMemory (λ k. k) result (domains.type_at (option_map (λ v. view v.now) found.entry)) }
+fn tuples_of(read: Option<ReadTuples>) -> ReadTuples
+    requires { IsSome read }
+    ensures { result ≡ domains.tuples_of read }
 {
-    let found = found_or_missing(found, Member::DomainType)?;
-    let name = text_at(found, Member::DomainType)?;
-    match type_named(name) {
-        Some(kind) => Ok(kind),
-        None => Err(unsupported_domain(alloc, name)),
+    match read {
+        Some(read) => read,
+        None => unreachable!(),
     }
 }
 
-// The axes of a domain of a type: Missing, WrongType.
-fn axes_at(tree: &Value, kind: DomainType) -> Result<&Value, CovFault>
-    ensures { Gives (λ v. view v.now) result (domains.axes_at kind (view tree.now)) }
+// The domain of these axes, and which of them were turned round.
+fn formed(kind: DomainType, read: ReadAxes) -> ReadDomain
+    requires needed { HasNeeded kind read }
+    requires counted { CompositeCounted read.composite }
+    ensures formed { result ≡ domains.formed kind read }
+    ensures counted { AreCounted result.domain }
 {
-    let axes = need(tree, "axes", Member::Axes)?;
-    let members = object_at(axes, Member::Axes)?;
-    if !all_keys(kind, members) {
-        return Err(CovFault::WrongType(Member::Axes));
-    }
-    Ok(axes)
+    let turned = Turned {
+        t: is_turned_round(&read.t),
+        z: is_turned_round(&read.z),
+        y: is_turned_round(&read.y),
+        x: is_turned_round(&read.x),
+    };
+    let domain = domain_formed(kind, read);
+    ReadDomain { domain, turned }
 }
 
-/// The domain of a tree, whose type was found there or elsewhere: its type, the names of its axes, and then axis by axis.
-pub fn domain_of(alloc: Global, tree: &Value, found: Option<&Value>) -> Result<ReadDomain, CovFault>
-    ensures answer { GivesUnlessMemory (λ r. r) result (domains.domain_of (option_map (λ v. view v.now) found.entry) (view tree.now)) }
-    ensures axes { IfOk result (λ r. HasAxes r.domain) }
-    ensures tuples { IfOk result (λ r. HasTuples r.domain) }
+// The domain of a tree: its type, the names of its axes, and then axis by axis.
+fn domain_read(alloc: Global, tree: &Value, found: Option<&Value>) -> Result<ReadDomain, CovFault>
+    ensures answer { GivesUnlessMemory (λ read. read) result (domains.domain_of (option_map (λ v. view v.now) found.entry) (view tree.now)) }
+    ensures counted { IfOk result (λ read. AreCounted read.domain) }
 {
     let kind = type_at(alloc, found)?;
     let axes = axes_at(tree, kind)?;
-    domain_of_type(alloc, axes, kind)
+    let read = axes_read(alloc, axes, kind)?;
+    Ok(formed(kind, read))
+}
+
+/// The domain of a tree, whose type was found there or elsewhere, or the fault of the first check that isn't passed: of its
+/// type, the names of its axes, and then axis by axis.
+pub fn domain_of(alloc: Global, tree: &Value, found: Option<&Value>) -> Result<ReadDomain, CovFault>
+    ensures stands { IfOk result (λ read. StandsForDomain (option_map (λ v. view v.now) found.entry) (view tree.now) read.turned read.domain) }
+    ensures refused { IfErr result (λ fault. fault ≢ CovFault.OutOfMemory → DomainRows (option_map (λ v. view v.now) found.entry) (view tree.now) (Err fault)) }
+    ensures stands_not { IfErr result (λ fault. fault ≢ CovFault.OutOfMemory
+        → (read : ReadDomain) → ¬ (StandsForDomain (option_map (λ v. view v.now) found.entry) (view tree.now) read.turned read.domain)) }
+    ensures axes { IfOk result (λ read. HasAxes read.domain) }
+    ensures tuples { IfOk result (λ read. HasTuples read.domain) }
+    ensures answer { GivesUnlessMemory (λ read. read) result (domains.domain_of (option_map (λ v. view v.now) found.entry) (view tree.now)) }
+{
+    instants_are_read();
+    domain_read(alloc, tree, found)
 }

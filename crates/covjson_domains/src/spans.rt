@@ -1,6 +1,7 @@
 //! Axes of numbers by their first value, their last, and how many there are (OGC 21-069r2, regularly spaced axes).
-ghost use Rattle.std.specs.Prelude.{◌≡◌, ◌≤◌, ◌<◌, ◌^◌, ◌+ℤ◌, ◌-ℤ◌, ◌*ℤ◌, IfOk, pos, unsigned_abs, true};
+ghost use Rattle.std.specs.Prelude.{◌≡◌, ◌≤◌, ◌<◌, ◌^◌, ◌+ℤ◌, ◌-ℤ◌, ◌*◌, ◌*ℤ◌, IfOk, pos, unsigned_abs, true};
 ghost use Rattle.serde_json.specs.View.{view, number_view};
+ghost use Rattle.edr_base.specs.Limits.{coordinate_limit, node_limit};
 ghost use Rattle.covjson_value.specs.Coverages.{IsCoordinate};
 ghost use Rattle.covjson_checks.specs.Answers.{Gives, GivesUnlessMemory};
 ghost use Rattle.covjson_checks.specs.Members as members;
@@ -65,13 +66,9 @@ fn stepped(alloc: Global, first: i64, step: i64, count: usize) -> Result<Vec<i64
     requires last { IsCoordinate (first +ℤ step *ℤ (pos count -ℤ pos 1)) }
     ensures { GivesUnlessMemory (λ v. v.items) result (Ok (axes.stepped first step count)) }
 {
-    let Ok(mut values) = Vec::with_capacity(alloc, count) else {
-        return Err(CovFault::OutOfMemory);
-    };
+    let mut values = Vec::with_capacity(alloc, count)?;
     for place in 0..count {
-        if values.push(first + place as i64 * step).is_err() {
-            return Err(CovFault::OutOfMemory);
-        }
+        values.push(first + place as i64 * step)?;
     }
     Ok(values)
 }
@@ -82,7 +79,7 @@ fn step_of(first: i128, last: i128, count: i128) -> i128
     requires within { axes.is_span_within first last count ≡ true }
     ensures regular { axes.stepped first result (unsigned_abs count) ≡ axes.regular first last (unsigned_abs count) }
     ensures reaches { first +ℤ result *ℤ (count -ℤ pos 1) ≡ last }
-    ensures short { unsigned_abs result ≤ 200000000 }
+    ensures short { unsigned_abs result ≤ 2 * coordinate_limit }
 {
     if count <= 1 {
         0

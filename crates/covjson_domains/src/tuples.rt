@@ -5,14 +5,14 @@ ghost use Rattle.serde_json.specs.Find.{as_array};
 ghost use Rattle.covjson_value.specs.declared.domains.CoordinateName.TheVariants.{T};
 ghost use Rattle.covjson_value.specs.Domains.{coordinate};
 ghost use Rattle.covjson_checks.specs.Answers.{Gives, GivesUnlessMemory};
-ghost use Rattle.covjson_domains.specs.TupleAnswers.{tuples_from, tuples_of_items, composite_at};
+ghost use Rattle.covjson_domains.specs.TupleAnswers.{tuples_from, tuples_of_items};
 ghost use Rattle.covjson_domains.specs.TupleAnswers as tuples;
 
-use crate::axes::{key_of, time_at, value_items};
-use covjson_checks::{CovFault, Member, is_within, list_at, need, object_at, part};
-use edr_json::{is_text, text_or_empty, whole_of};
+use crate::axes::{time_at, value_items};
+use covjson_checks::{CovFault, Member, is_within, list_at, object_at, part};
 use covjson_value::CoordinateName;
 use edr_base::{COORDINATE_LIMIT, Items, Position};
+use edr_json::{is_text, text_or_empty, whole_of};
 use serde_json::Value;
 use std::alloc::Global;
 
@@ -61,7 +61,12 @@ fn names_of(kind: TupleKind, has_z: bool) -> &'static [CoordinateName]
         }
         TupleKind::Steps | TupleKind::LevelSteps => {
             if has_z {
-                &[CoordinateName::T, CoordinateName::X, CoordinateName::Y, CoordinateName::Z]
+                &[
+                    CoordinateName::T,
+                    CoordinateName::X,
+                    CoordinateName::Y,
+                    CoordinateName::Z,
+                ]
             } else {
                 &[CoordinateName::T, CoordinateName::X, CoordinateName::Y]
             }
@@ -86,7 +91,7 @@ fn are_keys(names: &[CoordinateName], items: &Vec<Value>) -> bool
         return false;
     }
     for place in 0..names.len() {
-        if !is_text(&items[place], key_of(names[place])) {
+        if !is_text(&items[place], names[place].letter()) {
             return false;
         }
     }
@@ -181,7 +186,11 @@ fn tuples_pass(test: Test, names: &[CoordinateName], items: &Vec<Value>) -> bool
 }
 
 // The value of a coordinate, where the tuple has it.
-fn value_of<'a>(name: CoordinateName, names: &[CoordinateName], items: &'a Vec<Value>) -> Option<&'a Value>
+fn value_of<'a>(
+    name: CoordinateName,
+    names: &[CoordinateName],
+    items: &'a Vec<Value>,
+) -> Option<&'a Value>
     requires { length names.now ≡ length items.now.items }
     ensures { option_map (λ v. view v.now) result ≡ tuples.value_of name names.now (items_view items.now.items) }
 {
@@ -243,14 +252,10 @@ fn read_tuples(
     requires { tuples.tuples_pass Test.Within names.now (items_view items.now.items) ≡ true }
     ensures { GivesUnlessMemory (λ v. v.items) result (tuples_from names.now 0 (items_view items.now.items)) }
 {
-    let Ok(mut found) = Vec::with_capacity(alloc, items.len()) else {
-        return Err(CovFault::OutOfMemory);
-    };
+    let mut found = Vec::with_capacity(alloc, items.len())?;
     for (place, item) in items.iter().enumerate() {
         let tuple = tuple_at(names, place, item)?;
-        if found.push(tuple).is_err() {
-            return Err(CovFault::OutOfMemory);
-        }
+        found.push(tuple)?;
     }
     Ok(found)
 }
@@ -291,12 +296,11 @@ fn tuples_of_items(
     Ok(found)
 }
 
-/// The composite axis: Missing, then its form, its numbers, its times and their order.
-pub fn composite_at(alloc: Global, axes: &Value, kind: TupleKind) -> Result<ReadTuples, CovFault>
-    ensures answer { GivesUnlessMemory (λ r. r) result (composite_at kind (view axes.now)) }
+/// The tuples of a composite axis: its form, its numbers, its times and their order.
+pub fn tuples_read(alloc: Global, axis: &Value, kind: TupleKind) -> Result<ReadTuples, CovFault>
+    ensures answer { GivesUnlessMemory (λ r. r) result (tuples.tuples_read kind (view axis.now)) }
     ensures counted { IfOk result (λ r. length r.tuples < 2 ^ 64) }
 {
-    let axis = need(axes, "composite", Member::Composite)?;
     let has_z = axis_has_z(axis, kind)?;
     let items = value_items(axis, Member::Composite)?;
     let found = tuples_of_items(alloc, names_of(kind, has_z), items)?;

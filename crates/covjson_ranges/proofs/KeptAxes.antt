@@ -3,12 +3,13 @@ use Rattle.std.proofs.Common.{◌≡◌, ℕ, ◌+◌, ◌-◌, ◌*◌, if◌th
 use Rattle.std.proofs.lemmas.Bool.{or_right}
 use Rattle.std.proofs.lemmas.List.Elements.{All-nil, All-cons}
 use Rattle.covjson_value.specs.declared.domains.Domain.{Domain}
+use Rattle.edr_chunk.specs.RowMajor.{row_major}
 use Rattle.covjson_checks.specs.declared.turned.Turned.{Turned}
 use Rattle.covjson_ranges.specs.declared.places.Places.{Places}
 use Rattle.covjson_value.specs.declared.axis_names.AxisName.{AxisName}
 use Rattle.covjson_value.specs.declared.axis_names.AxisName.TheVariants.{T, Z, Y, X, Composite}
 use Rattle.covjson_value.specs.AxisNames.{axis_key}
-use Rattle.covjson_ranges.specs.Ranges.{length_of, place_on, is_range_turned, is_named, AreDistinct, AreInside, row_major, number_of, tree_place, tree_number}
+use Rattle.covjson_ranges.specs.Ranges.{length_of, place_on, is_range_turned, is_named, AreDistinct, AreInside, number_of, tree_place, tree_number}
 use Rattle.covjson_ranges.specs.Orders.{IsUnturned}
 use Rattle.covjson_ranges.proofs.PlaceNumbers.{row_major_same, usual, passed_over}
 

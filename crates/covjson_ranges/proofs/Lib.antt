@@ -1,9 +1,8 @@
-pub mod OrderTests
 pub mod WrittenRangeAxes
 pub mod WrittenRanges
 pub mod RangeParts
+pub mod CheckRows
 pub mod ShapeParts
-pub mod TreePlaces
 pub mod SampleLemmas
 pub mod RangeLaws
 pub mod PlaceNumbers
@@ -13,3 +12,4 @@ pub mod OrderLemmas
 pub mod RowLemmas
 pub mod RangeCounts
 pub mod RangeLemmas
+pub mod ValidRanges

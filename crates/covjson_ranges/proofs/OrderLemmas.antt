@@ -7,8 +7,8 @@ use Rattle.covjson_value.specs.Domains.{count_of}
 use Rattle.covjson_checks.specs.declared.turned.Turned.{Turned}
 use Rattle.covjson_ranges.specs.declared.places.Places.{Places}
 use Rattle.covjson_value.specs.declared.axis_names.AxisName.{AxisName}
-use Rattle.covjson_ranges.specs.Ranges.{length_of, is_named, AreInside, number_of, tree_number, AreRangeAxes}
-use Rattle.covjson_ranges.specs.Orders.{below, places_at, value_in_tree, ordered, AreInOrder, IsUsual, IsUnturned}
+use Rattle.covjson_ranges.specs.Ranges.{length_of, is_named, AreInside, number_of, tree_number, AreRangeAxes, AreInOrder}
+use Rattle.covjson_ranges.specs.Orders.{below, places_at, value_in_tree, ordered, IsUsual, IsUnturned}
 use Rattle.covjson_ranges.proofs.KeptAxes.{kept, kept_number_of}
 use Rattle.covjson_ranges.proofs.PlaceLemmas.{number_inside, tree_number_once, tree_number_inside, places_at_inside, places_at_number}
 

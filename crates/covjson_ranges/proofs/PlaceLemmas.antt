@@ -4,14 +4,16 @@ use Rattle.std.proofs.lemmas.List.{drop_more, drop_all}
 use Rattle.std.proofs.lemmas.Nat.{mod_below}
 use Rattle.covjson_value.specs.declared.domains.Domain.{Domain}
 use Rattle.covjson_value.specs.Domains.{count_of}
-use Rattle.covjson_value.proofs.Counts.{count_is}
+use Rattle.covjson_value.specs.CountLaws.{count_is}
+use Rattle.edr_chunk.specs.RowMajor.{row_major}
+use Rattle.edr_chunk.specs.RowMajorLaws.{along, row_major-below, row_major-rises}
 use Rattle.covjson_checks.specs.declared.turned.Turned.{Turned}
 use Rattle.covjson_ranges.specs.declared.places.Places.{Places}
 use Rattle.covjson_value.specs.declared.axis_names.AxisName.{AxisName}
 use Rattle.covjson_value.specs.declared.axis_names.AxisName.TheVariants.{T, Z, Y, X, Composite}
-use Rattle.covjson_ranges.specs.Ranges.{length_of, place_on, is_range_turned, AreInside, row_major, number_of, tree_place, tree_number, AreRangeAxes}
+use Rattle.covjson_ranges.specs.Ranges.{length_of, place_on, is_range_turned, AreInside, number_of, tree_place, tree_number, AreRangeAxes}
 use Rattle.covjson_ranges.specs.Orders.{places_at}
-use Rattle.covjson_ranges.proofs.PlaceNumbers.{whole, row_major_below, row_major_above, row_major_same, product_whole, usual_once, usual_below, first_below, back, some_factors, each_axis}
+use Rattle.covjson_ranges.proofs.PlaceNumbers.{whole, row_major_same, product_whole, usual_once, usual_below, first_below, back, some_factors, each_axis}
 
 -- the count is the product of the axes' lengths
 pub count_whole : (domain : Domain) → count_of domain ≡ whole (length_of domain)
@@ -49,7 +51,8 @@ pub tree_number_inside : (domain : Domain) (turned : Turned) (names : List AxisN
 tree_number_inside domain turned names places axes inside =
     let lengths = length_of domain in
     let some : (name : AxisName) → 0 < lengths name = λ name. omega (arith, inside name) in
-    let below = row_major_below lengths (tree_place domain turned places) (tree_place_inside domain turned places inside) names 0 1 (omega arith) in
+    let on = along (λ name. tree_place domain turned places name < lengths name) (tree_place_inside domain turned places inside) names in
+    let below = row_major-below lengths (tree_place domain turned places) names 0 1 (omega arith) on in
     omega (arith, below, product_whole lengths names some axes.distinct axes.all_long, count_whole domain)
 
 -- one name more
@@ -70,12 +73,12 @@ pub step_inside : (domain : Domain) (turned : Turned) (names : List AxisName) (p
 step_inside domain turned names places axes inside i number len place h before is_len is_place =
     let lengths = length_of domain in
     let on = tree_place domain turned places in
-    let some : (n : AxisName) → 0 < lengths n = λ n. omega (arith, inside n) in
+    let on_axes = along (λ n. on n < lengths n) (tree_place_inside domain turned places inside) (drop (i + 1) names) in
     let name = get_or names i T in
     let most : number * lengths name + on name < count_of domain =
     omega (
       arith,
-      row_major_above lengths on some (drop (i + 1) names) (number * lengths name + on name),
+      row_major-rises lengths on (drop (i + 1) names) (number * lengths name + on name) on_axes,
       row_major_step lengths on names i number h,
       before,
       tree_number_inside domain turned names places axes inside,

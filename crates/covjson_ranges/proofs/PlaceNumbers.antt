@@ -1,10 +1,11 @@
 -- Numbers of places in row-major order, below the product of the lengths of the axes.
-use Rattle.std.proofs.Common.{◌≡◌, ℕ, zero, suc, ◌+◌, ◌*◌, ◌/◌, ◌%◌, ◌<◌, ◌≤◌, Bool, true, false, List, [], ◌∷◌, refl, ap, ◌∙◌, subst, arith}
-use Rattle.std.proofs.Math.Nat.{le-mul_of_pos_right}
-use Rattle.std.proofs.lemmas.Nat.{mul-add-lt, same_from_place, div_below, div-add-mod'}
+use Rattle.std.proofs.Common.{◌≡◌, ℕ, zero, suc, ◌+◌, ◌*◌, ◌/◌, ◌%◌, ◌<◌, Bool, true, false, List, [], ◌∷◌, refl, ap, ◌∙◌, subst, arith}
+use Rattle.std.proofs.lemmas.Nat.{div_below, div-add-mod'}
 use Rattle.covjson_value.specs.declared.axis_names.AxisName.{AxisName}
 use Rattle.covjson_value.specs.declared.axis_names.AxisName.TheVariants.{T, Z, Y, X, Composite}
-use Rattle.covjson_ranges.specs.Ranges.{row_major, is_named, AreDistinct}
+use Rattle.edr_chunk.specs.RowMajor.{row_major, places_along}
+use Rattle.edr_chunk.specs.RowMajorLaws.{along, row_major-below, row_major-once}
+use Rattle.covjson_ranges.specs.Ranges.{is_named, AreDistinct}
 
 -- what holds of each axis holds of all
 pub each_axis : (P : AxisName → Type 0) → P T → P Z → P Y → P X → P Composite → (name : AxisName) → P name
@@ -14,36 +15,11 @@ each_axis P t z y x tuple Y = y
 each_axis P t z y x tuple X = x
 each_axis P t z y x tuple Composite = tuple
 
--- the product of the lengths of some axes
-abbrev pub product : (AxisName → ℕ) → List AxisName → ℕ
-product lengths [] = 1
-product lengths (name ∷ names) = lengths name * product lengths names
-
--- and of all
+-- the product of the lengths of all axes
 abbrev pub whole : (AxisName → ℕ) → ℕ
 whole lengths = lengths T * (lengths Z * (lengths Y * (lengths X * lengths Composite)))
 
 -- ---- within the product
-
--- three factors in another order
-regroup : (a b c : ℕ) → (a * b) * c ≡ b * (a * c)
-regroup a b c = omega arith
-
--- a number is below the product of the lengths
-pub row_major_below : (lengths places : AxisName → ℕ) → ((name : AxisName) → places name < lengths name) → (names : List AxisName) (number before : ℕ)
-    → number < before → row_major lengths places names number < before * product lengths names
-row_major_below lengths places below [] number before h = omega arith
-row_major_below lengths places below (name ∷ names) number before h =
-    let one : number * lengths name + places name < lengths name * before = mul-add-lt number (lengths name) (places name) before h (below name) in
-    subst (λ (n : ℕ). row_major lengths places names (number * lengths name + places name) < n) (regroup (lengths name) before (product lengths names))
-    (row_major_below lengths places below names (number * lengths name + places name) (lengths name * before) one)
-
--- and not below the number that it goes on from
-pub row_major_above : (lengths places : AxisName → ℕ) → ((name : AxisName) → 0 < lengths name) → (names : List AxisName) (number : ℕ)
-    → number ≤ row_major lengths places names number
-row_major_above lengths places some [] number = omega arith
-row_major_above lengths places some (name ∷ names) number =
-    omega (arith, le-mul_of_pos_right number (some name), row_major_above lengths places some names (number * lengths name + places name))
 
 -- the length of an axis that is among some, else 1
 abbrev share : Bool → ℕ → ℕ
@@ -77,20 +53,20 @@ fifth : (l p a b c d s : ℕ) → s ≡ 1 → p ≡ a * (b * (c * (d * s))) → 
 fifth l p a b c d s one is = rw (is, one) (omega arith)
 
 -- each of distinct axes has its share once
-product_shares : (lengths : AxisName → ℕ) (names : List AxisName) → AreDistinct names → product lengths names ≡ shares (λ name. is_named name names) lengths
+product_shares : (lengths : AxisName → ℕ) (names : List AxisName) → AreDistinct names → places_along lengths names ≡ shares (λ name. is_named name names) lengths
 product_shares lengths [] h = refl
 product_shares lengths (T ∷ names) h =
-    first (lengths T) (product lengths names) (share (is_named T names) (lengths T)) _ (ap (λ b. share b (lengths T)) h.0) (product_shares lengths names h.1)
+    first (lengths T) (places_along lengths names) (share (is_named T names) (lengths T)) _ (ap (λ b. share b (lengths T)) h.0) (product_shares lengths names h.1)
 product_shares lengths (Z ∷ names) h =
-    second (lengths Z) (product lengths names) (share (is_named T names) (lengths T)) (share (is_named Z names) (lengths Z)) _ (ap (λ b. share b (lengths Z)) h.0) (product_shares lengths names h.1)
+    second (lengths Z) (places_along lengths names) (share (is_named T names) (lengths T)) (share (is_named Z names) (lengths Z)) _ (ap (λ b. share b (lengths Z)) h.0) (product_shares lengths names h.1)
 product_shares lengths (Y ∷ names) h =
-    third (lengths Y) (product lengths names) (share (is_named T names) (lengths T)) (share (is_named Z names) (lengths Z)) (share (is_named Y names) (lengths Y)) _
+    third (lengths Y) (places_along lengths names) (share (is_named T names) (lengths T)) (share (is_named Z names) (lengths Z)) (share (is_named Y names) (lengths Y)) _
     (ap (λ b. share b (lengths Y)) h.0) (product_shares lengths names h.1)
 product_shares lengths (X ∷ names) h =
-    fourth (lengths X) (product lengths names) (share (is_named T names) (lengths T)) (share (is_named Z names) (lengths Z)) (share (is_named Y names) (lengths Y)) (share (is_named X names) (lengths X)) _
+    fourth (lengths X) (places_along lengths names) (share (is_named T names) (lengths T)) (share (is_named Z names) (lengths Z)) (share (is_named Y names) (lengths Y)) (share (is_named X names) (lengths X)) _
     (ap (λ b. share b (lengths X)) h.0) (product_shares lengths names h.1)
 product_shares lengths (Composite ∷ names) h =
-    fifth (lengths Composite) (product lengths names) (share (is_named T names) (lengths T)) (share (is_named Z names) (lengths Z)) (share (is_named Y names) (lengths Y)) (share (is_named X names) (lengths X))
+    fifth (lengths Composite) (places_along lengths names) (share (is_named T names) (lengths T)) (share (is_named Z names) (lengths Z)) (share (is_named Y names) (lengths Y)) (share (is_named X names) (lengths X))
     (share (is_named Composite names) (lengths Composite)) (ap (λ b. share b (lengths Composite)) h.0) (product_shares lengths names h.1)
 
 -- the share of an axis that is among some where it has several values
@@ -102,7 +78,7 @@ share_long false (suc (suc n)) some long = cc (long (omega arith))
 
 -- with each long axis among them their product is that of all
 pub product_whole : (lengths : AxisName → ℕ) (names : List AxisName) → ((name : AxisName) → 0 < lengths name) → AreDistinct names
-    → ((name : AxisName) → 1 < lengths name → is_named name names ≡ true) → product lengths names ≡ whole lengths
+    → ((name : AxisName) → 1 < lengths name → is_named name names ≡ true) → places_along lengths names ≡ whole lengths
 product_whole lengths names some distinct long =
     let same : (name : AxisName) → share (is_named name names) (lengths name) ≡ lengths name = λ name. share_long (is_named name names) (lengths name) (some name) (long name) in
     product_shares lengths names distinct ∙ rw (same T, same Z, same Y, same X, same Composite) refl
@@ -125,11 +101,9 @@ usual lengths places = row_major lengths places (T ∷ Z ∷ Y ∷ X ∷ Composi
 pub usual_once : (lengths places others : AxisName → ℕ) → ((name : AxisName) → places name < lengths name) → ((name : AxisName) → others name < lengths name)
     → usual lengths places ≡ usual lengths others → (name : AxisName) → places name ≡ others name
 usual_once lengths places others in_places in_others same =
-    let tuples = same_from_place _ (places Composite) _ (others Composite) (lengths Composite) (in_places Composite) (in_others Composite) same in
-    let columns = same_from_place _ (places X) _ (others X) (lengths X) (in_places X) (in_others X) tuples.0 in
-    let rows = same_from_place _ (places Y) _ (others Y) (lengths Y) (in_places Y) (in_others Y) columns.0 in
-    let levels = same_from_place _ (places Z) _ (others Z) (lengths Z) (in_places Z) (in_others Z) rows.0 in
-    each_axis (λ name. places name ≡ others name) (omega (arith, levels.0)) levels.1 rows.1 columns.1 tuples.1
+    let all = T ∷ Z ∷ Y ∷ X ∷ Composite ∷ [] in
+    let one = row_major-once lengths places others all 0 0 (along (λ name. places name < lengths name) in_places all) (along (λ name. others name < lengths name) in_others all) same in
+    each_axis (λ name. places name ≡ others name) one.1.0 one.1.1.0 one.1.1.1.0 one.1.1.1.1.0 one.1.1.1.1.1.0
 
 -- factors of 1
 ones : (t z y x n : ℕ) → 1 * (t * (z * (y * (x * (n * 1))))) ≡ t * (z * (y * (x * n)))
@@ -138,7 +112,8 @@ ones t z y x n = omega arith
 -- it is below the product of all lengths
 pub usual_below : (lengths places : AxisName → ℕ) → ((name : AxisName) → places name < lengths name) → usual lengths places < whole lengths
 usual_below lengths places below =
-    let h = row_major_below lengths places below (T ∷ Z ∷ Y ∷ X ∷ Composite ∷ []) 0 1 (omega arith) in
+    let all = T ∷ Z ∷ Y ∷ X ∷ Composite ∷ [] in
+    let h = row_major-below lengths places all 0 1 (omega arith) (along (λ name. places name < lengths name) below all) in
     subst (λ (n : ℕ). usual lengths places < n) (ones (lengths T) (lengths Z) (lengths Y) (lengths X) (lengths Composite)) h
 
 -- ---- by quotients and remainders

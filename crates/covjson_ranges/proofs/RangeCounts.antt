@@ -1,15 +1,16 @@
 -- How many values a range may have: each axis ascends between two bounds, and tuples stand beside axes of one value.
-use Rattle.std.proofs.Common.{◌≡◌, ℕ, zero, suc, add-one, ◌+◌, ◌-◌, ◌*◌, ◌^◌, ◌<◌, ◌≤◌, ℤ, pos, neg_ℤ, ◌+ℤ◌, ◌≤ℤ◌, unsigned_abs, List, length, All, Option, Some, None, refl, arith}
+use Rattle.std.proofs.Common.{◌≡◌, ℕ, zero, suc, add-one, ◌+◌, ◌-◌, ◌*◌, ◌^◌, ◌<◌, ◌≤◌, ℤ, pos, neg_ℤ, ◌+ℤ◌, ◌≤ℤ◌, List, length, All, Option, Some, None, refl, arith}
 use Rattle.std.specs.Prelude.{IfSome, option_map}
 use Rattle.std.proofs.Math.Nat.{mul-le-mul}
 use Rattle.std.proofs.lemmas.Int.{ints}
+use Rattle.edr_base.specs.Limits.{coordinate_limit, earliest_time, latest_time}
 use Rattle.edr_axes.specs.Axes.{value_at, IsAscending, IsAxis}
 use Rattle.covjson_value.specs.declared.domains.CoordinateName.{CoordinateName}
 use Rattle.covjson_value.specs.declared.domains.CoordinateName.TheVariants.{T as Times, Z as Levels, Y as Rows, X as Columns}
 use Rattle.covjson_value.specs.declared.domains.Domain.{Domain}
 use Rattle.covjson_value.specs.declared.domains.Domain.TheVariants.{Grid, Point, PointSeries, VerticalProfile, MultiPoint, Trajectory}
 use Rattle.covjson_value.specs.Domains.{axis_of, axis_length, single}
-use Rattle.covjson_value.specs.Coverages.{IsNamedAxis, HasAxes, HasTuples}
+use Rattle.covjson_value.specs.Coverages.{IsCoordinate, IsNamedAxis, HasAxes, HasTuples}
 use Rattle.covjson_value.specs.declared.axis_names.AxisName.TheVariants.{T, Z, Y, X, Composite}
 use Rattle.covjson_ranges.specs.Ranges.{length_of}
 
@@ -36,14 +37,14 @@ length_between values low high n axis between near =
     omega (arith, ints, last, first_in, last_in, near)
 
 -- a coordinate lies between two bounds
-coordinate_between : (value : ℤ) → unsigned_abs value ≤ 100_000_000 → (neg_ℤ (pos 100_000_000) ≤ℤ value) × (value ≤ℤ pos 100_000_000)
+coordinate_between : (value : ℤ) → IsCoordinate value → (neg_ℤ (pos coordinate_limit) ≤ℤ value) × (value ≤ℤ pos coordinate_limit)
 coordinate_between value h = (omega (arith, ints, h), omega (arith, ints, h))
 
 -- so an axis of coordinates has so many at most
-coordinates_few : (values : List ℤ) → IsAxis values → All (λ value. unsigned_abs value ≤ 100_000_000) values → length values ≤ 200_000_001
+coordinates_few : (values : List ℤ) → IsAxis values → All IsCoordinate values → length values ≤ 200_000_001
 coordinates_few values axis within =
-    let between : AreBetween (neg_ℤ (pos 100_000_000)) (pos 100_000_000) values = λ place inside. coordinate_between (value_at values place) (within place (pos 0) inside) in
-    omega (arith, length_between values (neg_ℤ (pos 100_000_000)) (pos 100_000_000) 200_000_000 axis between (omega (arith, ints)))
+    let between : AreBetween (neg_ℤ (pos coordinate_limit)) (pos coordinate_limit) values = λ place inside. coordinate_between (value_at values place) (within place (pos 0) inside) in
+    omega (arith, length_between values (neg_ℤ (pos coordinate_limit)) (pos coordinate_limit) 200_000_000 axis between (omega (arith, ints)))
 
 -- the most values that an axis may have
 abbrev most : CoordinateName → ℕ
@@ -55,7 +56,7 @@ most Columns = 200_000_001
 -- an axis has no more than that
 named_few : (name : CoordinateName) (values : List ℤ) → IsNamedAxis name values → length values ≤ most name
 named_few Times values h =
-    omega (arith, length_between values (neg_ℤ (pos 62_167_219_200)) (pos 253_402_300_799) 400_000_000_000 h.ascending (λ place inside. h.within place (pos 0) inside) (omega (arith, ints)))
+    omega (arith, length_between values earliest_time latest_time 400_000_000_000 h.ascending (λ place inside. h.within place (pos 0) inside) (omega (arith, ints)))
 named_few Levels values h = coordinates_few values h.ascending h.within
 named_few Rows values h = coordinates_few values h.ascending h.within
 named_few Columns values h = coordinates_few values h.ascending h.within

@@ -1,26 +1,18 @@
--- The kind of a range and its axes: what was checked of them, and what stands.
-use Rattle.std.proofs.Common.{◌≡◌, inl, inr, ℕ, suc, ◌<◌, ◌≤◌, true, not, nat_le, bytes_eq, codes, List, [], ◌∷◌, length, All, option_and_then, Some, None, Ok, refl, ap, ◌∙◌, arith}
-use Rattle.std.specs.Prelude.{⊤}
+-- The axes of a range: what was checked of them, and what stands.
+use Rattle.std.proofs.Common.{◌≡◌, inl, inr, ℕ, suc, ◌<◌, ◌≤◌, true, not, nat_le, List, [], ◌∷◌, length, All, option_and_then, Some, None, Ok, refl, ap, arith}
 use Rattle.std.proofs.lemmas.Bool.{and_parts, and_from, or_right, or_left, not-true, not_from_false, leb-true, le-leb, cases_lt, or_cases}
 use Rattle.std.proofs.lemmas.List.Elements.{All-cons, All-nil, All-head, All-tail}
-use Rattle.std.proofs.lemmas.Slice.Eq.{bytes_eq-Decides}
 use Rattle.serde_json.specs.Data.{Data, null, boolean, number, string, array, object, Items, no_items, item}
-use Rattle.serde_json.specs.Find.{get, as_str}
+use Rattle.serde_json.specs.Find.{as_str}
 use Rattle.covjson_value.specs.declared.domains.Domain.{Domain}
 use Rattle.covjson_value.specs.declared.axis_names.AxisName.{AxisName}
 use Rattle.covjson_value.specs.declared.axis_names.AxisName.TheVariants.{T, Z, Y, X, Composite}
-use Rattle.covjson_checks.specs.declared.faults.Member.TheVariants.{Ranges, DataType}
-use Rattle.edr_base.specs.FirstThatApplies.{check}
-use Rattle.covjson_checks.specs.Members.{need, object_at}
-use Rattle.edr_json.specs.Trees.{text_or_empty}
-use Rattle.edr_json.specs.Trees.{EachStands}
+use Rattle.edr_json.specs.Trees.{EachStands, count_items}
 use Rattle.covjson_value.specs.AxisNames.{axis_key}
-use Rattle.covjson_ranges.specs.Ranges.{StandsForName, HoldsIntegers, length_of, has_range_axis, is_named, AreDistinct, AreRangeAxes, IsOnePlace}
-use Rattle.edr_json.specs.Trees.{count_items}
-use Rattle.covjson_ranges.specs.RangeAnswers.{axis_by_name, axis_named, are_distinct, are_owned, is_kept, are_range_axes, is_one_place, are_integers}
-use Rattle.edr_json.specs.AnswerLaws.{and_then_ok, or_fault_ok, check_ok}
-use Rattle.edr_json.specs.TreeLaws.{text_is}
-use Rattle.covjson_domains.proofs.DomainKeys.{named_one}
+use Rattle.covjson_checks.specs.CheckLaws.{named_one}
+use Rattle.covjson_ranges.specs.Ranges.{StandsForName, length_of, has_range_axis, is_named, AreDistinct, AreRangeAxes, IsOnePlace}
+use Rattle.covjson_ranges.specs.RangeAnswers.{axis_by_name, axis_named, are_distinct, are_owned, is_kept, are_range_axes, is_one_place}
+use Rattle.edr_json.specs.AnswerLaws.{or_fault_ok}
 use Rattle.covjson_ranges.proofs.PlaceNumbers.{each_axis}
 
 -- as many items as values
@@ -30,37 +22,12 @@ stands_count R no_items (v ∷ vs) h = absurd h
 stands_count R (item d ds) [] h = absurd h
 stands_count R (item d ds) (v ∷ vs) h = ap suc (stands_count R ds vs h.1)
 
--- ---- an array of whole numbers
-
--- the checks of the kind tell that whole numbers are held
-pub integers_hold : (d : Data) (x : ⊤) → are_integers d ≡ Ok x → HoldsIntegers d
-integers_hold d x h =
-    let members = and_then_ok (object_at Ranges d) _ x h in
-    let kind = and_then_ok (check (bytes_eq (text_or_empty (get (codes "type") d)) (codes "NdArray")) _) _ x members.2 in
-    let data_type = and_then_ok (need (codes "dataType") DataType d) _ x kind.2 in
-    let is_kind = (bytes_eq-Decides (text_or_empty (get (codes "type") d)) (codes "NdArray")).0 (check_ok _ _ kind.0 kind.1) in
-    let is_type = (bytes_eq-Decides (text_or_empty (Some data_type.0)) (codes "integer")).0 (check_ok _ _ x data_type.2) in
-    record {
-      kind = text_is (get (codes "type") d) _ _ is_kind;
-      data_type = or_fault_ok (get (codes "dataType") d) _ data_type.0 data_type.1 ∙ text_is (Some data_type.0) _ _ is_type;
-    }
-
--- and where they are held the checks pass
-pub integers_answer : (d : Data) → HoldsIntegers d → are_integers d ≡ Ok tt
-integers_answer null h = cc (h.kind)
-integers_answer (boolean b) h = cc (h.kind)
-integers_answer (number n) h = cc (h.kind)
-integers_answer (string s) h = cc (h.kind)
-integers_answer (array ds) h = cc (h.kind)
-integers_answer (object ms) h = rw (h.kind, h.data_type) refl
-
 -- ---- the names of axes
 
 -- an axis is found by its name alone
 key_is : (text : List ℕ) (name : AxisName) → axis_by_name text ≡ Some name → text ≡ axis_key name
 key_is text name h =
-    named_one axis_key text T name _ (named_one axis_key text Z name _ (named_one axis_key text Y name _ (named_one axis_key text X name _
-    (named_one axis_key text Composite name None (λ none. cc))))) h
+    named_one axis_key text T name _ (named_one axis_key text Z name _ (named_one axis_key text Y name _ (named_one axis_key text X name _ (named_one axis_key text Composite name None (λ none. cc))))) h
 
 -- a datum that is found to be a name is the text of that name
 name_is : (d : Data) (name : AxisName) → option_and_then axis_by_name (as_str d) ≡ Some name → StandsForName d name

@@ -6,12 +6,14 @@ use Rattle.std.proofs.lemmas.Nat.{mul-add-lt, div-mul-add, mod-mul-add, mod_belo
 use Rattle.covjson_value.specs.declared.domains.Domain.{Domain}
 use Rattle.covjson_value.specs.Domains.{count_of}
 use Rattle.covjson_checks.specs.declared.turned.Turned.{Turned}
+use Rattle.covjson_checks.specs.Turns.{unturned}
 use Rattle.covjson_ranges.specs.declared.orders.Row.{Row}
 use Rattle.covjson_ranges.specs.declared.places.Places.{Places}
 use Rattle.covjson_value.specs.declared.axis_names.AxisName.{AxisName}
 use Rattle.covjson_value.specs.declared.axis_names.AxisName.TheVariants.{T, Z, Y, X, Composite}
-use Rattle.covjson_ranges.specs.Ranges.{length_of, row_major, tree_place, tree_number, AreRangeAxes}
-use Rattle.covjson_ranges.specs.Orders.{below, places_at, value_in_tree, ascending, in_row, StaysInside, AreRows}
+use Rattle.covjson_ranges.specs.Ranges.{length_of, tree_place, tree_number, AreRangeAxes}
+use Rattle.edr_chunk.specs.RowMajor.{row_major}
+use Rattle.covjson_ranges.specs.Orders.{below, places_at, value_in_tree, in_row, StaysInside, AreRows}
 use Rattle.covjson_ranges.proofs.PlaceLemmas.{count_whole, all_some, tree_number_inside, places_at_inside}
 
 -- ---- numbers that are steps on
@@ -31,10 +33,10 @@ row_major_on lengths near far steps k each (name ∷ names) a b n from =
 
 -- and in a tree
 tree_number_on : (domain : Domain) (turned : Turned) (names : List AxisName) (near far second : Places) (k : ℕ)
-    → ((name : AxisName) → tree_place domain turned far name ≡ tree_place domain turned near name + k * tree_place domain ascending second name)
-    → tree_number domain turned names far ≡ tree_number domain turned names near + k * tree_number domain ascending names second
+    → ((name : AxisName) → tree_place domain turned far name ≡ tree_place domain turned near name + k * tree_place domain unturned second name)
+    → tree_number domain turned names far ≡ tree_number domain turned names near + k * tree_number domain unturned names second
 tree_number_on domain turned names near far second k each =
-    row_major_on (length_of domain) (tree_place domain turned near) (tree_place domain turned far) (tree_place domain ascending second) k each names 0 0 0 (omega arith)
+    row_major_on (length_of domain) (tree_place domain turned near) (tree_place domain turned far) (tree_place domain unturned second) k each names 0 0 0 (omega arith)
 
 -- ---- tuples
 
@@ -59,7 +61,7 @@ tuple_there domain number node tuple is_node is_tuple = rw (is_node, is_tuple) r
 
 -- tuples are steps on from the first
 tuple_on : (domain : Domain) (turned : Turned) (node k : ℕ) (name : AxisName)
-    → tree_place domain turned (tuple_at domain node k) name ≡ tree_place domain turned (tuple_at domain node 0) name + k * tree_place domain ascending second_tuple name
+    → tree_place domain turned (tuple_at domain node k) name ≡ tree_place domain turned (tuple_at domain node 0) name + k * tree_place domain unturned second_tuple name
 tuple_on domain turned node k T = omega arith
 tuple_on domain turned node k Z = omega arith
 tuple_on domain turned node k Y = omega arith
@@ -101,7 +103,7 @@ first_column domain line one some =
 
 -- columns are steps on from the first
 column_on : (domain : Domain) (turned : Turned) (line k : ℕ) → turned.x ≡ false → (name : AxisName)
-    → tree_place domain turned (column_at domain line k) name ≡ tree_place domain turned (column_at domain line 0) name + k * tree_place domain ascending second_column name
+    → tree_place domain turned (column_at domain line k) name ≡ tree_place domain turned (column_at domain line 0) name + k * tree_place domain unturned second_column name
 column_on domain turned line k on T = omega arith
 column_on domain turned line k on Z = omega arith
 column_on domain turned line k on Y = omega arith
@@ -110,7 +112,7 @@ column_on domain turned line k on Composite = omega arith
 
 -- or the first is steps on from them, where they are turned
 column_back : (domain : Domain) (turned : Turned) (line k : ℕ) → turned.x ≡ true → k < length_of domain X → (name : AxisName)
-    → tree_place domain turned (column_at domain line 0) name ≡ tree_place domain turned (column_at domain line k) name + k * tree_place domain ascending second_column name
+    → tree_place domain turned (column_at domain line 0) name ≡ tree_place domain turned (column_at domain line k) name + k * tree_place domain unturned second_column name
 column_back domain turned line k back h T = omega arith
 column_back domain turned line k back h Z = omega arith
 column_back domain turned line k back h Y = omega arith
@@ -134,7 +136,7 @@ by_turn first reach far false back on = on refl
 -- the number of a tuple in a tree, by that of the first at its node
 tuple_number : (domain : Domain) (turned : Turned) (names : List AxisName) (node k : ℕ) → k < length_of domain Composite
     → tree_number domain turned names (places_at domain (node * length_of domain Composite + k))
-    ≡ tree_number domain turned names (places_at domain (node * length_of domain Composite)) + k * tree_number domain ascending names second_tuple
+    ≡ tree_number domain turned names (places_at domain (node * length_of domain Composite)) + k * tree_number domain unturned names second_tuple
 tuple_number domain turned names node k h =
     let tuples = length_of domain Composite in
     let here : places_at domain (node * tuples + k) ≡ tuple_at domain node k =
@@ -145,11 +147,11 @@ tuple_number domain turned names node k h =
     ∙ tuple_there domain (node * tuples + 0) node 0 (div-mul-add node tuples 0 (omega arith)) (mod-mul-add node tuples 0 (omega arith)) in
     ap (tree_number domain turned names) here
     ∙ tree_number_on domain turned names (tuple_at domain node 0) (tuple_at domain node k) second_tuple k (tuple_on domain turned node k)
-    ∙ ap (λ p. tree_number domain turned names p + k * tree_number domain ascending names second_tuple) (sym first)
+    ∙ ap (λ p. tree_number domain turned names p + k * tree_number domain unturned names second_tuple) (sym first)
 
 -- tuples are rows
 tuples_in_rows : (domain : Domain) (turned : Turned) (names : List AxisName) → 1 < length_of domain Composite
-    → AreRows domain turned names (record { length = length_of domain Composite; step = tree_number domain ascending names second_tuple; turned = false })
+    → AreRows domain turned names (record { length = length_of domain Composite; step = tree_number domain unturned names second_tuple; turned = false })
 tuples_in_rows domain turned names long = record {
   some = omega arith;
   whole = whole_rows (count_of domain) (length_of domain T * (length_of domain Z * (length_of domain Y * length_of domain X))) (length_of domain Composite) (omega arith)
@@ -162,25 +164,25 @@ tuples_in_rows domain turned names long = record {
 column_number : (domain : Domain) (turned : Turned) (names : List AxisName) (line k : ℕ) → length_of domain Composite ≡ 1 → k < length_of domain X
     → turned.x ≡ false
     → tree_number domain turned names (places_at domain (line * length_of domain X + k))
-    ≡ tree_number domain turned names (places_at domain (line * length_of domain X)) + k * tree_number domain ascending names second_column
+    ≡ tree_number domain turned names (places_at domain (line * length_of domain X)) + k * tree_number domain unturned names second_column
 column_number domain turned names line k one h on =
     ap (tree_number domain turned names) (column_there domain line k one h)
     ∙ tree_number_on domain turned names (column_at domain line 0) (column_at domain line k) second_column k (column_on domain turned line k on)
-    ∙ ap (λ p. tree_number domain turned names p + k * tree_number domain ascending names second_column) (sym (first_column domain line one (omega arith)))
+    ∙ ap (λ p. tree_number domain turned names p + k * tree_number domain unturned names second_column) (sym (first_column domain line one (omega arith)))
 
 -- or that of the first from it, where columns are turned
 column_turned : (domain : Domain) (turned : Turned) (names : List AxisName) (line k : ℕ) → length_of domain Composite ≡ 1 → k < length_of domain X
     → turned.x ≡ true
     → tree_number domain turned names (places_at domain (line * length_of domain X))
-    ≡ tree_number domain turned names (places_at domain (line * length_of domain X + k)) + k * tree_number domain ascending names second_column
+    ≡ tree_number domain turned names (places_at domain (line * length_of domain X + k)) + k * tree_number domain unturned names second_column
 column_turned domain turned names line k one h back =
     ap (tree_number domain turned names) (first_column domain line one (omega arith))
     ∙ tree_number_on domain turned names (column_at domain line k) (column_at domain line 0) second_column k (column_back domain turned line k back h)
-    ∙ ap (λ p. tree_number domain turned names p + k * tree_number domain ascending names second_column) (sym (column_there domain line k one h))
+    ∙ ap (λ p. tree_number domain turned names p + k * tree_number domain unturned names second_column) (sym (column_there domain line k one h))
 
 -- with the length and the step that are told
 pub tuple_rows : (domain : Domain) (turned : Turned) (names : List AxisName) (length step : ℕ) → 1 < length → length ≡ length_of domain Composite
-    → step ≡ tree_number domain ascending names second_tuple → AreRows domain turned names (record { length = length; step = step; turned = false })
+    → step ≡ tree_number domain unturned names second_tuple → AreRows domain turned names (record { length = length; step = step; turned = false })
 tuple_rows domain turned names length step long is_length is_step =
     rw (is_length, is_step) (tuples_in_rows domain turned names (omega (arith, is_length)))
 
@@ -190,11 +192,11 @@ one_tuple domain some short = let all = all_some domain 0 some in omega (arith, 
 
 -- columns are rows, where there is one tuple
 columns_in_rows : (domain : Domain) (turned : Turned) (names : List AxisName) → 1 < length_of domain X → length_of domain Composite ≡ 1
-    → AreRows domain turned names (record { length = length_of domain X; step = tree_number domain ascending names second_column; turned = turned.x })
+    → AreRows domain turned names (record { length = length_of domain X; step = tree_number domain unturned names second_column; turned = turned.x })
 columns_in_rows domain turned names long one =
     let number = tree_number domain turned names in
     let columns = length_of domain X in
-    let step = tree_number domain ascending names second_column in
+    let step = tree_number domain unturned names second_column in
     record {
       some = omega arith;
       whole = whole_rows (count_of domain) (length_of domain T * (length_of domain Z * length_of domain Y)) columns (omega arith)
@@ -207,7 +209,7 @@ columns_in_rows domain turned names long one =
 
 -- with the length and the step that are told
 pub column_rows : (domain : Domain) (turned : Turned) (names : List AxisName) (length step : ℕ) → 1 < length → length ≡ length_of domain X
-    → step ≡ tree_number domain ascending names second_column → length_of domain Composite ≤ 1 → 0 < count_of domain
+    → step ≡ tree_number domain unturned names second_column → length_of domain Composite ≤ 1 → 0 < count_of domain
     → AreRows domain turned names (record { length = length; step = step; turned = turned.x })
 column_rows domain turned names length step long is_length is_step short some =
     rw (is_length, is_step) (columns_in_rows domain turned names (omega (arith, is_length)) (one_tuple domain some short))

@@ -1,171 +1,233 @@
--- The values of a range: what was checked of the items of a list, and the samples that they stand for.
-use Rattle.std.proofs.Common.{◌≡◌, ℕ, zero, suc, ◌<◌, ◌≤◌, ℤ, true, ◌||◌, ◌==◌, codes, List, [], ◌∷◌, length, get_or, All, Option, Some, None, Ok, refl, sym, ap, ◌∙◌, subst, unsigned_abs, arith}
+-- The values of a range: the rows of their checks, and the computed answer.
+use Rattle.std.proofs.Common.{◌≡◌, ◌==◌, inl, ℕ, ℤ, Bool, true, false, ◌&&◌, ◌||◌, if◌then◌else◌, codes, List, [], ◌∷◌, Option, Some, None, Ok, Err, refl, sym, ap, ◌∙◌, subst, unsigned_abs}
 use Rattle.std.specs.Prelude.{IfSome, is_some}
-use Rattle.std.proofs.lemmas.Bool.{or_right, le-leb, eqb-true, eq-eqb}
-use Rattle.std.proofs.lemmas.List.Elements.{All-cons, All-nil}
-use Rattle.serde_json.specs.Data.{Data, null, boolean, number, string, array, object, Items, no_items, item}
-use Rattle.serde_json.specs.Find.{get, as_null, as_number}
-use Rattle.covjson_value.specs.Coverages.{IsSample}
+use Rattle.std.proofs.lemmas.Bool.{or_right, le-leb, leb-true, eqb-true, eq-eqb, and_parts, and_from}
+use Rattle.std.proofs.lemmas.List.Elements.{All-cons, All-nil, All-head, All-tail}
+use Rattle.serde_json.specs.Data.{Data, null, boolean, number, string, array, object, Items, no_items, item, Num}
+use Rattle.serde_json.specs.Find.{get, as_null, as_number, as_array}
+use Rattle.edr_base.specs.FirstThatApplies.{Check, Find, Gives, and_then, check}
 use Rattle.edr_base.specs.Limits.{sample_limit}
+use Rattle.edr_json.specs.Trees.{whole_of, count_items, EachStands}
+use Rattle.edr_json.specs.AnswerLaws.{and_then_ok}
+use Rattle.edr_json.specs.TreeLaws.{as_array_some}
+use Rattle.covjson_value.specs.Coverages.{IsSample}
 use Rattle.covjson_checks.specs.declared.faults.Member.{Member}
 use Rattle.covjson_checks.specs.declared.faults.Member.TheVariants.{Values}
-use Rattle.covjson_checks.specs.declared.faults.CovFault.TheVariants.{WrongType, NotWhole, WrongCount}
+use Rattle.covjson_checks.specs.declared.faults.CovFault.TheVariants.{Missing, WrongType, NotWhole, OutOfRange, WrongCount}
 use Rattle.covjson_checks.specs.declared.members.Wanted.TheVariants.{NumbersOrNulls, WholesOrNulls}
 use Rattle.covjson_checks.specs.Answers.{Answer, each}
-use Rattle.edr_base.specs.FirstThatApplies.{and_then, check}
-use Rattle.covjson_checks.specs.Members.{need, list_at, whole_within, whole_or_null, need_each}
-use Rattle.edr_json.specs.Trees.{whole_of}
-use Rattle.edr_json.specs.Trees.{EachStands}
-use Rattle.covjson_ranges.specs.Ranges.{StandsForSample, HasSample}
-use Rattle.edr_json.specs.Trees.{count_items, item_at}
+use Rattle.covjson_checks.specs.Members.{is_within, whole_within, whole_or_null, all_wanted}
+use Rattle.covjson_checks.specs.CheckLaws.{each_stands, whole_within_stands, all_wanted_given}
+use Rattle.covjson_ranges.specs.Ranges.{StandsForSample, AreSamples}
 use Rattle.covjson_ranges.specs.RangeAnswers.{samples_of, samples_in}
-use Rattle.edr_json.specs.AnswerLaws.{and_then_ok, or_fault_ok, check_ok}
-use Rattle.covjson_checks.specs.CheckLaws.{list_ok, each_stands, each_all, whole_within_stands}
-use Rattle.covjson_checks.specs.CheckLaws.{each_given, all_wanted_given}
+use Rattle.covjson_ranges.specs.RangeRows.{StandsForNumber, ValuesRows}
+use Rattle.covjson_ranges.proofs.CheckRows.{LeadTo, gives_leads, check_leads, find_leads, find_tested, row_passed}
+use Rattle.covjson_ranges.proofs.ShapeParts.{each_wanted}
 
 -- ---- one sample
 
--- a value within a limit, or none
-abbrev IsShort : ℕ → Option ℤ → Type 0
-IsShort limit v = IfSome v (λ z. unsigned_abs z ≤ limit)
-
--- a whole number that was read stands there, within the limit
-number_stands : (m : Member) (limit : ℕ) (d : Data) (v : Option ℤ) → and_then (whole_within m limit d) (λ z. Ok (Some z)) ≡ Ok v → StandsForSample d v × IsShort limit v
+-- a whole number that was read stands there
+number_stands : (m : Member) (limit : ℕ) (d : Data) (v : Option ℤ) → and_then (whole_within m limit d) (λ z. Ok (Some z)) ≡ Ok v → StandsForSample d v
 number_stands m limit d None h =
     let a = and_then_ok (whole_within m limit d) _ None h in
     cc
 number_stands m limit d (Some z) h =
     let a = and_then_ok (whole_within m limit d) _ (Some z) h in
     let same : a.0 ≡ z = cc in
-    whole_within_stands m limit d z (a.1 ∙ ap Ok same)
+    (whole_within_stands m limit d z (a.1 ∙ ap Ok same)).0
 
 -- and so does no value
-null_stands : (limit : ℕ) (v : Option ℤ) → ◌≡◌ {A = Answer (Option ℤ)} (Ok None) (Ok v) → StandsForSample null v × IsShort limit v
-null_stands limit None h = (refl, tt)
-null_stands limit (Some z) h = cc
+null_stands : (v : Option ℤ) → ◌≡◌ {A = Answer (Option ℤ)} (Ok None) (Ok v) → StandsForSample null v
+null_stands None h = refl
+null_stands (Some z) h = cc
 
 -- the sample that was read stands there
-sample_stands : (m : Member) (limit : ℕ) (d : Data) (v : Option ℤ) → whole_or_null m limit d ≡ Ok v → StandsForSample d v × IsShort limit v
-sample_stands m limit null v h = null_stands limit v h
+sample_stands : (m : Member) (limit : ℕ) (d : Data) (v : Option ℤ) → whole_or_null m limit d ≡ Ok v → StandsForSample d v
+sample_stands m limit null v h = null_stands v h
 sample_stands m limit (boolean b) v h = number_stands m limit (boolean b) v h
 sample_stands m limit (number n) v h = number_stands m limit (number n) v h
 sample_stands m limit (string s) v h = number_stands m limit (string s) v h
 sample_stands m limit (array ds) v h = number_stands m limit (array ds) v h
 sample_stands m limit (object ms) v h = number_stands m limit (object ms) v h
 
--- and a sample that stands there is read
-sample_answers : (m : Member) (limit : ℕ) (d : Data) (v : Option ℤ) → StandsForSample d v → IsShort limit v → whole_or_null m limit d ≡ Ok v
-sample_answers m limit d None h short = rw h refl
-sample_answers m limit null (Some z) h short = cc
-sample_answers m limit (boolean b) (Some z) h short = cc
-sample_answers m limit (number n) (Some z) h short = rw (h, le-leb (unsigned_abs z) limit short) refl
-sample_answers m limit (string s) (Some z) h short = cc
-sample_answers m limit (array ds) (Some z) h short = cc
-sample_answers m limit (object ms) (Some z) h short = cc
+-- ---- tests of items
 
--- ---- all samples
+-- an item that is a number or null
+number_some : (d : Data) → (is_some (as_null d) || is_some (as_number d)) ≡ true → (v : Option Num) × StandsForNumber d v
+number_some null h = (None, refl)
+number_some (boolean b) h = cc
+number_some (number n) h = (Some n, refl)
+number_some (string s) h = cc
+number_some (array ds) h = cc
+number_some (object ms) h = cc
 
--- a sample within its limit, or none
-abbrev pub IsSampleOrNone : Option ℤ → Type 0
-IsSampleOrNone v = IfSome v IsSample
+-- passes the test
+number_wanted : (d : Data) (v : Option Num) → StandsForNumber d v → (is_some (as_null d) || is_some (as_number d)) ≡ true
+number_wanted d None h = rw h refl
+number_wanted d (Some n) h = rw h refl
+
+-- an item that is held whole
+whole_some : (o : Option ℤ) (d : Data) → whole_of d ≡ o → is_some o ≡ true → (v : Option ℤ) × StandsForSample d v
+whole_some None d is h = cc
+whole_some (Some z) d is h = (Some z, is)
+
+-- or null
+sample_some : (d : Data) → (is_some (as_null d) || is_some (whole_of d)) ≡ true → (v : Option ℤ) × StandsForSample d v
+sample_some null h = (None, refl)
+sample_some (boolean b) h = whole_some (whole_of (boolean b)) (boolean b) refl h
+sample_some (number n) h = whole_some (whole_of (number n)) (number n) refl h
+sample_some (string s) h = whole_some (whole_of (string s)) (string s) refl h
+sample_some (array ds) h = whole_some (whole_of (array ds)) (array ds) refl h
+sample_some (object ms) h = whole_some (whole_of (object ms)) (object ms) refl h
+
+-- passes the test
+sample_wanted : (d : Data) (v : Option ℤ) → StandsForSample d v → (is_some (as_null d) || is_some (whole_of d)) ≡ true
+sample_wanted d None h = rw h refl
+sample_wanted d (Some z) h = or_right (is_some (as_null d)) (is_some (whole_of d)) (ap is_some h)
 
 -- a sample is a number or null
-number_or_null : (d : Data) (v : Option ℤ) → StandsForSample d v → (is_some (as_null d) || is_some (as_number d)) ≡ true
-number_or_null d None h = rw h refl
-number_or_null null (Some z) h = refl
-number_or_null (boolean b) (Some z) h = cc
-number_or_null (number n) (Some z) h = refl
-number_or_null (string s) (Some z) h = cc
-number_or_null (array ds) (Some z) h = cc
-number_or_null (object ms) (Some z) h = cc
-
--- and held whole where it is a number
-whole_or_null_is : (d : Data) (v : Option ℤ) → StandsForSample d v → (is_some (as_null d) || is_some (whole_of d)) ≡ true
-whole_or_null_is d None h = rw h refl
-whole_or_null_is d (Some z) h = or_right (is_some (as_null d)) (is_some (whole_of d)) (ap is_some h)
+sample_number : (d : Data) (v : Option ℤ) → StandsForSample d v → (is_some (as_null d) || is_some (as_number d)) ≡ true
+sample_number d None h = rw h refl
+sample_number null (Some z) h = refl
+sample_number (boolean b) (Some z) h = cc
+sample_number (number n) (Some z) h = refl
+sample_number (string s) (Some z) h = cc
+sample_number (array ds) (Some z) h = cc
+sample_number (object ms) (Some z) h = cc
 
 -- items that were read one by one pass each check
 pub samples_read : (ds : Items) (values : List (Option ℤ)) → each (whole_or_null Values sample_limit) ds ≡ Ok values → samples_of ds ≡ Ok values
 samples_read ds values h =
-    let stand = each_stands (whole_or_null Values sample_limit) StandsForSample (λ d v g. (sample_stands Values sample_limit d v g).0) ds values h in
-    let numbers = all_wanted_given NumbersOrNulls StandsForSample number_or_null ds values stand in
-    let wholes = all_wanted_given WholesOrNulls StandsForSample whole_or_null_is ds values stand in
+    let stand = each_stands (whole_or_null Values sample_limit) StandsForSample (sample_stands Values sample_limit) ds values h in
+    let numbers = all_wanted_given NumbersOrNulls StandsForSample sample_number ds values stand in
+    let wholes = all_wanted_given WholesOrNulls StandsForSample sample_wanted ds values stand in
     rw (numbers, wholes) h
 
--- a list of so many items that stand for these samples
-pub record HasSamples (d : Data) (count : ℕ) (values : List (Option ℤ)) : Type 0 where
-  pub items : Items
-  pub list : get (codes "values") d ≡ Some (array items)
-  pub as_many : count_items items ≡ count
-  pub each_stand : EachStands StandsForSample items values
-  pub short : All IsSampleOrNone values
+-- ---- the limit
 
--- the samples that were read stand there
-pub samples_stand : (count : ℕ) (d : Data) (values : List (Option ℤ)) → samples_in count d ≡ Ok values → HasSamples d count values
-samples_stand count d values h =
-    let a = and_then_ok (need (codes "values") Values d) _ values h in
-    let b = and_then_ok (list_at Values a.0) _ values a.2 in
-    let c = and_then_ok (check (count_items b.0 == count) (WrongCount Values count (count_items b.0))) _ values b.2 in
-    let e = and_then_ok (need_each NumbersOrNulls (WrongType Values) b.0) _ values c.2 in
-    let f = and_then_ok (need_each WholesOrNulls (NotWhole Values) b.0) _ values e.2 in
-    let answer = whole_or_null Values sample_limit in
+-- a value within a limit, or none
+abbrev is_short : ℕ → Option ℤ → Bool
+is_short limit None = true
+is_short limit (Some z) = is_within limit z
+
+-- each of these is
+abbrev are_short : ℕ → List (Option ℤ) → Bool
+are_short limit [] = true
+are_short limit (v ∷ vs) = is_short limit v && are_short limit vs
+
+-- a whole number or the fault, by a test
+by_test : (m : Member) (b : Bool) (z : ℤ) → and_then {U = Option ℤ} (if b then Ok z else Err (OutOfRange m)) (λ x. Ok (Some x)) ≡ and_then (check b (OutOfRange m)) (λ _. Ok (Some z))
+by_test m true z = refl
+by_test m false z = refl
+
+-- the answer to an item that stands for a sample
+sample_answer : (m : Member) (limit : ℕ) (d : Data) (v : Option ℤ) → StandsForSample d v → whole_or_null m limit d ≡ and_then (check (is_short limit v) (OutOfRange m)) (λ _. Ok v)
+sample_answer m limit d None h = rw h refl
+sample_answer m limit null (Some z) h = cc
+sample_answer m limit (boolean b) (Some z) h = cc
+sample_answer m limit (number n) (Some z) h = rw h (by_test m (is_within limit z) z)
+sample_answer m limit (string s) (Some z) h = cc
+sample_answer m limit (array ds) (Some z) h = cc
+sample_answer m limit (object ms) (Some z) h = cc
+
+-- a value before others, by two tests
+both_tests : (m : Member) (b c : Bool) (v : Option ℤ) (vs : List (Option ℤ))
+    → and_then (and_then (check b (OutOfRange m)) (λ _. Ok v)) (λ x. and_then (and_then (check c (OutOfRange m)) (λ _. Ok vs)) (λ xs. Ok (x ∷ xs)))
+    ≡ and_then (check (b && c) (OutOfRange m)) (λ _. Ok (v ∷ vs))
+both_tests m true true v vs = refl
+both_tests m true false v vs = refl
+both_tests m false c v vs = refl
+
+-- the answer to items that stand for samples
+samples_answer : (m : Member) (limit : ℕ) (ds : Items) (vs : List (Option ℤ)) → EachStands StandsForSample ds vs
+    → each (whole_or_null m limit) ds ≡ and_then (check (are_short limit vs) (OutOfRange m)) (λ _. Ok vs)
+samples_answer m limit no_items [] stand = refl
+samples_answer m limit no_items (v ∷ vs) stand = absurd stand
+samples_answer m limit (item d ds) [] stand = absurd stand
+samples_answer m limit (item d ds) (v ∷ vs) stand =
+    let first = sample_answer m limit d v stand.0 in
+    let rest = samples_answer m limit ds vs stand.1 in
+    let join : Answer (Option ℤ) → Answer (List (Option ℤ)) → Answer (List (Option ℤ)) = λ a b. and_then a (λ x. and_then b (λ xs. Ok (x ∷ xs))) in
+    ap (λ (a : Answer (Option ℤ)). join a (each (whole_or_null m limit) ds)) first
+    ∙ ap (join (and_then (check (is_short limit v) (OutOfRange m)) (λ _. Ok v))) rest
+    ∙ both_tests m (is_short limit v) (are_short limit vs) v vs
+
+-- a value that passes the test is a sample
+short_is : (v : Option ℤ) → is_short sample_limit v ≡ true → IfSome v IsSample
+short_is None h = tt
+short_is (Some z) h = leb-true (unsigned_abs z) sample_limit h
+
+-- and a sample passes it
+short_given : (v : Option ℤ) → IfSome v IsSample → is_short sample_limit v ≡ true
+short_given None h = refl
+short_given (Some z) h = le-leb (unsigned_abs z) sample_limit h
+
+-- so it is with all
+samples_are : (vs : List (Option ℤ)) → are_short sample_limit vs ≡ true → AreSamples vs
+samples_are [] h = All-nil (λ v. IfSome v IsSample)
+samples_are (v ∷ vs) h =
+    let both = and_parts (is_short sample_limit v) (are_short sample_limit vs) h in
+    All-cons (λ v. IfSome v IsSample) v vs (short_is v both.0) (samples_are vs both.1)
+
+samples_given : (vs : List (Option ℤ)) → AreSamples vs → are_short sample_limit vs ≡ true
+samples_given [] h = refl
+samples_given (v ∷ vs) h =
+    and_from (is_short sample_limit v) (are_short sample_limit vs) (short_given v (All-head (λ v. IfSome v IsSample) v vs h)) (samples_given vs (All-tail (λ v. IfSome v IsSample) v vs h))
+
+-- ---- the rows
+
+-- the last row, of items that stand for samples
+limit_leads : (ds : Items) (vs : List (Option ℤ)) → EachStands StandsForSample ds vs
+    → LeadTo (Check (AreSamples vs) (OutOfRange Values) (Gives vs)) (each (whole_or_null Values sample_limit) ds)
+limit_leads ds vs stand =
+    subst (LeadTo (Check (AreSamples vs) (OutOfRange Values) (Gives vs))) (sym (samples_answer Values sample_limit ds vs stand))
+    (check_leads (are_short sample_limit vs) (AreSamples vs) (OutOfRange Values) (Gives vs) (Ok vs) (samples_are vs) (samples_given vs) (λ h. gives_leads vs))
+
+-- the rows of the items
+items_lead : (ds : Items) → LeadTo (Find (EachStands StandsForNumber ds) (WrongType Values) (λ numbers.
+    Find (EachStands StandsForSample ds) (NotWhole Values) (λ samples. Check (AreSamples samples) (OutOfRange Values) (Gives samples)))) (samples_of ds)
+items_lead ds =
+    find_tested (all_wanted NumbersOrNulls ds) (EachStands StandsForNumber ds) (WrongType Values) _ _
+    (each_wanted NumbersOrNulls StandsForNumber number_some ds) (all_wanted_given NumbersOrNulls StandsForNumber number_wanted ds)
+    (λ numbers here. find_tested (all_wanted WholesOrNulls ds) (EachStands StandsForSample ds) (NotWhole Values) _ _
+    (each_wanted WholesOrNulls StandsForSample sample_some ds) (all_wanted_given WholesOrNulls StandsForSample sample_wanted ds)
+    (limit_leads ds))
+
+-- the rows lead to what is computed
+pub values_lead : (wanted : ℕ) (d : Data) → LeadTo (ValuesRows wanted (get (codes "values") d)) (samples_in wanted d)
+values_lead wanted d =
+    find_leads (get (codes "values") d) (λ list. get (codes "values") d ≡ Some list) (Missing Values) _ _ (λ list h. h) (λ list h. h)
+    (λ list found. find_leads (as_array list) (λ items. list ≡ array items) (WrongType Values) _ _ (as_array_some list) (λ items h. ap as_array h)
+    (λ items is. check_leads (count_items items == wanted) (count_items items ≡ wanted) (WrongCount Values wanted (count_items items)) _ _
+    (eqb-true (count_items items) wanted) (eq-eqb (count_items items) wanted) (λ counted. items_lead items)))
+
+-- a list of so many items that stand for these samples
+pub record HasSamples (values : Option Data) (count : ℕ) (samples : List (Option ℤ)) : Type 0 where
+  pub items : Items
+  pub list : values ≡ Some (array items)
+  pub as_many : count_items items ≡ count
+  pub each_stand : EachStands StandsForSample items samples
+  pub short : AreSamples samples
+
+-- the rows end in the samples that stand there
+pub values_passed : (wanted : ℕ) (values : Option Data) (samples : List (Option ℤ)) → ValuesRows wanted values (Ok samples) → HasSamples values wanted samples
+values_passed wanted values samples h =
+    let list = row_passed samples (Missing Values) h in
+    let items = row_passed samples (WrongType Values) list.2 in
+    let counted = row_passed samples (WrongCount Values wanted (count_items items.0)) items.2 in
+    let numbers = row_passed samples (WrongType Values) counted.1 in
+    let found = row_passed samples (NotWhole Values) numbers.2 in
+    let short = row_passed samples (OutOfRange Values) found.2 in
+    let same : found.0 ≡ samples = cc (short.1) in
     record {
-      items = b.0;
-      list = or_fault_ok (get (codes "values") d) _ a.0 a.1 ∙ ap Some (list_ok Values a.0 b.0 b.1);
-      as_many = eqb-true (count_items b.0) count (check_ok _ _ c.0 c.1);
-      each_stand = each_stands answer StandsForSample (λ x v g. (sample_stands Values sample_limit x v g).0) b.0 values f.2;
-      short = each_all answer IsSampleOrNone (λ x v g. (sample_stands Values sample_limit x v g).1) b.0 values f.2;
+      items = items.0;
+      list = list.1 ∙ ap Some items.1;
+      as_many = counted.0;
+      each_stand = subst (EachStands StandsForSample items.0) same found.1;
+      short = subst AreSamples same short.0;
     }
 
--- and samples that stand there are read
-pub samples_answer : (count : ℕ) (d : Data) (values : List (Option ℤ)) → HasSamples d count values → samples_in count d ≡ Ok values
-samples_answer count d values h =
-    rw (h.list, eq-eqb (count_items h.items) count h.as_many)
-    (samples_read h.items values (each_given (whole_or_null Values sample_limit) StandsForSample IsSampleOrNone (sample_answers Values sample_limit) h.items values h.each_stand h.short))
-
--- ---- samples by their places
-
--- an item stands for the value at its place
-pub sample_at : (ds : Items) (vs : List (Option ℤ)) (n : ℕ) → EachStands StandsForSample ds vs → n < length vs → HasSample (item_at ds n) (get_or vs n None)
-sample_at no_items [] n h below = absurd (omega arith)
-sample_at no_items (v ∷ vs) n h below = absurd h
-sample_at (item d ds) [] n h below = absurd h
-sample_at (item d ds) (v ∷ vs) zero h below = h.0
-sample_at (item d ds) (v ∷ vs) (suc n) h below = sample_at ds vs n h.1 (omega arith)
-
--- a datum stands for one sample
-sample_one : (d : Data) (v w : Option ℤ) → StandsForSample d v → StandsForSample d w → v ≡ w
-sample_one d None None a b = refl
-sample_one d None (Some w) a b = cc
-sample_one d (Some v) None a b = cc
-sample_one d (Some v) (Some w) a b = cc
-
--- and for no other
-pub has_sample_one : (o : Option Data) (v w : Option ℤ) → HasSample o v → HasSample o w → v ≡ w
-has_sample_one None v w a b = absurd a
-has_sample_one (Some d) v w a b = sample_one d v w a b
-
--- the samples that items are
-abbrev pub held : Items → List (Option ℤ)
-held no_items = []
-held (item d ds) = whole_of d ∷ held ds
-
--- a datum is there, and stands for a sample within its limit
-abbrev pub HasSomeSample : Option Data → Type 0
-HasSomeSample o = (v : Option ℤ) × HasSample o v × IsSampleOrNone v
-
--- that sample is the whole number that is held
-is_held : (d : Data) (v : Option ℤ) → StandsForSample d v → v ≡ whole_of d
-is_held d None h = rw h refl
-is_held d (Some z) h = sym h
-
--- where each item stands for one, they stand for what is held
-pub held_stand : (ds : Items) → ((n : ℕ) → n < count_items ds → HasSomeSample (item_at ds n)) → EachStands StandsForSample ds (held ds) × All IsSampleOrNone (held ds)
-held_stand no_items h = (tt, All-nil IsSampleOrNone)
-held_stand (item d ds) h =
-    let first = h 0 (omega arith) in
-    let is : first.0 ≡ whole_of d = is_held d first.0 first.1 in
-    let rest = held_stand ds (λ n below. h (suc n) (omega arith)) in (
-      (subst (StandsForSample d) is first.1, rest.0),
-      All-cons IsSampleOrNone (whole_of d) (held ds) (subst IsSampleOrNone is first.2) rest.1,
-    )
+pub values_pass : (wanted : ℕ) (values : Option Data) (samples : List (Option ℤ)) → HasSamples values wanted samples → ValuesRows wanted values (Ok samples)
+values_pass wanted values samples h =
+    let numbers = each_wanted NumbersOrNulls StandsForNumber number_some h.items (all_wanted_given NumbersOrNulls StandsForSample sample_number h.items samples h.each_stand) in
+    inl (array h.items, h.list, inl (h.items, refl, inl (h.as_many, inl (numbers.0, numbers.1, inl (samples, h.each_stand, inl (h.short, refl))))))

@@ -1,27 +1,32 @@
--- The names of the axes of a range and their lengths: what was checked of them, and what stands.
-use Rattle.std.proofs.Common.{◌≡◌, ℕ, true, ◌==◌, List, [], ◌∷◌, length, map, Option, Some, None, Ok, refl, sym, ap, ◌∙◌, subst, arith}
-use Rattle.std.specs.Prelude.{⊤, is_some}
-use Rattle.std.proofs.lemmas.Bool.{eqb-true, eq-eqb}
+-- The names of the axes of a range and their lengths: the rows of their checks, and the computed answers.
+use Rattle.std.proofs.Common.{◌≡◌, ◌≢◌, ◌==◌, ◌⊎◌, inl, inr, ℕ, Bool, true, false, List, [], ◌∷◌, ◌++◌, length, map, Option, Some, None, Ok, Err, refl, sym, ap, ◌∙◌, subst, arith}
+use Rattle.std.specs.Prelude.{Result, IfErr, ⊤, is_some}
+use Rattle.std.proofs.lemmas.Bool.{eqb-true, eqb-false, eq-eqb, and_parts}
 use Rattle.std.proofs.lemmas.List.Elements.{All-nil}
 use Rattle.std.proofs.lemmas.List.{length-map}
 use Rattle.serde_json.specs.Data.{Data, Items, no_items, item}
+use Rattle.serde_json.specs.Find.{as_array}
+use Rattle.edr_base.specs.FirstThatApplies.{Check, Find, Gives, and_then, or_fault, check}
+use Rattle.edr_json.specs.Trees.{natural_of, count_items, EachStands}
+use Rattle.edr_json.specs.AnswerLaws.{and_then_ok, check_ok}
+use Rattle.edr_json.specs.TreeLaws.{as_array_some}
 use Rattle.covjson_value.specs.declared.domains.Domain.{Domain}
 use Rattle.covjson_value.specs.declared.axis_names.AxisName.{AxisName}
 use Rattle.covjson_checks.specs.declared.faults.Member.TheVariants.{AxisNames, Shape}
+use Rattle.covjson_checks.specs.declared.faults.CovFault.{CovFault}
 use Rattle.covjson_checks.specs.declared.faults.CovFault.TheVariants.{Missing, WrongType, WrongCount}
+use Rattle.covjson_checks.specs.declared.members.Wanted.{Wanted}
 use Rattle.covjson_checks.specs.declared.members.Wanted.TheVariants.{Naturals}
-use Rattle.edr_base.specs.FirstThatApplies.{or_fault, check}
-use Rattle.covjson_checks.specs.Answers.{each}
-use Rattle.covjson_checks.specs.Members.{list_at, is_wanted, need_each}
-use Rattle.edr_json.specs.Trees.{natural_of}
-use Rattle.edr_json.specs.Trees.{EachStands}
-use Rattle.covjson_ranges.specs.Ranges.{StandsForName, StandsForLength, length_of, AreRangeAxes, IsOnePlace, NamesStand, ShapeStands}
-use Rattle.edr_json.specs.Trees.{count_items}
+use Rattle.covjson_checks.specs.Answers.{Answer, each}
+use Rattle.covjson_checks.specs.Members.{list_at, is_wanted, all_wanted}
+use Rattle.covjson_checks.specs.CheckLaws.{list_ok, each_stands, each_answers, all_wanted_given}
+use Rattle.covjson_ranges.specs.Ranges.{StandsForName, StandsForLength, Lists, length_of, AreRangeAxes, IsOnePlace, NamesStand, ShapeStands}
 use Rattle.covjson_ranges.specs.RangeAnswers.{axis_named, are_range_axes, is_one_place, names_in, length_is, lengths_are, shape_in}
-use Rattle.edr_json.specs.AnswerLaws.{and_then_ok, or_fault_ok, check_ok}
-use Rattle.covjson_checks.specs.CheckLaws.{list_ok, each_stands}
-use Rattle.covjson_checks.specs.CheckLaws.{each_answers, all_wanted_given}
+use Rattle.covjson_ranges.specs.RangeRows.{NamesRows, DifferFirst, LengthsRow, ShapeRows}
+use Rattle.covjson_ranges.proofs.CheckRows.{LeadTo, ok_err, gives_leads, check_leads, check_ends, find_tested, find_ends, row_passed, and_then_one, or_fault_one, check_one, each_one}
 use Rattle.covjson_ranges.proofs.RangeParts.{stands_count, name_stands, name_answers, IsOwned, axes_stand, axes_answer, one_place_stands, one_place_answers}
+
+-- ---- their names
 
 -- no axes are those of a domain of one place
 no_axes : (domain : Domain) → IsOnePlace domain → AreRangeAxes domain []
@@ -53,53 +58,189 @@ pub names_answer : (domain : Domain) (o : Option Data) (names : List AxisName) �
 names_answer domain None names h axes = rw (one_place_answers domain h.1, h.0) refl
 names_answer domain (Some d) names h axes = rw (h.1, each_answers axis_named StandsForName name_answers h.0 names h.2, axes_answer domain names axes) refl
 
+-- where there is a list they have one fault
+names_one : (domain : Domain) (d : Data) → IfErr (names_in domain (Some d)) (λ f. f ≡ WrongType AxisNames)
+names_one domain d =
+    and_then_one (list_at AxisNames d) _ (WrongType AxisNames) (or_fault_one (as_array d) (WrongType AxisNames))
+    (λ ds. and_then_one (each axis_named ds) _ (WrongType AxisNames) (each_one axis_named (WrongType AxisNames) (λ e. or_fault_one _ (WrongType AxisNames)) ds)
+    (λ names. and_then_one (check (are_range_axes domain names) (WrongType AxisNames)) _ (WrongType AxisNames) (check_one (are_range_axes domain names) (WrongType AxisNames)) (λ u. tt)))
+
+-- the rows lead to what is computed
+pub names_lead : (domain : Domain) (o : Option Data) → LeadTo (NamesRows domain o) (names_in domain o)
+names_lead domain None =
+    check_leads (is_one_place domain) (IsOnePlace domain) (Missing AxisNames) (Gives []) (Ok []) (one_place_stands domain) (one_place_answers domain) (λ one. gives_leads [])
+names_lead domain (Some d) =
+    find_ends (names_in domain (Some d)) (λ names. NamesStand domain (Some d) names × AreRangeAxes domain names) (WrongType AxisNames) (names_stand domain (Some d))
+    (λ names h. names_answer domain (Some d) names h.0 h.1) (names_one domain d)
+
+-- ---- lists of which each item is what is wanted
+
+-- each item stands for a value, where each is what is wanted
+pub each_wanted : {V : Type 0} (wanted : Wanted) (R : Data → V → Type 0) → ((d : Data) → is_wanted wanted d ≡ true → (v : V) × R d v)
+    → (ds : Items) → all_wanted wanted ds ≡ true → (vs : List V) × EachStands R ds vs
+each_wanted wanted R one no_items h = ([], tt)
+each_wanted wanted R one (item d ds) h =
+    let both = and_parts (is_wanted wanted d) (all_wanted wanted ds) h in
+    let first = one d both.0 in
+    let rest = each_wanted wanted R one ds both.1 in
+    (first.0 ∷ rest.0, (first.1, rest.1))
+
+-- the rows of such a list, where it is a list
+listed_lead : {T V : Type 0} (R : Data → V → Type 0) (wanted : Wanted) (f : CovFault) (d : Data) (Next : List V → Result T CovFault → Type 0) (next : Items → Answer T)
+    → ((e : Data) → is_wanted wanted e ≡ true → (v : V) × R e v) → ((e : Data) (v : V) → R e v → is_wanted wanted e ≡ true)
+    → ((ds : Items) (vs : List V) → EachStands R ds vs → LeadTo (Next vs) (next ds)) → (o : Option Items) → as_array d ≡ o
+    → LeadTo (Find (Lists R d) f Next) (and_then (or_fault o f) (λ ds. and_then (check (all_wanted wanted ds) f) (λ _. next ds)))
+listed_lead R wanted f d Next next tells given rest None none = record {
+  follows = inr ((λ vs h. let there : as_array d ≡ Some h.0 = ap as_array h.1 in cc), refl);
+  only = λ other h. elim h [ inl k ↦ (let there : as_array d ≡ Some k.1.0 = ap as_array k.1.1 in cc) | inr k ↦ k.1 ];
+}
+listed_lead R wanted f d Next next tells given rest (Some ds) some =
+    let mine : (vs : List _) → Lists R d vs → EachStands R ds vs = λ vs h. (
+    let there : as_array d ≡ Some h.0 = ap as_array h.1 in
+    let same : h.0 ≡ ds = cc in
+    subst (λ (es : Items). EachStands R es vs) same h.2) in
+    find_tested (all_wanted wanted ds) (Lists R d) f Next (next ds)
+    (λ all. let found = each_wanted wanted R tells ds all in (found.0, (ds, as_array_some d ds some, found.1)))
+    (λ vs h. all_wanted_given wanted R given ds vs (mine vs h)) (λ vs h. rest ds vs (mine vs h))
+
 -- ---- their lengths
 
--- a length that was checked stands there
-is_length : (wanted : ℕ) (d : Data) (x : ⊤) → length_is wanted d ≡ Ok x → StandsForLength d wanted
-is_length wanted d x h =
-    let a = and_then_ok (or_fault (natural_of d) (WrongType Shape)) _ x h in
-    let same : a.0 ≡ wanted = eqb-true a.0 wanted (check_ok (a.0 == wanted) _ x a.2) in
-    or_fault_ok (natural_of d) _ a.0 a.1 ∙ ap Some same
+-- what is natural is some length
+natural_some : (o : Option ℕ) → is_some o ≡ true → (n : ℕ) × (o ≡ Some n)
+natural_some None h = cc
+natural_some (Some n) h = (n, refl)
 
--- and a length that stands there passes
-length_answers : (wanted : ℕ) (d : Data) → StandsForLength d wanted → length_is wanted d ≡ Ok tt
-length_answers wanted d h = rw (h, eq-eqb wanted wanted refl) refl
+-- a list that goes on isn't empty
+not_empty : (before after : List ℕ) (x : ℕ) → [] ≡ before ++ x ∷ after → ⊥
+not_empty [] after x h = cc
+not_empty (b ∷ before) after x h = cc
 
--- so do the lengths of all axes
-are_lengths : (lengths : List ℕ) (ds : Items) (x : ⊤) → count_items ds ≡ length lengths → lengths_are lengths ds ≡ Ok x → EachStands StandsForLength ds lengths
-are_lengths [] no_items x counted h = tt
-are_lengths [] (item d ds) x counted h = absurd (omega arith)
-are_lengths (wanted ∷ lengths) no_items x counted h = absurd (omega arith)
-are_lengths (wanted ∷ lengths) (item d ds) x counted h =
-    let a = and_then_ok (length_is wanted d) _ x h in
-    (is_length wanted d a.0 a.1, are_lengths lengths ds x (omega arith) a.2)
+-- numbers that differ first after an equal one differ first after that
+differ_more : (n : ℕ) (ws ns : List ℕ) (wanted other : ℕ) → DifferFirst ws ns wanted other → DifferFirst (n ∷ ws) (n ∷ ns) wanted other
+differ_more n ws ns wanted other h = record {
+  before = n ∷ h.before;
+  wanted_after = h.wanted_after;
+  found_after = h.found_after;
+  lengths_are = ap (λ (ks : List ℕ). n ∷ ks) h.lengths_are;
+  found_are = ap (λ (ks : List ℕ). n ∷ ks) h.found_are;
+  apart = h.apart;
+}
 
--- and they pass
-lengths_answer : (lengths : List ℕ) (ds : Items) → EachStands StandsForLength ds lengths → lengths_are lengths ds ≡ Ok tt
-lengths_answer [] ds h = refl
-lengths_answer (wanted ∷ lengths) no_items h = absurd h
-lengths_answer (wanted ∷ lengths) (item d ds) h = rw (length_answers wanted d h.0) (lengths_answer lengths ds h.1)
+-- and the first that differ are these, or they are among the rest
+differ_cases : (w n : ℕ) (ws ns : List ℕ) (wanted other : ℕ) (before after found : List ℕ) → w ∷ ws ≡ before ++ wanted ∷ after → n ∷ ns ≡ before ++ other ∷ found
+    → wanted ≢ other → ((w ≡ wanted) × (n ≡ other)) ⊎ ((w ≡ n) × DifferFirst ws ns wanted other)
+differ_cases w n ws ns wanted other [] after found here there apart = inl (cc, cc)
+differ_cases w n ws ns wanted other (b ∷ before) after found here there apart = inr (
+  cc,
+  record {
+    before = before;
+    wanted_after = after;
+    found_after = found;
+    lengths_are = cc;
+    found_are = cc;
+    apart = apart;
+  },
+)
 
--- a length is a natural number
-natural_wanted : (d : Data) (wanted : ℕ) → StandsForLength d wanted → is_wanted Naturals d ≡ true
-natural_wanted d wanted h = ap is_some h
+-- an equal number before both leaves the row
+row_more : (w n : ℕ) (ws ns : List ℕ) (answer : Answer ⊤) → n ≡ w → LengthsRow ws ns answer → LengthsRow (w ∷ ws) (n ∷ ns) answer
+row_more w n ws ns answer same (inl h) = inl (ap (λ (ks : List ℕ). n ∷ ks) h.0 ∙ ap (λ k. k ∷ ws) same, h.1)
+row_more w n ws ns answer same (inr h) =
+    inr (h.0, h.1, subst (λ k. DifferFirst (k ∷ ws) (n ∷ ns) h.0 h.1) same (differ_more n ws ns h.0 h.1 h.2), h.3)
 
--- the shape that was checked stands there
-pub shape_stands : (domain : Domain) (names : List AxisName) (o : Option Data) (x : ⊤) → shape_in domain names o ≡ Ok x → ShapeStands domain o names
-shape_stands domain names None x h = one_place_stands domain (check_ok (is_one_place domain) _ x h)
-shape_stands domain names (Some d) x h =
-    let a = and_then_ok (list_at Shape d) _ x h in
-    let b = and_then_ok (need_each Naturals (WrongType Shape) a.0) _ x a.2 in
-    let c = and_then_ok (check (count_items a.0 == length names) (WrongCount Shape (length names) (count_items a.0))) _ x b.2 in
-    let counted : count_items a.0 ≡ length names = eqb-true (count_items a.0) (length names) (check_ok _ _ c.0 c.1) in
+-- also the other way
+row_rest : (w n : ℕ) (ws ns : List ℕ) (answer : Answer ⊤) → n ≡ w → LengthsRow (w ∷ ws) (n ∷ ns) answer → LengthsRow ws ns answer
+row_rest w n ws ns answer same (inl h) = inl (cc (h.0), h.1)
+row_rest w n ws ns answer same (inr h) =
+    elim (differ_cases w n ws ns h.0 h.1 h.2.before h.2.wanted_after h.2.found_after h.2.lengths_are h.2.found_are h.2.apart) [
+      | inl e ↦ absurd (h.2.apart (sym e.0 ∙ sym same ∙ e.1))
+      | inr e ↦ inr (h.0, h.1, e.1, h.3)
+    ]
+
+-- another number is the first that differs
+row_here : (w n : ℕ) (ws ns : List ℕ) (answer : Answer ⊤) → n ≢ w → LengthsRow (w ∷ ws) (n ∷ ns) answer → answer ≡ Err (WrongCount Shape w n)
+row_here w n ws ns answer apart (inl h) = absurd (apart (cc (h.0)))
+row_here w n ws ns answer apart (inr h) =
+    elim (differ_cases w n ws ns h.0 h.1 h.2.before h.2.wanted_after h.2.found_after h.2.lengths_are h.2.found_are h.2.apart) [
+      | inl e ↦ h.3 ∙ ap (λ k. Err (WrongCount Shape k h.1)) (sym e.0) ∙ ap (λ k. Err (WrongCount Shape w k)) (sym e.1)
+      | inr e ↦ absurd (apart (sym e.0))
+    ]
+
+-- the row of a number more
+more_leads : (w n : ℕ) (ws ns : List ℕ) (rest : Answer ⊤) → LeadTo (LengthsRow ws ns) rest → (b : Bool) → (n == w) ≡ b
+    → LeadTo (LengthsRow (w ∷ ws) (n ∷ ns)) (and_then (check b (WrongCount Shape w n)) (λ _. rest))
+more_leads w n ws ns rest lead true test =
+    let same = eqb-true n w test in
+    record {
+      follows = row_more w n ws ns rest same lead.follows;
+      only = λ other h. lead.only other (row_rest w n ws ns other same h);
+    }
+more_leads w n ws ns rest lead false test =
+    let apart : n ≢ w = eqb-false n w test in
+    record {
+      follows = inr (
+        w,
+        n,
+        record {
+          before = [];
+          wanted_after = ws;
+          found_after = ns;
+          lengths_are = refl;
+          found_are = refl;
+          apart = λ e. apart (sym e);
+        },
+        refl,
+      );
+      only = λ other h. row_here w n ws ns other apart h;
+    }
+
+-- the row of all numbers, of which there are as many as are wanted
+lengths_lead : (lengths found : List ℕ) (ds : Items) → EachStands StandsForLength ds found → length found ≡ length lengths → LeadTo (LengthsRow lengths found) (lengths_are lengths ds)
+lengths_lead [] [] ds stand counted = record {
+  follows = inl (refl, refl);
+  only = λ other h. elim h [ inl k ↦ k.1 | inr k ↦ absurd (not_empty k.2.before k.2.wanted_after k.0 k.2.lengths_are) ];
+}
+lengths_lead [] (n ∷ ns) ds stand counted = absurd (omega arith)
+lengths_lead (w ∷ ws) [] ds stand counted = absurd (omega arith)
+lengths_lead (w ∷ ws) (n ∷ ns) no_items stand counted = absurd stand
+lengths_lead (w ∷ ws) (n ∷ ns) (item d ds) stand counted =
+    let rest = lengths_lead ws ns ds stand.1 (omega arith) in
+    let here : check (n == w) (WrongCount Shape w n) ≡ length_is w d = rw stand.0 refl in
+    subst (λ (a : Answer ⊤). LeadTo (LengthsRow (w ∷ ws) (n ∷ ns)) (and_then a (λ _. lengths_are ws ds))) here (more_leads w n ws ns (lengths_are ws ds) rest (n == w) refl)
+
+-- the lengths of these axes, where they are listed
+listed_lengths : (domain : Domain) (names : List AxisName) (ds : Items) (found : List ℕ) → EachStands StandsForLength ds found
+    → LeadTo (Check (length found ≡ length names) (WrongCount Shape (length names) (length found)) (LengthsRow (map (length_of domain) names) found))
+    (and_then (check (count_items ds == length names) (WrongCount Shape (length names) (count_items ds))) (λ _. lengths_are (map (length_of domain) names) ds))
+listed_lengths domain names ds found stand =
     let lengths = map (length_of domain) names in
-    (a.0, list_ok Shape d a.0 a.1, are_lengths lengths a.0 x (counted ∙ sym (length-map names (length_of domain))) c.2)
+    let rows : Answer ⊤ → Type 0 = Check (length found ≡ length names) (WrongCount Shape (length names) (length found)) (LengthsRow lengths found) in
+    subst (λ (n : ℕ). LeadTo rows (and_then (check (n == length names) (WrongCount Shape (length names) n)) (λ _. lengths_are lengths ds)))
+    (sym (stands_count StandsForLength ds found stand))
+    (check_leads (length found == length names) (length found ≡ length names) (WrongCount Shape (length names) (length found)) (LengthsRow lengths found) (lengths_are lengths ds)
+    (eqb-true (length found) (length names)) (eq-eqb (length found) (length names))
+    (λ counted. lengths_lead lengths found ds stand (counted ∙ sym (length-map names (length_of domain)))))
 
--- and the shape that stands there passes
-pub shape_answers : (domain : Domain) (names : List AxisName) (o : Option Data) → ShapeStands domain o names → shape_in domain names o ≡ Ok tt
-shape_answers domain names None h = rw (one_place_answers domain h) refl
-shape_answers domain names (Some d) h =
-    let lengths = map (length_of domain) names in
-    let counted : count_items h.0 ≡ length names = stands_count StandsForLength h.0 lengths h.2 ∙ length-map names (length_of domain) in
-    rw (h.1, all_wanted_given Naturals StandsForLength natural_wanted h.0 lengths h.2, eq-eqb (count_items h.0) (length names) counted) (lengths_answer lengths h.0 h.2)
+-- the rows lead to what is computed
+pub shape_leads : (domain : Domain) (names : List AxisName) (o : Option Data) → LeadTo (ShapeRows domain names o) (shape_in domain names o)
+shape_leads domain names None = check_ends (is_one_place domain) (IsOnePlace domain) (Missing Shape) (one_place_stands domain) (one_place_answers domain)
+shape_leads domain names (Some d) =
+    listed_lead StandsForLength Naturals (WrongType Shape) d
+    (λ found. Check (length found ≡ length names) (WrongCount Shape (length names) (length found)) (LengthsRow (map (length_of domain) names) found))
+    (λ ds. and_then (check (count_items ds == length names) (WrongCount Shape (length names) (count_items ds))) (λ _. lengths_are (map (length_of domain) names) ds))
+    (λ e h. natural_some (natural_of e) h) (λ e n h. ap is_some h) (listed_lengths domain names) (as_array d) refl
+
+-- and end well exactly where the lengths stand
+pub shape_passed : (domain : Domain) (names : List AxisName) (o : Option Data) (u : ⊤) → ShapeRows domain names o (Ok u) → ShapeStands domain o names
+shape_passed domain names None u h = (row_passed u (Missing Shape) h).0
+shape_passed domain names (Some d) u h =
+    let found = row_passed u (WrongType Shape) h in
+    let counted = row_passed u (WrongCount Shape (length names) (length found.0)) found.2 in
+    elim (counted.1) [
+      | inl k ↦ subst (λ (ns : List ℕ). Lists StandsForLength d ns) k.0 found.1
+      | inr k ↦ absurd (ok_err u (WrongCount Shape k.0 k.1) k.3)
+    ]
+
+pub shape_passes : (domain : Domain) (names : List AxisName) (o : Option Data) → ShapeStands domain o names → ShapeRows domain names o (Ok tt)
+shape_passes domain names None h = inl (h, refl)
+shape_passes domain names (Some d) h = inl (map (length_of domain) names, h, inl (length-map names (length_of domain), inl (refl, refl)))

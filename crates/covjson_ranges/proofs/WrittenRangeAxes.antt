@@ -12,7 +12,7 @@ use Rattle.covjson_ranges.specs.declared.places.Places.{Places}
 use Rattle.covjson_value.specs.AxisNames.{axis_key}
 use Rattle.covjson_ranges.specs.Ranges.{length_of, has_range_axis, AreRangeAxes, AreInside, number_of, tree_number}
 use Rattle.covjson_ranges.specs.Orders.{IsUnturned}
-use Rattle.covjson_domains.proofs.WrittenDomains.{unturned}
+use Rattle.covjson_checks.specs.Turns.{unturned}
 use Rattle.covjson_ranges.proofs.KeptAxes.{keep, kept, kept_distinct, kept_all, kept_named, kept_number_of}
 
 -- ---- the axes that are written

@@ -1,5 +1,5 @@
 -- What is written of ranges stands for them.
-use Rattle.std.proofs.Common.{◌≡◌, ℕ, zero, suc, ◌<◌, ℤ, true≢false, inl, inr, List, [], ◌∷◌, map, length, zip, All, codes, slice_index_or, Option, Some, None, refl, sym, ap, ◌∙◌, subst, arith}
+use Rattle.std.proofs.Common.{◌≡◌, ℕ, suc, ℤ, true≢false, inl, inr, List, [], ◌∷◌, map, length, zip, codes, slice_index_or, IfSome, Option, Some, None, refl, sym, ap, ◌∙◌, subst, arith}
 use Rattle.std.proofs.lemmas.Bool.{cases_lt}
 use Rattle.std.proofs.lemmas.List.{length-map}
 use Rattle.serde_json.specs.Data.{Data, string, Items, item, Members, no_members, member}
@@ -8,19 +8,17 @@ use Rattle.serde_json.specs.View.{items_of}
 use Rattle.covjson_value.specs.declared.domains.Domain.{Domain}
 use Rattle.covjson_value.specs.declared.coverages.NdArray.{NdArray}
 use Rattle.covjson_value.specs.Domains.{AxisLength, range_axes}
-use Rattle.covjson_value.specs.Coverages.{IsRange}
+use Rattle.covjson_value.specs.Coverages.{IsRange, IsSample}
 use Rattle.covjson_value.specs.Trees.{member_if, array_of, array_if_some, sample_data, name_data, length_data, range_data, members_in_order}
 use Rattle.covjson_value.specs.declared.axis_names.AxisName.{AxisName}
-use Rattle.edr_json.specs.Trees.{EachStands}
-use Rattle.covjson_ranges.specs.Ranges.{StandsForSample, StandsForName, StandsForLength, length_of, number_of, AreRangeAxes, IsOnePlace, NamesStand, ShapeStands, HasSample, StandsForRange}
-use Rattle.edr_json.specs.Trees.{count_items, item_at}
-use Rattle.covjson_read.specs.Collected.{names_of, values_of}
+use Rattle.covjson_ranges.specs.Ranges.{StandsForSample, StandsForName, StandsForLength, length_of, AreRangeAxes, IsOnePlace, NamesStand, ShapeStands, StandsForRange}
+use Rattle.edr_json.specs.Trees.{count_items, EachStands, names_of, values_of}
+use Rattle.covjson_checks.specs.CheckLaws.{whole_written}
+use Rattle.covjson_checks.specs.Turns.{unturned}
 use Rattle.covjson_value.specs.MemberLaws.{member_passed, member_found}
 use Rattle.edr_json.specs.TreeLaws.{each_written}
-use Rattle.covjson_domains.proofs.WrittenAxes.{whole_written}
-use Rattle.covjson_domains.proofs.WrittenDomains.{unturned}
+use Rattle.covjson_ranges.specs.Laws.{WrittenRangesStand}
 use Rattle.covjson_ranges.proofs.WrittenRangeAxes.{written_names, written_axis, range_axes_are, names_written, tree_number_is}
-use Rattle.covjson_ranges.proofs.PlaceLemmas.{number_inside}
 
 -- ---- values
 
@@ -28,12 +26,6 @@ use Rattle.covjson_ranges.proofs.PlaceLemmas.{number_inside}
 sample_written : (v : Option ℤ) → StandsForSample (sample_data v) v
 sample_written None = refl
 sample_written (Some value) = whole_written value
-
--- the value of a number
-value_written : (values : List (Option ℤ)) (number : ℕ) → number < length values → HasSample (item_at (items_of (map sample_data values)) number) (slice_index_or values number None)
-value_written [] number inside = absurd (omega arith)
-value_written (v ∷ vs) zero inside = sample_written v
-value_written (v ∷ vs) (suc number) inside = value_written vs number (omega arith)
 
 -- as many items as data
 count_items_of : (ds : List Data) → count_items (items_of ds) ≡ length ds
@@ -128,11 +120,11 @@ range_written domain range h =
     let axes = names_written domain in
     let N : Option Data → Type 0 = λ found. NamesStand domain found names in
     let S : Option Data → Type 0 = λ found. ShapeStands domain found names in
-    let V : ℕ → ℕ → Type 0 = λ tree number. HasSample (item_at (items_of (map sample_data range.values)) tree) (slice_index_or range.values number None) in
     let names_are : names_given domain ≡ array_if_some (map name_data (map (written_axis domain) names)) = ap (λ (axes : List AxisLength). array_if_some (map name_data axes)) (range_axes_are domain) in
     let shape_is : shape_given domain ≡ array_if_some (map length_data (map (written_axis domain) names)) = ap (λ (axes : List AxisLength). array_if_some (map length_data axes)) (range_axes_are domain) in
     record {
-      integers = record { kind = kind_found domain range; data_type = integer_found domain range };
+      kind = kind_found domain range;
+      integers = integer_found domain range;
       names = names;
       names_stand = subst N (sym (names_found domain range ∙ names_are)) (names_stand domain names axes);
       axes = axes;
@@ -140,11 +132,13 @@ range_written domain range h =
       items = items_of (map sample_data range.values);
       list = values_found domain range;
       as_many = count_items_of (map sample_data range.values) ∙ (length-map range.values sample_data ∙ h.count);
-      counted = h.count;
-      samples = h.samples;
-      values = λ places inside.
-          subst (λ (tree : ℕ). V tree (number_of domain places)) (sym (tree_number_is domain places inside))
-          (value_written range.values (number_of domain places) (rw h.count (number_inside domain places inside)));
+      samples = range.values;
+      samples_stand = each_written StandsForSample (λ v. IfSome v IsSample) sample_data (λ v h. sample_written v) range.values h.samples;
+      within = h.samples;
+      in_order = record {
+        counted = h.count;
+        each = λ places inside. ap (λ n. slice_index_or range.values n None) (sym (tree_number_is domain places inside));
+      };
     }
 
 -- ---- the ranges by their ids
@@ -162,16 +156,12 @@ values_zipped [] (d ∷ ds) same = absurd (omega arith)
 values_zipped (key ∷ keys) [] same = absurd (omega arith)
 values_zipped (key ∷ keys) (d ∷ ds) same = ap (item d) (values_zipped keys ds (omega arith))
 
--- the names are the ids
-pub range_names_written : (domain : Domain) (keys : List (List ℕ)) (ranges : List NdArray) → length ranges ≡ length keys
-    → names_of (members_in_order (zip keys (map (range_data domain) ranges))) ≡ keys
-range_names_written domain keys ranges same = names_zipped keys (map (range_data domain) ranges) (length-map ranges (range_data domain) ∙ same)
-
--- and each range stands behind its id
-pub ranges_written : (domain : Domain) (keys : List (List ℕ)) (ranges : List NdArray) → length ranges ≡ length keys → All (IsRange domain) ranges
-    → EachStands (StandsForRange domain unturned) (values_of (members_in_order (zip keys (map (range_data domain) ranges)))) ranges
-ranges_written domain keys ranges same h =
+-- the members are named by the ids, and each range stands behind its own
+pub ranges_written : WrittenRangesStand
+ranges_written domain ids ranges same h =
     let as_many = length-map ranges (range_data domain) ∙ same in
-    let P : Items → Type 0 = λ items. EachStands (StandsForRange domain unturned) items ranges in
-    subst P (sym (values_zipped keys (map (range_data domain) ranges) as_many))
-    (each_written (StandsForRange domain unturned) (IsRange domain) (range_data domain) (range_written domain) ranges h)
+    let P : Items → Type 0 = λ items. EachStands (StandsForRange domain unturned) items ranges in (
+      names_zipped ids (map (range_data domain) ranges) as_many,
+      subst P (sym (values_zipped ids (map (range_data domain) ranges) as_many))
+          (each_written (StandsForRange domain unturned) (IsRange domain) (range_data domain) (range_written domain) ranges h),
+    )

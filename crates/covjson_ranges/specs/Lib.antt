@@ -1,3 +1,5 @@
-pub mod Ranges
-pub mod Orders
+pub mod Laws
+pub mod RangeRows
 pub mod RangeAnswers
+pub mod Orders
+pub mod Ranges

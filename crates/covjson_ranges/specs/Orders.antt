@@ -1,5 +1,5 @@
 -- The values of a range in the order of the domain's axes.
-use Rattle.std.specs.Prelude.{◌≡◌, ◌⊎◌, ℕ, zero, suc, ◌+◌, ◌-◌, ◌*◌, ◌/◌, ◌%◌, ◌<◌, ◌≤◌, ℤ, true, false, if◌then◌else◌, List, [], ◌∷◌, ◌++◌, map, length, Option, None}
+use Rattle.std.specs.Prelude.{◌≡◌, ◌⊎◌, ℕ, zero, suc, ◌+◌, ◌-◌, ◌*◌, ◌/◌, ◌%◌, ◌<◌, ◌≤◌, ℤ, true, false, if◌then◌else◌, List, [], ◌∷◌, ◌++◌, map, Option, None}
 use Rattle.std.specs.List.{slice_index_or}
 use Rattle.covjson_value.specs.declared.domains.Domain.{Domain}
 use Rattle.covjson_value.specs.Domains.{count_of}
@@ -8,7 +8,7 @@ use Rattle.covjson_ranges.specs.declared.orders.Row.{Row}
 use Rattle.covjson_ranges.specs.declared.places.Places.{Places}
 use Rattle.covjson_value.specs.declared.axis_names.AxisName.{AxisName}
 use Rattle.covjson_value.specs.declared.axis_names.AxisName.TheVariants.{T, Z, Y, X, Composite}
-use Rattle.covjson_ranges.specs.Ranges.{length_of, is_range_turned, AreInside, number_of, tree_number}
+use Rattle.covjson_ranges.specs.Ranges.{length_of, is_range_turned, tree_number}
 
 -- the numbers below a bound, ascending
 abbrev pub below : ℕ → List ℕ
@@ -35,12 +35,6 @@ ordered domain turned names values = map (λ number. value_in_tree domain turned
 
 -- ---- for private clauses
 
--- the value at each place of the domain is the tree's value at that place
-pub record AreInOrder (domain : Domain) (turned : Turned) (names : List AxisName) (values ordered : List (Option ℤ)) : Type 0 where
-  pub counted : length ordered ≡ count_of domain
-  pub each : (places : Places) → AreInside domain places
-      → slice_index_or ordered (number_of domain places) None ≡ slice_index_or values (tree_number domain turned names places) None
-
 -- the domain's own order, with or without axes of one value
 abbrev pub IsUsual : List AxisName → Type 0
 IsUsual names =
@@ -49,10 +43,6 @@ IsUsual names =
 
 abbrev pub IsUnturned : Turned → Type 0
 IsUnturned turned = (name : AxisName) → is_range_turned turned name ≡ false
-
--- no axis turned
-abbrev pub ascending : Turned
-ascending = record { t = false; z = false; y = false; x = false }
 
 -- the number in a tree of the value at a place in a row, by that of the row's first
 abbrev pub in_row : Row → ℕ → ℕ → ℕ

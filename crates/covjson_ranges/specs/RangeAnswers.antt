@@ -1,6 +1,6 @@
--- The ranges of a tree: their values, or the first check that fails.
-use Rattle.std.specs.Prelude.{ℕ, ◌==◌, nat_le, ℤ, List, [], ◌∷◌, length, map, bytes_eq, codes, Bool, true, false, not, ◌||◌, ◌&&◌, if◌then◌else◌, ⊤, Option, Some, None, option_and_then, Ok}
-use Rattle.serde_json.specs.Data.{Data, Items, no_items, item, Members, no_members, member}
+-- The range of a tree: its values, or the first check that fails.
+use Rattle.std.specs.Prelude.{ℕ, ◌==◌, nat_le, ℤ, List, [], ◌∷◌, length, map, bytes_eq, codes, Bool, true, not, ◌||◌, ◌&&◌, if◌then◌else◌, ⊤, Option, Some, None, option_and_then, Ok}
+use Rattle.serde_json.specs.Data.{Data, Items, no_items, item}
 use Rattle.serde_json.specs.Find.{get, as_str}
 use Rattle.covjson_value.specs.declared.domains.Domain.{Domain}
 use Rattle.covjson_value.specs.declared.coverages.NdArray.{NdArray}
@@ -9,18 +9,15 @@ use Rattle.covjson_value.specs.Domains.{count_of}
 use Rattle.covjson_value.specs.declared.axis_names.AxisName.{AxisName}
 use Rattle.covjson_value.specs.declared.axis_names.AxisName.TheVariants.{T, Z, Y, X, Composite}
 use Rattle.covjson_checks.specs.declared.turned.ReadDomain.{ReadDomain}
-use Rattle.covjson_read.specs.declared.collected.ReadRanges.{ReadRanges}
-use Rattle.covjson_checks.specs.declared.faults.Member.TheVariants.{Parameters, Ranges, DataType, AxisNames, Shape, Values}
+use Rattle.covjson_checks.specs.declared.faults.Member.TheVariants.{Ranges, DataType, AxisNames, Shape, Values}
 use Rattle.covjson_checks.specs.declared.faults.CovFault.TheVariants.{Missing, WrongType, UnsupportedRange, NotWhole, WrongCount}
 use Rattle.covjson_checks.specs.declared.members.Wanted.TheVariants.{Naturals, NumbersOrNulls, WholesOrNulls}
 use Rattle.covjson_checks.specs.Answers.{Answer, each}
 use Rattle.edr_base.specs.FirstThatApplies.{and_then, or_fault, check}
 use Rattle.covjson_checks.specs.Members.{need, object_at, list_at, whole_or_null, need_each}
-use Rattle.edr_json.specs.Trees.{text_or_empty, natural_of}
-use Rattle.covjson_read.specs.Parameters.{parameter_of}
+use Rattle.edr_json.specs.Trees.{text_or_empty, natural_of, count_items}
 use Rattle.covjson_value.specs.AxisNames.{axis_key}
 use Rattle.covjson_ranges.specs.Ranges.{length_of, has_range_axis, is_named}
-use Rattle.edr_json.specs.Trees.{count_items}
 use Rattle.covjson_ranges.specs.Orders.{ordered}
 
 -- ---- the axes of a range
@@ -109,21 +106,24 @@ samples_in wanted d =
     and_then (check (count_items ds == wanted) (WrongCount Values wanted (count_items ds))) (λ _.
     samples_of ds)))
 
--- an array of whole numbers
-abbrev pub are_integers : Data → Answer ⊤
-are_integers d =
+-- an object of the type NdArray
+abbrev pub is_array : Data → Answer ⊤
+is_array d =
     and_then (object_at Ranges d) (λ _.
-    and_then (check (bytes_eq (text_or_empty (get (codes "type") d)) (codes "NdArray")) (UnsupportedRange (text_or_empty (get (codes "type") d)))) (λ _.
+    check (bytes_eq (text_or_empty (get (codes "type") d)) (codes "NdArray")) (UnsupportedRange (text_or_empty (get (codes "type") d))))
+
+-- which holds whole numbers
+abbrev pub has_integers : Data → Answer ⊤
+has_integers d =
     and_then (need (codes "dataType") DataType d) (λ kind.
-    check (bytes_eq (text_or_empty (Some kind)) (codes "integer")) (UnsupportedRange (text_or_empty (Some kind))))))
+    check (bytes_eq (text_or_empty (Some kind)) (codes "integer")) (UnsupportedRange (text_or_empty (Some kind))))
 
 -- a range over a domain
 abbrev pub range_of : ReadDomain → Data → Answer NdArray
 range_of read d =
-    and_then (are_integers d) (λ _.
+    and_then (is_array d) (λ _.
+    and_then (has_integers d) (λ _.
     and_then (names_in read.domain (get (codes "axisNames") d)) (λ names.
     and_then (shape_in read.domain names (get (codes "shape") d)) (λ _.
     and_then (samples_in (count_of read.domain) d) (λ values.
-    Ok (record { values = ordered read.domain read.turned names values })))))
-
--- ---- all ranges
+    Ok (record { values = ordered read.domain read.turned names values }))))))

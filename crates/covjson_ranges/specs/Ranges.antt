@@ -1,20 +1,20 @@
 -- The ranges of a tree (OGC 21-069r2, NdArray objects), and what they stand for.
-use Rattle.std.specs.Prelude.{◌≡◌, ℕ, zero, suc, ◌+◌, ◌-◌, ◌*◌, ◌<◌, ◌≤◌, ℤ, Bool, true, false, bytes_eq, is_some, ◌||◌, IfSome, if◌then◌else◌, List, [], ◌∷◌, length, map, All, codes, ⊤, Option, Some, None}
+use Rattle.std.specs.Prelude.{◌≡◌, ℕ, ◌-◌, ◌<◌, ◌≤◌, ℤ, Bool, true, false, bytes_eq, is_some, ◌||◌, IfSome, if◌then◌else◌, List, [], ◌∷◌, length, map, All, codes, ⊤, Option, Some, None}
 use Rattle.std.specs.List.{slice_index_or}
-use Rattle.serde_json.specs.Data.{Data, null, string, array, Items, no_items, item, Members, no_members, member}
+use Rattle.serde_json.specs.Data.{Data, null, string, array, Items}
 use Rattle.serde_json.specs.Find.{get}
+use Rattle.edr_chunk.specs.RowMajor.{row_major}
+use Rattle.edr_json.specs.Trees.{whole_of, natural_of, count_items, EachStands}
 use Rattle.covjson_value.specs.declared.domains.CoordinateName.TheVariants.{T as Times, Z as Levels, Y as Rows, X as Columns}
 use Rattle.covjson_value.specs.declared.domains.Domain.{Domain}
 use Rattle.covjson_value.specs.declared.coverages.NdArray.{NdArray}
-use Rattle.covjson_value.specs.declared.coverages.Parameter.{Parameter}
-use Rattle.covjson_value.specs.Coverages.{IsSample, IsParameter, AscendById, IsRange}
-use Rattle.covjson_value.specs.Domains.{coordinate_key, axis_of, tuples_of, has_axis, axis_length, count_of}
-use Rattle.covjson_checks.specs.declared.turned.Turned.{Turned}
-use Rattle.covjson_ranges.specs.declared.places.Places.{Places}
 use Rattle.covjson_value.specs.declared.axis_names.AxisName.{AxisName}
 use Rattle.covjson_value.specs.declared.axis_names.AxisName.TheVariants.{T, Z, Y, X, Composite}
-use Rattle.edr_json.specs.Trees.{whole_of, natural_of}
-use Rattle.edr_json.specs.Trees.{EachStands}
+use Rattle.covjson_value.specs.AxisNames.{axis_key}
+use Rattle.covjson_value.specs.Coverages.{IsSample}
+use Rattle.covjson_value.specs.Domains.{axis_of, tuples_of, has_axis, axis_length, count_of}
+use Rattle.covjson_checks.specs.declared.turned.Turned.{Turned}
+use Rattle.covjson_ranges.specs.declared.places.Places.{Places}
 
 -- a sample: a number that is held whole, or null where it is absent
 abbrev pub StandsForSample : Data → Option ℤ → Type 0
@@ -29,10 +29,17 @@ StandsForName d name = d ≡ string (axis_key name)
 abbrev pub StandsForLength : Data → ℕ → Type 0
 StandsForLength d n = natural_of d ≡ Some n
 
--- an array of whole numbers
-pub record HoldsIntegers (d : Data) : Type 0 where
-  pub kind : get (codes "type") d ≡ Some (string (codes "NdArray"))
-  pub data_type : get (codes "dataType") d ≡ Some (string (codes "integer"))
+-- a list whose items stand for these values
+abbrev pub Lists : {V : Type 0} → (Data → V → Type 0) → Data → List V → Type 0
+Lists Stands d values = (items : Items) × (d ≡ array items) × EachStands Stands items values
+
+-- an object of the type NdArray
+abbrev pub IsNdArray : Data → Type 0
+IsNdArray d = get (codes "type") d ≡ Some (string (codes "NdArray"))
+
+-- whose values are whole numbers
+abbrev pub HasIntegers : Data → Type 0
+HasIntegers d = get (codes "dataType") d ≡ Some (string (codes "integer"))
 
 -- ---- places
 
@@ -72,11 +79,6 @@ place_on places Composite = places.tuple
 abbrev pub AreInside : Domain → Places → Type 0
 AreInside domain places = (name : AxisName) → place_on places name < length_of domain name
 
--- the number of places among those of some axes in their order, the last fastest: row-major order
-abbrev pub row_major : (AxisName → ℕ) → (AxisName → ℕ) → List AxisName → ℕ → ℕ
-row_major lengths places [] number = number
-row_major lengths places (name ∷ names) number = row_major lengths places names (number * lengths name + places name)
-
 -- the number of the value at some places of the domain
 abbrev pub number_of : Domain → Places → ℕ
 number_of domain places = row_major (length_of domain) (place_on places) (T ∷ Z ∷ Y ∷ X ∷ Composite ∷ []) 0
@@ -114,21 +116,27 @@ IsOnePlace domain = (name : AxisName) → length_of domain name ≤ 1
 -- the list of the axes' names; it may be left out where no axis has several values
 abbrev pub NamesStand : Domain → Option Data → List AxisName → Type 0
 NamesStand domain None names = (names ≡ []) × IsOnePlace domain
-NamesStand domain (Some d) names = (items : Items) × (d ≡ array items) × EachStands StandsForName items names
+NamesStand domain (Some d) names = Lists StandsForName d names
 
 -- the list of their lengths; it may be left out there too
 abbrev pub ShapeStands : Domain → Option Data → List AxisName → Type 0
 ShapeStands domain None names = IsOnePlace domain
-ShapeStands domain (Some d) names = (items : Items) × (d ≡ array items) × EachStands StandsForLength items (map (length_of domain) names)
+ShapeStands domain (Some d) names = Lists StandsForLength d (map (length_of domain) names)
 
--- a datum is there, and stands for the sample
-abbrev pub HasSample : Option Data → Option ℤ → Type 0
-HasSample None sample = ⊥
-HasSample (Some d) sample = StandsForSample d sample
+-- samples within their limit, or absent
+abbrev pub AreSamples : List (Option ℤ) → Type 0
+AreSamples samples = All (λ (v : Option ℤ). IfSome v IsSample) samples
 
--- a range over a domain: at each place of the domain it has the value that the tree has at that place
+-- the value at each place of the domain is the sample that the tree has at that place
+pub record AreInOrder (domain : Domain) (turned : Turned) (names : List AxisName) (samples values : List (Option ℤ)) : Type 0 where
+  pub counted : length values ≡ count_of domain
+  pub each : (places : Places) → AreInside domain places
+      → slice_index_or values (number_of domain places) None ≡ slice_index_or samples (tree_number domain turned names places) None
+
+-- a range over a domain: as many values as the domain has places, in the domain's order
 pub record StandsForRange (domain : Domain) (turned : Turned) (d : Data) (range : NdArray) : Type 0 where
-  pub integers : HoldsIntegers d
+  pub kind : IsNdArray d
+  pub integers : HasIntegers d
   pub names : List AxisName
   pub names_stand : NamesStand domain (get (codes "axisNames") d) names
   pub axes : AreRangeAxes domain names
@@ -136,7 +144,7 @@ pub record StandsForRange (domain : Domain) (turned : Turned) (d : Data) (range 
   pub items : Items
   pub list : get (codes "values") d ≡ Some (array items)
   pub as_many : count_items items ≡ count_of domain
-  pub counted : length range.values ≡ count_of domain
-  pub samples : All (λ (v : Option ℤ). IfSome v IsSample) range.values
-  pub values : (places : Places) → AreInside domain places
-      → HasSample (item_at items (tree_number domain turned names places)) (slice_index_or range.values (number_of domain places) None)
+  pub samples : List (Option ℤ)
+  pub samples_stand : EachStands StandsForSample items samples
+  pub within : AreSamples samples
+  pub in_order : AreInOrder domain turned names samples range.values

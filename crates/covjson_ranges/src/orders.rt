@@ -4,12 +4,13 @@ ghost use Rattle.std.specs.Bool.{OnTrue};
 ghost use Rattle.std.specs.List.{slice_index_or};
 ghost use Rattle.covjson_value.specs.Domains.{count_of};
 ghost use Rattle.covjson_checks.specs.Answers.{GivesUnlessMemory};
+ghost use Rattle.covjson_checks.specs.Turns.{unturned};
 ghost use Rattle.covjson_ranges.specs.Ranges.{AreInside, AreRangeAxes, tree_number};
-ghost use Rattle.covjson_ranges.specs.Orders.{below, ordered, IsUsual, IsUnturned, ascending, in_row, StaysInside, AreRows};
+ghost use Rattle.covjson_ranges.specs.Orders.{below, ordered, IsUsual, IsUnturned, in_row, StaysInside, AreRows};
 ghost use Rattle.covjson_checks.specs.declared.faults.CovFault.TheVariants.{OutOfMemory};
 
-use covjson_checks::{CovFault, Turned};
 use crate::places::{Places, axis_len, places_of, tree_number};
+use covjson_checks::{CovFault, Turned};
 use covjson_value::{AxisName, Domain};
 use std::alloc::Global;
 
@@ -50,15 +51,15 @@ fn step_to(domain: &Domain, names: &[AxisName], second: Places) -> usize
     requires axes { AreRangeAxes domain.now names.now }
     requires few { count_of domain.now < 2 ^ 64 }
     requires inside { AreInside domain.now second }
-    ensures { result ≡ tree_number domain.now ascending names.now second }
+    ensures { result ≡ tree_number domain.now unturned names.now second }
 {
-    let ascending = Turned {
+    let unturned = Turned {
         t: false,
         z: false,
         y: false,
         x: false,
     };
-    tree_number(domain, ascending, names, second)
+    tree_number(domain, unturned, names, second)
 }
 
 // The rows of a domain: its tuples where it has several, else its columns.
@@ -124,9 +125,7 @@ fn push_row(
 {
     for place in 0..row.length {
         let value = values[number_in_row(row, first, place)];
-        if found.push(value).is_err() {
-            return Err(CovFault::OutOfMemory);
-        }
+        found.push(value)?;
     }
     Ok(())
 }
@@ -143,9 +142,7 @@ fn arranged(
     requires counted { length values.now ≡ count_of domain.now }
     ensures { GivesUnlessMemory (λ v. v.items) result (Ok (ordered domain.now turned names.now values.now)) }
 {
-    let Ok(mut found) = Vec::with_capacity(alloc, values.len()) else {
-        return Err(CovFault::OutOfMemory);
-    };
+    let mut found = Vec::with_capacity(alloc, values.len())?;
     if values.is_empty() {
         return Ok(found);
     }

@@ -7,7 +7,7 @@ ghost use Rattle.covjson_ranges.specs.Ranges as ranges;
 ghost use Rattle.covjson_ranges.specs.Orders as orders;
 
 use covjson_checks::Turned;
-use covjson_value::{CoordinateName, Domain};
+use covjson_value::{AxisName, CoordinateName, Domain};
 
 /// Places on the axes of a domain, each from 0. An axis that the domain hasn't has the place 0 alone.
 #[derive(Clone, Copy, Debug, PartialEq, Eq)]

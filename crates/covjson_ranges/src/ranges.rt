@@ -1,35 +1,48 @@
 //! Ranges (OGC 21-069r2, NdArray objects).
-ghost use Rattle.std.specs.Prelude.{◌≡◌, IfOk, codes, length, map};
+ghost use Rattle.std.specs.Prelude.{◌≡◌, ◌≢◌, IfOk, IfErr, Err, codes, length, map};
 ghost use Rattle.serde_json.specs.View.{view, items_view};
 ghost use Rattle.serde_json.specs.Find.{get};
 ghost use Rattle.covjson_value.specs.Domains.{count_of};
 ghost use Rattle.covjson_value.specs.Coverages.{HasAxes, HasTuples, IsRange};
 ghost use Rattle.covjson_checks.specs.Answers.{GivesUnlessMemory, each};
+ghost use Rattle.covjson_checks.specs.declared.faults.CovFault.TheVariants.{OutOfMemory};
+ghost use Rattle.covjson_ranges.specs.Ranges.{StandsForRange};
+ghost use Rattle.covjson_ranges.specs.RangeRows.{RangeRows};
 ghost use Rattle.covjson_ranges.specs.Ranges as axes;
 ghost use Rattle.covjson_ranges.specs.RangeAnswers as ranges;
 
-use covjson_checks::{CovFault, Member, ReadDomain, Wanted, list_at, need, need_form, need_wholes, object_at, unsupported_range, wholes_or_nulls};
-use edr_json::{is_text, text_or_empty};
 use crate::orders::in_order;
-use covjson_value::{AxisName, Domain, NdArray};
 use crate::places::{axis_len, has_axis};
+use covjson_checks::{
+    CovFault, Member, ReadDomain, Wanted, list_at, need, need_form, need_wholes, object_at,
+    unsupported_range, wholes_or_nulls,
+};
+use covjson_value::{AxisName, Domain, NdArray};
 use edr_base::{Items, SAMPLE_LIMIT};
+use edr_json::{is_text, text_or_empty};
 use serde_json::Value;
 use std::alloc::Global;
 
-// An array of whole numbers.
-fn need_integers(alloc: Global, tree: &Value) -> Result<(), CovFault>
-    ensures { GivesUnlessMemory (λ u. u) result (ranges.are_integers (view tree.now)) }
+// An object of the type NdArray: WrongType, UnsupportedRange.
+fn need_array(alloc: Global, tree: &Value) -> Result<(), CovFault>
+    ensures { GivesUnlessMemory (λ u. u) result (ranges.is_array (view tree.now)) }
 {
     let _members = object_at(tree, Member::Ranges)?;
     let kind = text_or_empty(tree, "type");
     if kind != "NdArray" {
-        return Err(unsupported_range(alloc, kind));
+        return Err(unsupported_range(alloc, kind)?);
     }
+    Ok(())
+}
+
+// Whole numbers: Missing, UnsupportedRange.
+fn need_integers(alloc: Global, tree: &Value) -> Result<(), CovFault>
+    ensures { GivesUnlessMemory (λ u. u) result (ranges.has_integers (view tree.now)) }
+{
     let _data_type = need(tree, "dataType", Member::DataType)?;
     let name = text_or_empty(tree, "dataType");
     if name != "integer" {
-        return Err(unsupported_range(alloc, name));
+        return Err(unsupported_range(alloc, name)?);
     }
     Ok(())
 }
@@ -60,9 +73,7 @@ fn axes_named(alloc: Global, items: &Vec<Value>) -> Result<Vec<AxisName>, CovFau
     let mut names = Vec::new(alloc);
     for item in items {
         let name = axis_named(item)?;
-        if names.push(name).is_err() {
-            return Err(CovFault::OutOfMemory);
-        }
+        names.push(name)?;
     }
     Ok(names)
 }
@@ -233,14 +244,21 @@ fn samples(alloc: Global, tree: &Value, wanted: u128) -> Result<Vec<Option<i64>>
     samples_of(alloc, items)
 }
 
-/// The range over a domain that a tree stands for: its values in row-major order t, z, y, x or along the tuples, whatever the
-/// order of its axes in the tree and whichever of them are turned round.
+/// The range over a domain that a tree stands for (OGC 21-069r2, NdArray objects): its values in row-major order t, z, y, x or
+/// along the tuples, whatever the order of its axes in the tree and whichever of them are turned round.
+///
+/// Else the first that applies: WrongType or UnsupportedRange of the range itself, Missing or UnsupportedRange of `dataType`,
+/// Missing or WrongType of `axisNames`, Missing, WrongType or WrongCount of `shape`, and Missing, WrongType, WrongCount,
+/// NotWhole or OutOfRange of `values`; or OutOfMemory.
 pub fn range_of(alloc: Global, tree: &Value, read: &ReadDomain) -> Result<NdArray, CovFault>
     requires axes { HasAxes read.now.domain }
     requires tuples { HasTuples read.now.domain }
+    ensures stands { IfOk result (StandsForRange read.now.domain read.now.turned (view tree.now)) }
+    ensures fault { IfErr result (λ fault. fault ≢ OutOfMemory → RangeRows read.now (view tree.now) (Err fault)) }
     ensures answer { GivesUnlessMemory (λ r. r) result (ranges.range_of read.now (view tree.now)) }
     ensures valid { IfOk result (IsRange read.now.domain) }
 {
+    need_array(alloc, tree)?;
     need_integers(alloc, tree)?;
     let names = names_at(alloc, tree, &read.domain)?;
     need_shape(tree, &names, &read.domain)?;

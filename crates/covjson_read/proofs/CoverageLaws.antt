@@ -1,5 +1,5 @@
--- The answer to a tree is a coverage exactly where the tree stands for that coverage.
-use Rattle.std.proofs.Common.{◌≡◌, Some, Ok, option_and_then, bytes_eq, codes, refl, sym, ap, ◌∙◌, subst}
+-- Coverages: the answer is what stands, and the rows have it.
+use Rattle.std.proofs.Common.{◌≡◌, true, Some, Ok, inl, option_and_then, bytes_eq, codes, refl, sym, ap, ◌∙◌, subst}
 use Rattle.std.proofs.lemmas.Slice.Eq.{bytes_eq-Decides}
 use Rattle.serde_json.specs.Data.{Data, string, object}
 use Rattle.serde_json.specs.Find.{get, as_str}
@@ -7,127 +7,167 @@ use Rattle.covjson_value.specs.declared.domains.CoordinateName.TheVariants.{Z}
 use Rattle.covjson_value.specs.declared.coverages.Coverage.{Coverage}
 use Rattle.covjson_value.specs.Domains.{has_coordinate}
 use Rattle.covjson_checks.specs.declared.turned.ReadDomain.{ReadDomain}
-use Rattle.covjson_read.specs.declared.collected.ReadRanges.{ReadRanges}
 use Rattle.covjson_checks.specs.declared.faults.Member.TheVariants.{Kind, Coverages, Domain as DomainMember}
 use Rattle.covjson_checks.specs.declared.faults.CovFault.TheVariants.{Missing, WrongType}
-use Rattle.edr_base.specs.FirstThatApplies.{check}
 use Rattle.covjson_checks.specs.Members.{need, object_at, lent}
 use Rattle.edr_json.specs.Trees.{text_or_empty}
-use Rattle.covjson_domains.specs.DomainAnswers.{domain_of}
-use Rattle.covjson_read.specs.Systems.{referencing_of}
-use Rattle.covjson_read.specs.Parameters.{parameters_of}
-use Rattle.covjson_read.specs.CollectedAnswers.{ranges_in}
-use Rattle.covjson_read.specs.Standing.{StandsIn}
-use Rattle.covjson_read.specs.CoverageAnswers.{is_coverage, domain_at, type_of, coverage_in, AnswersAreWhatStands, TreesStandForOne}
-use Rattle.edr_json.specs.AnswerLaws.{and_then_ok, or_fault_ok, check_ok}
 use Rattle.edr_json.specs.TreeLaws.{text_is}
-use Rattle.covjson_read.proofs.SystemLaws.{systems_stand, systems_answer}
-use Rattle.edr_json.specs.AnswerLaws.{and_then_given, or_fault_given}
-use Rattle.covjson_checks.specs.CheckLaws.{object_given}
-use Rattle.covjson_read.proofs.ParameterLaws.{parameters_stand, parameters_answer}
-use Rattle.covjson_domains.proofs.DomainLaws.{domain_stands, domain_answers}
-use Rattle.covjson_read.proofs.CoverageRanges.{ranges_stand, ranges_answer}
+use Rattle.covjson_domains.specs.DomainAnswers.{domain_of}
+use Rattle.covjson_domains.specs.DomainRows.{DomainRows}
+use Rattle.covjson_domains.specs.Laws.{DomainRowsHaveOneAnswer, DomainAnswersFollowRows, DomainRowsAreWhatStands}
+use Rattle.covjson_ranges.specs.Laws.{RangeRowsAreWhatStand}
+use Rattle.covjson_read.specs.declared.collected.ReadRanges.{ReadRanges}
+use Rattle.covjson_read.specs.SystemAnswers.{referencing_of}
+use Rattle.covjson_read.specs.ParameterAnswers.{parameters_of}
+use Rattle.covjson_read.specs.CollectedAnswers.{ranges_in}
+use Rattle.covjson_read.specs.Standing.{type_of, StandsIn}
+use Rattle.covjson_read.specs.CoverageAnswers.{coverage_in, CoverageAnswersFollowRows, AnswersAreWhatStands}
+use Rattle.covjson_read.specs.Laws.{CoverageRowsHaveOneAnswer, CoverageRowsAreWhatStands, TreesStandForOne}
+use Rattle.covjson_read.specs.Rows.{SystemRows, ParametersRows, RangesRows, CoverageRows}
+use Rattle.covjson_checks.specs.RowLaws.{HaveAnswer, find_within, check_within, then_answers, gives_answers, passed, passed_then}
+use Rattle.covjson_read.proofs.RowAnswers.{one_is_answer, answer_stands, same_ok}
+use Rattle.covjson_read.proofs.SystemLaws.{given_found, systems_rows, rows_tell, rows_pass}
+use Rattle.covjson_read.proofs.ParameterLaws.{object_found, object_of, parameters_rows, parameters_tell, parameters_pass}
+use Rattle.covjson_read.proofs.CollectedLaws.{RangesAnswered, ranges_rows, ranges_tell, ranges_pass}
 
--- ---- the object, its type and its domain
+-- what is known of the answers to domains and ranges
+pub record PartsAnswered : Type 0 where
+  pub domains_one : DomainRowsHaveOneAnswer
+  pub domains_follow : DomainAnswersFollowRows
+  pub ranges : RangesAnswered
 
--- the type that was checked
-kind_stands : (tree found : Data) → is_coverage tree ≡ Ok found → get (codes "type") tree ≡ Some (string (codes "Coverage"))
-kind_stands tree found h =
-    let members = and_then_ok (object_at Coverages tree) _ found h in
-    let kind = and_then_ok (need (codes "type") Kind tree) _ found members.2 in
-    let test = bytes_eq (text_or_empty (Some kind.0)) (codes "Coverage") in
-    let checked = and_then_ok (check test (WrongType Kind)) _ found kind.2 in
-    let same = (bytes_eq-Decides (text_or_empty (Some kind.0)) (codes "Coverage")).0 (check_ok test _ _ checked.1) in
-    or_fault_ok (get (codes "type") tree) _ kind.0 kind.1 ∙ text_is (Some kind.0) _ _ same
+-- and of which stand
+pub record PartsStand : Type 0 where
+  pub domains : DomainRowsAreWhatStands
+  pub ranges : RangeRowsAreWhatStand
 
--- and the type that passes the check
-kind_answers : (tree : Data) → get (codes "type") tree ≡ Some (string (codes "Coverage")) → is_coverage tree ≡ Ok tree
-kind_answers tree h =
-    let members = object_given Coverages (codes "type") tree (string (codes "Coverage")) h in
-    and_then_given (object_at Coverages tree) _ members.0 _ members.1
-    (and_then_given (need (codes "type") Kind tree) _ (string (codes "Coverage")) _ (or_fault_given _ (Missing Kind) _ h) refl)
+-- a member of the type Coverage
+is_kind : (kind : Data) → bytes_eq (text_or_empty (Some kind)) (codes "Coverage") ≡ true → kind ≡ string (codes "Coverage")
+is_kind kind h = let e = text_is (Some kind) _ _ ((bytes_eq-Decides (text_or_empty (Some kind)) (codes "Coverage")).0 h) in cc
 
--- the domain that was found
-place_stands : (tree domain : Data) → domain_at tree ≡ Ok domain → get (codes "domain") tree ≡ Some domain
-place_stands tree domain h =
-    let d = and_then_ok (need (codes "domain") DomainMember tree) _ domain h in
-    let members = and_then_ok (object_at DomainMember d.0) _ domain d.2 in
-    let same : d.0 ≡ domain = let e = members.2 in cc in
-    or_fault_ok (get (codes "domain") tree) _ d.0 d.1 ∙ ap Some same
+passes_kind : (kind : Data) → kind ≡ string (codes "Coverage") → bytes_eq (text_or_empty (Some kind)) (codes "Coverage") ≡ true
+passes_kind kind is = ap (λ (d : Data). bytes_eq (text_or_empty (Some d)) (codes "Coverage")) is
 
--- and the domain that is found
-place_answers : (tree domain axes : Data) → get (codes "domain") tree ≡ Some domain → get (codes "axes") domain ≡ Some axes → domain_at tree ≡ Ok domain
-place_answers tree domain axes h inside =
-    let members = object_given DomainMember (codes "axes") domain axes inside in
-    and_then_given (need (codes "domain") DomainMember tree) _ domain _ (or_fault_given _ (Missing DomainMember) _ h)
-    (and_then_given (object_at DomainMember domain) _ members.0 _ members.1 refl)
+-- ---- the rows have the answer
 
--- ---- the coverage
+pub coverage_rows : PartsAnswered → (collection tree : Data) → HaveAnswer (CoverageRows collection tree) (coverage_in collection tree)
+coverage_rows laws collection tree =
+    find_within (λ members. tree ≡ object members) (WrongType Coverages) _ (object_at Coverages tree) _ _ (object_found (WrongType Coverages) tree) (λ members is_object.
+    find_within (λ kind. get (codes "type") tree ≡ Some kind) (Missing Kind) _ (need (codes "type") Kind tree) _ _ (given_found (Missing Kind) (get (codes "type") tree)) (λ kind kind_at.
+    check_within (kind ≡ string (codes "Coverage")) (WrongType Kind) _ (bytes_eq (text_or_empty (Some kind)) (codes "Coverage")) _ _ (is_kind kind, passes_kind kind) (λ is.
+    find_within (λ domain. get (codes "domain") tree ≡ Some domain) (Missing DomainMember) _ (need (codes "domain") DomainMember tree) _ _ (given_found (Missing DomainMember) (get (codes "domain") tree)) (λ domain domain_is.
+    find_within (λ members. domain ≡ object members) (WrongType DomainMember) _ (object_at DomainMember domain) _ _ (object_found (WrongType DomainMember) domain) (λ inside are.
+    let found = type_of domain tree collection in
+    then_answers (DomainRows found domain) _ (domain_of found domain) _ (one_is_answer (DomainRows found domain) (domain_of found domain) (laws.domains_follow found domain) (laws.domains_one found domain)) (λ read stands.
+    let has_z = has_coordinate read.domain Z in
+    let systems = lent (codes "referencing") domain collection in
+    then_answers (SystemRows has_z systems) _ (referencing_of has_z systems) _ (systems_rows has_z systems) (λ referencing systems_are.
+    let lends = lent (codes "parameters") tree collection in
+    then_answers (ParametersRows lends) _ (parameters_of lends) _ (parameters_rows lends) (λ parameters parameters_are.
+    then_answers (RangesRows read parameters tree) _ (ranges_in read parameters tree) _ (ranges_rows laws.ranges read parameters tree) (λ ranges ranges_are.
+    gives_answers (record {
+      id = option_and_then as_str (get (codes "id") tree);
+      domain = read.domain;
+      referencing = referencing;
+      parameters = ranges.parameters;
+      ranges = ranges.ranges;
+    }))))))))))
 
--- the tree stands for the coverage that is the answer
-pub coverage_stands : (collection tree : Data) (coverage : Coverage) → coverage_in collection tree ≡ Ok coverage
-    → StandsIn collection tree coverage
-coverage_stands collection tree coverage h =
-    let kind = and_then_ok (is_coverage tree) _ coverage h in
-    let domain = and_then_ok (domain_at tree) _ coverage kind.2 in
-    let read = and_then_ok (domain_of (type_of domain.0 tree collection) domain.0) _ coverage domain.2 in
-    let systems = lent (codes "referencing") domain.0 collection in
-    let referencing = and_then_ok (referencing_of (has_coordinate read.0.domain Z) systems) _ coverage read.2 in
-    let parameters = and_then_ok (parameters_of (lent (codes "parameters") tree collection)) _ coverage referencing.2 in
-    let ranges = and_then_ok (ranges_in read.0 parameters.0 tree) _ coverage parameters.2 in
+-- ---- what passes them stands
+
+pub coverage_tells : PartsStand → (collection tree : Data) (coverage : Coverage) → CoverageRows collection tree (Ok coverage) → StandsIn collection tree coverage
+coverage_tells stand collection tree coverage h =
+    let o = passed h in
+    let k = passed o.2 in
+    let c = passed k.2 in
+    let d = passed c.1 in
+    let i = passed d.2 in
+    let r = passed_then i.2 in
+    let s = passed_then r.2 in
+    let p = passed_then s.2 in
+    let a = passed_then p.2 in
     let made : Coverage = record {
       id = option_and_then as_str (get (codes "id") tree);
-      domain = read.0.domain;
-      referencing = referencing.0;
-      parameters = ranges.0.parameters;
-      ranges = ranges.0.ranges;
+      domain = r.0.domain;
+      referencing = s.0;
+      parameters = a.0.parameters;
+      ranges = a.0.ranges;
     } in
-    let same : made ≡ coverage = let e = ranges.2 in cc in
-    let held = parameters_stand (lent (codes "parameters") tree collection) parameters.0 parameters.1 in
-    let stand = ranges_stand read.0 parameters.0 tree ranges.0 ranges.1 in
+    let same : made ≡ coverage = sym (same_ok coverage made a.2) in
+    let held = parameters_tell (lent (codes "parameters") tree collection) p.0 p.1 in
+    let held_ranges = ranges_tell stand.ranges r.0 p.0 tree a.0 a.1 in
     subst (λ (c : Coverage). StandsIn collection tree c) same (record {
-      kind = kind_stands tree kind.0 kind.1;
+      kind = k.1 ∙ ap Some c.0;
       id = refl;
-      domain = domain.0;
-      domain_at = place_stands tree domain.0 domain.1;
-      turned = read.0.turned;
-      domain_stands = domain_stands (type_of domain.0 tree collection) domain.0 read.0 read.1;
-      referencing_stands = systems_stand (has_coordinate read.0.domain Z) systems referencing.0 referencing.1;
-      parameters = parameters.0;
+      domain = d.0;
+      domain_at = d.1;
+      turned = r.0.turned;
+      domain_stands = (stand.domains (type_of d.0 tree collection) d.0 r.0).0 r.1;
+      referencing_stands = rows_tell (has_coordinate r.0.domain Z) (lent (codes "referencing") d.0 collection) s.0 s.1;
+      parameters = p.0;
       parameters_at = held.0;
       parameters_are = held.1;
-      ranges = stand.0;
-      ranges_at = stand.1;
-      ranges_stand = stand.2;
+      ranges = held_ranges.0;
+      ranges_at = held_ranges.1;
+      ranges_stand = held_ranges.2;
     })
 
--- and the coverage for which it stands is the answer
-pub coverage_answers : (collection tree : Data) (coverage : Coverage) → StandsIn collection tree coverage
-    → coverage_in collection tree ≡ Ok coverage
-coverage_answers collection tree coverage s =
+-- ---- and what stands passes them
+
+pub coverage_passes : PartsStand → (collection tree : Data) (coverage : Coverage) → StandsIn collection tree coverage → CoverageRows collection tree (Ok coverage)
+coverage_passes stand collection tree coverage s =
     let read : ReadDomain = record { domain = coverage.domain; turned = s.turned } in
     let ranges : ReadRanges = record { parameters = coverage.parameters; ranges = coverage.ranges } in
-    let systems = lent (codes "referencing") s.domain collection in
     let has_z = has_coordinate coverage.domain Z in
+    let o = object_of (codes "type") tree (string (codes "Coverage")) s.kind in
+    let i = object_of (codes "axes") s.domain (object s.domain_stands.members) s.domain_stands.axes in
     let id = s.id in
-    and_then_given (is_coverage tree) _ tree _ (kind_answers tree s.kind)
-    (and_then_given (domain_at tree) _ s.domain _ (place_answers tree s.domain (object s.domain_stands.members) s.domain_at s.domain_stands.axes)
-    (and_then_given (domain_of (type_of s.domain tree collection) s.domain) _ read _
-    (domain_answers (type_of s.domain tree collection) s.domain s.turned coverage.domain s.domain_stands)
-    (and_then_given (referencing_of has_z systems) _ coverage.referencing _ (systems_answer has_z systems coverage.referencing s.referencing_stands)
-    (and_then_given (parameters_of (lent (codes "parameters") tree collection)) _ s.parameters _
-    (ap parameters_of s.parameters_at ∙ parameters_answer s.parameters s.parameters_are)
-    (and_then_given (ranges_in read s.parameters tree) _ ranges _ (ranges_answer read s.parameters tree s.ranges ranges s.ranges_at s.ranges_stand)
-    (λ i. Ok (record { id = sym id i; domain = coverage.domain; referencing = coverage.referencing; parameters = coverage.parameters; ranges = coverage.ranges })))))))
+    inl (
+      o.0,
+      o.1,
+      inl (
+        string (codes "Coverage"),
+        s.kind,
+        inl (
+          refl,
+          inl (
+            s.domain,
+            s.domain_at,
+            inl (
+              i.0,
+              i.1,
+              inl (
+                read,
+                (stand.domains (type_of s.domain tree collection) s.domain read).1 s.domain_stands,
+                inl (
+                  coverage.referencing,
+                  rows_pass has_z (lent (codes "referencing") s.domain collection) coverage.referencing s.referencing_stands,
+                  inl (
+                    s.parameters,
+                    parameters_pass (lent (codes "parameters") tree collection) s.parameters (s.parameters_at, s.parameters_are),
+                    inl (
+                      ranges,
+                      ranges_pass stand.ranges read s.parameters tree ranges (s.ranges, s.ranges_at, s.ranges_stand),
+                      (λ j. Ok (record { id = id j; domain = coverage.domain; referencing = coverage.referencing; parameters = coverage.parameters; ranges = coverage.ranges })),
+                    ),
+                  ),
+                ),
+              ),
+            ),
+          ),
+        ),
+      ),
+    )
 
--- so the answers are what stands
-pub answers_stand : AnswersAreWhatStands
-answers_stand collection tree coverage =
-    (coverage_stands collection tree coverage, coverage_answers collection tree coverage)
+-- ---- the answer is what stands
 
--- one answer is one coverage
-pub coverage_one : TreesStandForOne
-coverage_one collection tree one other a b =
-    let first = coverage_answers collection tree one a in
-    let second = coverage_answers collection tree other b in
+pub answers_stand : CoverageRowsHaveOneAnswer → CoverageAnswersFollowRows → CoverageRowsAreWhatStands → AnswersAreWhatStands
+answers_stand one follow stand collection tree =
+    answer_stands (CoverageRows collection tree) (coverage_in collection tree) (StandsIn collection tree) (one_is_answer (CoverageRows collection tree) (coverage_in collection tree) (follow collection tree) (one collection tree))
+    (λ coverage. (stand collection tree coverage).0) (λ coverage. (stand collection tree coverage).1)
+
+-- a tree stands for one coverage at most
+pub coverage_one : CoverageRowsHaveOneAnswer → CoverageRowsAreWhatStands → TreesStandForOne
+coverage_one rows_one stand collection tree one other a b =
+    let e = rows_one collection tree (Ok one) (Ok other) ((stand collection tree one).1 a) ((stand collection tree other).1 b) in
     cc

@@ -11,7 +11,8 @@ use Rattle.covjson_checks.specs.Members.{need, object_at}
 use Rattle.edr_json.specs.Trees.{text_or_empty}
 use Rattle.covjson_read.specs.CoverageAnswers.{document_of_type, document_of}
 use Rattle.edr_json.specs.AnswerLaws.{or_fault_ok}
-use Rattle.edr_json.specs.AnswerLaws.{and_then_given, onto_more}
+use Rattle.edr_json.specs.AnswerLaws.{and_then_given}
+use Rattle.covjson_checks.specs.CheckLaws.{onto_more}
 
 -- one more answer is found, and one item fewer is left
 pub each_more : {V : Type 0} (answer_of : Data → Answer V) (items : List Value) (place : ℕ) (one : Value) (found new : List V) (v : V)

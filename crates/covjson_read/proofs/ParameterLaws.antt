@@ -1,101 +1,138 @@
--- Parameters: what the answer tells of them, and the answer to those that stand for some.
-use Rattle.std.proofs.Common.{◌≡◌, ℕ, List, [], true, ◌&&◌, is_some, Option, Some, Ok, refl, sym, ap, ◌∙◌, subst, codes}
-use Rattle.std.specs.Prelude.{⊤}
-use Rattle.std.proofs.lemmas.Bool.{and_parts, and_from}
-use Rattle.serde_json.specs.Data.{Data, Members, no_members, member}
+-- Parameters: the answer is what stands, and the rows have it.
+use Rattle.std.specs.Prelude.{◌↔◌}
+use Rattle.std.proofs.Common.{◌≡◌, ℕ, List, not, is_some, Option, Some, None, Ok, Err, inl, refl, sym, ap, subst, codes}
+use Rattle.serde_json.specs.Data.{Data, object, Members, no_members, member}
 use Rattle.serde_json.specs.Find.{get, as_object}
 use Rattle.covjson_value.specs.declared.coverages.Parameter.{Parameter}
-use Rattle.covjson_checks.specs.declared.faults.Member.TheVariants.{Parameters as ParametersMember}
+use Rattle.covjson_checks.specs.declared.faults.CovFault.{CovFault}
+use Rattle.covjson_checks.specs.declared.faults.Member.TheVariants.{Parameters as ParametersMember, ObservedProperty, Unit}
 use Rattle.covjson_checks.specs.declared.faults.CovFault.TheVariants.{Missing, WrongType}
-use Rattle.edr_base.specs.FirstThatApplies.{or_fault, check}
-use Rattle.covjson_checks.specs.Members.{object_at}
-use Rattle.covjson_read.specs.Parameters.{has_name_form, all_named_objects, parameter_label, parameter_unit, parameter_form, parameter_forms, parameters_of, parameter_of, EachIsParameter, HoldsParameters, StandsForParameter}
-use Rattle.edr_json.specs.AnswerLaws.{and_then_ok, or_fault_ok, check_ok}
-use Rattle.covjson_checks.specs.CheckLaws.{object_ok}
-use Rattle.edr_json.specs.AnswerLaws.{and_then_given, some_is, check_given}
-use Rattle.edr_json.specs.TreeLaws.{member_of_object}
-use Rattle.covjson_read.proofs.LabelLaws.{parameter_label_stands, parameter_label_answers, unit_if_stands, unit_if_answers}
-use Rattle.covjson_read.proofs.ParameterNames.{form_tells, form_passes}
-pub use Rattle.covjson_read.proofs.ParameterNames.{named_found, have_names}
+use Rattle.covjson_checks.specs.Answers.{Answer}
+use Rattle.covjson_checks.specs.Members.{need, object_at}
+use Rattle.edr_base.specs.FirstThatApplies.{and_then, or_fault}
+use Rattle.edr_json.specs.AnswerLaws.{none_of}
+use Rattle.edr_json.specs.TreeLaws.{as_object_some, member_of_object}
+use Rattle.covjson_checks.specs.RowLaws.{HaveAnswer, Finds, option_finds, find_answers, check_answers, then_answers, gives_answers, passed, passed_then, find_within, check_within}
+use Rattle.covjson_read.proofs.RowAnswers.{answer_stands}
+use Rattle.covjson_read.specs.Parameters.{StandsForLabel, StandsForUnit, StandsForParameter, EachIsNamedObject, EachIsParameter, HoldsParameters}
+use Rattle.covjson_read.specs.ParameterAnswers.{all_named_objects, label_at, parameter_label, parameter_unit, parameter_forms, parameters_of, parameter_of}
+use Rattle.covjson_read.specs.Rows.{ParameterRows, EachParameterRows, ParametersRows}
+use Rattle.covjson_read.proofs.SystemLaws.{given_found}
+use Rattle.covjson_read.proofs.LabelLaws.{label_finds, unit_finds}
+use Rattle.covjson_read.proofs.ParameterNames.{named_tells, named_passes}
 
--- the parameter that is answered stands there, by its id
-pub parameter_stands : (id : List ℕ) (d : Data) (p : Parameter) → parameter_of id d ≡ Ok p → (p.id ≡ id) × StandsForParameter d p
-parameter_stands id d p h =
-    let a = and_then_ok (parameter_label d) _ p h in
-    let b = and_then_ok (parameter_unit d) _ p a.2 in
-    let l = parameter_label_stands d a.0 a.1 in
-    let made : Parameter = record { id = id; lang = a.0.0; label = a.0.1; unit = b.0 } in
-    let same : made ≡ p = cc in
-    subst (λ (q : Parameter). (q.id ≡ id) × StandsForParameter d q) same
-    (refl, record { property = l.0; observed = l.1; no_categories = l.2; label = l.3; unit = unit_if_stands (get (codes "unit") d) b.0 b.1 })
+-- ---- one parameter
 
--- and the one that stands there is answered
-pub parameter_answers : (d : Data) (p : Parameter) → StandsForParameter d p → parameter_of p.id d ≡ Ok p
-parameter_answers d p s =
-    and_then_given (parameter_label d) _ (p.lang, p.label) (Ok p) (parameter_label_answers d p s)
-    (and_then_given (parameter_unit d) _ p.unit (Ok p) (unit_if_answers (get (codes "unit") d) p.unit s.unit) refl)
+-- the rows have the answer
+pub parameter_rows : (id : List ℕ) (d : Data) → HaveAnswer (ParameterRows id d) (parameter_of id d)
+parameter_rows id d =
+    find_within (λ property. get (codes "observedProperty") d ≡ Some property) (Missing ObservedProperty) _ (need (codes "observedProperty") ObservedProperty d) _ _ (given_found (Missing ObservedProperty) (get (codes "observedProperty") d)) (λ property observed.
+    let categories = get (codes "categories") property in
+    check_within (categories ≡ None) (WrongType ObservedProperty) _ (not (is_some categories)) _ _ (none_of categories, λ none. ap (λ (o : Option Data). not (is_some o)) none) (λ none.
+    find_answers (λ (said : List ℕ × List ℕ). StandsForLabel property said.0 said.1) (WrongType ObservedProperty) _ (label_at ObservedProperty property) _ (label_finds ObservedProperty property) (λ said label.
+    find_answers (StandsForUnit (get (codes "unit") d)) (WrongType Unit) _ (parameter_unit d) _ (unit_finds d) (λ unit stands.
+    gives_answers (record { id = id; lang = said.0; label = said.1; unit = unit })))))
 
--- what has the form of a parameter stands for one
-form_stands : (d : Data) (x : ⊤) → parameter_form d ≡ Ok x → (parameter : Parameter) × StandsForParameter d parameter
-form_stands d x h =
-    let a = and_then_ok (parameter_label d) _ x h in
-    let b = and_then_ok (parameter_unit d) _ x a.2 in
-    let l = parameter_label_stands d a.0 a.1 in (
-      record { id = []; lang = a.0.0; label = a.0.1; unit = b.0 },
-      record { property = l.0; observed = l.1; no_categories = l.2; label = l.3; unit = unit_if_stands (get (codes "unit") d) b.0 b.1 },
-    )
+-- the parameter of an id
+abbrev pub IsParameterOf : List ℕ → Data → Parameter → Type 0
+IsParameterOf id d p = (p.id ≡ id) × StandsForParameter d p
 
--- and what stands for one has that form
-form_answers : (d : Data) (p : Parameter) → StandsForParameter d p → parameter_form d ≡ Ok tt
-form_answers d p s =
-    and_then_given (parameter_label d) _ (p.lang, p.label) (Ok tt) (parameter_label_answers d p s)
-    (and_then_given (parameter_unit d) _ p.unit (Ok tt) (unit_if_answers (get (codes "unit") d) p.unit s.unit) refl)
+-- one that passes the rows stands
+pub parameter_tells : (id : List ℕ) (d : Data) (p : Parameter) → ParameterRows id d (Ok p) → IsParameterOf id d p
+parameter_tells id d p h =
+    let o = passed h in
+    let c = passed o.2 in
+    let l = passed c.1 in
+    let u = passed l.2 in
+    let made : Parameter = record { id = id; lang = l.0.0; label = l.0.1; unit = u.0 } in
+    let same : p ≡ made = let e = u.2 in cc in
+    subst (IsParameterOf id d) (sym same) (refl, record { property = o.0; observed = o.1; no_categories = c.0; label = l.1; unit = u.1 })
 
--- named objects of the form of parameters are parameters
-each_is_parameter : (ms : Members) (x : ⊤) → all_named_objects ms ≡ true → parameter_forms ms ≡ Ok x → EachIsParameter ms
-each_is_parameter no_members x named h = tt
-each_is_parameter (member name d ms) x named h =
-    let p = and_parts (has_name_form name && is_some (as_object d)) (all_named_objects ms) named in
-    let q = and_parts (has_name_form name) (is_some (as_object d)) p.0 in
-    let a = and_then_ok (parameter_form d) _ x h in
-    (form_tells name q.0, form_stands d a.0 a.1, each_is_parameter ms x p.1 a.2)
+-- and one that stands passes them
+pub parameter_passes : (id : List ℕ) (d : Data) (p : Parameter) → IsParameterOf id d p → ParameterRows id d (Ok p)
+parameter_passes id d p s =
+    let t = s.1 in
+    inl (t.property, t.observed, inl (t.no_categories, inl ((p.lang, p.label), t.label, inl (p.unit, t.unit, ap (λ k. Ok (record p { id = k })) s.0))))
 
--- objects of that form pass the test of names
-named_pass : (ms : Members) → EachIsParameter ms → all_named_objects ms ≡ true
-named_pass no_members each = refl
-named_pass (member name d ms) each =
+-- the answer is what stands
+pub parameter_is : (id : List ℕ) (d : Data) (p : Parameter) → (parameter_of id d ≡ Ok p) ↔ IsParameterOf id d p
+parameter_is id d = answer_stands (ParameterRows id d) (parameter_of id d) (IsParameterOf id d) (parameter_rows id d) (parameter_tells id d) (parameter_passes id d)
+
+-- ---- each parameter of an object
+
+-- the form of a parameter is looked at as the parameter is
+same_form : {L U P T : Type 0} (a : Answer L) (b : Answer U) (make : L → U → P) (rest : Answer T)
+    → and_then (and_then a (λ l. and_then b (λ u. Ok (make l u)))) (λ _. rest) ≡ and_then (and_then a (λ l. and_then b (λ u. Ok (tt {0})))) (λ _. rest)
+same_form (Ok l) (Ok u) make rest = refl
+same_form (Ok l) (Err f) make rest = refl
+same_form (Err f) b make rest = refl
+
+pub each_rows : (ms : Members) → HaveAnswer (EachParameterRows ms) (parameter_forms ms)
+each_rows no_members = gives_answers tt
+each_rows (member id d ms) =
+    subst (HaveAnswer (EachParameterRows (member id d ms))) (same_form (parameter_label d) (parameter_unit d) (λ l u. record { id = id; lang = l.0; label = l.1; unit = u }) (parameter_forms ms))
+    (then_answers (ParameterRows id d) _ (parameter_of id d) _ (parameter_rows id d) (λ p found. each_rows ms))
+
+-- objects by names that pass the rows are parameters
+each_tells : (ms : Members) → EachIsNamedObject ms → EachParameterRows ms (Ok tt) → EachIsParameter ms
+each_tells no_members named h = tt
+each_tells (member id d ms) named h =
+    let p = passed_then h in
+    (named.0, (p.0, (parameter_tells id d p.0 p.1).1), each_tells ms named.2 p.2)
+
+-- and parameters pass them
+each_passes : (ms : Members) → EachIsParameter ms → EachParameterRows ms (Ok tt)
+each_passes no_members each = refl
+each_passes (member id d ms) each =
+    let p : Parameter = record each.1.0 { id = id } in
     let s = each.1.1 in
-    let held = member_of_object (codes "observedProperty") d s.property s.observed in
-    and_from (has_name_form name && is_some (as_object d)) (all_named_objects ms)
-    (and_from (has_name_form name) (is_some (as_object d)) (form_passes name each.0) (some_is (as_object d) held.0 held.1))
-    (named_pass ms each.2)
+    let stands : StandsForParameter d p = record { property = s.property; observed = s.observed; no_categories = s.no_categories; label = s.label; unit = s.unit } in
+    inl (p, parameter_passes id d p (refl, stands), each_passes ms each.2)
 
--- and that of the form of parameters
-forms_pass : (ms : Members) → EachIsParameter ms → parameter_forms ms ≡ Ok tt
-forms_pass no_members each = refl
-forms_pass (member name d ms) each =
-    and_then_given (parameter_form d) _ tt (Ok tt) (form_answers d each.1.0 each.1.1) (forms_pass ms each.2)
+-- what has a member is an object
+pub object_of : (key : List ℕ) (d v : Data) → get key d ≡ Some v → (inside : Members) × (d ≡ object inside)
+object_of key d v h = let o = member_of_object key d v h in (o.0, as_object_some d o.0 o.1)
 
--- the parameters that are answered were found, and are parameters
-pub parameters_stand : (found : Option Data) (d : Data) → parameters_of found ≡ Ok d → (found ≡ Some d) × HoldsParameters d
-parameters_stand found d h =
-    let a = and_then_ok (or_fault found (Missing ParametersMember)) _ d h in
-    let b = and_then_ok (object_at ParametersMember a.0) _ d a.2 in
-    let k = and_then_ok (check (all_named_objects b.0) (WrongType ParametersMember)) _ d b.2 in
-    let f = and_then_ok (parameter_forms b.0) _ d k.2 in
-    let same : a.0 ≡ d = cc in (
-      or_fault_ok found _ a.0 a.1 ∙ ap Some same,
-      record {
-        members = b.0;
-        is = sym same ∙ object_ok _ a.0 b.0 b.1;
-        each = each_is_parameter b.0 f.0 (check_ok (all_named_objects b.0) _ _ k.1) f.1;
-      },
-    )
+-- parameters are objects by names
+each_named : (ms : Members) → EachIsParameter ms → EachIsNamedObject ms
+each_named no_members each = tt
+each_named (member id d ms) each =
+    let s = each.1.1 in
+    (each.0, object_of (codes "observedProperty") d s.property s.observed, each_named ms each.2)
 
--- and parameters that were found are answered
-pub parameters_answer : (d : Data) → HoldsParameters d → parameters_of (Some d) ≡ Ok d
-parameters_answer d s =
-    and_then_given (object_at ParametersMember d) _ s.members (Ok d) (ap (object_at ParametersMember) s.is)
-    (and_then_given (check (all_named_objects s.members) (WrongType ParametersMember)) _ tt (Ok d)
-    (check_given _ (WrongType ParametersMember) (named_pass s.members s.each))
-    (and_then_given (parameter_forms s.members) _ tt (Ok d) (forms_pass s.members s.each) refl))
+-- ---- the parameters of a coverage
+
+pub object_found : (fault : CovFault) (d : Data) → Finds (λ members. d ≡ object members) fault (or_fault (as_object d) fault)
+object_found fault d = option_finds (λ members. d ≡ object members) fault (as_object d) (as_object_some d) (λ members is. ap as_object is)
+
+-- the rows have the answer
+pub parameters_rows : (found : Option Data) → HaveAnswer (ParametersRows found) (parameters_of found)
+parameters_rows found =
+    find_answers (λ d. found ≡ Some d) (Missing ParametersMember) _ (or_fault found (Missing ParametersMember)) _ (given_found (Missing ParametersMember) found) (λ d is.
+    find_answers (λ members. d ≡ object members) (WrongType ParametersMember) _ (object_at ParametersMember d) _ (object_found (WrongType ParametersMember) d) (λ members are.
+    check_answers (EachIsNamedObject members) (WrongType ParametersMember) _ (all_named_objects members) _ (named_tells members, named_passes members) (λ named.
+    then_answers (EachParameterRows members) _ (parameter_forms members) _ (each_rows members) (λ _ passed.
+    gives_answers d))))
+
+abbrev pub AreParametersOf : Option Data → Data → Type 0
+AreParametersOf found d = (found ≡ Some d) × HoldsParameters d
+
+-- those that pass the rows are parameters
+pub parameters_tell : (found : Option Data) (d : Data) → ParametersRows found (Ok d) → AreParametersOf found d
+parameters_tell found d h =
+    let f = passed h in
+    let o = passed f.2 in
+    let n = passed o.2 in
+    let e = passed_then n.1 in
+    let same : f.0 ≡ d = let x = e.2 in cc in
+    subst (AreParametersOf found) same (f.1, record { members = o.0; is = o.1; each = each_tells o.0 n.0 e.1 })
+
+-- and parameters pass them
+pub parameters_pass : (found : Option Data) (d : Data) → AreParametersOf found d → ParametersRows found (Ok d)
+parameters_pass found d s =
+    let h = s.1 in
+    inl (d, s.0, inl (h.members, h.is, inl (each_named h.members h.each, inl (tt, each_passes h.members h.each, refl))))
+
+-- the answer is what stands
+pub parameters_are : (found : Option Data) (d : Data) → (parameters_of found ≡ Ok d) ↔ AreParametersOf found d
+parameters_are found = answer_stands (ParametersRows found) (parameters_of found) (AreParametersOf found) (parameters_rows found) (parameters_tell found) (parameters_pass found)

@@ -7,7 +7,7 @@ use Rattle.covjson_checks.specs.declared.turned.ReadDomain.{ReadDomain}
 use Rattle.covjson_read.specs.declared.collected.ReadRanges.{ReadRanges}
 use Rattle.edr_base.specs.FirstThatApplies.{check}
 use Rattle.covjson_checks.specs.Members.{need, object_at}
-use Rattle.covjson_read.specs.Parameters.{parameter_of}
+use Rattle.covjson_read.specs.ParameterAnswers.{parameter_of}
 use Rattle.covjson_ranges.specs.RangeAnswers.{range_of}
 use Rattle.covjson_read.specs.CollectedAnswers.{ranges_from, has_members, ranges_in}
 use Rattle.edr_json.specs.AnswerLaws.{and_then_ok, check_ok}

@@ -16,8 +16,8 @@ use Rattle.covjson_checks.specs.declared.faults.Member.TheVariants.{Parameters, 
 use Rattle.covjson_checks.specs.Answers.{Answer}
 use Rattle.edr_base.specs.FirstThatApplies.{and_then}
 use Rattle.covjson_checks.specs.Members.{need, object_at}
-use Rattle.covjson_read.specs.Parameters.{parameter_of}
-use Rattle.covjson_read.specs.Collected.{names_of}
+use Rattle.covjson_read.specs.ParameterAnswers.{parameter_of}
+use Rattle.edr_json.specs.Trees.{names_of}
 use Rattle.covjson_ranges.specs.RangeAnswers.{range_of}
 use Rattle.covjson_read.specs.CollectedAnswers.{ranges_from, has_members, ranges_in}
 

@@ -1,88 +1,137 @@
--- Reference systems: what the answer tells of them, and the answer to those that stand for some.
-use Rattle.std.proofs.Common.{◌≡◌, ℕ, List, bytes_eq, Bool, true, Option, Some, None, Ok, refl, sym, ap, ◌∙◌, codes}
-use Rattle.std.specs.Prelude.{⊤}
+-- Reference systems: the answer is what stands, and the rows have it.
+use Rattle.std.specs.Prelude.{◌↔◌}
+use Rattle.std.proofs.Common.{◌≡◌, ℕ, List, bytes_eq, Bool, true, false, Option, Some, None, option_and_then, Ok, Err, inl, inr, refl, sym, ap, ◌∙◌, subst, codes}
 use Rattle.std.proofs.lemmas.Slice.Eq.{bytes_eq-Decides}
 use Rattle.serde_json.specs.Data.{Data, array, Items}
+use Rattle.serde_json.specs.Find.{as_array}
 use Rattle.covjson_value.specs.declared.coverages.Referencing.{Referencing}
+use Rattle.covjson_checks.specs.declared.faults.CovFault.{CovFault}
 use Rattle.covjson_checks.specs.declared.faults.Member.TheVariants.{Referencing as SystemsMember}
 use Rattle.covjson_checks.specs.declared.faults.CovFault.TheVariants.{Missing, WrongType, UnsupportedSystem}
-use Rattle.covjson_checks.specs.Answers.{Answer}
-use Rattle.edr_base.specs.FirstThatApplies.{or_fault, check}
 use Rattle.covjson_checks.specs.Members.{list_at}
-use Rattle.covjson_read.specs.Systems.{all_connections, first_plane, first_other_calendar, system_text, vertical_name, only_gregorian, plane_in, referencing_of, StandsForReferencing}
-use Rattle.edr_json.specs.AnswerLaws.{and_then_ok, or_fault_ok, check_ok}
-use Rattle.covjson_checks.specs.CheckLaws.{list_ok}
-use Rattle.edr_json.specs.AnswerLaws.{and_then_given, or_fault_given, check_given}
+use Rattle.edr_base.specs.FirstThatApplies.{or_fault}
+use Rattle.edr_json.specs.TreeLaws.{as_array_some}
+use Rattle.covjson_checks.specs.RowLaws.{HaveAnswer, Finds, option_finds, find_answers, then_answers, passed, passed_then, find_within, check_within}
+use Rattle.covjson_read.proofs.RowAnswers.{answer_stands}
+use Rattle.covjson_checks.specs.Places.{EachItem, NoItem, IsFirst}
+use Rattle.covjson_read.specs.Systems.{IsConnection, IsPlane, IsOtherCalendar, IsVertical, system_text, system_name, StandsForVertical, StandsForReferencing}
+use Rattle.covjson_read.specs.SystemAnswers.{all_that, first_that, is_connection, is_plane, is_other_calendar, is_vertical, vertical_name, only_gregorian, referencing_of}
+use Rattle.covjson_read.specs.Rows.{CalendarRows, GivesSystems, SystemRows}
+use Rattle.covjson_read.proofs.ItemTests.{all_tells, all_passes, first_tells, first_passes, none_tells, none_passes}
+use Rattle.covjson_read.proofs.EntryTests.{connections, planes, other_calendars, verticals}
 
--- what is known of the entry of the plane that is answered
-record IsPlaneIn (entries : Items) (plane : Data) : Type 0 where
-  connections : all_connections entries ≡ true
-  first : first_plane entries ≡ Some plane
-  projected : system_text (codes "type") plane ≡ codes "ProjectedCRS"
+-- ---- the vertical text
 
--- the plane that is answered is known
-plane_stands : (entries : Items) (plane : Data) → plane_in entries ≡ Ok plane → IsPlaneIn entries plane
-plane_stands entries plane h =
-    let c = and_then_ok (check (all_connections entries) (WrongType SystemsMember)) _ plane h in
-    let f = and_then_ok (or_fault (first_plane entries) (Missing SystemsMember)) _ plane c.2 in
-    let kind = system_text (codes "type") f.0 in
-    let k = and_then_ok (check (bytes_eq kind (codes "ProjectedCRS")) (UnsupportedSystem kind)) _ plane f.2 in
-    let same : f.0 ≡ plane = cc in
+-- by the first entry of levels
+vertical_by : (entries : Items) (o : Option Data) → first_that is_vertical entries ≡ o → StandsForVertical true entries (option_and_then system_name o)
+vertical_by entries None h = inr (none_tells is_vertical IsVertical verticals entries h, refl)
+vertical_by entries (Some entry) h = inl (entry, first_tells is_vertical IsVertical verticals entries entry h, refl)
+
+-- the name that is answered stands there
+pub vertical_stands : (has_z : Bool) (entries : Items) → StandsForVertical has_z entries (vertical_name has_z entries)
+vertical_stands true entries = vertical_by entries (first_that is_vertical entries) refl
+vertical_stands false entries = refl
+
+-- and no other does
+pub vertical_one : (has_z : Bool) (entries : Items) (vertical : Option (List ℕ)) → StandsForVertical has_z entries vertical → vertical ≡ vertical_name has_z entries
+vertical_one true entries vertical s = elim s [
+  | inl w ↦ w.2 ∙ ap (option_and_then system_name) (sym (first_passes is_vertical IsVertical verticals entries w.0 w.1))
+  | inr w ↦ w.1 ∙ ap (option_and_then system_name) (sym (none_passes is_vertical IsVertical verticals entries w.0))
+]
+vertical_one false entries vertical s = s
+
+-- ---- rows
+
+-- a list
+pub list_found : (fault : CovFault) (list : Data) → Finds (λ entries. list ≡ array entries) fault (or_fault (as_array list) fault)
+list_found fault list = option_finds (λ entries. list ≡ array entries) fault (as_array list) (as_array_some list) (λ entries is. ap as_array is)
+
+-- what was found
+pub given_found : {V : Type 0} (fault : CovFault) (o : Option V) → Finds (λ v. o ≡ Some v) fault (or_fault o fault)
+given_found fault o = option_finds (λ v. o ≡ Some v) fault o (λ v h. h) (λ v h. h)
+
+-- the calendars, by the first other one
+calendars_by : (entries : Items) (o : Option Data) → first_that is_other_calendar entries ≡ o → HaveAnswer (CalendarRows entries) (only_gregorian o)
+calendars_by entries None h =
+    let none = none_tells is_other_calendar IsOtherCalendar other_calendars entries h in
     record {
-      connections = check_ok (all_connections entries) _ _ c.1;
-      first = or_fault_ok (first_plane entries) _ f.0 f.1 ∙ ap Some same;
-      projected = ap (system_text (codes "type")) (sym same) ∙ (bytes_eq-Decides kind (codes "ProjectedCRS")).0 (check_ok (bytes_eq kind (codes "ProjectedCRS")) _ _ k.1);
+      follows = inl (none, refl);
+      only = λ other rows. elim rows [
+        | inl w ↦ w.1
+        | inr w ↦ let e = first_passes is_other_calendar IsOtherCalendar other_calendars entries w.0 w.1 in cc
+      ];
+    }
+calendars_by entries (Some entry) h =
+    let f = first_tells is_other_calendar IsOtherCalendar other_calendars entries entry h in
+    record {
+      follows = inr (entry, f, refl);
+      only = λ other rows. elim rows [
+        | inl w ↦ let e = none_passes is_other_calendar IsOtherCalendar other_calendars entries w.0 in cc
+        | inr w ↦
+            let e = first_passes is_other_calendar IsOtherCalendar other_calendars entries w.0 w.1 in
+            let same : w.0 ≡ entry = cc in
+            w.2 ∙ ap (λ (d : Data). Err (UnsupportedSystem (system_text (codes "calendar") d))) same
+      ];
     }
 
--- and the plane that is known is answered
-plane_answers : (entries : Items) (plane : Data) → IsPlaneIn entries plane → plane_in entries ≡ Ok plane
-plane_answers entries plane s =
+-- the systems at the end
+systems_given : (has_z : Bool) (entries : Items) (plane : Data)
+    → HaveAnswer (GivesSystems has_z entries plane) (Ok (record { crs = system_text (codes "id") plane; vertical = vertical_name has_z entries }))
+systems_given has_z entries plane =
+    let given : Referencing = record { crs = system_text (codes "id") plane; vertical = vertical_name has_z entries } in
+    record {
+      follows = (given, refl, vertical_stands has_z entries, refl);
+      only = λ other rows.
+          let vertical = vertical_one has_z entries rows.0.vertical rows.2 in
+          let crs = rows.1 in
+          let same : rows.0 ≡ given = λ i. record { crs = crs i; vertical = vertical i } in
+          rows.3 ∙ ap Ok same;
+    }
+
+-- the rows have the answer
+pub systems_rows : (has_z : Bool) (found : Option Data) → HaveAnswer (SystemRows has_z found) (referencing_of has_z found)
+systems_rows has_z found =
+    find_answers (λ list. found ≡ Some list) (Missing SystemsMember) _ (or_fault found (Missing SystemsMember)) _ (given_found (Missing SystemsMember) found) (λ list is.
+    find_answers (λ entries. list ≡ array entries) (WrongType SystemsMember) _ (list_at SystemsMember list) _ (list_found (WrongType SystemsMember) list) (λ entries is_list.
+    check_within (EachItem IsConnection entries) (WrongType SystemsMember) _ (all_that is_connection entries) _ _ (all_tells is_connection IsConnection connections entries, all_passes is_connection IsConnection connections entries) (λ all.
+    find_within (IsFirst IsPlane entries) (Missing SystemsMember) _ (or_fault (first_that is_plane entries) (Missing SystemsMember)) _ _
+    (option_finds (IsFirst IsPlane entries) (Missing SystemsMember) (first_that is_plane entries) (first_tells is_plane IsPlane planes entries) (first_passes is_plane IsPlane planes entries)) (λ plane first.
     let kind = system_text (codes "type") plane in
-    and_then_given (check (all_connections entries) (WrongType SystemsMember)) _ tt (Ok plane) (check_given _ (WrongType SystemsMember) s.connections)
-    (and_then_given (or_fault (first_plane entries) (Missing SystemsMember)) _ plane (Ok plane) (or_fault_given _ (Missing SystemsMember) _ s.first)
-    (and_then_given (check (bytes_eq kind (codes "ProjectedCRS")) (UnsupportedSystem kind)) _ tt (Ok plane)
-    (check_given _ (UnsupportedSystem kind) ((bytes_eq-Decides kind (codes "ProjectedCRS")).1 s.projected)) refl))
+    check_within (kind ≡ codes "ProjectedCRS") (UnsupportedSystem kind) _ (bytes_eq kind (codes "ProjectedCRS")) _ _ (bytes_eq-Decides kind (codes "ProjectedCRS")) (λ projected.
+    then_answers (CalendarRows entries) _ (only_gregorian (first_that is_other_calendar entries)) _ (calendars_by entries (first_that is_other_calendar entries) refl) (λ _ passed.
+    systems_given has_z entries plane))))))
 
--- no other calendar, where that check passes
-no_other : (o : Option Data) (x : ⊤) → only_gregorian o ≡ Ok x → o ≡ None
-no_other None x h = refl
-no_other (Some entry) x h = cc
+-- ---- what stands
 
--- the systems that are answered stand there
-pub systems_stand : (has_z : Bool) (found : Option Data) (r : Referencing) → referencing_of has_z found ≡ Ok r → StandsForReferencing has_z found r
-systems_stand has_z found r h =
-    let a = and_then_ok (or_fault found (Missing SystemsMember)) _ r h in
-    let b = and_then_ok (list_at SystemsMember a.0) _ r a.2 in
-    let p = and_then_ok (plane_in b.0) _ r b.2 in
-    let g = and_then_ok (only_gregorian (first_other_calendar b.0)) _ r p.2 in
-    let plane = plane_stands b.0 p.0 p.1 in
-    let made : Referencing = record { crs = system_text (codes "id") p.0; vertical = vertical_name has_z b.0 } in
-    let same : made ≡ r = cc in
+-- systems that pass the rows stand
+pub rows_tell : (has_z : Bool) (found : Option Data) (r : Referencing) → SystemRows has_z found (Ok r) → StandsForReferencing has_z found r
+rows_tell has_z found r h =
+    let l = passed h in
+    let e = passed l.2 in
+    let c = passed e.2 in
+    let p = passed c.1 in
+    let k = passed p.2 in
+    let g = passed_then k.1 in
+    let none : NoItem IsOtherCalendar e.0 = elim g.1 [ inl w ↦ w.0 | inr w ↦ let x = w.2 in cc ] in
+    let s = g.2 in
+    let same : s.0 ≡ r = let x = s.3 in cc in
     record {
-      entries = b.0;
-      list = or_fault_ok found _ a.0 a.1 ∙ ap Some (list_ok _ a.0 b.0 b.1);
-      connections = plane.connections;
+      entries = e.0;
+      list = l.1 ∙ ap Some e.1;
+      connections = c.0;
       plane = p.0;
-      first = plane.first;
-      projected = plane.projected;
-      gregorian = no_other (first_other_calendar b.0) g.0 g.1;
-      crs = ap (λ (q : Referencing). q.crs) (sym same);
-      vertical = ap (λ (q : Referencing). q.vertical) (sym same);
+      first = p.1;
+      projected = k.0;
+      gregorian = none;
+      crs = subst (λ (q : Referencing). q.crs ≡ system_text (codes "id") p.0) same s.1;
+      vertical = subst (λ (q : Referencing). StandsForVertical has_z e.0 q.vertical) same s.2;
     }
 
--- systems of these names
-abbrev referencing_made : List ℕ → Option (List ℕ) → Answer Referencing
-referencing_made crs vertical = Ok (record { crs = crs; vertical = vertical })
+-- and systems that stand pass them
+pub rows_pass : (has_z : Bool) (found : Option Data) (r : Referencing) → StandsForReferencing has_z found r → SystemRows has_z found (Ok r)
+rows_pass has_z found r s =
+    inl (array s.entries, s.list, inl (s.entries, refl, inl (s.connections, inl (s.plane, s.first, inl (s.projected, inl (tt, inl (s.gregorian, refl), (r, s.crs, s.vertical, refl)))))))
 
--- those that stand there have the names of the entries
-made_so : (has_z : Bool) (found : Option Data) (r : Referencing) (s : StandsForReferencing has_z found r)
-    → referencing_made (system_text (codes "id") s.plane) (vertical_name has_z s.entries) ≡ Ok r
-made_so has_z found r s = rw (← s.crs, ← s.vertical) refl
-
--- and the systems that stand there are answered
-pub systems_answer : (has_z : Bool) (found : Option Data) (r : Referencing) → StandsForReferencing has_z found r → referencing_of has_z found ≡ Ok r
-systems_answer has_z found r s =
-    let plane : IsPlaneIn s.entries s.plane = record { connections = s.connections; first = s.first; projected = s.projected } in
-    and_then_given (or_fault found (Missing SystemsMember)) _ (array s.entries) (Ok r) (or_fault_given _ (Missing SystemsMember) _ s.list)
-    (and_then_given (plane_in s.entries) _ s.plane (Ok r) (plane_answers s.entries s.plane plane)
-    (and_then_given (only_gregorian (first_other_calendar s.entries)) _ tt (Ok r) (ap only_gregorian s.gregorian) (made_so has_z found r s)))
+-- the answer is what stands
+pub systems_are : (has_z : Bool) (found : Option Data) (r : Referencing) → (referencing_of has_z found ≡ Ok r) ↔ StandsForReferencing has_z found r
+systems_are has_z found = answer_stands (SystemRows has_z found) (referencing_of has_z found) (StandsForReferencing has_z found) (systems_rows has_z found) (rows_tell has_z found) (rows_pass has_z found)

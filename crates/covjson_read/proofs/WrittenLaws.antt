@@ -1,7 +1,7 @@
 -- What is written of a coverage stands for it.
 use Rattle.std.proofs.Common.{◌≡◌, ℕ, List, codes, length, Option, Some, None, option_map, option_and_then, refl, sym, ap, ◌∙◌, arith}
 use Rattle.std.proofs.lemmas.List.{length-map}
-use Rattle.serde_json.specs.Data.{Data, null, string, Members, no_members, member}
+use Rattle.serde_json.specs.Data.{Data, string, Members, no_members, member}
 use Rattle.serde_json.specs.Find.{get, as_str}
 use Rattle.covjson_value.specs.declared.domains.CoordinateName.TheVariants.{T, Z}
 use Rattle.covjson_value.specs.declared.coverages.Parameter.{Parameter}
@@ -10,12 +10,13 @@ use Rattle.covjson_value.specs.Domains.{has_coordinate}
 use Rattle.covjson_value.specs.Coverages.{ids_of, IsValid}
 use Rattle.covjson_value.specs.Trees.{member_if, members_in_order, domain_data, parameters_data, named_ranges, ranges_data, coverage_data}
 use Rattle.covjson_checks.specs.Members.{either}
-use Rattle.covjson_read.specs.Standing.{StandsForRanges, StandsIn, Stands}
+use Rattle.covjson_read.specs.Standing.{StandsForRanges, StandsIn}
 use Rattle.covjson_value.specs.MemberLaws.{member_passed, member_found}
-use Rattle.covjson_domains.proofs.WrittenDomains.{unturned, domain_written}
+use Rattle.covjson_checks.specs.Turns.{unturned}
+use Rattle.covjson_domains.specs.Laws.{WrittenDomainsStand}
+use Rattle.covjson_ranges.specs.Laws.{WrittenRangesStand}
 use Rattle.covjson_read.proofs.WrittenSystems.{systems_written}
 use Rattle.covjson_read.proofs.WrittenParameters.{parameters_written, parameters_stand_written}
-use Rattle.covjson_ranges.proofs.WrittenRanges.{range_names_written, ranges_written}
 
 -- a text that was given is read again
 text_back : (text : Option (List ℕ)) → text ≡ option_and_then as_str (option_map string text)
@@ -54,36 +55,33 @@ ranges_found : (coverage : Coverage) → get (codes "ranges") (coverage_data cov
 ranges_found coverage = member_passed (codes "ranges") (codes "id") (id_given coverage) (after_id coverage) (λ d. refl)
 
 -- the ranges stand in the order of their parameters
-ranges_stand_written : (coverage : Coverage) → IsValid coverage
+ranges_stand_written : WrittenRangesStand → (coverage : Coverage) → IsValid coverage
     → StandsForRanges coverage.domain unturned (parameters_data coverage.parameters) (members_in_order (named_ranges coverage.domain coverage.parameters coverage.ranges)) coverage.parameters coverage.ranges
-ranges_stand_written coverage h =
+ranges_stand_written ranges coverage h =
     let ids = ids_of coverage.parameters in
     let as_many : length coverage.ranges ≡ length ids = h.as_many ∙ sym (length-map coverage.parameters (λ (p : Parameter). p.id)) in
+    let written = ranges coverage.domain ids coverage.ranges as_many h.ranges in
     record {
       some = omega (arith, h.some, h.as_many);
-      ids = sym (range_names_written coverage.domain ids coverage.ranges as_many);
+      ids = sym written.0;
       parameters_stand = parameters_stand_written coverage.parameters h.ascending;
-      ranges_stand = ranges_written coverage.domain ids coverage.ranges as_many h.ranges;
+      ranges_stand = written.1;
     }
 
 -- what is written of a valid coverage stands for it in any collection: it has all its members itself
-pub collected_stands_written : (collection : Data) (coverage : Coverage) → IsValid coverage → StandsIn collection (coverage_data coverage) coverage
-collected_stands_written collection coverage h = record {
+pub collected_stands_written : WrittenDomainsStand → WrittenRangesStand → (collection : Data) (coverage : Coverage) → IsValid coverage → StandsIn collection (coverage_data coverage) coverage
+collected_stands_written domains ranges collection coverage h = record {
   kind = kind_found coverage;
   id = text_back coverage.id ∙ ap (option_and_then as_str) (sym (id_found coverage));
   domain = domain_data coverage.domain coverage.referencing;
   domain_at = refl;
   turned = unturned;
-  domain_stands = domain_written coverage.domain coverage.referencing h.axes h.tuples;
+  domain_stands = domains coverage.domain coverage.referencing h.axes h.tuples;
   referencing_stands = systems_written (has_coordinate coverage.domain Z) (has_coordinate coverage.domain T) coverage.referencing h.vertical;
   parameters = parameters_data coverage.parameters;
   parameters_at = ap (λ (found : Option Data). either found (get (codes "parameters") collection)) (parameters_found coverage);
   parameters_are = parameters_written coverage.parameters h.parameters;
   ranges = members_in_order (named_ranges coverage.domain coverage.parameters coverage.ranges);
   ranges_at = ranges_found coverage;
-  ranges_stand = ranges_stand_written coverage h;
+  ranges_stand = ranges_stand_written ranges coverage h;
 }
-
--- and by itself
-pub coverage_stands_written : (coverage : Coverage) → IsValid coverage → Stands (coverage_data coverage) coverage
-coverage_stands_written coverage h = collected_stands_written null coverage h

@@ -1,5 +1,5 @@
 -- What is written of parameters stands for them.
-use Rattle.std.proofs.Common.{◌≡◌, ℕ, List, [], ◌∷◌, map, All, codes, Option, Some, None, option_map, refl, sym, ap, ◌∙◌, subst}
+use Rattle.std.proofs.Common.{◌≡◌, ℕ, List, [], ◌∷◌, map, All, codes, Option, Some, None, option_map, inl, inr, refl, sym, ap, ◌∙◌, subst}
 use Rattle.std.specs.declared.cmp.Ordering.{Ordering}
 use Rattle.std.specs.declared.cmp.Ordering.TheVariants.{Less, Equal, Greater}
 use Rattle.std.specs.Ordering.{nat_cmp, match_ordering, ordering_reverse}
@@ -14,18 +14,16 @@ use Rattle.serde_json.specs.Find.{get_member}
 use Rattle.covjson_value.specs.declared.coverages.Parameter.{Parameter}
 use Rattle.covjson_value.specs.Coverages.{IsParameter, ids_of, AscendById}
 use Rattle.covjson_value.specs.Trees.{members_in_order, property_data, unit_data, parameter_data, named_parameter, parameters_data}
-use Rattle.covjson_read.specs.Parameters.{said_in, StandsForLabel, StandsForUnit, StandsForParameter, EachIsParameter, HoldsParameters, StandsAmong}
+use Rattle.covjson_read.specs.Parameters.{IsSaid, StandsForLabel, StandsForUnit, StandsForParameter, EachIsParameter, HoldsParameters, StandsAmong}
 use Rattle.covjson_value.specs.MemberLaws.{member_found}
-use Rattle.covjson_read.proofs.ParameterNames.{form_of_name}
 
 -- ---- one parameter
 
 -- the only text is said, in English or in another language
-said_by : (lang : List ℕ) (d : Data) (order : Ordering) → slice_cmp nat_cmp (codes "en") lang ≡ order
-    → said_in (match_ordering order None (Some d) None) (member lang d no_members) ≡ Some (lang, d)
-said_by lang d Less is = refl
-said_by lang d Equal is = ap (λ (text : List ℕ). Some (text, d)) (exact_bytes (codes "en") lang is)
-said_by lang d Greater is = refl
+said_by : (lang text : List ℕ) (order : Ordering) → slice_cmp nat_cmp (codes "en") lang ≡ order → IsSaid (member lang (string text) no_members) lang text
+said_by lang text Less is = inr (ap (λ o. match_ordering o None (Some (string text)) None) is, (no_members, refl))
+said_by lang text Equal is = inl (ap (λ o. match_ordering o None (Some (string text)) None) is, sym (exact_bytes (codes "en") lang is))
+said_by lang text Greater is = inr (ap (λ o. match_ordering o None (Some (string text)) None) is, (no_members, refl))
 
 -- a label
 label_written : (p : Parameter) → StandsForLabel (property_data p) p.lang p.label
@@ -33,7 +31,7 @@ label_written p = record {
   members = member p.lang (string p.label) no_members;
   label = refl;
   texts = ((p.label, refl), tt);
-  said = said_by p.lang (string p.label) (slice_cmp nat_cmp (codes "en") p.lang) refl;
+  said = said_by p.lang p.label (slice_cmp nat_cmp (codes "en") p.lang) refl;
 }
 
 -- a unit
@@ -60,7 +58,7 @@ parameter_written p =
 each_parameter_written : (ps : List Parameter) → All IsParameter ps → EachIsParameter (members_in_order (map named_parameter ps))
 each_parameter_written [] h = tt
 each_parameter_written (p ∷ ps) h =
-    (form_of_name p.id (All-head IsParameter p ps h).id, (p, parameter_written p), each_parameter_written ps (All-tail IsParameter p ps h))
+    ((All-head IsParameter p ps h).id, (p, parameter_written p), each_parameter_written ps (All-tail IsParameter p ps h))
 
 -- and so all are parameters
 pub parameters_written : (ps : List Parameter) → All IsParameter ps → HoldsParameters (parameters_data ps)

@@ -1,11 +1,15 @@
 -- What is written of reference systems stands for them.
-use Rattle.std.proofs.Common.{◌≡◌, ℕ, List, [], ◌∷◌, codes, Bool, true, false, true≢false, Option, Some, None, IsSome, refl, sym}
+use Rattle.std.proofs.Common.{◌≡◌, ℕ, List, [], ◌∷◌, codes, Bool, true, false, true≢false, Option, Some, None, IsSome, refl, sym, subst}
 use Rattle.std.specs.Prelude.{IsTrue}
 use Rattle.serde_json.specs.Data.{Data, array, Items, no_items, item}
 use Rattle.covjson_value.specs.declared.domains.CoordinateName.TheVariants.{Z, X, Y}
 use Rattle.covjson_value.specs.declared.coverages.Referencing.{Referencing}
 use Rattle.covjson_value.specs.Trees.{item_if, system_data, connection, connection_data, text_if_some, horizontal_data, vertical_data, temporal_data, keys_data}
-use Rattle.covjson_read.specs.Systems.{all_connections, system_text, system_name, is_other_calendar, first_other_calendar, is_vertical, first_vertical, vertical_name, StandsForReferencing}
+use Rattle.covjson_read.specs.Systems.{IsConnection, IsPlane, IsOtherCalendar, system_text, system_name, StandsForVertical, StandsForReferencing}
+use Rattle.covjson_read.specs.SystemAnswers.{all_that, first_that, is_connection, is_plane, is_other_calendar, is_vertical, vertical_name}
+use Rattle.covjson_read.proofs.ItemTests.{all_tells, first_tells, none_tells}
+use Rattle.covjson_read.proofs.EntryTests.{connections, planes, other_calendars}
+use Rattle.covjson_read.proofs.SystemLaws.{vertical_stands}
 
 -- the entries of the systems: of the plane, and of levels and of times where there are some
 abbrev entries : Bool → Bool → List ℕ → Option (List ℕ) → Items
@@ -27,7 +31,7 @@ crs_written [] = refl
 crs_written (byte ∷ bytes) = refl
 
 -- each written entry has coordinates and a system
-connections_written : (has_z has_t : Bool) (crs : List ℕ) (vertical : Option (List ℕ)) → all_connections (entries has_z has_t crs vertical) ≡ true
+connections_written : (has_z has_t : Bool) (crs : List ℕ) (vertical : Option (List ℕ)) → all_that is_connection (entries has_z has_t crs vertical) ≡ true
 connections_written true true crs vertical = refl
 connections_written true false crs vertical = refl
 connections_written false true crs vertical = refl
@@ -44,17 +48,17 @@ levels_without_calendar None coordinates = refl
 levels_without_calendar (Some name) coordinates = refl
 
 -- that of times is Gregorian
-calendars_of_times : (has_t : Bool) → first_other_calendar (item_if has_t temporal_data no_items) ≡ None
+calendars_of_times : (has_t : Bool) → first_that is_other_calendar (item_if has_t temporal_data no_items) ≡ None
 calendars_of_times true = refl
 calendars_of_times false = refl
 
 -- so is every calendar of the entries after the plane
-calendars_of_rest : (has_z has_t : Bool) (vertical : Option (List ℕ)) → first_other_calendar (item_if has_z (vertical_data vertical) (item_if has_t temporal_data no_items)) ≡ None
+calendars_of_rest : (has_z has_t : Bool) (vertical : Option (List ℕ)) → first_that is_other_calendar (item_if has_z (vertical_data vertical) (item_if has_t temporal_data no_items)) ≡ None
 calendars_of_rest true has_t vertical = rw (levels_without_calendar vertical (keys_data (Z ∷ []))) (calendars_of_times has_t)
 calendars_of_rest false has_t vertical = calendars_of_times has_t
 
 -- and of all entries
-calendars_written : (has_z has_t : Bool) (crs : List ℕ) (vertical : Option (List ℕ)) → first_other_calendar (entries has_z has_t crs vertical) ≡ None
+calendars_written : (has_z has_t : Bool) (crs : List ℕ) (vertical : Option (List ℕ)) → first_that is_other_calendar (entries has_z has_t crs vertical) ≡ None
 calendars_written has_z has_t crs vertical = rw (plane_without_calendar (text_if_some crs) (keys_data (X ∷ Y ∷ []))) (calendars_of_rest has_z has_t vertical)
 
 -- the system of the plane is not one of levels
@@ -68,7 +72,7 @@ levels_vertical None = refl
 levels_vertical (Some name) = refl
 
 -- it is the first such
-vertical_found : (has_t : Bool) (crs : List ℕ) (vertical : Option (List ℕ)) → first_vertical (entries true has_t crs vertical) ≡ Some (vertical_data vertical)
+vertical_found : (has_t : Bool) (crs : List ℕ) (vertical : Option (List ℕ)) → first_that is_vertical (entries true has_t crs vertical) ≡ Some (vertical_data vertical)
 vertical_found has_t crs vertical = rw (plane_not_vertical (text_if_some crs), levels_vertical vertical) refl
 
 -- without levels no vertical name is given
@@ -84,14 +88,16 @@ vertical_written false has_t crs vertical h = none_without_levels vertical h
 -- the systems of a domain with or without levels and times
 pub systems_written : (has_z has_t : Bool) (referencing : Referencing) → (IsSome referencing.vertical → IsTrue has_z)
     → StandsForReferencing has_z (Some (array (entries has_z has_t referencing.crs referencing.vertical))) referencing
-systems_written has_z has_t referencing h = record {
-  entries = entries has_z has_t referencing.crs referencing.vertical;
-  list = refl;
-  connections = connections_written has_z has_t referencing.crs referencing.vertical;
-  plane = horizontal_data referencing.crs;
-  first = refl;
-  projected = kind_written (text_if_some referencing.crs) (codes "ProjectedCRS") (keys_data (X ∷ Y ∷ []));
-  gregorian = calendars_written has_z has_t referencing.crs referencing.vertical;
-  crs = crs_written referencing.crs;
-  vertical = vertical_written has_z has_t referencing.crs referencing.vertical h;
-}
+systems_written has_z has_t referencing h =
+    let all : Items = entries has_z has_t referencing.crs referencing.vertical in
+    record {
+      entries = all;
+      list = refl;
+      connections = all_tells is_connection IsConnection connections all (connections_written has_z has_t referencing.crs referencing.vertical);
+      plane = horizontal_data referencing.crs;
+      first = first_tells is_plane IsPlane planes all (horizontal_data referencing.crs) refl;
+      projected = kind_written (text_if_some referencing.crs) (codes "ProjectedCRS") (keys_data (X ∷ Y ∷ []));
+      gregorian = none_tells is_other_calendar IsOtherCalendar other_calendars all (calendars_written has_z has_t referencing.crs referencing.vertical);
+      crs = crs_written referencing.crs;
+      vertical = subst (StandsForVertical has_z all) (sym (vertical_written has_z has_t referencing.crs referencing.vertical h)) (vertical_stands has_z all);
+    }

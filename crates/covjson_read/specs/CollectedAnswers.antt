@@ -1,27 +1,15 @@
--- All ranges of a coverage, each with its parameter, or the first check that fails.
-use Rattle.std.specs.Prelude.{ℕ, ◌==◌, nat_le, ℤ, List, [], ◌∷◌, length, map, bytes_eq, codes, Bool, true, false, not, ◌||◌, ◌&&◌, if◌then◌else◌, ⊤, Option, Some, None, option_and_then, Ok}
-use Rattle.serde_json.specs.Data.{Data, Items, no_items, item, Members, no_members, member}
-use Rattle.serde_json.specs.Find.{get, as_str}
-use Rattle.covjson_value.specs.declared.domains.Domain.{Domain}
-use Rattle.covjson_value.specs.declared.coverages.NdArray.{NdArray}
-use Rattle.edr_base.specs.Limits.{sample_limit}
-use Rattle.covjson_value.specs.Domains.{count_of}
-use Rattle.covjson_value.specs.declared.axis_names.AxisName.{AxisName}
-use Rattle.covjson_value.specs.declared.axis_names.AxisName.TheVariants.{T, Z, Y, X, Composite}
+-- All ranges of a coverage, each with its parameter, or the first check that fails, as a computation.
+use Rattle.std.specs.Prelude.{[], ◌∷◌, codes, Bool, true, false, Ok}
+use Rattle.serde_json.specs.Data.{Data, Members, no_members, member}
+use Rattle.edr_base.specs.FirstThatApplies.{and_then, check}
 use Rattle.covjson_checks.specs.declared.turned.ReadDomain.{ReadDomain}
+use Rattle.covjson_checks.specs.declared.faults.Member.TheVariants.{Parameters, Ranges}
+use Rattle.covjson_checks.specs.declared.faults.CovFault.TheVariants.{WrongCount}
+use Rattle.covjson_checks.specs.Answers.{Answer}
+use Rattle.covjson_checks.specs.Members.{need, object_at}
+use Rattle.covjson_ranges.specs.RangeAnswers.{range_of}
 use Rattle.covjson_read.specs.declared.collected.ReadRanges.{ReadRanges}
-use Rattle.covjson_checks.specs.declared.faults.Member.TheVariants.{Parameters, Ranges, DataType, AxisNames, Shape, Values}
-use Rattle.covjson_checks.specs.declared.faults.CovFault.TheVariants.{Missing, WrongType, UnsupportedRange, NotWhole, WrongCount}
-use Rattle.covjson_checks.specs.declared.members.Wanted.TheVariants.{Naturals, NumbersOrNulls, WholesOrNulls}
-use Rattle.covjson_checks.specs.Answers.{Answer, each}
-use Rattle.edr_base.specs.FirstThatApplies.{and_then, or_fault, check}
-use Rattle.covjson_checks.specs.Members.{need, object_at, list_at, whole_or_null, need_each}
-use Rattle.edr_json.specs.Trees.{text_or_empty, natural_of}
-use Rattle.covjson_read.specs.Parameters.{parameter_of}
-use Rattle.covjson_value.specs.AxisNames.{axis_key}
-use Rattle.covjson_ranges.specs.Ranges.{length_of, has_range_axis, is_named}
-use Rattle.edr_json.specs.Trees.{count_items}
-use Rattle.covjson_ranges.specs.Orders.{ordered}
+use Rattle.covjson_read.specs.ParameterAnswers.{parameter_of}
 
 -- each range in turn with the parameter of its name
 abbrev pub ranges_from : ReadDomain → Data → Members → Answer ReadRanges

@@ -1,27 +1,26 @@
--- Coverages and documents: what a tree or a text stands for, or the first check that fails.
-use Rattle.std.specs.Prelude.{◌≡◌, ◌⊎◌, ◌↔◌, ℕ, List, bytes_eq, codes, if◌then◌else◌, IsUtf8, Option, Some, option_and_then, Ok, Err}
+-- Coverages and documents, or the first check that fails, as a computation.
+use Rattle.std.specs.Prelude.{◌≡◌, ◌⊎◌, ◌↔◌, ℕ, List, bytes_eq, codes, if◌then◌else◌, option_and_then, Some, Ok, Err}
 use Rattle.serde_json.specs.Data.{Data, null}
 use Rattle.serde_json.specs.Find.{get, as_str}
-use Rattle.serde_json.specs.Read.{read}
+use Rattle.edr_base.specs.FirstThatApplies.{and_then, check}
+use Rattle.edr_json.specs.Json.{IsJson, IsNoJson}
+use Rattle.edr_json.specs.Trees.{text_or_empty}
 use Rattle.covjson_value.specs.declared.domains.CoordinateName.TheVariants.{Z}
 use Rattle.covjson_value.specs.declared.coverages.Coverage.{Coverage}
 use Rattle.covjson_value.specs.declared.coverages.Document.{Document}
 use Rattle.covjson_value.specs.declared.coverages.Document.TheVariants.{One, Many}
-use Rattle.covjson_value.specs.Coverages.{IsValidDocument}
 use Rattle.covjson_value.specs.Domains.{has_coordinate}
-use Rattle.covjson_value.specs.Trees.{document_text}
 use Rattle.covjson_checks.specs.declared.turned.ReadDomain.{ReadDomain}
 use Rattle.covjson_checks.specs.declared.faults.Member.TheVariants.{Document as TheDocument, Kind, Coverages, Domain}
 use Rattle.covjson_checks.specs.declared.faults.CovFault.TheVariants.{NotJson, WrongType}
 use Rattle.covjson_checks.specs.Answers.{Answer, each}
-use Rattle.edr_base.specs.FirstThatApplies.{and_then, check}
-use Rattle.covjson_checks.specs.Members.{need, object_at, list_at, either, lent}
-use Rattle.edr_json.specs.Trees.{text_or_empty}
+use Rattle.covjson_checks.specs.Members.{need, object_at, list_at, lent}
 use Rattle.covjson_domains.specs.DomainAnswers.{domain_of}
-use Rattle.covjson_read.specs.Systems.{referencing_of}
-use Rattle.covjson_read.specs.Parameters.{parameters_of}
+use Rattle.covjson_read.specs.SystemAnswers.{referencing_of}
+use Rattle.covjson_read.specs.ParameterAnswers.{parameters_of}
 use Rattle.covjson_read.specs.CollectedAnswers.{ranges_in}
-use Rattle.covjson_read.specs.Standing.{StandsIn}
+use Rattle.covjson_read.specs.Standing.{type_of, StandsIn}
+use Rattle.covjson_read.specs.Rows.{CoverageRows}
 
 -- ---- coverages
 
@@ -37,10 +36,6 @@ abbrev pub domain_at : Data → Answer Data
 domain_at tree =
     and_then (need (codes "domain") Domain tree) (λ d.
     and_then (object_at Domain d) (λ _. Ok d))
-
--- the type of its domain: the domain's own, else the coverage's, else the collection's
-abbrev pub type_of : Data → Data → Data → Option Data
-type_of domain tree collection = either (get (codes "domainType") domain) (lent (codes "domainType") tree collection)
 
 -- the systems, the parameters and the ranges over a domain that was read
 abbrev pub over_domain : Data → Data → Data → ReadDomain → Answer Coverage
@@ -64,13 +59,13 @@ coverage_in collection tree =
     and_then (domain_of (type_of domain tree collection) domain) (λ found.
     over_domain collection tree domain found)))
 
--- the answer is a coverage exactly where the tree stands for it
+-- the answer follows the rows
+abbrev pub CoverageAnswersFollowRows : Type 0
+CoverageAnswersFollowRows = (collection tree : Data) → CoverageRows collection tree (coverage_in collection tree)
+
+-- and is a coverage exactly where the tree stands for it
 abbrev pub AnswersAreWhatStands : Type 0
 AnswersAreWhatStands = (collection tree : Data) (coverage : Coverage) → (coverage_in collection tree ≡ Ok coverage) ↔ StandsIn collection tree coverage
-
--- a tree stands for at most one coverage
-abbrev pub TreesStandForOne : Type 0
-TreesStandForOne = (collection tree : Data) (one other : Coverage) → StandsIn collection tree one → StandsIn collection tree other → one ≡ other
 
 -- ---- documents
 
@@ -99,8 +94,4 @@ document_of tree =
 
 -- the answer of a text: that of its tree, or NotJson where it has none
 abbrev pub AnswersText : List ℕ → Answer Document → Type 0
-AnswersText text answer = ((tree : Data) × IsJson text tree × (document_of tree ≡ answer)) ⊎ (((tree : Data) → ¬ (IsJson text tree)) × (answer ≡ Err NotJson))
-
--- what is written of a valid document is read as that document
-abbrev pub WrittenDocumentsAreRead : Type 0
-WrittenDocumentsAreRead = (document : Document) → IsValidDocument document → AnswersText (document_text document) (Ok document)
+AnswersText text answer = ((tree : Data) × IsJson text tree × (document_of tree ≡ answer)) ⊎ (IsNoJson text × (answer ≡ Err NotJson))

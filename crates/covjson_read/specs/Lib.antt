@@ -1,6 +1,12 @@
 pub mod Systems
+pub mod SystemAnswers
+pub mod NameTests
+pub mod NameLaws
 pub mod Parameters
+pub mod ParameterAnswers
 pub mod Collected
 pub mod CollectedAnswers
 pub mod Standing
+pub mod Rows
 pub mod CoverageAnswers
+pub mod Laws

@@ -1,107 +1,59 @@
--- The reference systems of a tree (OGC 21-069r2, reference system objects), and what they stand for.
-use Rattle.std.specs.Prelude.{◌≡◌, ℕ, List, codes, Bool, true, false, not, bytes_eq, ◌||◌, ◌&&◌, if◌then◌else◌, is_some, ⊤, Option, Some, None, option_and_then, Ok, Err}
-use Rattle.serde_json.specs.Data.{Data, array, Items, no_items, item}
-use Rattle.serde_json.specs.Find.{get, as_array, as_str}
-use Rattle.covjson_value.specs.declared.coverages.Referencing.{Referencing}
-use Rattle.covjson_checks.specs.declared.faults.Member.TheVariants.{Referencing as SystemsMember}
-use Rattle.covjson_checks.specs.declared.faults.CovFault.TheVariants.{Missing, WrongType, UnsupportedSystem}
-use Rattle.covjson_checks.specs.Answers.{Answer}
-use Rattle.edr_base.specs.FirstThatApplies.{and_then, or_fault, check}
+-- Reference systems (OGC 21-069r2, reference system objects): which trees stand for which.
+use Rattle.std.specs.Prelude.{◌≡◌, ◌≢◌, ◌⊎◌, ℕ, List, codes, Bool, true, false, Option, Some, None, option_and_then}
+use Rattle.serde_json.specs.Data.{Data, string, array, Items}
+use Rattle.serde_json.specs.Find.{get, as_str}
 use Rattle.edr_json.specs.Trees.{text_or_empty}
-use Rattle.covjson_checks.specs.Members.{list_at}
+use Rattle.covjson_checks.specs.Places.{IsAmong, EachItem, NoItem, IsFirst}
+use Rattle.covjson_value.specs.declared.coverages.Referencing.{Referencing}
 
--- a list has that text
-abbrev pub has_text : List ℕ → Items → Bool
-has_text text no_items = false
-has_text text (item d ds) = is_text text (as_str d) || has_text text ds
-
-abbrev pub has_text_if_list : List ℕ → Option Items → Bool
-has_text_if_list text None = false
-has_text_if_list text (Some ds) = has_text text ds
-
--- the coordinates of an entry hold that name
-abbrev pub holds : List ℕ → Data → Bool
-holds name entry = has_text_if_list name (option_and_then as_array (get (codes "coordinates") entry))
+-- ---- entries
 
 -- an entry has coordinates and a system
-abbrev pub is_connection : Data → Bool
-is_connection entry = is_some (get (codes "coordinates") entry) && is_some (get (codes "system") entry)
+pub record IsConnection (entry : Data) : Type 0 where
+  pub coordinates : Data
+  pub coordinates_at : get (codes "coordinates") entry ≡ Some coordinates
+  pub system : Data
+  pub system_at : get (codes "system") entry ≡ Some system
 
-abbrev pub all_connections : Items → Bool
-all_connections no_items = true
-all_connections (item d ds) = is_connection d && all_connections ds
+-- the coordinates of an entry hold a name
+abbrev pub HoldsName : List ℕ → Data → Type 0
+HoldsName name entry = (names : Items) × (get (codes "coordinates") entry ≡ Some (array names)) × IsAmong (string name) names
 
 -- the text of a member of an entry's system, or the empty text
 abbrev pub system_text : List ℕ → Data → List ℕ
 system_text name entry = text_or_empty (option_and_then (get name) (get (codes "system") entry))
 
--- an entry of both coordinates of the plane
-abbrev pub is_plane : Data → Bool
-is_plane entry = holds (codes "x") entry && holds (codes "y") entry
-
--- the first of these
-abbrev pub first_plane : Items → Option Data
-first_plane no_items = None
-first_plane (item d ds) = if is_plane d then Some d else first_plane ds
-
--- an entry of times in another calendar
-abbrev pub is_other_calendar : Data → Bool
-is_other_calendar entry = bytes_eq (system_text (codes "type") entry) (codes "TemporalRS") && not (bytes_eq (system_text (codes "calendar") entry) (codes "Gregorian"))
-
--- the first of these
-abbrev pub first_other_calendar : Items → Option Data
-first_other_calendar no_items = None
-first_other_calendar (item d ds) = if is_other_calendar d then Some d else first_other_calendar ds
-
--- an entry of levels
-abbrev pub is_vertical : Data → Bool
-is_vertical entry = bytes_eq (system_text (codes "type") entry) (codes "VerticalCRS") && holds (codes "z") entry
-
--- the first of these
-abbrev pub first_vertical : Items → Option Data
-first_vertical no_items = None
-first_vertical (item d ds) = if is_vertical d then Some d else first_vertical ds
-
 -- the name of an entry's system, where it is a text
 abbrev pub system_name : Data → Option (List ℕ)
 system_name entry = option_and_then as_str (option_and_then (get (codes "id")) (get (codes "system") entry))
 
--- the name of the system of levels, where there are levels
-abbrev pub vertical_name : Bool → Items → Option (List ℕ)
-vertical_name has_z entries = if has_z then option_and_then system_name (first_vertical entries) else None
+-- an entry of both coordinates of the plane
+abbrev pub IsPlane : Data → Type 0
+IsPlane entry = HoldsName (codes "x") entry × HoldsName (codes "y") entry
 
--- the systems of a domain with or without levels: that of the plane is projected, and those of times are Gregorian
+-- an entry of times in another calendar than the Gregorian
+abbrev pub IsOtherCalendar : Data → Type 0
+IsOtherCalendar entry = (system_text (codes "type") entry ≡ codes "TemporalRS") × (system_text (codes "calendar") entry ≢ codes "Gregorian")
+
+-- an entry of levels
+abbrev pub IsVertical : Data → Type 0
+IsVertical entry = (system_text (codes "type") entry ≡ codes "VerticalCRS") × HoldsName (codes "z") entry
+
+-- ---- the systems of a domain
+
+-- the vertical text of a domain with or without levels: the name of the first system of levels, where it has one
+abbrev pub StandsForVertical : Bool → Items → Option (List ℕ) → Type 0
+StandsForVertical false entries vertical = vertical ≡ None
+StandsForVertical true entries vertical = ((entry : Data) × IsFirst IsVertical entries entry × (vertical ≡ system_name entry)) ⊎ (NoItem IsVertical entries × (vertical ≡ None))
+
+-- the systems: that of the plane is projected, and those of times are Gregorian
 pub record StandsForReferencing (has_z : Bool) (found : Option Data) (referencing : Referencing) : Type 0 where
   pub entries : Items
   pub list : found ≡ Some (array entries)
-  pub connections : all_connections entries ≡ true
+  pub connections : EachItem IsConnection entries
   pub plane : Data
-  pub first : first_plane entries ≡ Some plane
+  pub first : IsFirst IsPlane entries plane
   pub projected : system_text (codes "type") plane ≡ codes "ProjectedCRS"
-  pub gregorian : first_other_calendar entries ≡ None
+  pub gregorian : NoItem IsOtherCalendar entries
   pub crs : referencing.crs ≡ system_text (codes "id") plane
-  pub vertical : referencing.vertical ≡ vertical_name has_z entries
-
--- ---- the first check that fails
-
--- no calendar but the Gregorian
-abbrev pub only_gregorian : Option Data → Answer ⊤
-only_gregorian None = Ok tt
-only_gregorian (Some entry) = Err (UnsupportedSystem (system_text (codes "calendar") entry))
-
--- the entry of the plane, of a projected system
-abbrev pub plane_in : Items → Answer Data
-plane_in entries =
-    and_then (check (all_connections entries) (WrongType SystemsMember)) (λ _.
-    and_then (or_fault (first_plane entries) (Missing SystemsMember)) (λ plane.
-    and_then (check (bytes_eq (system_text (codes "type") plane) (codes "ProjectedCRS")) (UnsupportedSystem (system_text (codes "type") plane))) (λ _.
-    Ok plane)))
-
--- the reference systems, found in the domain or elsewhere
-abbrev pub referencing_of : Bool → Option Data → Answer Referencing
-referencing_of has_z found =
-    and_then (or_fault found (Missing SystemsMember)) (λ list.
-    and_then (list_at SystemsMember list) (λ entries.
-    and_then (plane_in entries) (λ plane.
-    and_then (only_gregorian (first_other_calendar entries)) (λ _.
-    Ok (record { crs = system_text (codes "id") plane; vertical = vertical_name has_z entries })))))
+  pub vertical : StandsForVertical has_z entries referencing.vertical

@@ -43,12 +43,8 @@ fn ranges_from(
         let tree = need(parameters, id, Member::Parameters)?;
         let parameter = parameter_of(alloc, id, tree)?;
         let array = range_of(alloc, range, read)?;
-        if kept.push(parameter).is_err() {
-            return Err(CovFault::OutOfMemory);
-        }
-        if found.push(array).is_err() {
-            return Err(CovFault::OutOfMemory);
-        }
+        kept.push(parameter)?;
+        found.push(array)?;
     }
     Ok(ReadRanges {
         parameters: Items::of(kept),

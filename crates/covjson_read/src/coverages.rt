@@ -1,21 +1,25 @@
 //! Coverages (OGC 21-069r2, Coverage objects).
-ghost use Rattle.std.specs.Prelude.{◌≡◌, IfOk, IfSome, IsUtf8, Ok, option_and_then, option_map, codes};
+ghost use Rattle.std.specs.Prelude.{◌≡◌, ◌≢◌, IfOk, IfErr, IfSome, IsUtf8, Ok, Err, option_and_then, option_map, codes};
 ghost use Rattle.serde_json.specs.Data.{null};
 ghost use Rattle.serde_json.specs.View.{view};
 ghost use Rattle.serde_json.specs.Find.{get, as_str};
 ghost use Rattle.covjson_value.specs.Coverages.{HasAxes, HasTuples, IsValid};
 ghost use Rattle.covjson_checks.specs.Answers.{Gives, GivesUnlessMemory};
-ghost use Rattle.covjson_read.specs.CoverageAnswers.{over_domain, AnswersAreWhatStands, TreesStandForOne};
+ghost use Rattle.covjson_value.specs.declared.coverages.Coverage.{Coverage};
+ghost use Rattle.covjson_read.specs.CoverageAnswers.{over_domain};
 ghost use Rattle.covjson_read.specs.CoverageAnswers as answers;
+ghost use Rattle.covjson_read.specs.Standing.{Stands, type_of};
+ghost use Rattle.covjson_read.specs.Rows.{CoverageRows};
 
+use crate::collected::ranges_in;
+use crate::laws::{answers_are_what_stands, coverage_answers_follow_rows};
+use crate::parameters::parameters_of;
+use crate::systems::referencing_of;
 use covjson_checks::{CovFault, Member, ReadDomain, lent, need, object_at, text_where_given};
 use covjson_domains::domain_of;
-use edr_json::text_or_empty;
-use crate::parameters::parameters_of;
-use crate::collected::ranges_in;
-use crate::systems::referencing_of;
 use covjson_value::{CoordinateName, Coverage};
 use edr_base::Text;
+use edr_json::text_or_empty;
 use serde_json::Value;
 use std::alloc::Global;
 
@@ -53,7 +57,7 @@ fn domain_at(tree: &Value) -> Result<&Value, CovFault>
 
 // The type of a domain: its own, else that of the coverage, else that of the collection.
 fn type_of<'a>(domain: &'a Value, tree: &'a Value, collection: &'a Value) -> Option<&'a Value>
-    ensures { option_map (λ v. view v.now) result ≡ answers.type_of (view domain.now) (view tree.now) (view collection.now) }
+    ensures { option_map (λ v. view v.now) result ≡ type_of (view domain.now) (view tree.now) (view collection.now) }
 {
     match domain.get("domainType") {
         Some(found) => Some(found),
@@ -100,26 +104,28 @@ pub fn coverage_in(alloc: Global, tree: &Value, collection: &Value) -> Result<Co
     over_domain(alloc, tree, collection, domain, read)
 }
 
-/// The coverage that a tree of JSON stands for (OGC 21-069r2, CoverageJSON objects), or the first check that it fails.
-///
-/// The checks go in this order: the object and its type, the domain and its type, the axes t, z, y, x and composite, the
-/// reference systems, the parameters, and the ranges, parameters and ranges in ascending order of their ids. An axis has its
-/// values in a list, or one of numbers has them by `start`, `stop` and `num`; descending values are turned round with the
-/// samples over them. A range may have its axes in any order. Members that aren't needed are passed over, and parameters
-/// without a range are dropped.
-pub fn coverage_of(alloc: Global, tree: &Value) -> Result<Coverage, CovFault>
+/// The coverage that a tree of JSON stands for by itself.
+pub fn coverage_alone(alloc: Global, tree: &Value) -> Result<Coverage, CovFault>
     ensures answer { GivesUnlessMemory (λ c. c) result (answers.coverage_in null (view tree.now)) }
     ensures valid { IfOk result IsValid }
 {
     coverage_in(alloc, tree, &Value::Null)
 }
 
-/// The answer to a tree is a coverage exactly where the tree stands for that coverage.
-pub fn answers_are_what_stands()
-    ensures { AnswersAreWhatStands }
-{}
-
-/// A tree stands for at most one coverage.
-pub fn trees_stand_for_one()
-    ensures { TreesStandForOne }
-{}
+/// The coverage that a tree of JSON stands for (OGC 21-069r2, CoverageJSON objects), or the first check that it fails.
+///
+/// The checks go in this order: the object and its type, the domain and its type, the axes t, z, y, x and composite, the
+/// reference systems, the parameters, and the ranges, parameters and ranges in ascending order of their ids. An axis has its
+/// values in a list, or one of numbers has them by `start`, `stop` and `num`; descending values are turned round with the
+/// samples over them. A range may have its axes in any order. Members that aren't needed are passed over, and parameters
+/// without a range are dropped. A tree is JSON, so that NotJson is none of the faults.
+pub fn coverage_of(alloc: Global, tree: &Value) -> Result<Coverage, CovFault>
+    ensures stands { IfOk result (Stands (view tree.now)) }
+    ensures none { IfErr result (λ fault. fault ≢ CovFault.OutOfMemory → (coverage : Coverage) → ¬ (Stands (view tree.now) coverage)) }
+    ensures first_fault { IfErr result (λ fault. fault ≢ CovFault.OutOfMemory → CoverageRows null (view tree.now) (Err fault)) }
+    ensures valid { IfOk result IsValid }
+{
+    coverage_answers_follow_rows();
+    answers_are_what_stands();
+    coverage_alone(alloc, tree)
+}

@@ -1,24 +1,31 @@
 //! Documents (OGC 21-069r2, CoverageJSON documents).
-ghost use Rattle.std.specs.Prelude.{◌≡◌, ◌⊎◌, All, IfOk, MatchResult, Ok, Err};
+ghost use Rattle.std.specs.Prelude.{◌≡◌, ◌≢◌, ◌⊎◌, All, IfOk, IfErr, MatchResult, Ok, Err};
 ghost use Rattle.serde_json.specs.View.{view, items_view};
 ghost use Rattle.covjson_value.specs.Coverages.{IsValid, IsValidDocument};
 ghost use Rattle.covjson_checks.specs.Answers.{GivesUnlessMemory, each};
-ghost use Rattle.covjson_read.specs.CoverageAnswers.{AnswersText, WrittenDocumentsAreRead, document_of_type, coverage_in};
+ghost use Rattle.covjson_value.specs.declared.coverages.Document.{Document};
+ghost use Rattle.covjson_read.specs.CoverageAnswers.{AnswersText, document_of_type, coverage_in};
+ghost use Rattle.covjson_read.specs.Standing.{StandsForDocument};
+ghost use Rattle.covjson_read.specs.Rows.{DocumentRows};
 ghost use Rattle.covjson_read.specs.CoverageAnswers as answers;
 
-use crate::coverages::{answers_are_what_stands, coverage_in, coverage_of};
+use crate::coverages::{coverage_alone, coverage_in};
+use crate::laws::{
+    coverage_answers_follow_rows, coverage_rows_have_one_answer, document_rows_are_what_stands,
+    document_rows_have_one_answer,
+};
 use covjson_checks::{CovFault, Member, list_at, need, object_at};
-use edr_json::text_or_empty;
-use covjson_value::{Coverage, Document, document_texts_read_back};
+use covjson_value::{Coverage, Document};
 use edr_base::Items;
-use serde_json::{Category, Value};
+use edr_json::{read_tree, text_or_empty};
+use serde_json::Value;
 use std::alloc::Global;
 
 fn one_coverage(alloc: Global, tree: &Value) -> Result<Document, CovFault>
     ensures answer { GivesUnlessMemory (λ d. d) result (answers.one_coverage (view tree.now)) }
     ensures valid { IfOk result IsValidDocument }
 {
-    let coverage = coverage_of(alloc, tree)?;
+    let coverage = coverage_alone(alloc, tree)?;
     Ok(Document::One(coverage))
 }
 
@@ -34,9 +41,7 @@ fn coverages_in(
     let mut coverages = Vec::new(alloc);
     for item in items {
         let coverage = coverage_in(alloc, item, collection)?;
-        if coverages.push(coverage).is_err() {
-            return Err(CovFault::OutOfMemory);
-        }
+        coverages.push(coverage)?;
     }
     Ok(coverages)
 }
@@ -74,30 +79,28 @@ fn document_of(alloc: Global, tree: &Value) -> Result<Document, CovFault>
     document_of_type(alloc, tree, text_or_empty(tree, "type"))
 }
 
+// The answer of a text: NotJson where it isn't JSON, else that of its tree.
+fn answer_of(alloc: Global, bytes: &[u8]) -> Result<Document, CovFault>
+    ensures answer { MatchResult result (λ d. AnswersText bytes.now (Ok d)) (λ f. AnswersText bytes.now (Err f) ⊎ (f ≡ CovFault.OutOfMemory)) }
+    ensures valid { IfOk result IsValidDocument }
+{
+    let tree = read_tree(alloc, bytes)?;
+    document_of(alloc, &tree)
+}
+
 /// The document that a text of CoverageJSON stands for (OGC 21-069r2, CoverageJSON documents), or the first check that it
 /// fails: NotJson where it isn't JSON (RFC 8259), then WrongType and Missing of the document's object, type and coverages,
 /// and then coverage by coverage as `coverage_of` has it. A collection lends its coverages the `domainType`, `referencing`
 /// and `parameters` that they lack.
 pub fn read_document(alloc: Global, bytes: &[u8]) -> Result<Document, CovFault>
-    ensures answer { MatchResult result (λ d. AnswersText bytes.now (Ok d)) (λ f. AnswersText bytes.now (Err f) ⊎ (f ≡ CovFault.OutOfMemory)) }
+    ensures stands { IfOk result (StandsForDocument bytes.now) }
+    ensures none { IfErr result (λ fault. fault ≢ CovFault.OutOfMemory → (document : Document) → ¬ (StandsForDocument bytes.now document)) }
+    ensures first_fault { IfErr result (λ fault. fault ≢ CovFault.OutOfMemory → DocumentRows bytes.now (Err fault)) }
     ensures valid { IfOk result IsValidDocument }
 {
-    match Value::from_slice(alloc, bytes) {
-        Ok(tree) => document_of(alloc, &tree),
-        Err(fault) => {
-            if fault.classify() == Category::Memory {
-                Err(CovFault::OutOfMemory)
-            } else {
-                Err(CovFault::NotJson)
-            }
-        }
-    }
-}
-
-/// What is written of a valid document is read as that document.
-pub fn written_documents_are_read()
-    ensures { WrittenDocumentsAreRead }
-{
-    document_texts_read_back();
-    answers_are_what_stands();
+    coverage_rows_have_one_answer();
+    coverage_answers_follow_rows();
+    document_rows_have_one_answer();
+    document_rows_are_what_stands();
+    answer_of(alloc, bytes)
 }

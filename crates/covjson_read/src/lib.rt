@@ -4,10 +4,17 @@
 mod collected;
 mod coverages;
 mod documents;
+mod laws;
 mod parameters;
 mod systems;
 #[cfg(test)]
 mod tests;
 
-pub use coverages::{answers_are_what_stands, coverage_of, trees_stand_for_one};
-pub use documents::{read_document, written_documents_are_read};
+pub use coverages::coverage_of;
+pub use documents::read_document;
+pub use laws::{
+    answers_are_what_stands, coverage_answers_follow_rows, coverage_rows_are_what_stands,
+    coverage_rows_have_one_answer, document_rows_are_what_stands, document_rows_have_one_answer,
+    read_coverages_are_valid, read_documents_are_valid, texts_have_one_document,
+    trees_stand_for_one, written_documents_are_read,
+};

@@ -4,10 +4,13 @@ ghost use Rattle.serde_json.specs.View.{view, members_view};
 ghost use Rattle.serde_json.specs.Find.{get};
 ghost use Rattle.covjson_value.specs.Coverages.{IsParameter};
 ghost use Rattle.covjson_checks.specs.Answers.{Gives, GivesUnlessMemory};
-ghost use Rattle.covjson_read.specs.Parameters.{HasNameForm};
-ghost use Rattle.covjson_read.specs.Parameters as parameters;
+ghost use Rattle.edr_base.specs.Names.{IsName};
+ghost use Rattle.covjson_read.specs.NameTests.{is_name};
+ghost use Rattle.covjson_read.specs.ParameterAnswers as parameters;
 
-use covjson_checks::{CovFault, Member, found_or_missing, need, object_at, part, text_at, text_of, text_where_given};
+use covjson_checks::{
+    CovFault, Member, found_or_missing, need, object_at, part, text_at, text_of, text_where_given,
+};
 use covjson_value::Parameter;
 use edr_base::is_name;
 use serde_json::{Map, Value};
@@ -121,9 +124,9 @@ fn parameter_forms(members: &Map<String, Value>) -> Result<(), CovFault>
     Ok(())
 }
 
-// A text is UTF-8, so that its form makes it a name.
-fn has_name_form(name: &str) -> bool
-    ensures { result ≡ parameters.has_name_form name.now }
+// Whether a text is the name of a parameter.
+fn is_named(name: &str) -> bool
+    ensures { result ≡ is_name name.now }
 {
     is_name(name.as_bytes())
 }
@@ -132,7 +135,7 @@ fn all_named_objects(members: &Map<String, Value>) -> bool
     ensures { result ≡ parameters.all_named_objects (members_view members.now.entries) }
 {
     for (name, tree) in members.iter() {
-        if !has_name_form(name) || !tree.is_object() {
+        if !is_named(name) || !tree.is_object() {
             return false;
         }
     }
@@ -156,7 +159,7 @@ pub fn parameters_of(found: Option<&Value>) -> Result<&Value, CovFault>
 /// The parameter of an id that a tree stands for.
 pub fn parameter_of(alloc: Global, id: &str, tree: &Value) -> Result<Parameter, CovFault>
     ensures answer { GivesUnlessMemory (λ p. p) result (parameters.parameter_of id.now (view tree.now)) }
-    ensures valid { IfOk result (λ p. HasNameForm id.now → IsParameter p) }
+    ensures valid { IfOk result (λ p. IsName id.now → IsParameter p) }
 {
     let (lang, label) = parameter_label(tree)?;
     let unit = parameter_unit(tree)?;

@@ -5,15 +5,18 @@ ghost use Rattle.serde_json.specs.Find.{as_str};
 ghost use Rattle.covjson_value.specs.Coverages.{IsReferencing};
 ghost use Rattle.covjson_checks.specs.Answers.{GivesUnlessMemory};
 ghost use Rattle.covjson_read.specs.Systems as systems;
+ghost use Rattle.covjson_read.specs.SystemAnswers as answers;
 
-use covjson_checks::{CovFault, Member, found_or_missing, list_at, text_of, text_where_given, unsupported_system};
-use edr_json::text_or_empty;
+use covjson_checks::{
+    CovFault, Member, found_or_missing, list_at, text_of, text_where_given, unsupported_system,
+};
 use covjson_value::Referencing;
+use edr_json::{is_text, text_or_empty};
 use serde_json::Value;
 use std::alloc::Global;
 
 fn has_text(items: &Vec<Value>, text: &str) -> bool
-    ensures { result ≡ systems.has_text text.now (items_view items.now.items) }
+    ensures { result ≡ answers.has_text text.now (items_view items.now.items) }
 {
     for item in items {
         if is_text(item, text) {
@@ -25,7 +28,7 @@ fn has_text(items: &Vec<Value>, text: &str) -> bool
 
 // Whether the coordinates of an entry hold a name.
 fn holds(entry: &Value, name: &str) -> bool
-    ensures { result ≡ systems.holds name.now (view entry.now) }
+    ensures { result ≡ answers.holds name.now (view entry.now) }
 {
     match entry.get("coordinates") {
         Some(list) => match list.as_array() {
@@ -37,13 +40,13 @@ fn holds(entry: &Value, name: &str) -> bool
 }
 
 fn is_connection(entry: &Value) -> bool
-    ensures { result ≡ systems.is_connection (view entry.now) }
+    ensures { result ≡ answers.is_connection (view entry.now) }
 {
     entry.get("coordinates").is_some() && entry.get("system").is_some()
 }
 
 fn all_connections(entries: &Vec<Value>) -> bool
-    ensures { result ≡ systems.all_connections (items_view entries.now.items) }
+    ensures { result ≡ answers.all_that answers.is_connection (items_view entries.now.items) }
 {
     for entry in entries {
         if !is_connection(entry) {
@@ -64,14 +67,14 @@ fn system_text<'a>(entry: &'a Value, name: &str) -> &'a str
 }
 
 fn is_plane(entry: &Value) -> bool
-    ensures { result ≡ systems.is_plane (view entry.now) }
+    ensures { result ≡ answers.is_plane (view entry.now) }
 {
     holds(entry, "x") && holds(entry, "y")
 }
 
 // The first entry of both coordinates of the plane.
 fn first_plane(entries: &Vec<Value>) -> Option<&Value>
-    ensures { option_map (λ v. view v.now) result ≡ systems.first_plane (items_view entries.now.items) }
+    ensures { option_map (λ v. view v.now) result ≡ answers.first_that answers.is_plane (items_view entries.now.items) }
 {
     for entry in entries {
         if is_plane(entry) {
@@ -82,14 +85,14 @@ fn first_plane(entries: &Vec<Value>) -> Option<&Value>
 }
 
 fn is_other_calendar(entry: &Value) -> bool
-    ensures { result ≡ systems.is_other_calendar (view entry.now) }
+    ensures { result ≡ answers.is_other_calendar (view entry.now) }
 {
     system_text(entry, "type") == "TemporalRS" && system_text(entry, "calendar") != "Gregorian"
 }
 
 // The first entry of times in another calendar.
 fn first_other_calendar(entries: &Vec<Value>) -> Option<&Value>
-    ensures { option_map (λ v. view v.now) result ≡ systems.first_other_calendar (items_view entries.now.items) }
+    ensures { option_map (λ v. view v.now) result ≡ answers.first_that answers.is_other_calendar (items_view entries.now.items) }
 {
     for entry in entries {
         if is_other_calendar(entry) {
@@ -100,14 +103,14 @@ fn first_other_calendar(entries: &Vec<Value>) -> Option<&Value>
 }
 
 fn is_vertical(entry: &Value) -> bool
-    ensures { result ≡ systems.is_vertical (view entry.now) }
+    ensures { result ≡ answers.is_vertical (view entry.now) }
 {
     system_text(entry, "type") == "VerticalCRS" && holds(entry, "z")
 }
 
 // The first entry of levels.
 fn first_vertical(entries: &Vec<Value>) -> Option<&Value>
-    ensures { option_map (λ v. view v.now) result ≡ systems.first_vertical (items_view entries.now.items) }
+    ensures { option_map (λ v. view v.now) result ≡ answers.first_that answers.is_vertical (items_view entries.now.items) }
 {
     for entry in entries {
         if is_vertical(entry) {
@@ -132,7 +135,7 @@ fn system_name(entry: &Value) -> Option<&str>
 
 // The name of the system of levels, where there are levels.
 fn vertical_name(has_z: bool, entries: &Vec<Value>) -> Option<&str>
-    ensures { option_map (λ s. s.now) result ≡ systems.vertical_name has_z (items_view entries.now.items) }
+    ensures { option_map (λ s. s.now) result ≡ answers.vertical_name has_z (items_view entries.now.items) }
 {
     if !has_z {
         return None;
@@ -145,17 +148,17 @@ fn vertical_name(has_z: bool, entries: &Vec<Value>) -> Option<&str>
 
 // No calendar but the Gregorian: UnsupportedSystem.
 fn only_gregorian(alloc: Global, entries: &Vec<Value>) -> Result<(), CovFault>
-    ensures { GivesUnlessMemory (λ u. u) result (systems.only_gregorian (systems.first_other_calendar (items_view entries.now.items))) }
+    ensures { GivesUnlessMemory (λ u. u) result (answers.only_gregorian (answers.first_that answers.is_other_calendar (items_view entries.now.items))) }
 {
     match first_other_calendar(entries) {
-        Some(entry) => Err(unsupported_system(alloc, system_text(entry, "calendar"))),
+        Some(entry) => Err(unsupported_system(alloc, system_text(entry, "calendar"))?),
         None => Ok(()),
     }
 }
 
 // The entry of the plane, of a projected system: WrongType, Missing, UnsupportedSystem.
 fn plane_in(alloc: Global, entries: &Vec<Value>) -> Result<&Value, CovFault>
-    ensures { GivesUnlessMemory (λ v. view v.now) result (systems.plane_in (items_view entries.now.items)) }
+    ensures { GivesUnlessMemory (λ v. view v.now) result (answers.plane_in (items_view entries.now.items)) }
 {
     if !all_connections(entries) {
         return Err(CovFault::WrongType(Member::Referencing));
@@ -165,19 +168,19 @@ fn plane_in(alloc: Global, entries: &Vec<Value>) -> Result<&Value, CovFault>
     };
     let kind = system_text(plane, "type");
     if kind != "ProjectedCRS" {
-        return Err(unsupported_system(alloc, kind));
+        return Err(unsupported_system(alloc, kind)?);
     }
     Ok(plane)
 }
 
 /// The systems of a domain with or without levels, which were found there or elsewhere: the plane's is a projected one, and
-/// those of times are Gregorian.
+/// those of times are Gregorian. Missing, WrongType, UnsupportedSystem.
 pub fn referencing_of(
     alloc: Global,
     found: Option<&Value>,
     has_z: bool,
 ) -> Result<Referencing, CovFault>
-    ensures answer { GivesUnlessMemory (λ r. r) result (systems.referencing_of has_z (option_map (λ v. view v.now) found.entry)) }
+    ensures answer { GivesUnlessMemory (λ r. r) result (answers.referencing_of has_z (option_map (λ v. view v.now) found.entry)) }
     ensures valid { IfOk result IsReferencing }
     ensures vertical { IfOk result (λ r. IsSome r.vertical → has_z ≡ true) }
 {

@@ -4,7 +4,7 @@ use Rattle.std.specs.declared.option.Option.{Option}
 use Rattle.std.specs.Prelude.{IsErrOf}
 use Rattle.edr_base.specs.Outside.{Rose}
 use Rattle.edr_base.specs.Calls.{Writes}
-use Rattle.edr_base.proofs.KnownBytes.{append_nothing, front_none}
+use Rattle.edr_base.specs.KnownBytes.{append_nothing, front_none}
 use Rattle.edr_base.specs.declared.sending.SendFault.{SendFault}
 use Rattle.edr_base.specs.declared.sending.SendFault.TheVariants.{WriteFault as ErrorsFault}
 use Rattle.edr.specs.declared.endings.Ending.{Ending}

@@ -1,15 +1,17 @@
--- How a run ends: its status, and what it leaves on each object. Each table goes by the ending.
-use Rattle.std.specs.Prelude.{◌≡◌, ◌⊎◌, ℕ, List, ◌++◌, [], codes, Result, IsErrOf, IsNone, ⊤}
+-- How a run ends: its status, and what it leaves on each object. Each table goes by the ending, and by the command where it
+-- differs from command to command.
+use Rattle.std.specs.Prelude.{◌≡◌, ◌⊎◌, ℕ, ◌++◌, ⊤, codes, List, [], Result, IsErrOf, IsNone, None, Some, option_map}
 use Rattle.std.specs.declared.option.Option.{Option}
-use Rattle.edr_base.specs.Outside.{Rose}
-use Rattle.edr_base.specs.Calls.{Writes}
 use Rattle.edr_base.specs.RefusalTable.{body_of}
+use Rattle.edr_base.specs.Outside.{Aside, Asked as AskedOf, Rose}
+use Rattle.edr_base.specs.Calls.{Writes, WrittenWhole, WrittenInPart, ReadsAtMost}
 use Rattle.edr_base.specs.declared.sending.SendFault.{SendFault}
 use Rattle.edr_base.specs.declared.sending.SendFault.TheVariants.{WriteFault as ErrorsFault}
-use Rattle.edr_serve.specs.FirstReply.{WrittenWhole, WrittenInPart}
-use Rattle.edr.specs.Commands.{IsOutput, IsNoInput, IsRefused}
+use Rattle.edr.specs.declared.commands.Command.{Command}
+use Rattle.edr.specs.declared.commands.Command.TheVariants.{Ask}
 use Rattle.edr.specs.declared.endings.Ending.{Ending}
 use Rattle.edr.specs.declared.endings.Ending.TheVariants.{Done, Usage, NotFeedLine, ReadFault, WriteFault, OutOfMemory, Refused}
+use Rattle.edr.specs.Commands.{Asked, IsOutput, IsNoInput, IsRefused, files_asked, link_asked, read_at_most}
 
 abbrev pub status_of : Ending → ℕ
 status_of Done = 0
@@ -50,24 +52,44 @@ OutputEnds WriteFault P old new flushed = WrittenInPart P old new
 OutputEnds OutOfMemory P old new flushed = (new ≡ old) ⊎ WrittenInPart P old new
 OutputEnds (Refused refusal) P old new flushed = new ≡ old
 
--- the counts of faults that an ending can come of
+-- the counts of faults of the objects
 pub record Counts : Type 0 where
   pub input : ℕ
   pub output : ℕ
+  pub files : ℕ
+  pub link : ℕ
+
+-- a read failed: of the input
+abbrev pub ReadFailed : Command → Counts → Counts → Type 0
+ReadFailed Ask before after = Rose before.input after.input
+
+-- a write failed: on the output
+abbrev pub WriteFailed : Command → Counts → Counts → Type 0
+WriteFailed Ask before after = Rose before.output after.output
+
+-- the same of words, which may ask for nothing, and then nothing fails
+abbrev pub FailsIn : (Command → Counts → Counts → Type 0) → Option Asked → Counts → Counts → Type 0
+FailsIn Failed None before after = ⊥
+FailsIn Failed (Some asked) before after = Failed asked.command before after
 
 -- the cause of an ending: no input for what is asked for, a count that rose, or the refusal of what is asked for
-abbrev pub HasCause : Ending → Option (List ℕ) → Option (List ℕ) → Counts → Counts → Type 0
-HasCause Done input asked before after = ⊤
-HasCause Usage input asked before after = IsNone asked
-HasCause NotFeedLine input asked before after = IsNoInput input asked
-HasCause ReadFault input asked before after = Rose before.input after.input
-HasCause WriteFault input asked before after = Rose before.output after.output
-HasCause OutOfMemory input asked before after = ⊤
-HasCause (Refused refusal) input asked before after = IsRefused input asked refusal
+abbrev pub HasCause : Ending → Option Asked → Option (List ℕ) → Counts → Counts → Type 0
+HasCause Done asked input before after = ⊤
+HasCause Usage asked input before after = IsNone asked
+HasCause NotFeedLine asked input before after = IsNoInput asked input
+HasCause ReadFault asked input before after = FailsIn ReadFailed asked before after
+HasCause WriteFault asked input before after = FailsIn WriteFailed asked before after
+HasCause OutOfMemory asked input before after = ⊤
+HasCause (Refused refusal) asked input before after = IsRefused asked input refusal
 
 -- the words ask for nothing only where the run ends with the usage line
-abbrev pub EndsByWords : Ending → Option (List ℕ) → Type 0
+abbrev pub EndsByWords : Ending → Option Asked → Type 0
 EndsByWords ending asked = IsNone asked → ending ≡ Usage
+
+-- what was taken from the input: nothing where the words ask for nothing
+abbrev pub ReadsBy : Option Asked → Option (List ℕ) → Option (List ℕ) → Type 0
+ReadsBy None old new = new ≡ old
+ReadsBy (Some asked) old new = ReadsAtMost (read_at_most asked.command) old new
 
 -- a text was written, or a beginning of it: then a fault of that sink was counted, or memory was wanting
 pub record Tells (text : List ℕ) (old new : Option (List ℕ)) (before after : ℕ) : Type 0 where
@@ -75,10 +97,34 @@ pub record Tells (text : List ℕ) (old new : Option (List ℕ)) (before after :
   pub writes : Writes outcome text old new
   pub cause : IsErrOf outcome ErrorsFault → Rose before after
 
--- a whole run; `input` is what the input holds, `asked` what the words ask for
-pub record Ends (ending : Ending) (input asked : Option (List ℕ)) (status : ℕ) (out out' : Option (List ℕ)) (flushed : Option ℕ) (before after : Counts) (told told' : Option (List ℕ)) (errors errors' : ℕ) : Type 0 where
+-- an object that the words don't use is as it was; of one that they use more was asked, just what they say
+abbrev pub AskedBeside : {T : Type 0} → (T → Aside) → Option (List AskedOf) → T → T → Type 0
+AskedBeside aside None old new = new ≡ old
+AskedBeside aside (Some more) old new = (aside new).asked ≡ option_map (λ asked. asked ++ more) (aside old).asked
+
+-- what the words ask of the files and of the link
+abbrev pub of_files : Option Asked → Option (List AskedOf)
+of_files None = None
+of_files (Some asked) = files_asked asked.command asked.argument
+
+abbrev pub of_link : Option Asked → Option (List AskedOf)
+of_link None = None
+of_link (Some asked) = link_asked asked.command asked.argument
+
+-- what is told of the objects at a moment
+pub record Moment : Type 0 where
+  pub left : Option (List ℕ)  -- what is still to come from the input
+  pub written : Option (List ℕ)  -- what is written on the output
+  pub flushed : Option ℕ  -- how much of it is flushed
+  pub told : Option (List ℕ)  -- what is written on the errors
+  pub counts : Counts
+  pub errors : ℕ  -- the count of the errors
+
+-- a whole run, by what the words ask for
+pub record Ends (ending : Ending) (asked : Option Asked) (status : ℕ) (before after : Moment) : Type 0 where
   pub number : status ≡ status_of ending
   pub words : EndsByWords ending asked
-  pub output : OutputEnds ending (IsOutput input asked) out out' flushed
-  pub cause : HasCause ending input asked before after
-  pub line : Tells (line_of ending) told told' errors errors'
+  pub input : ReadsBy asked before.left after.left
+  pub output : OutputEnds ending (IsOutput asked before.left) before.written after.written after.flushed
+  pub cause : HasCause ending asked before.left before.counts after.counts
+  pub line : Tells (line_of ending) before.told after.told before.errors after.errors

@@ -60,7 +60,7 @@ fn said(ending: Ending) -> &'static [u8]
 }
 
 // Writes a text and a line feed.
-#[tactic(auto, using(edr_base::proofs::KnownBytes::writes_stop))]
+#[tactic(auto, using(edr_base::specs::KnownBytes::writes_stop))]
 fn send_line<D: Sink>(sink: &mut D, text: &[u8]) -> Result<(), SendFault>
     ensures bytes { Writes result (text.now ++ codes "\n") (D.written sink.old) (D.written sink.new) }
     ensures lent { SinkLent (D.beside sink.old) (D.beside sink.new) (D.faults sink.old) (D.faults sink.new) }

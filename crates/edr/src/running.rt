@@ -1,34 +1,23 @@
 //! The program over its objects.
-ghost use Rattle.std.specs.Prelude.{◌≡◌, IsNone, Some, option_map};
+ghost use Rattle.std.specs.Prelude.{◌≡◌, ℕ, IsNone, Some};
 ghost use Rattle.edr_base.specs.Calls.{SourceLent, SinkLent};
-ghost use Rattle.edr.specs.Commands.{target_asked, IsOutput};
-ghost use Rattle.edr.specs.Ends.{Ends, EndsByWords, OutputEnds, HasCause};
+ghost use Rattle.edr.specs.Commands.{asked_by, IsOutput};
+ghost use Rattle.edr.specs.Ends.{Ends, EndsByWords, OutputEnds, HasCause, ReadsBy, AskedBeside, of_files, of_link};
 
+use crate::commands::{Command, asked_by};
 use crate::endings::{Ending, tell};
 use edr_base::{Files, Link, Sink, Source, Text};
 use edr_serve::{FirstFault, ask_first};
 use std::alloc::Global;
 
-// The target of `ask TARGET`.
-fn target_asked(words: &[Text]) -> Option<&[u8]>
-    ensures { option_map (λ target. target.now) result ≡ target_asked words.now }
-{
-    match words {
-        [word, target] => {
-            if word.bytes() == b"ask".as_slice() {
-                Some(target.bytes())
-            } else {
-                None
-            }
-        }
-        _ => None,
-    }
-}
-
 // Answers a target from the input.
 fn ask<S: Source, K: Sink>(alloc: Global, target: &[u8], input: &mut S, output: &mut K) -> Ending
-    ensures output { OutputEnds result (IsOutput (S.left input.old) (Some target.now)) (K.written output.old) (K.written output.new) (K.flushed output.new) }
-    ensures cause { HasCause result (S.left input.old) (Some target.now) (record { input = S.faults input.old; output = K.faults output.old }) (record { input = S.faults input.new; output = K.faults output.new }) }
+    ensures output { OutputEnds result (IsOutput (Some (record { command = Command.Ask; argument = target.now })) (S.left input.old))
+        (K.written output.old) (K.written output.new) (K.flushed output.new) }
+    ensures cause { (files link : ℕ) → HasCause result (Some (record { command = Command.Ask; argument = target.now })) (S.left input.old)
+        (record { input = S.faults input.old; output = K.faults output.old; files = files; link = link })
+        (record { input = S.faults input.new; output = K.faults output.new; files = files; link = link }) }
+    ensures read { ReadsBy (Some (record { command = Command.Ask; argument = target.now })) (S.left input.old) (S.left input.new) }
     ensures input { SourceLent (S.aside input.old) (S.aside input.new) (S.faults input.old) (S.faults input.new) }
     ensures lent { SinkLent (K.beside output.old) (K.beside output.new) (K.faults output.old) (K.faults output.new) }
 {
@@ -43,21 +32,30 @@ fn ask<S: Source, K: Sink>(alloc: Global, target: &[u8], input: &mut S, output: 
 }
 
 // Does what the words ask for.
-fn carry_out<S: Source, K: Sink>(
+fn carry_out<S: Source, K: Sink, F: Files, L: Link>(
     alloc: Global,
     words: &[Text],
     input: &mut S,
     output: &mut K,
+    files: &mut F,
+    link: &mut L,
 ) -> Ending
-    ensures words { EndsByWords result (target_asked words.now) }
-    ensures output { OutputEnds result (IsOutput (S.left input.old) (target_asked words.now)) (K.written output.old) (K.written output.new) (K.flushed output.new) }
-    ensures cause { HasCause result (S.left input.old) (target_asked words.now) (record { input = S.faults input.old; output = K.faults output.old }) (record { input = S.faults input.new; output = K.faults output.new }) }
-    ensures unread { IsNone (target_asked words.now) → (input.new ≡ input.old) × (output.new ≡ output.old) }
+    ensures words { EndsByWords result (asked_by words.now) }
+    ensures output { OutputEnds result (IsOutput (asked_by words.now) (S.left input.old)) (K.written output.old) (K.written output.new) (K.flushed output.new) }
+    ensures cause { HasCause result (asked_by words.now) (S.left input.old)
+        (record { input = S.faults input.old; output = K.faults output.old; files = F.faults files.old; link = L.faults link.old })
+        (record { input = S.faults input.new; output = K.faults output.new; files = F.faults files.new; link = L.faults link.new }) }
+    ensures unread { IsNone (asked_by words.now) → (input.new ≡ input.old) × (output.new ≡ output.old) }
+    ensures read { ReadsBy (asked_by words.now) (S.left input.old) (S.left input.new) }
     ensures input { SourceLent (S.aside input.old) (S.aside input.new) (S.faults input.old) (S.faults input.new) }
     ensures lent { SinkLent (K.beside output.old) (K.beside output.new) (K.faults output.old) (K.faults output.new) }
+    ensures files { AskedBeside F.aside (of_files (asked_by words.now)) files.old files.new }
+    ensures link { AskedBeside L.aside (of_link (asked_by words.now)) link.old link.new }
 {
-    match target_asked(words) {
-        Some(target) => ask(alloc, target, input, output),
+    let _ = files;
+    let _ = link;
+    match asked_by(words) {
+        Some((Command::Ask, target)) => ask(alloc, target, input, output),
         None => Ending::Usage,
     }
 }
@@ -65,7 +63,8 @@ fn carry_out<S: Source, K: Sink>(
 /// All that the program does, over the objects that it is lent: `words` are those after the program's name.
 ///
 /// `ask TARGET` reads one grid from `input`, answers the target from it, and writes the body to `output`. The answer is
-/// the status of the program; with each but 0 one line says why on `errors`. No other object is touched.
+/// the status of the program; with each but 0 one line says why on `errors`. Of files and of the link nothing is asked that
+/// the words don't ask for, and where they ask for nothing there neither is touched.
 pub fn run<S: Source, K: Sink, D: Sink, F: Files, L: Link>(
     alloc: Global,
     words: &[Text],
@@ -75,21 +74,31 @@ pub fn run<S: Source, K: Sink, D: Sink, F: Files, L: Link>(
     files: &mut F,
     link: &mut L,
 ) -> u8
-    ensures ends { (ending : Ending) × Ends ending (S.left input.old) (target_asked words.now) result
-        (K.written output.old) (K.written output.new) (K.flushed output.new)
-        (record { input = S.faults input.old; output = K.faults output.old })
-        (record { input = S.faults input.new; output = K.faults output.new })
-        (D.written errors.old) (D.written errors.new) (D.faults errors.old) (D.faults errors.new) }
-    ensures unread { IsNone (target_asked words.now) → (input.new ≡ input.old) × (output.new ≡ output.old) }
+    ensures ends { (ending : Ending) × Ends ending (asked_by words.now) result
+        (record {
+          left = S.left input.old;
+          written = K.written output.old;
+          flushed = K.flushed output.old;
+          told = D.written errors.old;
+          counts = record { input = S.faults input.old; output = K.faults output.old; files = F.faults files.old; link = L.faults link.old };
+          errors = D.faults errors.old;
+        })
+        (record {
+          left = S.left input.new;
+          written = K.written output.new;
+          flushed = K.flushed output.new;
+          told = D.written errors.new;
+          counts = record { input = S.faults input.new; output = K.faults output.new; files = F.faults files.new; link = L.faults link.new };
+          errors = D.faults errors.new;
+        }) }
+    ensures unread { IsNone (asked_by words.now) → (input.new ≡ input.old) × (output.new ≡ output.old) }
     ensures input { SourceLent (S.aside input.old) (S.aside input.new) (S.faults input.old) (S.faults input.new) }
     ensures output { SinkLent (K.beside output.old) (K.beside output.new) (K.faults output.old) (K.faults output.new) }
     ensures errors { SinkLent (D.beside errors.old) (D.beside errors.new) (D.faults errors.old) (D.faults errors.new) }
-    ensures files { files.new ≡ files.old }
-    ensures link { link.new ≡ link.old }
+    ensures files { AskedBeside F.aside (of_files (asked_by words.now)) files.old files.new }
+    ensures link { AskedBeside L.aside (of_link (asked_by words.now)) link.old link.new }
 {
-    let _ = files;
-    let _ = link;
-    let ending = carry_out(alloc, words, input, output);
+    let ending = carry_out(alloc, words, input, output, files, link);
     tell(ending, errors);
     ending.status()
 }

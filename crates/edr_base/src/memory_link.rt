@@ -33,9 +33,9 @@ impl MemoryLink {
     /// A link that isn't connected, to a peer that gives these bytes. `fails` are the numbers, from 1, of the calls that fail.
     pub fn of(alloc: Global, incoming: Vec<u8>, cut: usize, fails: Vec<u64>) -> MemoryLink
         requires { 0 < cut }
-        ensures incoming { (⟦<MemoryLink as Source>⟧.aside result).incoming ≡ Some incoming.items }
-        ensures start { ((⟦<MemoryLink as Source>⟧.aside result).idle ≡ true)
-            × ((⟦<MemoryLink as Source>⟧.aside result).asked ≡ Some []) }
+        ensures left { ⟦<MemoryLink as Source>⟧.left result ≡ Some [] }
+        ensures aside { ⟦<MemoryLink as Source>⟧.aside result ≡ link_aside false [] incoming.items [] 0 }
+        ensures beside { ⟦<MemoryLink as Sink>⟧.beside result ≡ link_beside false [] incoming.items [] }
         ensures written { (⟦<MemoryLink as Sink>⟧.written result ≡ Some [])
             × (⟦<MemoryLink as Sink>⟧.flushed result ≡ Some 0) }
         ensures faults { ⟦<MemoryLink as Faults>⟧.faults result ≡ 0 }

@@ -27,6 +27,7 @@ impl MemorySink {
         requires { 0 < cut }
         ensures written { ⟦<MemorySink as Sink>⟧.written result ≡ Some [] }
         ensures flushed { ⟦<MemorySink as Sink>⟧.flushed result ≡ Some 0 }
+        ensures beside { ⟦<MemorySink as Sink>⟧.beside result ≡ plain_beside }
         ensures faults { ⟦<MemorySink as Faults>⟧.faults result ≡ 0 }
         ensures plan { ((plan_of_sink result).fails ≡ fails) × ((plan_of_sink result).calls ≡ 0) }
         ensures cut { cut_of_sink result ≡ cut }

@@ -52,6 +52,7 @@ impl MemorySource {
     pub fn of(bytes: Vec<u8>, cut: usize, fails: Vec<u64>) -> MemorySource
         requires { 0 < cut }
         ensures left { ⟦<MemorySource as Source>⟧.left result ≡ Some bytes.items }
+        ensures aside { ⟦<MemorySource as Source>⟧.aside result ≡ plain_aside }
         ensures faults { ⟦<MemorySource as Faults>⟧.faults result ≡ 0 }
         ensures plan { ((plan_of_source result).fails ≡ fails) × ((plan_of_source result).calls ≡ 0) }
         ensures cut { cut_of_source result ≡ cut }

@@ -1,20 +1,63 @@
 -- What holds of all feeds.
-use Rattle.std.proofs.Common.{◌≡◌, ℕ, ◌+◌, Bool, true, false, nat_le, length, take, List, [], ◌∷◌, ◌++◌, Option, None, Some, Result, Ok, Err, inl, inr, sym, ap, ◌∙◌, subst, arith, nat_lt}
-use Rattle.std.specs.Prelude.{IfOk}
-use Rattle.serde_json.specs.Data.{Data}
-use Rattle.edr_json.specs.Json.{IsJson}
-use Rattle.edr_edition.specs.Values.{CollectionValue, EditionValue}
-use Rattle.edr_edition.specs.declared.changes.Change.TheVariants.{Bare as BareGrid}
-use Rattle.edr_edition.specs.declared.changes.ChangeFault.{ChangeFault}
-use Rattle.edr_edition.specs.Changes.{changed}
+use Rattle.std.proofs.Common.{◌≡◌, ℕ, ◌+◌, ◌≤◌, length, List, [], ◌∷◌, ◌++◌, Result, Ok, inl, inr, sym, ◌∙◌, subst, arith}
+use Rattle.edr_feed.proofs.RowLemmas.{HasOneAnswer, gives_one, check_one, find_one, then_one}
+use Rattle.edr_base.specs.FirstThatApplies.{Gives}
+use Rattle.edr_base.specs.Limits.{line_limit, feed_limit}
+use Rattle.edr_json.specs.Json.{IsJson, TextsHaveOneTree}
+use Rattle.edr_edition.specs.Values.{EditionValue}
+use Rattle.edr_edition.specs.Outcomes.{ChangesHaveOneOutcome}
+use Rattle.edr_edition.specs.declared.changes.Change.{Change as DraftChange}
+use Rattle.edr_edition.specs.declared.changes.Change.TheVariants.{Collection, Grid, DropCollection, DropInstance, Bare}
 use Rattle.edr_feed.specs.declared.entries.Entry.{Entry}
-use Rattle.edr_feed.specs.declared.entries.Entry.TheVariants.{Change, Bare, Publish}
-use Rattle.edr_feed.specs.declared.faults.LineFault.{LineFault}
-use Rattle.edr_feed.specs.declared.faults.FeedFault.{FeedFault}
-use Rattle.edr_feed.specs.Entries.{Answer, entry_of}
-use Rattle.edr_feed.specs.Lines.{lines_of, ended_lines, all_blank, given_entry, Says, SaysWithin, AnswersLine}
-use Rattle.edr_feed.specs.Steps.{Progress, published, with_draft, then_published, after_entry, after_line, Follows, Folds}
-use Rattle.edr_feed.specs.Feeds.{at_start, all_published, too_long, StandsWithin, FeedStands, AreNumberedFrom, FeedsHaveOneAnswer}
+use Rattle.edr_feed.specs.declared.entries.Entry.TheVariants.{Change, Publish}
+use Rattle.edr_feed.specs.declared.refusals.FeedRefusal.{FeedRefusal}
+use Rattle.edr_feed.specs.declared.refusals.FeedRefusal.TheVariants as refusals
+use Rattle.edr_feed.specs.Forms.{HasForm, HasOutline, TreesHaveOneForm}
+use Rattle.edr_feed.specs.Lines.{read_lines}
+use Rattle.edr_feed.specs.Steps.{Progress, at_start, published, published_if_bare, EntryMakes, UnlessBlank, LineRows, EachLineRows}
+use Rattle.edr_feed.specs.Feeds.{FeedStands, AreNumberedFrom, FeedsHaveOneAnswer}
+
+-- ---- bytes have one answer
+
+-- an entry makes one state
+one_made : ChangesHaveOneOutcome → (old : Progress) (entry : Entry) (new other : Progress) → EntryMakes old entry new → EntryMakes old entry other → new ≡ other
+one_made outcomes old (Change change) new other p q =
+    let drafts = (outcomes old.draft change).one p.0 q.0 p.1 q.1 in
+    p.2 ∙ ((λ i. published_if_bare change (record { draft = drafts i; editions = old.editions })) ∙ sym q.2)
+one_made outcomes old Publish new other p q = p ∙ sym q
+
+blank_one : (line : List ℕ) (now : Progress) (Next : Result Progress FeedRefusal → Type 0) → HasOneAnswer Next → HasOneAnswer (UnlessBlank line now Next)
+blank_one line now Next later one other (inl p) (inl q) = p.1 ∙ sym q.1
+blank_one line now Next later one other (inl p) (inr q) = absurd (q.0 p.0)
+blank_one line now Next later one other (inr p) (inl q) = absurd (p.0 q.0)
+blank_one line now Next later one other (inr p) (inr q) = later one other p.1 q.1
+
+-- the laws of what stands below
+record Laws : Type 0 where
+  pub trees : TextsHaveOneTree
+  pub forms : TreesHaveOneForm
+  pub outcomes : ChangesHaveOneOutcome
+
+line_one : Laws → (number : ℕ) (line : List ℕ) (now : Progress) → HasOneAnswer (LineRows number line now)
+line_one laws number line now =
+    check_one (length line ≤ line_limit) (refusals.LineTooLong number) _ (λ _.
+    blank_one line now _ (
+    find_one (IsJson line) (refusals.NotJson number) _ (laws.trees line) (λ tree _.
+    check_one (HasOutline tree) (refusals.NotFeedLine number) _ (λ _.
+    find_one (HasForm tree) (refusals.Cov number) _ (laws.forms tree) (λ entry _.
+    find_one (EntryMakes now entry) (refusals.Change number) Gives (one_made laws.outcomes now entry) (λ next _. gives_one next))))))
+
+lines_one : Laws → (lines : List (List ℕ)) (number : ℕ) (now : Progress) → HasOneAnswer (EachLineRows number lines now)
+lines_one laws [] number now = gives_one now
+lines_one laws (line ∷ lines) number now =
+    then_one (LineRows number line now) (λ next. EachLineRows (number + 1) lines next) (line_one laws number line now) (λ next _. lines_one laws lines (number + 1) next)
+
+pub one_answer : TextsHaveOneTree → TreesHaveOneForm → ChangesHaveOneOutcome → FeedsHaveOneAnswer
+one_answer trees forms outcomes bytes =
+    let laws : Laws = record { trees = trees; forms = forms; outcomes = outcomes } in
+    then_one (EachLineRows 1 (read_lines bytes) at_start) _ (lines_one laws (read_lines bytes) 1 at_start) (λ now _.
+    check_one (length bytes ≤ feed_limit) refusals.TooLong _ (λ _.
+    check_one _ refusals.NothingPublished (Gives now.editions) (λ _. gives_one now.editions)))
 
 -- ---- editions are numbered from 1
 
@@ -24,101 +67,61 @@ numbered_more : (number : ℕ) (editions : List EditionValue) (edition : Edition
 numbered_more number [] edition n e = (omega (arith, e), tt)
 numbered_more number (first ∷ editions) edition n e = (n.0, numbered_more (number + 1) editions edition n.1 (omega (arith, e)))
 
--- the editions of what a step made, where it isn't at fault
-abbrev AreNumbered : Result Progress FeedFault → Type 0
-AreNumbered made = IfOk made (λ now. AreNumberedFrom 1 now.editions)
-
 publish_numbers : (now : Progress) → AreNumberedFrom 1 now.editions → AreNumberedFrom 1 (published now).editions
 publish_numbers now n = numbered_more 1 now.editions (record { number = length now.editions + 1; collections = now.draft }) n (omega arith)
 
-drafts_number : (line : ℕ) (now : Progress) (made : Result (List CollectionValue) ChangeFault) → AreNumberedFrom 1 now.editions → AreNumbered (with_draft line now made)
-drafts_number line now (Ok draft) n = n
-drafts_number line now (Err fault) n = tt
+bare_numbers : (change : DraftChange) (now : Progress) → AreNumberedFrom 1 now.editions → AreNumberedFrom 1 (published_if_bare change now).editions
+bare_numbers (Collection id kind title crs vertical) now n = n
+bare_numbers (Grid collection instance coverage) now n = n
+bare_numbers (DropCollection collection) now n = n
+bare_numbers (DropInstance collection instance) now n = n
+bare_numbers (Bare coverage) now n = publish_numbers now n
 
-then_numbers : (made : Result Progress FeedFault) → AreNumbered made → AreNumbered (then_published made)
-then_numbers (Ok now) n = publish_numbers now n
-then_numbers (Err fault) n = tt
+entry_numbers : (old : Progress) (entry : Entry) (new : Progress) → AreNumberedFrom 1 old.editions → EntryMakes old entry new → AreNumberedFrom 1 new.editions
+entry_numbers old (Change change) new n makes =
+    subst (λ (now : Progress). AreNumberedFrom 1 now.editions) (sym makes.2) (bare_numbers change (record { draft = makes.0; editions = old.editions }) n)
+entry_numbers old Publish new n makes = subst (λ (now : Progress). AreNumberedFrom 1 now.editions) (sym makes) (publish_numbers old n)
 
-entries_number : (line : ℕ) (now : Progress) (entry : Entry) → AreNumberedFrom 1 now.editions → AreNumbered (after_entry line now entry)
-entries_number line now (Change change) n = drafts_number line now (changed now.draft change) n
-entries_number line now Publish n = publish_numbers now n
-entries_number line now (Bare coverage) n =
-    let made = changed now.draft (BareGrid coverage) in
-    then_numbers (with_draft line now made) (drafts_number line now made n)
+-- a line that is done keeps the numbers
+line_numbers : (number : ℕ) (line : List ℕ) (old new : Progress) → AreNumberedFrom 1 old.editions → LineRows number line old (Ok new) → AreNumberedFrom 1 new.editions
+line_numbers number line old new n rows = elim rows [
+  | inl within ↦ elim within.1 [
+    | inl blank ↦ let same : new ≡ old = let e = blank.1 in cc in subst (λ (now : Progress). AreNumberedFrom 1 now.editions) (sym same) n
+    | inr text ↦ elim text.1 [
+      | inl tree ↦ elim tree.2 [
+        | inl outline ↦ elim outline.1 [
+          | inl entry ↦ elim entry.2 [
+            | inl next ↦
+                let same : new ≡ next.0 = let e = next.2 in cc in
+                subst (λ (now : Progress). AreNumberedFrom 1 now.editions) (sym same) (entry_numbers old entry.0 next.0 n next.1)
+            | inr none ↦ let e = none.1 in cc
+          ]
+          | inr none ↦ let e = none.1 in cc
+        ]
+        | inr none ↦ let e = none.1 in cc
+      ]
+      | inr none ↦ let e = none.1 in cc
+    ]
+  ]
+  | inr over ↦ let e = over.1 in cc
+]
 
-lines_number : (line : ℕ) (now : Progress) (said : Result (Option Entry) LineFault) → AreNumberedFrom 1 now.editions → AreNumbered (after_line line now said)
-lines_number line now (Err fault) n = tt
-lines_number line now (Ok None) n = n
-lines_number line now (Ok (Some entry)) n = entries_number line now entry n
-
--- the editions of an answer that is no fault
-abbrev HasNumbers : Result (List EditionValue) FeedFault → Type 0
-HasNumbers answer = IfOk answer (AreNumberedFrom 1)
-
-follows_numbers : (made : Result Progress FeedFault) (next : Progress → Type 0) (answer : Result (List EditionValue) FeedFault) → AreNumbered made
-    → ((after : Progress) → AreNumberedFrom 1 after.editions → next after → HasNumbers answer) → Follows made next answer → HasNumbers answer
-follows_numbers (Ok now) next answer n go f = go now n f
-follows_numbers (Err fault) next answer n go f = subst HasNumbers (sym f) tt
-
-folds_number : (end : List EditionValue → Result (List EditionValue) FeedFault) → ((editions : List EditionValue) → AreNumberedFrom 1 editions → HasNumbers (end editions))
-    → (lines : List (List ℕ)) (number : ℕ) (now : Progress) (answer : Result (List EditionValue) FeedFault) → AreNumberedFrom 1 now.editions
-    → Folds end number now lines answer → HasNumbers answer
-folds_number end ends [] number now answer n f = subst HasNumbers (sym f) (ends now.editions n)
-folds_number end ends (line ∷ lines) number now answer n f =
-    follows_numbers (after_line number now f.0) (λ after. Folds end (number + 1) after lines answer) answer (lines_number number now f.0 n)
-    (λ after. folds_number end ends lines (number + 1) after answer) f.1.1
-
-ends_number : (editions : List EditionValue) → AreNumberedFrom 1 editions → HasNumbers (all_published editions)
-ends_number [] n = tt
-ends_number (edition ∷ editions) n = n
-
-within_numbers : (within : Bool) (bytes : List ℕ) (answer : Result (List EditionValue) FeedFault) → StandsWithin within bytes answer → HasNumbers answer
-within_numbers true bytes answer f = folds_number all_published ends_number (lines_of bytes) 1 at_start answer tt f
-within_numbers false bytes answer f =
-    folds_number too_long (λ editions n. tt) (ended_lines (take 1_073_741_824 bytes)) 1 at_start answer tt f
+lines_number : (lines : List (List ℕ)) (number : ℕ) (old new : Progress) → AreNumberedFrom 1 old.editions → EachLineRows number lines old (Ok new) → AreNumberedFrom 1 new.editions
+lines_number [] number old new n made =
+    let same : new ≡ old = cc in subst (λ (now : Progress). AreNumberedFrom 1 now.editions) (sym same) n
+lines_number (line ∷ lines) number old new n (inl made) = lines_number lines (number + 1) made.0 new (line_numbers number line old made.0 n made.1) made.2
+lines_number (line ∷ lines) number old new n (inr none) = let e = none.2 in cc
 
 pub stands_numbered : (bytes : List ℕ) (editions : List EditionValue) → FeedStands bytes (Ok editions) → AreNumberedFrom 1 editions
-stands_numbered bytes editions f = within_numbers (nat_le (length bytes) 1_073_741_824) bytes (Ok editions) f
-
--- ---- bytes have one answer
-
--- a text is JSON of at most one tree
-one_tree : (text : List ℕ) (tree other : Data) → IsJson text tree → IsJson text other → tree ≡ other
-one_tree text tree other p q = cc (p.tree_is, q.tree_is)
-
-one_said : (line : List ℕ) (blank : Bool) (one other : Answer (Option Entry)) → Says line blank one → Says line blank other → one ≡ other
-one_said line true one other p q = p ∙ sym q
-one_said line false one other (inl p) (inl q) =
-    p.1.1 ∙ (ap (λ tree. given_entry (entry_of tree)) (one_tree line p.0 q.0 p.1.0 q.1.0) ∙ sym q.1.1)
-one_said line false one other (inl p) (inr q) = absurd (q.0 p.0 p.1.0)
-one_said line false one other (inr p) (inl q) = absurd (p.0 q.0 q.1.0)
-one_said line false one other (inr p) (inr q) = p.1 ∙ sym q.1
-
-one_within : (long : Bool) (line : List ℕ) (one other : Answer (Option Entry)) → SaysWithin long line one → SaysWithin long line other → one ≡ other
-one_within true line one other p q = p ∙ sym q
-one_within false line one other p q = one_said line (all_blank line) one other p q
-
--- a line has one answer
-one_line : (line : List ℕ) (one other : Answer (Option Entry)) → AnswersLine line one → AnswersLine line other → one ≡ other
-one_line line one other p q = one_within (nat_lt 16_777_216 (length line)) line one other p q
-
-one_follows : (made : Result Progress FeedFault) (next : Result (List EditionValue) FeedFault → Progress → Type 0) (one other : Result (List EditionValue) FeedFault)
-    → ((after : Progress) → next one after → next other after → one ≡ other) → Follows made (next one) one → Follows made (next other) other → one ≡ other
-one_follows (Ok now) next one other go f g = go now f g
-one_follows (Err fault) next one other go f g = f ∙ sym g
-
-one_folds : (end : List EditionValue → Result (List EditionValue) FeedFault) (lines : List (List ℕ)) (number : ℕ) (now : Progress)
-    (one other : Result (List EditionValue) FeedFault) → Folds end number now lines one → Folds end number now lines other → one ≡ other
-one_folds end [] number now one other f g = f ∙ sym g
-one_folds end (line ∷ lines) number now one other f g =
-    let next : Result (List EditionValue) FeedFault → Progress → Type 0 = λ answer after. Folds end (number + 1) after lines answer in
-    let same = one_line line g.0 f.0 g.1.0 f.1.0 in
-    one_follows (after_line number now f.0) next one other (λ after. one_folds end lines (number + 1) after one other) f.1.1
-    (subst (λ (said : Answer (Option Entry)). Follows (after_line number now said) (next other) other) same g.1.1)
-
-one_stands : (within : Bool) (bytes : List ℕ) (one other : Result (List EditionValue) FeedFault) → StandsWithin within bytes one → StandsWithin within bytes other → one ≡ other
-one_stands true bytes one other f g = one_folds all_published (lines_of bytes) 1 at_start one other f g
-one_stands false bytes one other f g = one_folds too_long (ended_lines (take 1_073_741_824 bytes)) 1 at_start one other f g
-
-pub one_answer : FeedsHaveOneAnswer
-one_answer bytes one other f g = one_stands (nat_le (length bytes) 1_073_741_824) bytes one other f g
+stands_numbered bytes editions stands = elim stands [
+  | inl made ↦ elim made.2 [
+    | inl within ↦ elim within.1 [
+      | inl some ↦
+          let same : editions ≡ made.0.editions = let e = some.1 in cc in
+          subst (AreNumberedFrom 1) (sym same) (lines_number (read_lines bytes) 1 at_start made.0 tt made.1)
+      | inr none ↦ let e = none.1 in cc
+    ]
+    | inr over ↦ let e = over.1 in cc
+  ]
+  | inr none ↦ let e = none.2 in cc
+]

@@ -3,7 +3,7 @@ use Rattle.std.proofs.Common.{◌≡◌, ℕ, suc, ◌==◌, if◌then◌else◌
 use Rattle.std.proofs.lemmas.List.{take-append-drop}
 use Rattle.std.proofs.lemmas.List.Elements.{Contains-append_cases, Contains-append_left}
 use Rattle.edr_feed.specs.Lines.{onto_first, lines_of, ended_lines}
-use Rattle.edr_feed.specs.Makes.{joined, IsPlain}
+use Rattle.edr_feed.specs.Readings.{joined, IsPlain}
 
 -- ---- no line feed
 

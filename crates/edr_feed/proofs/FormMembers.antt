@@ -14,7 +14,7 @@ use Rattle.std.proofs.lemmas.List.Elements.{All-from_recursion, recursion_from_A
 use Rattle.std.proofs.lemmas.List.Sorted.{IsPermutation-refl, IsPermutation-sym, IsPermutation-cons, IsPermutation-trans, IsPermutation-middle, All-permutation, length_permutation}
 use Rattle.serde_json.specs.Data.{Data, null, boolean, number, string, array, object, Members, no_members, member}
 use Rattle.serde_json.specs.Find.{get, get_member}
-use Rattle.edr_feed.specs.Entries.{count_members, has_members}
+use Rattle.edr_feed.specs.FormParts.{count_members, has_members}
 use Rattle.edr_feed.specs.Forms.{named_values, IsObjectOf}
 
 -- ---- lists of members
@@ -23,7 +23,7 @@ abbrev pub Named : Type 0
 Named = List ℕ × Data
 
 -- the member is one of these
-abbrev Among : Named → List Named → Type 0
+abbrev pub Among : Named → List Named → Type 0
 Among m [] = ⊥
 Among m (x ∷ xs) = (x ≡ m) ⊎ Among m xs
 
@@ -49,7 +49,7 @@ each_of P [] any = tt
 each_of P (x ∷ xs) any = (any x (inl refl), each_of P xs (λ m later. any m (inr later)))
 
 -- one of these is one of them in another order
-moved : (xs ys : List Named) → IsPermutation xs ys → (m : Named) → Among m xs → Among m ys
+pub moved : (xs ys : List Named) → IsPermutation xs ys → (m : Named) → Among m xs → Among m ys
 moved xs ys order m among =
     let P : Named → Type 0 = λ x. Among x ys in
     let all = All-from_recursion P ys (each_of P ys (λ x here. here)) in

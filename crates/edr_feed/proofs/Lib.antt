@@ -1,7 +1,11 @@
-pub mod FormLemmas
+pub mod RowLemmas
 pub mod FormMembers
+pub mod FormLemmas
+pub mod FormOutlines
 pub mod FormLaws
 pub mod FeedLines
+pub mod FormFaults
+pub mod StepLemmas
 pub mod FeedReadings
-pub mod KnownFeeds
+pub mod FeedAnswers
 pub mod FeedLaws

@@ -1,48 +1,80 @@
--- The editions of a feed, or its first fault.
-use Rattle.std.specs.Prelude.{◌≡◌, ℕ, ◌+◌, Bool, true, false, nat_le, List, [], ◌∷◌, length, take, ⊤, Result, Ok, Err, Option, None, Some}
+-- The editions of a feed, or why bytes are none.
+use Rattle.std.specs.Prelude.{◌≡◌, ◌≢◌, ℕ, ◌+◌, ◌≤◌, List, [], ◌∷◌, ◌++◌, length, ⊤, Result, Ok, Err, Option, None, Some}
+use Rattle.serde_json.specs.Data.{Data, null}
+use Rattle.covjson_checks.specs.declared.faults.CovFault.{CovFault}
+use Rattle.covjson_read.specs.Rows.{CoverageRows}
+use Rattle.edr_base.specs.FirstThatApplies.{Check, Then, Gives}
+use Rattle.edr_base.specs.Limits.{feed_limit}
+use Rattle.edr_json.specs.Json.{IsJson}
 use Rattle.edr_edition.specs.Values.{EditionValue}
+use Rattle.edr_edition.specs.Changes.{IsRefused}
+use Rattle.edr_edition.specs.declared.changes.Change.{Change as DraftChange}
+use Rattle.edr_edition.specs.declared.changes.ChangeFault.{ChangeFault}
+use Rattle.edr_feed.specs.declared.entries.Entry.TheVariants as entries
 use Rattle.edr_feed.specs.declared.faults.FeedFault.{FeedFault}
-use Rattle.edr_feed.specs.declared.faults.FeedFault.TheVariants.{ReadFault, TooLong, NothingPublished, OutOfMemory}
-use Rattle.edr_feed.specs.Lines.{lines_of, ended_lines}
-use Rattle.edr_feed.specs.Steps.{Progress, Folds}
+use Rattle.edr_feed.specs.declared.faults.FeedFault.TheVariants.{Cov, Change}
+use Rattle.edr_feed.specs.declared.refusals.FeedRefusal.{FeedRefusal}
+use Rattle.edr_feed.specs.declared.refusals.FeedRefusal.TheVariants.{TooLong, NothingPublished}
+use Rattle.edr_feed.specs.Forms.{HasForm, HoldsCoverage}
+use Rattle.edr_feed.specs.Lines.{read_lines}
+use Rattle.edr_feed.specs.Steps.{Progress, at_start, EachLineRows}
 
--- nothing was read yet
-abbrev pub at_start : Progress
-at_start = record { draft = []; editions = [] }
-
--- a feed has some edition
-abbrev pub all_published : List EditionValue → Result (List EditionValue) FeedFault
-all_published [] = Err NothingPublished
-all_published (edition ∷ editions) = Ok (edition ∷ editions)
-
-abbrev pub too_long : List EditionValue → Result (List EditionValue) FeedFault
-too_long editions = Err TooLong
-
--- a feed within the limit goes to its end; of a longer one the lines that end within the limit are read, and then it is too long
-abbrev pub StandsWithin : Bool → List ℕ → Result (List EditionValue) FeedFault → Type 0
-StandsWithin true bytes answer = Folds all_published 1 at_start (lines_of bytes) answer
-StandsWithin false bytes answer = Folds too_long 1 at_start (ended_lines (take 1_073_741_824 bytes)) answer
-
--- the bytes are a feed of these editions, or have that first fault
-abbrev pub FeedStands : List ℕ → Result (List EditionValue) FeedFault → Type 0
-FeedStands bytes answer = StandsWithin (nat_le (length bytes) 1_073_741_824) bytes answer
+-- the bytes are a feed of these editions, or the first refusal applies to them
+abbrev pub FeedStands : List ℕ → Result (List EditionValue) FeedRefusal → Type 0
+FeedStands bytes =
+    Then (EachLineRows 1 (read_lines bytes) at_start) (λ now.
+    Check (length bytes ≤ feed_limit) TooLong (
+    Check (now.editions ≢ []) NothingPublished (
+    Gives now.editions)))
 
 -- the same of an input that may not be told
-abbrev pub FeedStandsIn : Option (List ℕ) → Result (List EditionValue) FeedFault → Type 0
+abbrev pub FeedStandsIn : Option (List ℕ) → Result (List EditionValue) FeedRefusal → Type 0
 FeedStandsIn None answer = (bytes : List ℕ) × FeedStands bytes answer
 FeedStandsIn (Some bytes) answer = FeedStands bytes answer
 
--- bytes are at most one feed, or have at most one first fault
+-- ---- the fault inside a line
+
+-- the lines before the one of that number make that draft and these editions
+pub record IsReached (bytes : List ℕ) (number : ℕ) (line : List ℕ) (now : Progress) : Type 0 where
+  pub before : List (List ℕ)
+  pub behind : List (List ℕ)
+  pub lines_are : read_lines bytes ≡ before ++ line ∷ behind
+  pub number_is : number ≡ length before + 1
+  pub made : EachLineRows 1 before at_start (Ok now)
+
+-- the line's coverage fails that check first
+pub record FailsCheck (line : List ℕ) (fault : CovFault) : Type 0 where
+  pub tree : Data
+  pub is_tree : IsJson line tree
+  pub coverage : Data
+  pub holds : HoldsCoverage tree coverage
+  pub fails : CoverageRows null coverage (Err fault)
+
+-- the line's change of the draft is refused by that fault
+pub record RefusesChange (line : List ℕ) (now : Progress) (fault : ChangeFault) : Type 0 where
+  pub tree : Data
+  pub is_tree : IsJson line tree
+  pub change : DraftChange
+  pub has_form : HasForm tree (entries.Change change)
+  pub refused : IsRefused now.draft change fault
+
+-- the fault of the coverage, or of the change, of the line that the fault names
+abbrev pub InnerStands : List ℕ → FeedFault → Type 0
+InnerStands bytes (Cov number fault) = (line : List ℕ) × (now : Progress) × IsReached bytes number line now × FailsCheck line fault
+InnerStands bytes (Change number fault) = (line : List ℕ) × (now : Progress) × IsReached bytes number line now × RefusesChange line now fault
+InnerStands bytes other = ⊤
+
+abbrev pub InnerStandsIn : Option (List ℕ) → FeedFault → Type 0
+InnerStandsIn None fault = (bytes : List ℕ) × InnerStands bytes fault
+InnerStandsIn (Some bytes) fault = InnerStands bytes fault
+
+-- ---- laws
+
+-- bytes are at most one feed, or have one first refusal
 abbrev pub FeedsHaveOneAnswer : Type 0
-FeedsHaveOneAnswer = (bytes : List ℕ) (one other : Result (List EditionValue) FeedFault) → FeedStands bytes one → FeedStands bytes other → one ≡ other
+FeedsHaveOneAnswer = (bytes : List ℕ) (one other : Result (List EditionValue) FeedRefusal) → FeedStands bytes one → FeedStands bytes other → one ≡ other
 
 -- the numbers ascend by one from that number on
 abbrev pub AreNumberedFrom : ℕ → List EditionValue → Type 0
 AreNumberedFrom number [] = ⊤
 AreNumberedFrom number (edition ∷ editions) = (edition.number ≡ number) × AreNumberedFrom (number + 1) editions
-
--- the faults of a feed, and not of the outside
-abbrev pub IsFeedFault : FeedFault → Type 0
-IsFeedFault ReadFault = ⊥
-IsFeedFault OutOfMemory = ⊥
-IsFeedFault other = ⊤

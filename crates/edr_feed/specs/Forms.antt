@@ -1,16 +1,15 @@
 -- Which tree stands for which entry of a feed.
-use Rattle.std.specs.Prelude.{◌≡◌, ◌↔◌, ℕ, List, [], ◌∷◌, codes, IsPermutation, Option, None, Some, Ok}
+use Rattle.std.specs.Prelude.{◌≡◌, ◌⊎◌, ◌↔◌, ℕ, List, [], ◌∷◌, codes, IsPermutation, Option, None, Some}
 use Rattle.serde_json.specs.Data.{Data, string, object, Members, no_members, member}
+use Rattle.serde_json.specs.Find.{get}
 use Rattle.covjson_value.specs.declared.coverages.Coverage.{Coverage}
-use Rattle.covjson_read.specs.Parameters.{HasNameForm}
 use Rattle.covjson_read.specs.Standing.{Stands}
+use Rattle.edr_base.specs.Names.{IsName}
 use Rattle.edr_edition.specs.declared.kinds.Kind.{Kind}
 use Rattle.edr_edition.specs.declared.kinds.Kind.TheVariants.{Grid as Grids}
-use Rattle.edr_edition.specs.declared.changes.Change.{Change as AnyChange}
-use Rattle.edr_edition.specs.declared.changes.Change.TheVariants.{Collection, Grid, DropCollection, DropInstance, Bare as BareGrid}
+use Rattle.edr_edition.specs.declared.changes.Change.TheVariants.{Collection, Grid, DropCollection, DropInstance, Bare}
 use Rattle.edr_feed.specs.declared.entries.Entry.{Entry}
-use Rattle.edr_feed.specs.declared.entries.Entry.TheVariants.{Change, Bare, Publish}
-use Rattle.edr_feed.specs.Entries.{entry_of}
+use Rattle.edr_feed.specs.declared.entries.Entry.TheVariants.{Change, Publish}
 
 -- the names and values of members
 abbrev pub named_values : Members → List (List ℕ × Data)
@@ -35,42 +34,61 @@ vertical_if (Some vertical) = (codes "vertical", string vertical) ∷ []
 -- a new collection, of grids
 pub record IsCollection (id : List ℕ) (kind : Kind) (title crs : List ℕ) (vertical : Option (List ℕ)) (d : Data) : Type 0 where
   pub grids : kind ≡ Grids
-  pub id_is_name : HasNameForm id
+  pub id_is_name : IsName id
   pub members : IsObjectOf ((codes "id", string id) ∷ (codes "kind", string (codes "grid")) ∷ (codes "title", string title) ∷ (codes "crs", string crs) ∷ vertical_if vertical) d
 
--- an instance of a collection, whose tree stands for the coverage
-pub record IsGrid (collection instance : List ℕ) (coverage : Coverage) (d : Data) : Type 0 where
-  pub collection_is_name : HasNameForm collection
-  pub instance_is_name : HasNameForm instance
-  pub tree : Data
-  pub members : IsObjectOf ((codes "collection", string collection) ∷ (codes "instance", string instance) ∷ (codes "coverage", tree) ∷ []) d
-  pub stands : Stands tree coverage
+-- an instance of a collection, with that tree as its coverage
+pub record IsGrid (collection instance : List ℕ) (coverage d : Data) : Type 0 where
+  pub collection_is_name : IsName collection
+  pub instance_is_name : IsName instance
+  pub members : IsObjectOf ((codes "collection", string collection) ∷ (codes "instance", string instance) ∷ (codes "coverage", coverage) ∷ []) d
 
 -- the name of a collection to be dropped
 pub record IsDropCollection (collection : List ℕ) (d : Data) : Type 0 where
-  pub collection_is_name : HasNameForm collection
+  pub collection_is_name : IsName collection
   pub members : IsObjectOf ((codes "collection", string collection) ∷ []) d
 
 -- the names of an instance to be dropped, and of its collection
 pub record IsDropInstance (collection instance : List ℕ) (d : Data) : Type 0 where
-  pub collection_is_name : HasNameForm collection
-  pub instance_is_name : HasNameForm instance
+  pub collection_is_name : IsName collection
+  pub instance_is_name : IsName instance
   pub members : IsObjectOf ((codes "collection", string collection) ∷ (codes "instance", string instance) ∷ []) d
 
--- the tree stands for the change; a coverage by itself is no such change, for it is published at once
-abbrev pub HasChangeForm : Data → AnyChange → Type 0
-HasChangeForm d (Collection id kind title crs vertical) = HasJust (codes "collection") (IsCollection id kind title crs vertical) d
-HasChangeForm d (Grid collection instance coverage) = HasJust (codes "grid") (IsGrid collection instance coverage) d
-HasChangeForm d (DropCollection collection) = HasJust (codes "drop") (IsDropCollection collection) d
-HasChangeForm d (DropInstance collection instance) = HasJust (codes "drop") (IsDropInstance collection instance) d
-HasChangeForm d (BareGrid coverage) = ⊥
+-- a line that sets an instance, with that tree as its coverage
+abbrev pub HoldsGrid : Data → List ℕ → List ℕ → Data → Type 0
+HoldsGrid d collection instance coverage = HasJust (codes "grid") (IsGrid collection instance coverage) d
 
--- the tree stands for the entry; what stands for a coverage has the type Coverage, and the others have no type
+-- a line that is a coverage by itself: whatever else it has, its type is Coverage
+abbrev pub IsBare : Data → Type 0
+IsBare d = get (codes "type") d ≡ Some (string (codes "Coverage"))
+
+-- the tree of a line stands for the entry
 abbrev pub HasForm : Data → Entry → Type 0
-HasForm d (Change change) = HasChangeForm d change
-HasForm d (Bare coverage) = Stands d coverage
+HasForm d (Change (Collection id kind title crs vertical)) = HasJust (codes "collection") (IsCollection id kind title crs vertical) d
+HasForm d (Change (Grid collection instance coverage)) = (tree : Data) × HoldsGrid d collection instance tree × Stands tree coverage
+HasForm d (Change (DropCollection collection)) = HasJust (codes "drop") (IsDropCollection collection) d
+HasForm d (Change (DropInstance collection instance)) = HasJust (codes "drop") (IsDropInstance collection instance) d
+HasForm d (Change (Bare coverage)) = IsBare d × Stands d coverage
 HasForm d Publish = HasJust (codes "publish") (IsObjectOf []) d
 
--- the answer is an entry exactly where the tree stands for it
-abbrev pub FormsAreRead : Type 0
-FormsAreRead = (d : Data) (entry : Entry) → (entry_of d ≡ Ok entry) ↔ HasForm d entry
+-- the tree of a line has that tree where a coverage has to be
+abbrev pub HoldsCoverage : Data → Data → Type 0
+HoldsCoverage d coverage = ((collection instance : List ℕ) × HoldsGrid d collection instance coverage) ⊎ (IsBare d × (coverage ≡ d))
+
+-- the tree of a line has one of the forms, whatever its coverage is
+abbrev pub HasOutline : Data → Type 0
+HasOutline d = ((entry : Entry) × HasForm d entry) ⊎ ((coverage : Data) × HoldsCoverage d coverage)
+
+-- ---- laws
+
+-- a tree stands for one entry at most
+abbrev pub TreesHaveOneForm : Type 0
+TreesHaveOneForm = (d : Data) (one other : Entry) → HasForm d one → HasForm d other → one ≡ other
+
+-- of a tree that has a coverage: it has no other, and stands for an entry exactly where that stands for a coverage
+pub record HoldsOneCoverage (d coverage : Data) : Type 0 where
+  pub only : (other : Data) → HoldsCoverage d other → other ≡ coverage
+  pub stands : ((entry : Entry) × HasForm d entry) ↔ ((value : Coverage) × Stands coverage value)
+
+abbrev pub TreesHoldOneCoverage : Type 0
+TreesHoldOneCoverage = (d coverage : Data) → HoldsCoverage d coverage → HoldsOneCoverage d coverage

@@ -1,6 +1,8 @@
-pub mod Entries
+pub mod Refusals
 pub mod Forms
 pub mod Lines
-pub mod Feeds
 pub mod Steps
-pub mod Makes
+pub mod Feeds
+pub mod Faults
+pub mod FormParts
+pub mod Readings

@@ -1,15 +1,19 @@
 //! Feeds.
-ghost use Rattle.std.specs.Prelude.{◌≡◌, ◌<◌, IfOk, IfErr, OnOk, IsErrOf, Ok, Err, length};
+ghost use Rattle.std.specs.Prelude.{◌≡◌, ◌<◌, ◌+◌, IfOk, IfErr, IfSome, OnOk, IsErrOf, Ok, Err, length};
 ghost use Rattle.std.specs.Io.KnownBytes.{IsAtEnd};
+ghost use Rattle.edr_base.specs.Calls.{SourceLent, ReadsAtMost, buffer_size};
+ghost use Rattle.edr_base.specs.Limits.{feed_limit};
 ghost use Rattle.edr_base.specs.Outside.{Rose};
-ghost use Rattle.edr_base.specs.Calls.{SourceLent};
-ghost use Rattle.edr_feed.specs.Feeds.{FeedStandsIn, AreNumberedFrom, FeedsHaveOneAnswer, IsFeedFault};
-ghost use Rattle.edr_feed.specs.Makes.{ReadsWhole};
+ghost use Rattle.edr_feed.specs.Feeds.{FeedStandsIn, InnerStandsIn, AreNumberedFrom, FeedsHaveOneAnswer};
+ghost use Rattle.edr_feed.specs.Readings.{ReadsWhole};
+ghost use Rattle.edr_feed.specs.Refusals.{refusal_of};
 
 use crate::faults::FeedFault;
+use crate::forms::trees_have_one_form;
 use crate::reading::{Reading, begin, end, read_on};
-use edr_base::{Failed, Items, Source};
-use edr_edition::Edition;
+use edr_base::{Items, Source};
+use edr_edition::{Edition, changes_have_one_outcome};
+use edr_json::texts_have_one_tree;
 use std::alloc::Global;
 
 /// What a feed published.
@@ -22,32 +26,37 @@ pub struct Feed {
 // All that a source gives.
 fn read_whole<S: Source>(alloc: Global, source: &mut S) -> Result<Reading, FeedFault>
     ensures read { IfOk result (λ now. ReadsWhole (S.left source.old) (S.left source.new) now) }
-    ensures fault { IfErr result (λ fault. IsFeedFault fault → FeedStandsIn (S.left source.old) (Err fault)) }
+    ensures fault { IfErr result (λ fault. IfSome (refusal_of fault) (λ refusal. FeedStandsIn (S.left source.old) (Err refusal))) }
+    ensures inner { IfErr result (λ fault. InnerStandsIn (S.left source.old) fault) }
+    ensures bounded { ReadsAtMost (feed_limit + buffer_size) (S.left source.old) (S.left source.new) }
     ensures lent { SourceLent (S.aside source.old) (S.aside source.new) (S.faults source.old) (S.faults source.new) }
     ensures cause { IsErrOf result FeedFault.ReadFault → Rose (S.faults source.old) (S.faults source.new) }
 {
     let mut now = begin(alloc);
     let mut buffer = [0u8; 16384];
     loop {
-        match source.read(&mut buffer) {
-            Ok(0) => return Ok(now),
-            Ok(count) => read_on(alloc, &mut now, &buffer[..count])?,
-            Err(Failed) => return Err(FeedFault::ReadFault),
+        let count = source.read(&mut buffer)?;
+        if count == 0 {
+            return Ok(now);
         }
+        read_on(alloc, &mut now, &buffer[..count])?;
     }
 }
 
 /// Reads a feed to its end: line by line changes of a draft, and with each publish the next edition. The first line at
 /// fault ends it.
 ///
-/// A line's fault counts only if its line feed, or the end of the feed, lies within the first `FEED_LIMIT` bytes; a longer
-/// feed is else TooLong. Lines are read as they come, one at a time.
+/// A line's fault counts only if its line feed, or the end of the feed, lies within the first `edr_base::FEED_LIMIT` bytes; a
+/// longer feed is else TooLong. Lines are read as they come, one at a time. Whatever is answered, at most
+/// `edr_base::FEED_LIMIT` and 16,384 bytes were taken from the source, and the others are left.
 pub fn read_feed<S: Source>(alloc: Global, source: &mut S) -> Result<Feed, FeedFault>
     ensures editions { IfOk result (λ feed. FeedStandsIn (S.left source.old) (Ok feed.editions)) }
-    ensures fault { IfErr result (λ fault. IsFeedFault fault → FeedStandsIn (S.left source.old) (Err fault)) }
+    ensures fault { IfErr result (λ fault. IfSome (refusal_of fault) (λ refusal. FeedStandsIn (S.left source.old) (Err refusal))) }
+    ensures inner { IfErr result (λ fault. InnerStandsIn (S.left source.old) fault) }
     ensures some { IfOk result (λ feed. 0 < length feed.editions) }
     ensures numbered { IfOk result (λ feed. AreNumberedFrom 1 feed.editions) }
     ensures ended { OnOk result (IsAtEnd (S.left source.new)) }
+    ensures bounded { ReadsAtMost (feed_limit + buffer_size) (S.left source.old) (S.left source.new) }
     ensures lent { SourceLent (S.aside source.old) (S.aside source.new) (S.faults source.old) (S.faults source.new) }
     ensures cause { IsErrOf result FeedFault.ReadFault → Rose (S.faults source.old) (S.faults source.new) }
 {
@@ -58,7 +67,11 @@ pub fn read_feed<S: Source>(alloc: Global, source: &mut S) -> Result<Feed, FeedF
     })
 }
 
-/// Bytes are at most one feed, or have at most one first fault.
+/// Bytes are at most one feed, or have one first refusal.
 pub fn feeds_have_one_answer()
     ensures { FeedsHaveOneAnswer }
-{}
+{
+    texts_have_one_tree();
+    trees_have_one_form();
+    changes_have_one_outcome();
+}

@@ -1,28 +1,21 @@
 //! The forms of a line, as trees of JSON.
-ghost use Rattle.std.specs.Prelude.{◌≡◌, bytes_eq, codes, IfOk, IfSome, IsUtf8, Ok, option_map};
+ghost use Rattle.std.specs.Prelude.{◌≡◌, ◌≢◌, ◌↔◌, codes, IfOk, IfSome, IsTrue, IsUtf8, true, option_map};
 ghost use Rattle.serde_json.specs.View.{view};
-ghost use Rattle.serde_json.specs.Data.{null};
-ghost use Rattle.serde_json.specs.Find.{get, as_str};
-ghost use Rattle.covjson_value.specs.Coverages.{IsValid};
-ghost use Rattle.edr_base.specs.Names.{IsName};
-ghost use Rattle.covjson_read.specs.CoverageAnswers.{coverage_in};
-ghost use Rattle.edr_json.specs.Trees.{text_or_empty};
-ghost use Rattle.edr_feed.specs.Entries as entries;
-ghost use Rattle.edr_feed.specs.Entries.{Gives, GivesUnlessMemory, IsEntry};
-ghost use Rattle.edr_feed.specs.Forms.{FormsAreRead};
+ghost use Rattle.edr_feed.specs.FormParts as parts;
+ghost use Rattle.edr_feed.specs.FormParts.{HasText, HasName, HasTextIfGiven, Finds, ReadsEntry, IsEntry, line_of};
+ghost use Rattle.edr_feed.specs.Forms.{IsBare, TreesHaveOneForm, TreesHoldOneCoverage};
 
 use crate::entries::Entry;
 use crate::faults::LineFault;
-use covjson_read::{CovFault, answers_are_what_stands, coverage_of};
-use covjson_value::{Coverage};
-use edr_base::{is_name};
-use edr_base::Text;
+use covjson_read::{coverage_of, trees_stand_for_one};
+use edr_base::{Text, is_name};
 use edr_edition::{Change, Kind};
 use serde_json::Value;
 use std::alloc::Global;
 
+// Whether the tree is an object of so many members.
 fn has_members(tree: &Value, count: usize) -> bool
-    ensures { result ≡ entries.has_members count (view tree.now) }
+    ensures { result ≡ parts.has_members count (view tree.now) }
 {
     match tree.as_object() {
         Some(members) => members.len() == count,
@@ -30,118 +23,84 @@ fn has_members(tree: &Value, count: usize) -> bool
     }
 }
 
-fn need_members(tree: &Value, count: usize) -> Result<(), LineFault>
-    ensures { Gives (λ u. u) result (entries.check (entries.has_members count (view tree.now))) }
-{
-    if has_members(tree, count) {
-        Ok(())
-    } else {
-        Err(LineFault::NotFeedLine)
-    }
-}
-
-fn need<'a>(tree: &'a Value, key: &str) -> Result<&'a Value, LineFault>
-    ensures { Gives (λ v. view v.now) result (entries.or_none (get key.now (view tree.now))) }
+// The text of a member.
+fn text_in<'a>(tree: &'a Value, key: &str) -> Option<&'a str>
+    ensures { option_map (λ s. s.now) result ≡ parts.text_in key.now (view tree.now) }
 {
     match tree.get(key) {
-        Some(found) => Ok(found),
-        None => Err(LineFault::NotFeedLine),
+        Some(found) => found.as_str(),
+        None => None,
     }
 }
 
-fn text_of<'a>(tree: &'a Value) -> Result<&'a str, LineFault>
-    ensures { Gives (λ s. s.now) result (entries.or_none (as_str (view tree.now))) }
+// Whether a member is that text.
+fn has_text(tree: &Value, key: &str, wanted: &str) -> bool
+    ensures { IsTrue result ↔ HasText key.now (view tree.now) wanted.now }
 {
-    match tree.as_str() {
-        Some(text) => Ok(text),
-        None => Err(LineFault::NotFeedLine),
-    }
-}
-
-fn text_in<'a>(tree: &'a Value, key: &str) -> Result<&'a str, LineFault>
-    ensures { Gives (λ s. s.now) result (entries.text_in key.now (view tree.now)) }
-{
-    let found = need(tree, key)?;
-    text_of(found)
-}
-
-// A text of its own.
-fn kept(alloc: Global, text: &str) -> Result<Text, LineFault>
-    ensures value { GivesUnlessMemory (λ t. t) result (Ok text.now) }
-    ensures utf8 { IfOk result IsUtf8 }
-{
-    match Text::of(alloc, text.as_bytes()) {
-        Ok(text) => Ok(text),
-        Err(_) => Err(LineFault::OutOfMemory),
+    match text_in(tree, key) {
+        Some(text) => text == wanted,
+        None => false,
     }
 }
 
 fn kept_text_in(alloc: Global, tree: &Value, key: &str) -> Result<Text, LineFault>
-    ensures value { GivesUnlessMemory (λ t. t) result (entries.text_in key.now (view tree.now)) }
+    ensures finds { Finds (HasText key.now (view tree.now)) result }
     ensures utf8 { IfOk result IsUtf8 }
 {
-    let text = text_in(tree, key)?;
-    kept(alloc, text)
+    match text_in(tree, key) {
+        Some(text) => Ok(Text::of(alloc, text.as_bytes())?),
+        None => Err(LineFault::NotFeedLine),
+    }
 }
 
 fn name_in(alloc: Global, tree: &Value, key: &str) -> Result<Text, LineFault>
-    ensures value { GivesUnlessMemory (λ t. t) result (entries.name_in key.now (view tree.now)) }
-    ensures name { IfOk result IsName }
+    ensures { Finds (HasName key.now (view tree.now)) result }
 {
-    let text = text_in(tree, key)?;
+    let Some(text) = text_in(tree, key) else {
+        return Err(LineFault::NotFeedLine);
+    };
     if !is_name(text.as_bytes()) {
         return Err(LineFault::NotFeedLine);
     }
-    kept(alloc, text)
+    Ok(Text::of(alloc, text.as_bytes())?)
 }
 
-fn given_text(alloc: Global, tree: Option<&Value>) -> Result<Option<Text>, LineFault>
-    ensures value { GivesUnlessMemory (λ t. t) result (entries.given_text (option_map (λ v. view v.now) tree.entry)) }
-    ensures utf8 { IfOk result (λ t. IfSome t IsUtf8) }
+// The text of a member that may be left out.
+fn text_if_given(alloc: Global, tree: &Value, key: &str) -> Result<Option<Text>, LineFault>
+    ensures finds { Finds (HasTextIfGiven key.now (view tree.now)) result }
+    ensures utf8 { IfOk result (λ text. IfSome text IsUtf8) }
 {
-    match tree {
-        Some(tree) => {
-            let text = text_of(tree)?;
-            Ok(Some(kept(alloc, text)?))
-        }
+    match tree.get(key) {
+        Some(found) => match found.as_str() {
+            Some(text) => Ok(Some(Text::of(alloc, text.as_bytes())?)),
+            None => Err(LineFault::NotFeedLine),
+        },
         None => Ok(None),
     }
 }
 
-fn coverage_at(alloc: Global, tree: &Value) -> Result<Coverage, LineFault>
-    ensures coverage { GivesUnlessMemory (λ c. c) result (entries.coverage_at (coverage_in null (view tree.now))) }
-    ensures valid { IfOk result IsValid }
+// How many members a collection has: one more where the reference system of z is given.
+fn collection_members(vertical: &Option<Text>) -> usize
+    ensures { result ≡ parts.collection_members vertical.now }
 {
-    match coverage_of(alloc, tree) {
-        Ok(coverage) => Ok(coverage),
-        Err(CovFault::OutOfMemory) => Err(LineFault::OutOfMemory),
-        Err(fault) => Err(LineFault::Cov(fault)),
-    }
+    if vertical.is_some() { 5 } else { 4 }
 }
 
-// A collection of grids.
-fn need_grid_kind(tree: &Value) -> Result<(), LineFault>
-    ensures { Gives (λ u. u) result (entries.and_then (entries.text_in (codes "kind") (view tree.now)) (λ kind. entries.check (bytes_eq kind (codes "grid")))) }
-{
-    let kind = text_in(tree, "kind")?;
-    if kind == "grid" {
-        Ok(())
-    } else {
-        Err(LineFault::NotFeedLine)
-    }
-}
-
+// A new collection; none but those of grids are read yet.
 fn collection_entry(alloc: Global, tree: &Value) -> Result<Entry, LineFault>
-    ensures entry { GivesUnlessMemory (λ e. e) result (entries.collection_entry (view tree.now)) }
+    ensures reads { ReadsEntry (line_of (codes "collection") (view tree.now)) result }
     ensures is { IfOk result IsEntry }
 {
     let id = name_in(alloc, tree, "id")?;
-    need_grid_kind(tree)?;
+    if !has_text(tree, "kind", "grid") {
+        return Err(LineFault::NotFeedLine);
+    }
     let title = kept_text_in(alloc, tree, "title")?;
     let crs = kept_text_in(alloc, tree, "crs")?;
-    let vertical = given_text(alloc, tree.get("vertical"))?;
-    let count = if vertical.is_some() { 5 } else { 4 };
-    need_members(tree, count)?;
+    let vertical = text_if_given(alloc, tree, "vertical")?;
+    if !has_members(tree, collection_members(&vertical)) {
+        return Err(LineFault::NotFeedLine);
+    }
     Ok(Entry::Change(Change::Collection {
         id,
         kind: Kind::Grid,
@@ -151,15 +110,20 @@ fn collection_entry(alloc: Global, tree: &Value) -> Result<Entry, LineFault>
     }))
 }
 
+// An instance: first its form, and then its coverage.
 fn grid_entry(alloc: Global, tree: &Value) -> Result<Entry, LineFault>
-    ensures entry { GivesUnlessMemory (λ e. e) result (entries.grid_entry (view tree.now)) }
+    ensures reads { ReadsEntry (line_of (codes "grid") (view tree.now)) result }
     ensures is { IfOk result IsEntry }
 {
     let collection = name_in(alloc, tree, "collection")?;
     let instance = name_in(alloc, tree, "instance")?;
-    let found = need(tree, "coverage")?;
-    need_members(tree, 3)?;
-    let coverage = coverage_at(alloc, found)?;
+    let Some(found) = tree.get("coverage") else {
+        return Err(LineFault::NotFeedLine);
+    };
+    if !has_members(tree, 3) {
+        return Err(LineFault::NotFeedLine);
+    }
+    let coverage = coverage_of(alloc, found)?;
     Ok(Entry::Change(Change::Grid {
         collection,
         instance,
@@ -167,40 +131,37 @@ fn grid_entry(alloc: Global, tree: &Value) -> Result<Entry, LineFault>
     }))
 }
 
-fn drop_instance_entry(alloc: Global, collection: Text, tree: &Value) -> Result<Entry, LineFault>
-    requires { IsName collection }
-    ensures entry { GivesUnlessMemory (λ e. e) result (entries.drop_instance_entry collection (view tree.now)) }
-    ensures is { IfOk result IsEntry }
-{
-    let instance = name_in(alloc, tree, "instance")?;
-    need_members(tree, 2)?;
-    Ok(Entry::Change(Change::DropInstance(collection, instance)))
-}
-
 fn drop_entry(alloc: Global, tree: &Value) -> Result<Entry, LineFault>
-    ensures entry { GivesUnlessMemory (λ e. e) result (entries.drop_entry (view tree.now)) }
+    ensures reads { ReadsEntry (line_of (codes "drop") (view tree.now)) result }
     ensures is { IfOk result IsEntry }
 {
     let collection = name_in(alloc, tree, "collection")?;
     if has_members(tree, 1) {
-        Ok(Entry::Change(Change::DropCollection(collection)))
-    } else {
-        drop_instance_entry(alloc, collection, tree)
+        return Ok(Entry::Change(Change::DropCollection(collection)));
     }
+    if !has_members(tree, 2) {
+        return Err(LineFault::NotFeedLine);
+    }
+    let instance = name_in(alloc, tree, "instance")?;
+    Ok(Entry::Change(Change::DropInstance(collection, instance)))
 }
 
 fn publish_entry(tree: &Value) -> Result<Entry, LineFault>
-    ensures entry { GivesUnlessMemory (λ e. e) result (entries.publish_entry (view tree.now)) }
+    ensures reads { ReadsEntry (line_of (codes "publish") (view tree.now)) result }
     ensures is { IfOk result IsEntry }
 {
-    need_members(tree, 0)?;
-    Ok(Entry::Publish)
+    if has_members(tree, 0) {
+        Ok(Entry::Publish)
+    } else {
+        Err(LineFault::NotFeedLine)
+    }
 }
 
-// The entry of the one member that there is.
+// By the one member that there is.
 fn member_entry(alloc: Global, tree: &Value) -> Result<Entry, LineFault>
-    ensures entry { GivesUnlessMemory (λ e. e) result (entries.member_entry (get (codes "collection") (view tree.now)) (get (codes "grid") (view tree.now))
-        (get (codes "drop") (view tree.now)) (get (codes "publish") (view tree.now))) }
+    requires one { parts.has_members 1 (view tree.now) ≡ true }
+    requires not_bare { ¬ (IsBare (view tree.now)) }
+    ensures reads { ReadsEntry (view tree.now) result }
     ensures is { IfOk result IsEntry }
 {
     if let Some(found) = tree.get("collection") {
@@ -218,26 +179,23 @@ fn member_entry(alloc: Global, tree: &Value) -> Result<Entry, LineFault>
     }
 }
 
-fn says_coverage(tree: &Value) -> bool
-    ensures { result ≡ bytes_eq (text_or_empty (get (codes "type") (view tree.now))) (codes "Coverage") }
-{
-    match tree.get("type") {
-        Some(kind) => match kind.as_str() {
-            Some(text) => text == "Coverage",
-            None => false,
-        },
-        None => false,
-    }
-}
-
-/// What the tree of a line says, or NotFeedLine, or the fault of its coverage.
-pub fn entry_of(alloc: Global, tree: &Value) -> Result<Entry, LineFault>
-    ensures entry { GivesUnlessMemory (λ e. e) result (entries.entry_of (view tree.now)) }
+// A coverage by itself.
+fn bare_entry(alloc: Global, tree: &Value) -> Result<Entry, LineFault>
+    requires { IsBare (view tree.now) }
+    ensures reads { ReadsEntry (view tree.now) result }
     ensures is { IfOk result IsEntry }
 {
-    if says_coverage(tree) {
-        let coverage = coverage_at(alloc, tree)?;
-        Ok(Entry::Bare(coverage))
+    let coverage = coverage_of(alloc, tree)?;
+    Ok(Entry::Change(Change::Bare(coverage)))
+}
+
+/// What the tree of a line says: NotFeedLine where it has none of the forms, or the fault of its coverage.
+pub fn entry_of(alloc: Global, tree: &Value) -> Result<Entry, LineFault>
+    ensures reads { ReadsEntry (view tree.now) result }
+    ensures is { IfOk result IsEntry }
+{
+    if has_text(tree, "type", "Coverage") {
+        bare_entry(alloc, tree)
     } else if has_members(tree, 1) {
         member_entry(alloc, tree)
     } else {
@@ -245,9 +203,15 @@ pub fn entry_of(alloc: Global, tree: &Value) -> Result<Entry, LineFault>
     }
 }
 
-/// The tree of a line says an entry exactly where it stands for that entry.
-pub fn forms_are_read()
-    ensures { FormsAreRead }
+/// The tree of a line stands for one entry at most.
+pub fn trees_have_one_form()
+    ensures { TreesHaveOneForm }
 {
-    answers_are_what_stands();
+    trees_stand_for_one();
 }
+
+/// The tree of a line has one coverage at most. Where it has one, it stands for an entry exactly where that tree stands for a
+/// coverage.
+pub fn trees_hold_one_coverage()
+    ensures { TreesHoldOneCoverage }
+{}

@@ -5,15 +5,15 @@ mod entries;
 mod faults;
 mod feeds;
 mod forms;
-mod limits;
 mod lines;
 mod reading;
+mod refusals;
 mod steps;
 
 pub use faults::FeedFault;
 pub use feeds::{Feed, feeds_have_one_answer, read_feed};
-pub use forms::forms_are_read;
-pub use limits::{FEED_LIMIT, LINE_LIMIT};
+pub use forms::{trees_have_one_form, trees_hold_one_coverage};
+pub use refusals::FeedRefusal;
 
 #[cfg(test)]
 mod tests;

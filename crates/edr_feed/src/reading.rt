@@ -1,13 +1,10 @@
 //! The reader of a feed, piece by piece.
-ghost use Rattle.std.specs.Prelude.{◌≡◌, ◌⊎◌, ◌<◌, ℕ, length, List, [], ◌∷◌, ◌++◌, MatchResult, Ok, Err, IfOk};
-ghost use Rattle.edr_feed.specs.Feeds.{FeedStands};
-ghost use Rattle.edr_feed.specs.Makes.{IsPlain, HasRead, IsReading, ReadsOn};
+ghost use Rattle.std.specs.Prelude.{◌<◌, ℕ, length, List, [], ◌∷◌, ◌++◌, IfOk};
+ghost use Rattle.edr_feed.specs.Readings.{IsPlain, HasRead, IsReading, TakesLine, ReadsOn, Ends};
 
 use crate::faults::FeedFault;
-use crate::limits::{FEED_LIMIT, LINE_LIMIT};
-use crate::lines::line_says;
-use crate::steps::{Drafting, after_line};
-use edr_base::cut_at;
+use crate::steps::{Drafting, do_line};
+use edr_base::{FEED_LIMIT, LINE_LIMIT, cut_at};
 use edr_edition::{Draft, Edition};
 use std::alloc::Global;
 
@@ -53,11 +50,19 @@ fn go_on(now: &mut Reading, part: &[u8]) -> Result<(), FeedFault>
     }
     let room = LINE_LIMIT + 1 - now.line.len();
     let kept = &part[..part.len().min(room)];
-    if now.line.extend_from_slice(kept).is_err() {
-        return Err(FeedFault::OutOfMemory);
-    }
+    now.line.extend_from_slice(kept)?;
     now.length += part.len();
     Ok(())
+}
+
+// Does the line that goes on, as it stands.
+fn take_line(alloc: Global, now: &mut Reading) -> Result<(), FeedFault>
+    ensures { TakesLine now.old result now.new }
+{
+    match do_line(alloc, &mut now.made, &now.line) {
+        Ok(()) => Ok(()),
+        Err(fault) => Err(fault.at(now.number)),
+    }
 }
 
 // The line ends with a line feed.
@@ -68,8 +73,7 @@ fn end_line(alloc: Global, now: &mut Reading) -> Result<(), FeedFault>
     if now.ended + now.length == FEED_LIMIT {
         return Err(FeedFault::TooLong);
     }
-    let said = line_says(alloc, &now.line);
-    after_line(alloc, &mut now.made, now.number, said)?;
+    take_line(alloc, now)?;
     now.ended += now.length + 1;
     now.number += 1;
     now.line.clear();
@@ -92,16 +96,13 @@ pub fn read_on(alloc: Global, now: &mut Reading, piece: &[u8]) -> Result<(), Fee
 }
 
 /// The feed ends: the editions that it published.
-pub fn end(alloc: Global, now: Reading) -> Result<Vec<Edition>, FeedFault>
-    ensures stands { (bytes : List ℕ) → HasRead bytes now → MatchResult result (λ editions. FeedStands bytes (Ok editions.items))
-        (λ f. FeedStands bytes (Err f) ⊎ (f ≡ FeedFault.OutOfMemory)) }
+pub fn end(alloc: Global, mut now: Reading) -> Result<Vec<Edition>, FeedFault>
+    ensures stands { (bytes : List ℕ) → HasRead bytes now → Ends bytes result }
     ensures some { IfOk result (λ editions. 0 < length editions.items) }
 {
-    let said = line_says(alloc, &now.line);
-    let mut made = now.made;
-    after_line(alloc, &mut made, now.number, said)?;
-    if made.editions.is_empty() {
+    take_line(alloc, &mut now)?;
+    if now.made.editions.is_empty() {
         return Err(FeedFault::NothingPublished);
     }
-    Ok(made.editions)
+    Ok(now.made.editions)
 }

@@ -64,57 +64,57 @@ baremore => 1: grid
 equalkeys => 1:
 collection equalmembers publish => 1:
 longname publish => 1: nnnnnnnnnnnnnnnnnnnnnnnnnnnnnnnnnnnnnnnnnnnnnnnnnnnnnnnnnnnnnnnnnnnnnnnnnnnnnnnnnnnnnnnnnnnnnnnnnnnnnnnnnnnnnnnnnnnnnnnnnnnnnnnn
-longername publish => NotFeedLine 1
-G brace => NotJson 2
+longername publish => NotFeedLine(1)
+G brace => NotJson(2)
 G H => 2: grid
-G grid/2=H => Change 2 ParametersDiffer temp
-G grid/2=wind => Change 2 ParametersDiffer wind
+G grid/2=H => Change(2) ParametersDiffer temp
+G grid/2=wind => Change(2) ParametersDiffer wind
 G grid/2=G publish => 2: grid
 G grid/2=G dropinstance grid/2=wind publish => 2: grid
-G grid/2=G grid=H => Change 3 ParametersDiffer temp
+G grid/2=G grid=H => Change(3) ParametersDiffer temp
 publish => 1:
 collection publish => 1: a
 collection G => 1: a grid
 vertical a=G publish => 1: a
-collection collection publish => Change 2 SameCollection
+collection collection publish => Change(2) SameCollection
 collection drop publish => 1:
-drop publish => Change 1 UnknownCollection
-a=G publish => Change 1 UnknownCollection
-dropofnone => Change 1 UnknownCollection
-P => Change 1 WrongKind
-collection a=P => Change 2 WrongKind
-N => Change 1 NoTimes
-G O => Change 2 CrsDiffers
+drop publish => Change(1) UnknownCollection
+a=G publish => Change(1) UnknownCollection
+dropofnone => Change(1) UnknownCollection
+P => Change(1) WrongKind
+collection a=P => Change(2) WrongKind
+N => Change(1) NoTimes
+G O => Change(2) CrsDiffers
 G dropgrid O => 2: grid
 G U => 2: grid
-U G => Change 2 CrsDiffers
+U G => Change(2) CrsDiffers
 G dropinstance publish => 2: grid
-G dropother => Change 2 UnknownInstance
-brace => NotJson 1
-blank brace => NotJson 2
-G brace H => NotJson 2
-list => NotFeedLine 1
-number => NotFeedLine 1
-other => NotFeedLine 1
-two => NotFeedLine 1
-published => NotFeedLine 1
-publishlist => NotFeedLine 1
-typeonly => NotFeedLine 1
-coverage => Cov 1 Missing(Domain)
-stationkind => NotFeedLine 1
-station => NotFeedLine 1
-dropstation => NotFeedLine 1
-dropmore => NotFeedLine 1
-comma => NotFeedLine 1
-noname => NotFeedLine 1
-notitle => NotFeedLine 1
-titlenumber => NotFeedLine 1
-verticalnull => NotFeedLine 1
-more => NotFeedLine 1
-nocoverage => NotFeedLine 1
-badcoverage => Cov 1 Missing(Domain)
-numbercoverage => Cov 1 WrongType(Coverages)
-gridmore => NotFeedLine 1
+G dropother => Change(2) UnknownInstance
+brace => NotJson(1)
+blank brace => NotJson(2)
+G brace H => NotJson(2)
+list => NotFeedLine(1)
+number => NotFeedLine(1)
+other => NotFeedLine(1)
+two => NotFeedLine(1)
+published => NotFeedLine(1)
+publishlist => NotFeedLine(1)
+typeonly => NotFeedLine(1)
+coverage => Cov(1) Missing(Domain)
+stationkind => NotFeedLine(1)
+station => NotFeedLine(1)
+dropstation => NotFeedLine(1)
+dropmore => NotFeedLine(1)
+comma => NotFeedLine(1)
+noname => NotFeedLine(1)
+notitle => NotFeedLine(1)
+titlenumber => NotFeedLine(1)
+verticalnull => NotFeedLine(1)
+more => NotFeedLine(1)
+nocoverage => NotFeedLine(1)
+badcoverage => Cov(1) Missing(Domain)
+numbercoverage => Cov(1) WrongType(Coverages)
+gridmore => NotFeedLine(1)
 collection => NothingPublished
 G collection => 1: grid";
 
@@ -160,25 +160,19 @@ fn text(text: &Text) -> Result<&str, Fail> {
     Ok(std::str::from_utf8(text.bytes()).or(Err("no text"))?)
 }
 
-fn shown_change(alloc: Global, line: usize, fault: &ChangeFault) -> Result<String, Fail> {
-    if let ChangeFault::ParametersDiffer(id) = fault {
-        let id = text(id)?;
-        return Ok(format!(in alloc; "Change {line} ParametersDiffer {id}")?);
-    }
-    Ok(format!(in alloc; "Change {line} {fault:?}")?)
-}
-
+// Why bytes are no feed, and what the fault has beside that.
 fn shown_fault(alloc: Global, fault: &FeedFault) -> Result<String, Fail> {
+    let Some(refusal) = fault.refusal() else {
+        return Ok(format!(in alloc; "{fault:?}")?);
+    };
     match fault {
-        FeedFault::LineTooLong(line) => Ok(format!(in alloc; "LineTooLong {line}")?),
-        FeedFault::NotJson(line) => Ok(format!(in alloc; "NotJson {line}")?),
-        FeedFault::NotFeedLine(line) => Ok(format!(in alloc; "NotFeedLine {line}")?),
-        FeedFault::Cov(line, fault) => Ok(format!(in alloc; "Cov {line} {fault:?}")?),
-        FeedFault::Change(line, fault) => shown_change(alloc, *line, fault),
-        FeedFault::TooLong => Ok(String::from_str(alloc, "TooLong")?),
-        FeedFault::NothingPublished => Ok(String::from_str(alloc, "NothingPublished")?),
-        FeedFault::ReadFault => Ok(String::from_str(alloc, "ReadFault")?),
-        FeedFault::OutOfMemory => Ok(String::from_str(alloc, "OutOfMemory")?),
+        FeedFault::Cov(_, inner) => Ok(format!(in alloc; "{refusal:?} {inner:?}")?),
+        FeedFault::Change(_, ChangeFault::ParametersDiffer(id)) => {
+            let id = text(id)?;
+            Ok(format!(in alloc; "{refusal:?} ParametersDiffer {id}")?)
+        }
+        FeedFault::Change(_, inner) => Ok(format!(in alloc; "{refusal:?} {inner:?}")?),
+        _ => Ok(format!(in alloc; "{refusal:?}")?),
     }
 }
 
@@ -229,26 +223,67 @@ fn long_lines(rt: HostRuntime) -> Result<(), Fail> {
     assert!(rt; blank.as_str() == "NothingPublished");
     line.push(b' ')?;
     let long = read_as(rt.alloc(), &line, 1_000_000)?;
-    assert!(rt; long.as_str() == "LineTooLong 1");
+    assert!(rt; long.as_str() == "LineTooLong(1)");
     let mut feed = Vec::from_slice(rt.alloc(), b"{\"publish\":{}}\n")?;
     feed.extend_from_slice(&line)?;
     let behind = read_as(rt.alloc(), &feed, 1_000_000)?;
-    assert!(rt; behind.as_str() == "LineTooLong 2");
+    assert!(rt; behind.as_str() == "LineTooLong(2)");
     Ok(())
+}
+
+// So many lists in each other.
+fn lists(alloc: Global, depth: usize) -> Result<Vec<u8>, Fail> {
+    let mut line = Vec::new(alloc);
+    for _ in 0..depth {
+        line.push(b'[')?;
+    }
+    for _ in 0..depth {
+        line.push(b']')?;
+    }
+    Ok(line)
+}
+
+#[test]
+fn nested_lists(rt: HostRuntime) -> Result<(), Fail> {
+    let read = read_as(rt.alloc(), &lists(rt.alloc(), 127)?, 100)?;
+    assert!(rt; read.as_str() == "NotFeedLine(1)");
+    let read = read_as(rt.alloc(), &lists(rt.alloc(), 128)?, 100)?;
+    assert!(rt; read.as_str() == "NotJson(1)");
+    Ok(())
+}
+
+// The bytes of a feed, one after the other, and what it is read as.
+const BYTES: &str = "publish return feed => 1:
+return feed space tab return feed publish => 1:
+publish other => NotJson(1)
+mark publish => NotJson(1)
+publish publish => NotJson(1)
+null => NotJson(1)
+feed feed null => NotJson(3)";
+
+fn bytes_of(word: &str) -> Result<&'static [u8], Fail> {
+    match word {
+        "return" => Ok(b"\r"),
+        "feed" => Ok(b"\n"),
+        "space" => Ok(b" "),
+        "tab" => Ok(b"\t"),
+        "null" => Ok(b"\0"),
+        "other" => Ok(b"\xff"),
+        "mark" => Ok(b"\xef\xbb\xbf"),
+        _ => Ok(line_named(word)?.as_bytes()),
+    }
 }
 
 #[test]
 fn bytes_of_lines(rt: HostRuntime) -> Result<(), Fail> {
-    for (bytes, answer) in [
-        (b"{\"publish\":{}}\r\n".as_slice(), "1:"),
-        (b"\r\n \t\r\n{\"publish\":{}}", "1:"),
-        (b"{\"publish\":{}}\xff", "NotJson 1"),
-        (b"\xef\xbb\xbf{\"publish\":{}}", "NotJson 1"),
-        (b"{\"publish\":{}}{\"publish\":{}}", "NotJson 1"),
-        (b"\0", "NotJson 1"),
-    ] {
-        let read = read_as(rt.alloc(), bytes, 2)?;
-        assert!(rt; read.as_str() == answer, "{answer} {read}");
+    for row in BYTES.lines() {
+        let (words, answer) = row.split_once(" => ").ok_or("no answer")?;
+        let mut feed = Vec::new(rt.alloc());
+        for word in words.split(' ') {
+            feed.extend_from_slice(bytes_of(word)?)?;
+        }
+        let read = read_as(rt.alloc(), &feed, 2)?;
+        assert!(rt; read.as_str() == answer, "{row} {read}");
     }
     Ok(())
 }

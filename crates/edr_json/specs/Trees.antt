@@ -1,5 +1,5 @@
 -- What is asked of trees of JSON (RFC 8259) everywhere.
-use Rattle.std.specs.Prelude.{◌≡◌, ℕ, suc, zero, ℤ, ⊤, Bool, true, false, bytes_eq, codes, List, [], ◌∷◌, Option, None, Some, option_and_then}
+use Rattle.std.specs.Prelude.{◌≡◌, ℕ, suc, zero, ℤ, ⊤, Bool, false, bytes_eq, codes, List, [], ◌∷◌, Option, None, Some, option_and_then}
 use Rattle.serde_json.specs.Data.{Data, null, boolean, number, string, array, object, Items, no_items, item, Members, no_members, member}
 use Rattle.serde_json.specs.Find.{as_number, as_integer, as_u64}
 

@@ -2,6 +2,7 @@
 ghost use Rattle.std.specs.Prelude.{◌≡◌, IfOk, IsErrOf};
 ghost use Rattle.serde_json.specs.View.{view};
 ghost use Rattle.edr_json.specs.Json.{IsJson, IsNoJson, TextsHaveOneTree};
+ghost use Rattle.edr_json.specs.ReadTrees.{TextsHaveTrees};
 
 use serde_json::{Category, Value};
 use std::alloc::Global;
@@ -35,4 +36,10 @@ pub fn read_tree(alloc: Global, text: &[u8]) -> Result<Value, JsonFault>
 /// A text is JSON of one tree at most.
 pub fn texts_have_one_tree()
     ensures { TextsHaveOneTree }
+{}
+
+/// The tree of a text has texts of UTF-8 only, keys too, and the keys of each of its objects ascend byte by byte, so that each
+/// is there once.
+pub fn texts_have_trees()
+    ensures { TextsHaveTrees }
 {}

@@ -11,15 +11,15 @@ use Rattle.covjson_value.specs.declared.domains.Domain.{Domain}
 use Rattle.covjson_value.specs.declared.domains.Domain.TheVariants.{Grid}
 use Rattle.covjson_value.specs.Samples.{node, point_at}
 use Rattle.covjson_value.specs.Trees.{coverage_text}
-use Rattle.edr_serve.specs.declared.point.GridPlace.{GridPlace}
+use Rattle.edr_serve.specs.declared.point.NodePlace.{NodePlace}
 use Rattle.edr_serve.specs.NodePlaces.{IsPlaceOn, node_at}
 use Rattle.edr_serve.specs.Target.{IsFirstTarget, IsFirstPoint}
-use Rattle.edr_serve.specs.Grids.{IsTimedGrid}
+use Rattle.edr_serve.specs.Grids.{IsGridWithoutLevels}
 use Rattle.edr_serve.specs.Answer.{IsSampled, IsNodePlace, IsPlaceAsked, IsAnswer, HasBadCoords, HasNoSamples}
 
 -- what holds of the axes that a grid was matched with holds of those that it has
 on_axes : (P : List ℤ → List ℤ → List ℤ → Type 0) (coverage : Coverage) (ts ys xs : List ℤ) → coverage.domain ≡ Grid (Some ts) None ys xs → P ts ys xs
-    → (g : IsTimedGrid coverage) → P g.ts g.ys g.xs
+    → (g : IsGridWithoutLevels coverage) → P g.ts g.ys g.xs
 on_axes P coverage ts ys xs matched p g =
     let same : Grid (Some ts) None ys xs ≡ Grid (Some g.ts) None g.ys g.xs = sym matched ∙ g.domain in
     let ts_same : ts ≡ g.ts = cc in
@@ -32,9 +32,9 @@ pub bad_coords : (target coords : List ℕ) (time : ℤ) → IsFirstTarget targe
 bad_coords target coords time t none = record { coords = coords; time = time; target_is = t; none = none }
 
 -- the place on the axes that a grid was matched with
-pub place_asked : (coverage : Coverage) (ts ys xs : List ℤ) (target coords : List ℕ) (time x y : ℤ) (at : GridPlace)
+pub place_asked : (coverage : Coverage) (ts ys xs : List ℤ) (target coords : List ℕ) (time x y : ℤ) (at : NodePlace)
     → coverage.domain ≡ Grid (Some ts) None ys xs → IsFirstTarget target coords time → IsFirstPoint coords x y
-    → IsNodePlace ts ys xs time x y at → (g : IsTimedGrid coverage) → IsPlaceAsked g.ts g.ys g.xs target at
+    → IsNodePlace ts ys xs time x y at → (g : IsGridWithoutLevels coverage) → IsPlaceAsked g.ts g.ys g.xs target at
 place_asked coverage ts ys xs target coords time x y at matched t p place =
     on_axes (λ ts ys xs. IsPlaceAsked ts ys xs target at) coverage ts ys xs matched
     (record { time = time; x = x; y = y; asks = record { coords = coords; target_is = t; point_is = p }; place = place })
@@ -42,13 +42,13 @@ place_asked coverage ts ys xs target coords time x y at matched t p place =
 -- no samples on the axes that a grid was matched with, and so on those that it has
 pub no_samples : (coverage : Coverage) (ts ys xs : List ℤ) (target coords : List ℕ) (time x y : ℤ)
     → coverage.domain ≡ Grid (Some ts) None ys xs → IsFirstTarget target coords time → IsFirstPoint coords x y
-    → ¬ (IsSampled ts ys xs time x y) → (g : IsTimedGrid coverage) → HasNoSamples g.ts g.ys g.xs target
+    → ¬ (IsSampled ts ys xs time x y) → (g : IsGridWithoutLevels coverage) → HasNoSamples g.ts g.ys g.xs target
 no_samples coverage ts ys xs target coords time x y matched t p none =
     on_axes (λ ts ys xs. HasNoSamples ts ys xs target) coverage ts ys xs matched
     (record { time = time; x = x; y = y; asks = record { coords = coords; target_is = t; point_is = p }; none = none })
 
 -- the place that is asked for is on the axes
-pub place_on : (coverage : Coverage) (g : IsTimedGrid coverage) (target : List ℕ) (at : GridPlace)
+pub place_on : (coverage : Coverage) (g : IsGridWithoutLevels coverage) (target : List ℕ) (at : NodePlace)
     → IsPlaceAsked g.ts g.ys g.xs target at → IsPlaceOn coverage.domain at
 place_on coverage g target at asked =
     let P : Domain → Type 0 = λ d. IsPlaceOn d at in
@@ -56,13 +56,13 @@ place_on coverage g target at asked =
     subst P (sym g.domain) (record { along = refl; t = asked.place.t_in; z = omega (arith, z); y = asked.place.row.inside; x = asked.place.column.inside })
 
 -- its node is at the time that is asked for, and at the nearest values
-node_asked : (coverage : Coverage) (g : IsTimedGrid coverage) (target : List ℕ) (at : GridPlace) (asked : IsPlaceAsked g.ts g.ys g.xs target at)
+node_asked : (coverage : Coverage) (g : IsGridWithoutLevels coverage) (target : List ℕ) (at : NodePlace) (asked : IsPlaceAsked g.ts g.ys g.xs target at)
     → node_at coverage.domain at ≡ node (Some asked.time) None (value_at g.ys at.y) (value_at g.xs at.x)
 node_asked coverage g target at asked =
     ap (λ (d : Domain). node_at d at) g.domain ∙ ap (λ t. node (Some t) None (value_at g.ys at.y) (value_at g.xs at.x)) asked.place.t_is
 
 -- the text of its coverage is the answer
-pub answers : (coverage : Coverage) (g : IsTimedGrid coverage) (target text : List ℕ) (at : GridPlace)
+pub answers : (coverage : Coverage) (g : IsGridWithoutLevels coverage) (target text : List ℕ) (at : NodePlace)
     → IsPlaceAsked g.ts g.ys g.xs target at → text ≡ coverage_text (point_at coverage (node_at coverage.domain at)) → IsAnswer coverage g.ts g.ys g.xs target text
 answers coverage g target text at asked is = record {
   answer = point_at coverage (node_at coverage.domain at);
@@ -82,10 +82,10 @@ answers coverage g target text at asked is = record {
 }
 
 -- the same of a call that may fail
-pub all_answers : (r : Result (Vec ℕ Global) FirstFault) (coverage : Coverage) (target : List ℕ) (at : GridPlace)
-    → ((g : IsTimedGrid coverage) → IsPlaceAsked g.ts g.ys g.xs target at)
+pub all_answers : (r : Result (Vec ℕ Global) FirstFault) (coverage : Coverage) (target : List ℕ) (at : NodePlace)
+    → ((g : IsGridWithoutLevels coverage) → IsPlaceAsked g.ts g.ys g.xs target at)
     → IfOk r (λ text. text.items ≡ coverage_text (point_at coverage (node_at coverage.domain at)))
-    → IfOk r (λ text. (g : IsTimedGrid coverage) → IsAnswer coverage g.ts g.ys g.xs target text.items)
+    → IfOk r (λ text. (g : IsGridWithoutLevels coverage) → IsAnswer coverage g.ts g.ys g.xs target text.items)
 all_answers (Ok text) coverage target at asked is = λ g. answers coverage g target text.items at (asked g) is
 all_answers (Err e) coverage target at asked is = tt
 

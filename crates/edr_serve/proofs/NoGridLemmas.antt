@@ -4,13 +4,12 @@ use Rattle.std.proofs.lemmas.List.{length-append}
 use Rattle.serde_json.specs.Data.{Data, null}
 use Rattle.edr_base.specs.Calls.{ReadsAll, ReadsMore}
 use Rattle.covjson_value.specs.declared.coverages.Coverage.{Coverage}
-use Rattle.covjson_checks.specs.declared.faults.CovFault.{CovFault}
-use Rattle.covjson_checks.specs.declared.faults.CovFault.TheVariants.{OutOfMemory}
 use Rattle.edr_json.specs.Json.{IsJson}
-use Rattle.covjson_read.specs.CoverageAnswers.{AnswersAreWhatStands, coverage_in}
+use Rattle.covjson_read.specs.Laws.{TreesStandForOne}
 use Rattle.covjson_read.specs.Standing.{Stands}
 use Rattle.edr_serve.specs.Line.{IsOneLine, LineIsOne}
-use Rattle.edr_serve.specs.Grids.{IsTimedGrid, IsInput, HoldsNoGrid, HoldsNoGridIn}
+use Rattle.edr_serve.specs.Grids.{IsGridWithoutLevels, IsInput, HoldsNoGrid, HoldsNoGridIn}
+use Rattle.edr_base.specs.Limits.{line_limit}
 
 -- what is no line
 pub no_line : (input : List ℕ) → ((line : List ℕ) → ¬ (IsOneLine input line)) → HoldsNoGrid input
@@ -24,7 +23,7 @@ no_json input line one unique none coverage is =
 
 -- a tree that stands for no such grid
 pub no_grid : (input line : List ℕ) (tree : Data) → IsOneLine input line → LineIsOne → IsJson line tree
-    → ((coverage : Coverage) → ¬ (Stands tree coverage × IsTimedGrid coverage)) → HoldsNoGrid input
+    → ((coverage : Coverage) → ¬ (Stands tree coverage × IsGridWithoutLevels coverage)) → HoldsNoGrid input
 no_grid input line tree one unique json none coverage is =
     let s = is.input_stands in
     let here = subst (λ (l : List ℕ). IsJson l s.tree) (unique input s.line line s.one one) s.json in
@@ -32,27 +31,18 @@ no_grid input line tree one unique json none coverage is =
     let tree_is : s.tree ≡ tree = cc in
     none coverage (subst (λ (t : Data). Stands t coverage) tree_is s.stands, is.grid)
 
--- what was read of a tree is another coverage
-pub not_timed : AnswersAreWhatStands → (tree : Data) (read : Coverage) → coverage_in null tree ≡ Ok read → ¬ (IsTimedGrid read)
-    → (coverage : Coverage) → ¬ (Stands tree coverage × IsTimedGrid coverage)
-not_timed law tree read answer none coverage x =
-    let other = (law null tree coverage).1 x.0 in
-    let same : coverage ≡ read = cc in
-    none (subst IsTimedGrid same x.1)
-
--- a tree was refused, and not for want of memory
-pub refused : AnswersAreWhatStands → (tree : Data) (fault : CovFault) → (coverage_in null tree ≡ Err fault) ⊎ (fault ≡ OutOfMemory) → ¬ (fault ≡ OutOfMemory)
-    → (coverage : Coverage) → ¬ (Stands tree coverage × IsTimedGrid coverage)
-refused law tree fault (inl answer) known coverage x = let other = (law null tree coverage).1 x.0 in cc
-refused law tree fault (inr memory) known coverage x = known memory
+-- what was read of a tree is no such grid, and nothing else stands there
+pub not_timed : TreesStandForOne → (tree : Data) (read : Coverage) → Stands tree read → ¬ (IsGridWithoutLevels read)
+    → (coverage : Coverage) → ¬ (Stands tree coverage × IsGridWithoutLevels coverage)
+not_timed one tree read stands none coverage x = none (subst IsGridWithoutLevels (one null tree coverage read x.0 stands) x.1)
 
 -- more than a line and its line feed
-long_line : (input line : List ℕ) → length line ≤ 16_777_216 → (input ≡ line) ⊎ (input ≡ line ++ 10 ∷ []) → 16_777_217 < length input → ⊥
+long_line : (input line : List ℕ) → length line ≤ line_limit → (input ≡ line) ⊎ (input ≡ line ++ 10 ∷ []) → line_limit + 1 < length input → ⊥
 long_line input line within (inl e) long = let l : length input ≡ length line = ap length e in omega arith
 long_line input line within (inr e) long =
     let l : length input ≡ length line + 1 = ap length e ∙ length-append line (10 ∷ []) in omega arith
 
-pub too_long : (left rest : Option (List ℕ)) → ReadsMore 16_777_217 left rest → HoldsNoGridIn left
+pub too_long : (left rest : Option (List ℕ)) → ReadsMore (line_limit + 1) left rest → HoldsNoGridIn left
 too_long None rest more = (more.bytes, no_line more.bytes (λ line one. long_line more.bytes line one.within one.whole more.beyond))
 too_long (Some input) None more = cc
 too_long (Some input) (Some tail) more =

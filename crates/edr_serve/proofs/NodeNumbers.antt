@@ -7,8 +7,8 @@ use Rattle.covjson_value.specs.declared.domains.CoordinateName.TheVariants.{T, Z
 use Rattle.covjson_value.specs.declared.domains.Domain.{Domain}
 use Rattle.edr_base.specs.declared.places.Position.{Position}
 use Rattle.covjson_value.specs.Domains.{tuples_of, axis_length, count_of}
-use Rattle.covjson_value.proofs.Counts as counts
-use Rattle.edr_serve.specs.declared.point.GridPlace.{GridPlace}
+use Rattle.covjson_value.specs.CountLaws as counts
+use Rattle.edr_serve.specs.declared.point.NodePlace.{NodePlace}
 use Rattle.edr_serve.specs.NodePlaces.{length_of, IsPlaceOn}
 
 -- the numbers on the way to a node's number, all below the count of nodes
@@ -42,14 +42,14 @@ count_is domain along =
     counts.count_is domain
     ∙ ap (λ (tuples : Option (List Position)). length_of domain T * (length_of domain Z * (length_of domain Y * (length_of domain X * axis_length tuples)))) along
 
-pub node_steps : (domain : Domain) (at : GridPlace) → IsPlaceOn domain at
+pub node_steps : (domain : Domain) (at : NodePlace) → IsPlaceOn domain at
     → StepsBelow at.t at.z at.y at.x (length_of domain Z) (length_of domain Y) (length_of domain X) (count_of domain)
 node_steps domain at on =
     subst (StepsBelow at.t at.z at.y at.x (length_of domain Z) (length_of domain Y) (length_of domain X)) (sym (count_is domain on.along))
     (steps_below at.t at.z at.y at.x (length_of domain T) (length_of domain Z) (length_of domain Y) (length_of domain X) on.t on.z on.y on.x)
 
 -- the same at lengths that were read
-pub read_steps : (domain : Domain) (at : GridPlace) (levels rows columns : ℕ) → IsPlaceOn domain at
+pub read_steps : (domain : Domain) (at : NodePlace) (levels rows columns : ℕ) → IsPlaceOn domain at
     → levels ≡ length_of domain Z → rows ≡ length_of domain Y → columns ≡ length_of domain X
     → StepsBelow at.t at.z at.y at.x levels rows columns (count_of domain)
 read_steps domain at levels rows columns on hz hy hx =

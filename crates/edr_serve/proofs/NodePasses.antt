@@ -9,14 +9,14 @@ use Rattle.std.proofs.lemmas.Bool.Decides.{Decides-int_eq}
 use Rattle.std.proofs.lemmas.Int.{ints}
 use Rattle.std.proofs.lemmas.List.{get_or_default, length-map}
 use Rattle.edr_axes.specs.Axes.{value_at, IsAscending}
-use Rattle.edr_axes.proofs.AxisLemmas.{ascending_far}
+use Rattle.edr_axes.specs.AxisLaws.{ascending_far}
 use Rattle.covjson_value.specs.declared.domains.CoordinateName.TheVariants.{T, Z, Y, X}
 use Rattle.covjson_value.specs.declared.domains.Domain.{Domain}
 use Rattle.covjson_value.specs.declared.domains.Domain.TheVariants.{Grid, Point, PointSeries, VerticalProfile, MultiPoint, Trajectory}
 use Rattle.covjson_value.specs.Domains.{axis_of, axis_length}
 use Rattle.covjson_value.specs.Coverages.{IsNamedAxis, HasAxes}
 use Rattle.covjson_value.specs.Samples.{Node, node, nodes_of, values_or_absent, same_where_given, same_node}
-use Rattle.edr_serve.specs.declared.point.GridPlace.{GridPlace}
+use Rattle.edr_serve.specs.declared.point.NodePlace.{NodePlace}
 use Rattle.edr_serve.specs.NodePlaces.{IsPlaceOn, node_at, number_of}
 use Rattle.edr_serve.proofs.OnePlace.{OnePasses, one_from_places, none_each, one_map, none_blocks, one_block, length_blocks}
 
@@ -135,7 +135,7 @@ ascends_where_given : (axis : Option (List ℤ)) (P : List ℤ → Type 0) → (
 ascends_where_given None P from h = h
 ascends_where_given (Some values) P from h = from values h
 
-abbrev pub NodePasses : Domain → GridPlace → Type 0
+abbrev pub NodePasses : Domain → NodePlace → Type 0
 NodePasses domain at = OnePasses (is_at (node_at domain at)) (nodes_of domain) (number_of domain at)
 
 node_of_axes : (t z : Option (List ℤ)) (ys xs : List ℤ) (pt pz py px : ℕ)
@@ -153,7 +153,7 @@ node_of_axes t z ys xs pt pz py px at az ay ax ht hz hy hx =
     (all_one here (values_or_absent t) (values_or_absent z) ys xs pt pz py px
     (axis_one_or_absent t pt at ht) (axis_one_or_absent z pz az hz) (axis_one ys py ay hy) (axis_one xs px ax hx))
 
-pub node_passes : (domain : Domain) (at : GridPlace) → HasAxes domain → IsPlaceOn domain at → NodePasses domain at
+pub node_passes : (domain : Domain) (at : NodePlace) → HasAxes domain → IsPlaceOn domain at → NodePasses domain at
 node_passes (Grid t z ys xs) at axes on =
     node_of_axes t z ys xs at.t at.z at.y at.x
     (ascends_where_given t (IsNamedAxis T) (λ values h. h.ascending.ascending) (axes T)) (ascends_where_given z (IsNamedAxis Z) (λ values h. h.ascending.ascending) (axes Z))

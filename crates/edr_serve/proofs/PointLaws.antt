@@ -16,7 +16,7 @@ use Rattle.covjson_value.specs.declared.coverages.NdArray.{NdArray}
 use Rattle.covjson_value.specs.declared.coverages.Coverage.{Coverage}
 use Rattle.covjson_value.specs.Coverages.{ids_of, AscendById, IsRange, IsValid}
 use Rattle.covjson_value.specs.Samples.{Node, Sample, nodes_of, samples_along, samples_from, samples_of, same_node, is_of, values_at}
-use Rattle.edr_serve.specs.declared.point.GridPlace.{GridPlace}
+use Rattle.edr_serve.specs.declared.point.NodePlace.{NodePlace}
 use Rattle.edr_serve.specs.NodePlaces.{IsPlaceOn, node_at, number_of, one_value}
 use Rattle.edr_serve.proofs.OnePlace.{NonePass, OnePasses, values_where, values_one, one_from_places}
 use Rattle.edr_serve.proofs.NodeNumbers.{node_steps}
@@ -112,10 +112,10 @@ id_one parameters k e ascend inside =
 nothing : Parameter
 nothing = record { id = []; lang = []; label = []; unit = None }
 
-pub inside_range : (coverage : Coverage) (at : GridPlace) → IsPlaceOn coverage.domain at → (range : NdArray) → IsRange coverage.domain range → number_of coverage.domain at < length range.values
+pub inside_range : (coverage : Coverage) (at : NodePlace) → IsPlaceOn coverage.domain at → (range : NdArray) → IsRange coverage.domain range → number_of coverage.domain at < length range.values
 inside_range coverage at on range is = let steps = node_steps coverage.domain at on in omega (arith, steps.with_column, is.count)
 
-values_are : (coverage : Coverage) (at : GridPlace) → IsValid coverage → IsPlaceOn coverage.domain at → (k : ℕ) (e : Parameter) (d : NdArray) → k < length coverage.parameters
+values_are : (coverage : Coverage) (at : NodePlace) → IsValid coverage → IsPlaceOn coverage.domain at → (k : ℕ) (e : Parameter) (d : NdArray) → k < length coverage.parameters
     → values_at coverage (node_at coverage.domain at) (get_or coverage.parameters k e) ≡ one_value (number_of coverage.domain at) (get_or coverage.ranges k d)
 values_are coverage at valid on k e d inside =
     let here = node_at coverage.domain at in
@@ -128,7 +128,7 @@ values_are coverage at valid on k e d inside =
     ap (λ v. record { values = v }) values
 
 -- each parameter's range is the one value of its range at the node's number
-pub point_ranges : (coverage : Coverage) (at : GridPlace) → IsValid coverage → IsPlaceOn coverage.domain at
+pub point_ranges : (coverage : Coverage) (at : NodePlace) → IsValid coverage → IsPlaceOn coverage.domain at
     → map (one_value (number_of coverage.domain at)) coverage.ranges ≡ map (values_at coverage (node_at coverage.domain at)) coverage.parameters
 point_ranges coverage at valid on =
     let here = node_at coverage.domain at in

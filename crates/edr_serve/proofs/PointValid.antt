@@ -14,7 +14,7 @@ use Rattle.covjson_value.specs.declared.coverages.Coverage.{Coverage}
 use Rattle.covjson_value.specs.Domains.{axis_of, tuples_of, has_coordinate, axis_length, single, count_of}
 use Rattle.covjson_value.specs.Coverages.{IsSample, IsAxisValue, IsNamedAxis, HasAxes, HasTuples, IsRange, IsValid}
 use Rattle.covjson_value.specs.Samples.{Node, values_at, point_at}
-use Rattle.edr_serve.specs.declared.point.GridPlace.{GridPlace}
+use Rattle.edr_serve.specs.declared.point.NodePlace.{NodePlace}
 use Rattle.edr_serve.specs.NodePlaces.{IsPlaceOn, node_at, number_of, point_domain, one_value}
 use Rattle.edr_serve.proofs.PointLaws.{inside_range, point_ranges}
 
@@ -35,7 +35,7 @@ one_named_where_given : (name : CoordinateName) (axis : Option (List ℤ)) (plac
 one_named_where_given name None place h inside = h
 one_named_where_given name (Some values) place h inside = one_named name values place h inside
 
-point_axes : (domain : Domain) (at : GridPlace) → HasAxes domain → IsPlaceOn domain at → HasAxes (point_domain (node_at domain at))
+point_axes : (domain : Domain) (at : NodePlace) → HasAxes domain → IsPlaceOn domain at → HasAxes (point_domain (node_at domain at))
 point_axes domain at axes on T = one_named_where_given T (axis_of domain T) at.t (axes T) on.t
 point_axes domain at axes on Z = one_named_where_given Z (axis_of domain Z) at.z (axes Z) on.z
 point_axes (Grid t z ys xs) at axes on Y = one_named Y ys at.y (axes Y) on.y
@@ -83,7 +83,7 @@ one_range domain at number range is inside = record {
       (All-get_or (λ (v : Option ℤ). IfSome v IsSample) range.values number None inside is.samples);
 }
 
-pub point_valid : (coverage : Coverage) (at : GridPlace) → IsValid coverage → IsPlaceOn coverage.domain at → IsValid (point_at coverage (node_at coverage.domain at))
+pub point_valid : (coverage : Coverage) (at : NodePlace) → IsValid coverage → IsPlaceOn coverage.domain at → IsValid (point_at coverage (node_at coverage.domain at))
 point_valid coverage at valid on =
     let here = node_at coverage.domain at in
     let number = number_of coverage.domain at in

@@ -11,27 +11,28 @@ use Rattle.covjson_value.specs.Coverages.{IsValid}
 use Rattle.edr_json.specs.Json.{IsJson}
 use Rattle.covjson_read.specs.Standing.{Stands}
 use Rattle.edr_serve.specs.Line.{IsOneLine}
-use Rattle.edr_serve.specs.Grids.{IsTimedGrid, IsInput}
+use Rattle.edr_serve.specs.Grids.{IsGridWithoutLevels, IsInput}
 use Rattle.edr_serve.specs.Answer.{IsAnswer, RefusedBy, IsReplyTo, IsRefusalOf}
-use Rattle.edr_serve.specs.FirstReply.{ReplyEnds, WrittenWhole, WrittenInPart, IsInputOf}
+use Rattle.edr_serve.specs.FirstReply.{ReplyEnds, IsInputOf}
+use Rattle.edr_base.specs.Calls.{WrittenWhole, WrittenInPart}
 use Rattle.edr_serve.specs.declared.ask.FirstFault.{FirstFault}
 use Rattle.edr_serve.specs.declared.ask.FirstFault.TheVariants.{NotFeedLine, Refused, ReadFault, WriteFault, OutOfMemory}
 
 -- what was read of a line of JSON is the grid of the input
 pub input_of : (r : Result Coverage FirstFault) (bytes line : List ℕ) (tree : Data) → IsOneLine bytes line → IsJson line tree
-    → IfOk r (λ c. Stands tree c) → IfOk r (λ c. IsValid c × IsTimedGrid c) → IfOk r (λ c. IsInput bytes c)
+    → IfOk r (λ c. Stands tree c) → IfOk r (λ c. IsValid c × IsGridWithoutLevels c) → IfOk r (λ c. IsInput bytes c)
 input_of (Ok c) bytes line tree one json stands grid =
-    record { input_stands = record { line = line; tree = tree; one = one; json = json; stands = stands }; valid = grid.0; grid = grid.1 }
+    record { input_stands = record { line = line; tree = tree; one = one; json = json; stands = stands }; grid = grid.1 }
 input_of (Err e) bytes line tree one json stands grid = tt
 
 -- the answer from the grid of an input is the reply
 pub reply_of : (left : Option (List ℕ)) (coverage : Coverage) (target text : List ℕ) → IsInputOf left coverage
-    → ((g : IsTimedGrid coverage) → IsAnswer coverage g.ts g.ys g.xs target text) → IsReplyTo left target text
+    → ((g : IsGridWithoutLevels coverage) → IsAnswer coverage g.ts g.ys g.xs target text) → IsReplyTo left target text
 reply_of None coverage target text input answers = (input.0, record { coverage = coverage; stands = input.1; answers = answers input.1.grid })
 reply_of (Some bytes) coverage target text input answers = record { coverage = coverage; stands = input; answers = answers input.grid }
 
 pub refusal_of : (left : Option (List ℕ)) (coverage : Coverage) (target : List ℕ) (refusal : Refusal) → IsInputOf left coverage
-    → ((g : IsTimedGrid coverage) → RefusedBy g.ts g.ys g.xs target refusal) → IsRefusalOf left target refusal
+    → ((g : IsGridWithoutLevels coverage) → RefusedBy g.ts g.ys g.xs target refusal) → IsRefusalOf left target refusal
 refusal_of None coverage target refusal input refused = (input.0, record { coverage = coverage; stands = input.1; refused = refused input.1.grid })
 refusal_of (Some bytes) coverage target refusal input refused = record { coverage = coverage; stands = input; refused = refused input.grid }
 

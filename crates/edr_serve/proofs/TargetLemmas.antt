@@ -2,11 +2,10 @@
 use Rattle.std.proofs.Common.{◌≡◌, ℕ, ℤ, List, ◌∷◌, ◌++◌, refl, sym, ◌∙◌, subst, codes, append_assoc}
 use Rattle.std.proofs.lemmas.List.{append_cancel_left}
 use Rattle.std.specs.List.{Contains}
-use Rattle.edr_axes.specs.InstantGrammar.{IsInstant}
-use Rattle.edr_axes.proofs.InstantWholes.{instant_unique}
+use Rattle.edr_axes.specs.InstantGrammar.{IsInstant, InstantsAreUnique}
 use Rattle.edr_base.specs.Cuts.{IsCut}
 use Rattle.edr_serve.specs.Target.{IsPlain, HasParts, IsFirstTarget, target_text}
-use Rattle.edr_base.proofs.CutLemmas.{Contains-between, cut_unique}
+use Rattle.edr_base.specs.CutLaws.{Contains-between, cut_unique}
 
 -- what stands before the coordinates
 abbrev pub query_front : List ℕ
@@ -48,11 +47,11 @@ parts_unique target c i d j p q =
 
 -- ---- the laws
 
-pub target_unique : (target c d : List ℕ) (t s : ℤ) → IsFirstTarget target c t → IsFirstTarget target d s → (c ≡ d) × (t ≡ s)
-target_unique target c d t s p q =
+pub target_unique : InstantsAreUnique → (target c d : List ℕ) (t s : ℤ) → IsFirstTarget target c t → IsFirstTarget target d s → (c ≡ d) × (t ≡ s)
+target_unique instants target c d t s p q =
     let same = parts_unique target c p.instant d q.instant p.parts q.parts in
     let P : List ℕ → Type 0 = λ i. IsInstant i t in
-    (same.0, instant_unique q.instant t s (subst P same.1 p.instant_is) q.instant_is)
+    (same.0, instants q.instant t s (subst P same.1 p.instant_is) q.instant_is)
 
 pub target_written : (coords instant : List ℕ) (time : ℤ) → IsPlain coords → IsPlain instant → IsInstant instant time → IsFirstTarget (target_text coords instant) coords time
 target_written coords instant time p q is = record { instant = instant; parts = record { text = refl; coords_plain = p; instant_plain = q }; instant_is = is }

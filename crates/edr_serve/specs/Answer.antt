@@ -8,7 +8,7 @@ use Rattle.edr_base.specs.declared.refusals.Refusal.TheVariants.{NoSuchPage, Bad
 use Rattle.covjson_value.specs.declared.coverages.Coverage.{Coverage}
 use Rattle.covjson_value.specs.Samples.{node, point_at}
 use Rattle.covjson_value.specs.Trees.{coverage_text}
-use Rattle.edr_serve.specs.declared.point.GridPlace.{GridPlace}
+use Rattle.edr_serve.specs.declared.point.NodePlace.{NodePlace}
 use Rattle.edr_serve.specs.Grids.{IsInput}
 use Rattle.edr_serve.specs.Target.{IsFirstTarget, IsFirstPoint}
 
@@ -23,7 +23,7 @@ pub record IsSampled (ts ys xs : List ℤ) (time x y : ℤ) : Type 0 where
   pub x_in : IsAlong xs x
 
 -- the place of the node that is nearest to the point, at the time
-pub record IsNodePlace (ts ys xs : List ℤ) (time x y : ℤ) (at : GridPlace) : Type 0 where
+pub record IsNodePlace (ts ys xs : List ℤ) (time x y : ℤ) (at : NodePlace) : Type 0 where
   pub sampled : IsSampled ts ys xs time x y
   pub t_in : at.t < length ts
   pub t_is : value_at ts at.t ≡ time
@@ -38,7 +38,7 @@ pub record Asks (target : List ℕ) (time x y : ℤ) : Type 0 where
   pub point_is : IsFirstPoint coords x y
 
 -- the place of the node that the target asks for
-pub record IsPlaceAsked (ts ys xs : List ℤ) (target : List ℕ) (at : GridPlace) : Type 0 where
+pub record IsPlaceAsked (ts ys xs : List ℤ) (target : List ℕ) (at : NodePlace) : Type 0 where
   pub time : ℤ
   pub x : ℤ
   pub y : ℤ

@@ -3,24 +3,11 @@ use Rattle.std.specs.Prelude.{◌≡◌, ◌⊎◌, ℕ, List, Result, Ok, Err, 
 use Rattle.std.specs.declared.option.Option.{Option}
 use Rattle.std.specs.Prelude.{None, Some}
 use Rattle.std.specs.Io.KnownBytes.{append_known}
-use Rattle.edr_base.specs.Calls.{Front, IsFlushed}
+use Rattle.edr_base.specs.Calls.{WrittenWhole, WrittenInPart}
 use Rattle.covjson_value.specs.declared.coverages.Coverage.{Coverage}
 use Rattle.edr_serve.specs.Grids.{IsInput}
 use Rattle.edr_serve.specs.declared.ask.FirstFault.{FirstFault}
 use Rattle.edr_serve.specs.declared.ask.FirstFault.TheVariants.{NotFeedLine, Refused, ReadFault, WriteFault, OutOfMemory}
-
--- a text for which P holds was written whole and flushed
-pub record WrittenWhole (P : List ℕ → Type 0) (old new : Option (List ℕ)) (flushed : Option ℕ) : Type 0 where
-  pub text : List ℕ
-  pub is : P text
-  pub grew : new ≡ append_known old text
-  pub settled : IsFlushed new flushed
-
--- a beginning of a text for which P holds was written
-pub record WrittenInPart (P : List ℕ → Type 0) (old new : Option (List ℕ)) : Type 0 where
-  pub text : List ℕ
-  pub is : P text
-  pub front : Front text old new
 
 -- what stands on the sink: the whole text and flushed, nothing, or a beginning of the text
 abbrev pub ReplyEnds : {T : Type 0} → Result T FirstFault → (List ℕ → Type 0) → Option (List ℕ) → Option (List ℕ) → Option ℕ → Type 0

@@ -5,18 +5,18 @@ use Rattle.serde_json.specs.Data.{Data}
 use Rattle.covjson_value.specs.declared.coverages.Coverage.{Coverage}
 use Rattle.covjson_value.specs.declared.domains.Domain.TheVariants.{Grid}
 use Rattle.covjson_value.specs.Domains.{count_of}
-use Rattle.covjson_value.specs.Coverages.{IsValid}
 use Rattle.covjson_read.specs.Standing.{Stands}
 use Rattle.edr_json.specs.Json.{IsJson}
 use Rattle.edr_serve.specs.Line.{IsOneLine}
+use Rattle.edr_base.specs.Limits.{node_limit}
 
 -- the coverage is a grid with times and without levels, of few enough nodes
-pub record IsTimedGrid (coverage : Coverage) : Type 0 where
+pub record IsGridWithoutLevels (coverage : Coverage) : Type 0 where
   pub ts : List ℤ
   pub ys : List ℤ
   pub xs : List ℤ
   pub domain : coverage.domain ≡ Grid (Some ts) None ys xs
-  pub few : count_of coverage.domain ≤ 4_000_000
+  pub few : count_of coverage.domain ≤ node_limit
 
 -- the input is one line of JSON that stands for the coverage
 pub record InputStands (input : List ℕ) (coverage : Coverage) : Type 0 where
@@ -26,11 +26,10 @@ pub record InputStands (input : List ℕ) (coverage : Coverage) : Type 0 where
   pub json : IsJson line tree
   pub stands : Stands tree coverage
 
--- the input stands for this valid grid
+-- the input stands for this grid
 pub record IsInput (input : List ℕ) (coverage : Coverage) : Type 0 where
   pub input_stands : InputStands input coverage
-  pub valid : IsValid coverage
-  pub grid : IsTimedGrid coverage
+  pub grid : IsGridWithoutLevels coverage
 
 -- the input stands for no such grid
 abbrev pub HoldsNoGrid : List ℕ → Type 0

@@ -11,14 +11,15 @@ use Rattle.covjson_value.specs.declared.domains.Domain.TheVariants.{Point}
 use Rattle.covjson_value.specs.declared.coverages.NdArray.{NdArray}
 use Rattle.covjson_value.specs.Domains.{axis_of, tuples_of, axis_length}
 use Rattle.covjson_value.specs.Samples.{Node, node, values_or_none}
-use Rattle.edr_serve.specs.declared.point.GridPlace.{GridPlace}
+use Rattle.edr_serve.specs.declared.point.NodePlace.{NodePlace}
+use Rattle.edr_chunk.specs.RowMajor.{row_major}
 
 -- how many values the axis of a name has, and 1 where the domain hasn't it
 abbrev pub length_of : Domain → CoordinateName → ℕ
 length_of domain name = axis_length (axis_of domain name)
 
 -- each place is on its axis, and the domain has no tuples besides
-pub record IsPlaceOn (domain : Domain) (at : GridPlace) : Type 0 where
+pub record IsPlaceOn (domain : Domain) (at : NodePlace) : Type 0 where
   pub along : tuples_of domain ≡ None
   pub t : at.t < length_of domain T
   pub z : at.z < length_of domain Z
@@ -34,12 +35,19 @@ abbrev pub placed : Domain → CoordinateName → ℕ → ℤ
 placed domain name place = value_at (values_or_none (axis_of domain name)) place
 
 -- the node at some places of the axes
-abbrev pub node_at : Domain → GridPlace → Node
+abbrev pub node_at : Domain → NodePlace → Node
 node_at domain at = node (coordinate domain T at.t) (coordinate domain Z at.z) (placed domain Y at.y) (placed domain X at.x)
 
--- the number of the node in the order t, z, y, x
-abbrev pub number_of : Domain → GridPlace → ℕ
-number_of domain at = ((at.t * length_of domain Z + at.z) * length_of domain Y + at.y) * length_of domain X + at.x
+-- the place on the axis of a name
+abbrev pub place_on : NodePlace → CoordinateName → ℕ
+place_on at T = at.t
+place_on at Z = at.z
+place_on at Y = at.y
+place_on at X = at.x
+
+-- the number of the node in row-major order, t, z, y, x
+abbrev pub number_of : Domain → NodePlace → ℕ
+number_of domain at = row_major (length_of domain) (place_on at) (Z ∷ Y ∷ X ∷ []) at.t
 
 -- the domain of one node
 abbrev pub point_domain : Node → Domain

@@ -1,20 +1,21 @@
 //! The first reply: the sample of the nearest node of one grid.
-ghost use Rattle.std.specs.Prelude.{◌≡◌, ◌<◌, ◌^◌, Err, IfOk, IfErr, IsErrOf};
+ghost use Rattle.std.specs.Prelude.{◌≡◌, ◌+◌, ◌<◌, ◌^◌, Err, IfOk, IfErr, IsErrOf};
 ghost use Rattle.edr_base.specs.Outside.{Rose};
-ghost use Rattle.edr_base.specs.Calls.{SourceLent, SinkLent};
+ghost use Rattle.edr_base.specs.Calls.{SourceLent, SinkLent, ReadsAtMost, buffer_size};
+ghost use Rattle.edr_base.specs.Limits.{line_limit};
 ghost use Rattle.edr_base.specs.declared.refusals.Refusal.{Refusal as TheRefusal};
 ghost use Rattle.covjson_value.specs.Coverages.{IsValid};
 ghost use Rattle.covjson_value.specs.Domains.{count_of};
 ghost use Rattle.covjson_value.specs.Samples.{point_at};
 ghost use Rattle.covjson_value.specs.Trees.{coverage_text};
 ghost use Rattle.edr_serve.specs.NodePlaces.{IsPlaceOn, node_at};
-ghost use Rattle.edr_serve.specs.Grids.{IsTimedGrid, HoldsNoGridIn};
+ghost use Rattle.edr_serve.specs.Grids.{IsGridWithoutLevels, HoldsNoGridIn};
 ghost use Rattle.edr_serve.specs.Answer.{IsAnswer, IsPlaceAsked, RefusedBy, IsReplyTo, IsRefusalOf};
 ghost use Rattle.edr_serve.specs.FirstReply.{ReplyEnds, IsAnswerFault, IsWritingFault};
 
 use crate::coords::{PointFault, first_point};
 use crate::grid::read_grid;
-use crate::point::{GridPlace, point_of};
+use crate::point::{NodePlace, point_of};
 use crate::select::nearest_place;
 use crate::target::first_target;
 use covjson_value::{Coverage, Domain, tree_of};
@@ -37,11 +38,11 @@ pub enum FirstFault {
 }
 
 // The place of the node that a target selects, or its refusal.
-fn place_asked(alloc: Global, coverage: &Coverage, target: &[u8]) -> Result<GridPlace, FirstFault>
-    requires { IsTimedGrid coverage.now }
-    ensures ok { IfOk result (λ at. (grid : IsTimedGrid coverage.now) → IsPlaceAsked grid.ts grid.ys grid.xs target.now at) }
+fn place_asked(alloc: Global, coverage: &Coverage, target: &[u8]) -> Result<NodePlace, FirstFault>
+    requires { IsGridWithoutLevels coverage.now }
+    ensures ok { IfOk result (λ at. (grid : IsGridWithoutLevels coverage.now) → IsPlaceAsked grid.ts grid.ys grid.xs target.now at) }
     ensures refused { (refusal : TheRefusal) → result ≡ Err (FirstFault.Refused refusal)
-        → (grid : IsTimedGrid coverage.now) → RefusedBy grid.ts grid.ys grid.xs target.now refusal }
+        → (grid : IsGridWithoutLevels coverage.now) → RefusedBy grid.ts grid.ys grid.xs target.now refusal }
     ensures faults { IfErr result IsAnswerFault }
 {
     let Some((coords, time)) = first_target(target) else {
@@ -68,7 +69,7 @@ fn place_asked(alloc: Global, coverage: &Coverage, target: &[u8]) -> Result<Grid
 }
 
 // The text of the coverage of one node.
-fn point_text(alloc: Global, coverage: Coverage, at: GridPlace) -> Result<Vec<u8>, FirstFault>
+fn point_text(alloc: Global, coverage: Coverage, at: NodePlace) -> Result<Vec<u8>, FirstFault>
     requires valid { IsValid coverage }
     requires place { IsPlaceOn coverage.domain at }
     requires few { count_of coverage.domain < 2 ^ 64 }
@@ -90,10 +91,10 @@ fn point_text(alloc: Global, coverage: Coverage, at: GridPlace) -> Result<Vec<u8
 // The text that answers a target from a grid, or its refusal.
 fn answer(alloc: Global, coverage: Coverage, target: &[u8]) -> Result<Vec<u8>, FirstFault>
     requires valid { IsValid coverage }
-    requires grid { IsTimedGrid coverage }
-    ensures ok { IfOk result (λ text. (grid : IsTimedGrid coverage) → IsAnswer coverage grid.ts grid.ys grid.xs target.now text.items) }
+    requires grid { IsGridWithoutLevels coverage }
+    ensures ok { IfOk result (λ text. (grid : IsGridWithoutLevels coverage) → IsAnswer coverage grid.ts grid.ys grid.xs target.now text.items) }
     ensures refused { (refusal : TheRefusal) → result ≡ Err (FirstFault.Refused refusal)
-        → (grid : IsTimedGrid coverage) → RefusedBy grid.ts grid.ys grid.xs target.now refusal }
+        → (grid : IsGridWithoutLevels coverage) → RefusedBy grid.ts grid.ys grid.xs target.now refusal }
     ensures faults { IfErr result IsAnswerFault }
 {
     match place_asked(alloc, &coverage, target) {
@@ -134,6 +135,7 @@ pub fn ask_first<S: Source, K: Sink>(
     ensures refused { (refusal : TheRefusal) → result ≡ Err (FirstFault.Refused refusal)
         → IsRefusalOf (S.left source.old) target.now refusal }
     ensures none { IsErrOf result FirstFault.NotFeedLine → HoldsNoGridIn (S.left source.old) }
+    ensures bounded { ReadsAtMost (line_limit + 1 + buffer_size) (S.left source.old) (S.left source.new) }
     ensures source { SourceLent (S.aside source.old) (S.aside source.new) (S.faults source.old) (S.faults source.new) }
     ensures sink { SinkLent (K.beside sink.old) (K.beside sink.new) (K.faults sink.old) (K.faults sink.new) }
     ensures read { IsErrOf result FirstFault.ReadFault → Rose (S.faults source.old) (S.faults source.new) }

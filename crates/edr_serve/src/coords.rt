@@ -4,7 +4,7 @@ ghost use Rattle.edr_wkt.specs.Faults.{IsGeometry};
 ghost use Rattle.edr_serve.specs.Target.{plane_point, IsFirstPoint, PointIsOne};
 
 use edr_base::Spot;
-use edr_wkt::{Geometry, WktFault, read_wkt};
+use edr_wkt::{Geometry, WktFault, read_wkt, wkt_is_one};
 use std::alloc::Global;
 
 /// Why some coordinates are no point.
@@ -47,6 +47,7 @@ pub fn first_point(alloc: Global, coords: &[u8]) -> Result<Spot, PointFault>
     ensures ok { IfOk result (λ spot. IsFirstPoint coords.now spot.x spot.y) }
     ensures not_point { result ≡ Err PointFault.NotPoint → (x y : ℤ) → ¬ (IsFirstPoint coords.now x y) }
 {
+    wkt_is_one();
     match read_wkt(alloc, coords) {
         Ok(geometry) => match spot_of(&geometry) {
             Some(spot) => Ok(spot),
@@ -62,7 +63,9 @@ pub fn first_point(alloc: Global, coords: &[u8]) -> Result<Spot, PointFault>
 /// Coordinates are at most one point.
 pub fn point_is_one()
     ensures { PointIsOne }
-{}
+{
+    wkt_is_one();
+}
 
 #[cfg(test)]
 mod tests {

@@ -1,46 +1,28 @@
 //! The one grid that an input stands for.
-ghost use Rattle.std.specs.Prelude.{◌≡◌, ◌↔◌, IsTrue, IfOk, IfErr, IsErrOf};
-ghost use Rattle.serde_json.specs.Data.{Data};
+ghost use Rattle.std.specs.Prelude.{◌≡◌, ◌≢◌, ◌+◌, ◌↔◌, IsTrue, IfOk, IfErr, IsErrOf};
 ghost use Rattle.serde_json.specs.View.{view};
 ghost use Rattle.edr_base.specs.Outside.{Rose};
-ghost use Rattle.edr_base.specs.Calls.{SourceLent};
+ghost use Rattle.edr_base.specs.Calls.{SourceLent, ReadsAtMost, buffer_size};
+ghost use Rattle.edr_base.specs.Limits.{line_limit};
 ghost use Rattle.covjson_value.specs.Coverages.{IsValid};
 ghost use Rattle.covjson_value.specs.declared.coverages.Coverage.{Coverage as TheCoverage};
-ghost use Rattle.edr_json.specs.Json.{IsJson};
 ghost use Rattle.covjson_read.specs.Standing.{Stands};
-ghost use Rattle.edr_serve.specs.Grids.{IsTimedGrid, IsInput, HoldsNoGrid, HoldsNoGridIn};
+ghost use Rattle.edr_serve.specs.Grids.{IsGridWithoutLevels, IsInput, HoldsNoGrid, HoldsNoGridIn};
 ghost use Rattle.edr_serve.specs.FirstReply.{IsInputFault, IsReadingFault, IsInputOf};
 
 use crate::ask::FirstFault;
-use crate::limits::{LINE_LIMIT, NODE_LIMIT};
 use crate::line::{line_is_one, the_line};
-use covjson_read::{CovFault, answers_are_what_stands, coverage_of};
+use covjson_checks::CovFault;
+use covjson_read::{coverage_of, trees_stand_for_one};
 use covjson_value::{CoordinateName, Coverage};
-use edr_base::{ReadStop, Source, read_all};
-use serde_json::{Category, Value};
+use edr_base::{LINE_LIMIT, NODE_LIMIT, ReadStop, Source, read_all};
+use edr_json::{JsonFault, read_tree};
+use serde_json::Value;
 use std::alloc::Global;
 
-// The tree of a line of JSON.
-fn tree_of_line(alloc: Global, line: &[u8]) -> Result<Value, FirstFault>
-    ensures ok { IfOk result (λ tree. IsJson line.now (view tree)) }
-    ensures none { IsErrOf result FirstFault.NotFeedLine → (tree : Data) → ¬ (IsJson line.now tree) }
-    ensures faults { IfErr result IsInputFault }
-{
-    match Value::from_slice(alloc, line) {
-        Ok(tree) => Ok(tree),
-        Err(fault) => {
-            if fault.classify() == Category::Memory {
-                Err(FirstFault::OutOfMemory)
-            } else {
-                Err(FirstFault::NotFeedLine)
-            }
-        }
-    }
-}
-
 // Whether the coverage is a grid with times and without levels, of few enough nodes.
-fn is_timed_grid(coverage: &Coverage) -> bool
-    ensures { IsTrue result ↔ IsTimedGrid coverage.now }
+fn is_grid_without_levels(coverage: &Coverage) -> bool
+    ensures { IsTrue result ↔ IsGridWithoutLevels coverage.now }
 {
     let domain = &coverage.domain;
     if !domain.is_grid()
@@ -58,7 +40,7 @@ fn is_timed_grid(coverage: &Coverage) -> bool
 // The fault of a tree that wasn't read.
 fn fault_of(fault: CovFault) -> FirstFault
     ensures input { IsInputFault result }
-    ensures other { result ≡ FirstFault.NotFeedLine → ¬ (fault ≡ CovFault.OutOfMemory) }
+    ensures other { result ≡ FirstFault.NotFeedLine → fault ≢ CovFault.OutOfMemory }
 {
     match fault {
         CovFault::OutOfMemory => FirstFault::OutOfMemory,
@@ -69,14 +51,14 @@ fn fault_of(fault: CovFault) -> FirstFault
 // The coverage that a tree stands for, where it is such a grid.
 fn grid_of(alloc: Global, tree: &Value) -> Result<Coverage, FirstFault>
     ensures stands { IfOk result (λ coverage. Stands (view tree.now) coverage) }
-    ensures grid { IfOk result (λ coverage. IsValid coverage × IsTimedGrid coverage) }
-    ensures none { IsErrOf result FirstFault.NotFeedLine → (coverage : TheCoverage) → ¬ (Stands (view tree.now) coverage × IsTimedGrid coverage) }
+    ensures grid { IfOk result (λ coverage. IsValid coverage × IsGridWithoutLevels coverage) }
+    ensures none { IsErrOf result FirstFault.NotFeedLine → (coverage : TheCoverage) → ¬ (Stands (view tree.now) coverage × IsGridWithoutLevels coverage) }
     ensures faults { IfErr result IsInputFault }
 {
-    answers_are_what_stands();
+    trees_stand_for_one();
     match coverage_of(alloc, tree) {
         Ok(coverage) => {
-            if is_timed_grid(&coverage) {
+            if is_grid_without_levels(&coverage) {
                 Ok(coverage)
             } else {
                 Err(FirstFault::NotFeedLine)
@@ -89,6 +71,7 @@ fn grid_of(alloc: Global, tree: &Value) -> Result<Coverage, FirstFault>
 // The grid that some bytes stand for.
 fn grid_in(alloc: Global, bytes: &[u8]) -> Result<Coverage, FirstFault>
     ensures ok { IfOk result (λ coverage. IsInput bytes.now coverage) }
+    ensures valid { IfOk result IsValid }
     ensures none { IsErrOf result FirstFault.NotFeedLine → HoldsNoGrid bytes.now }
     ensures faults { IfErr result IsInputFault }
 {
@@ -96,16 +79,19 @@ fn grid_in(alloc: Global, bytes: &[u8]) -> Result<Coverage, FirstFault>
     let Some(line) = the_line(bytes) else {
         return Err(FirstFault::NotFeedLine);
     };
-    match tree_of_line(alloc, line) {
+    match read_tree(alloc, line) {
         Ok(tree) => grid_of(alloc, &tree),
-        Err(fault) => Err(fault),
+        Err(JsonFault::NotJson) => Err(FirstFault::NotFeedLine),
+        Err(JsonFault::OutOfMemory) => Err(FirstFault::OutOfMemory),
     }
 }
 
 /// Reads the one grid that a source gives: a line of at most 16,777,216 bytes that is a grid of CoverageJSON with times
-/// and without levels.
+/// and without levels. Whatever is answered, at most that line, its line feed and 16,384 bytes were taken from the source.
 pub fn read_grid<S: Source>(alloc: Global, source: &mut S) -> Result<Coverage, FirstFault>
     ensures ok { IfOk result (λ coverage. IsInputOf (S.left source.old) coverage) }
+    ensures valid { IfOk result IsValid }
+    ensures bounded { ReadsAtMost (line_limit + 1 + buffer_size) (S.left source.old) (S.left source.new) }
     ensures none { IsErrOf result FirstFault.NotFeedLine → HoldsNoGridIn (S.left source.old) }
     ensures faults { IfErr result IsReadingFault }
     ensures lent { SourceLent (S.aside source.old) (S.aside source.new) (S.faults source.old) (S.faults source.new) }

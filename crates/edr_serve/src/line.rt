@@ -2,7 +2,7 @@
 ghost use Rattle.std.specs.Prelude.{ℕ, List, MatchOption};
 ghost use Rattle.edr_serve.specs.Line.{IsOneLine, LineIsOne};
 
-use crate::limits::LINE_LIMIT;
+use edr_base::LINE_LIMIT;
 
 /// The one line that some bytes are, without its line feed.
 pub fn the_line(bytes: &[u8]) -> Option<&[u8]>

@@ -12,7 +12,7 @@ use std::alloc::Global;
 
 /// Places on the axes of a domain, each from 0. An axis that the domain hasn't has the place 0 alone.
 #[derive(Clone, Copy, Debug, PartialEq, Eq)]
-pub struct GridPlace {
+pub struct NodePlace {
     /// The place of the time.
     pub t: usize,
     /// The place of the level.
@@ -55,7 +55,7 @@ fn value_on(domain: &Domain, name: CoordinateName, place: usize) -> i64
 }
 
 // The domain of one node.
-fn domain_at(domain: &Domain, at: GridPlace) -> Domain
+fn domain_at(domain: &Domain, at: NodePlace) -> Domain
     requires { IsPlaceOn domain.now at }
     ensures { result ≡ point_domain (node_at domain.now at) }
 {
@@ -68,7 +68,7 @@ fn domain_at(domain: &Domain, at: GridPlace) -> Domain
 }
 
 // The number of a node in the order t, z, y, x.
-fn number_at(domain: &Domain, at: GridPlace) -> usize
+fn number_at(domain: &Domain, at: NodePlace) -> usize
     requires place { IsPlaceOn domain.now at }
     requires few { count_of domain.now < 2 ^ 64 }
     ensures number { result ≡ number_of domain.now at }
@@ -106,7 +106,7 @@ fn ranges_at(alloc: Global, ranges: &[NdArray], number: usize) -> Result<Vec<NdA
 /// The coverage of one node of another: a Point (OGC 21-069r2, the domain type Point) with the value of each parameter there.
 ///
 /// Want of memory is the only error.
-pub fn point_of(alloc: Global, coverage: Coverage, at: GridPlace) -> Result<Coverage, OutOfMemory>
+pub fn point_of(alloc: Global, coverage: Coverage, at: NodePlace) -> Result<Coverage, OutOfMemory>
     requires valid { IsValid coverage }
     requires place { IsPlaceOn coverage.domain at }
     requires few { count_of coverage.domain < 2 ^ 64 }

@@ -2,7 +2,7 @@
 ghost use Rattle.std.specs.Prelude.{◌≡◌, ◌↔◌, ◌<◌, IsTrue, MatchOption, length, option_map};
 ghost use Rattle.edr_serve.specs.Answer.{IsAlong, IsSampled, IsNodePlace};
 
-use crate::point::GridPlace;
+use crate::point::NodePlace;
 use edr_axes::Axis;
 
 // Whether a number lies between the least and the greatest value, both included.
@@ -22,7 +22,7 @@ pub fn nearest_place(
     time: i64,
     x: i64,
     y: i64,
-) -> Option<GridPlace>
+) -> Option<NodePlace>
     ensures { MatchOption result (¬ (IsSampled ts.now ys.now xs.now time x y))
         (λ at. IsNodePlace ts.now ys.now xs.now time x y at) }
 {
@@ -32,7 +32,7 @@ pub fn nearest_place(
     if !is_along(ys, y) || !is_along(xs, x) {
         return None;
     }
-    Some(GridPlace {
+    Some(NodePlace {
         t,
         z: 0,
         y: ys.nearest(y),

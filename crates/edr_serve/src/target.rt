@@ -2,7 +2,7 @@
 ghost use Rattle.std.specs.Prelude.{◌≡◌, ℕ, ℤ, List, MatchOption, IsTrue, ◌↔◌};
 ghost use Rattle.edr_serve.specs.Target.{IsPlain, HasParts, IsFirstTarget, TargetIsOne, TargetsAreWritten};
 
-use edr_axes::read_instant;
+use edr_axes::{instants_are_unique, read_instant};
 use edr_base::{cut_at, without_front};
 
 // Whether a value stands for itself in a query.
@@ -43,7 +43,9 @@ pub fn first_target(target: &[u8]) -> Option<(&[u8], i64)>
 /// A target has one pair of coordinates and time.
 pub fn target_is_one()
     ensures { TargetIsOne }
-{}
+{
+    instants_are_unique();
+}
 
 /// Coordinates that stand for themselves have a target at each instant that does.
 pub fn targets_are_written()

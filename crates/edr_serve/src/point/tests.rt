@@ -2,7 +2,7 @@
 ghost use Rattle.std.specs.Prelude.{IsTrue};
 ghost use Rattle.edr_serve.specs.NodePlaces.{IsPlaceOn};
 
-use crate::{GridPlace, point_of};
+use crate::{NodePlace, point_of};
 use covjson_value::{Coverage, Domain, NdArray, Parameter, Referencing};
 use edr_axes::Axis;
 use edr_base::{Items, OutOfMemory, Text};
@@ -52,7 +52,7 @@ fn grid(alloc: Global) -> Result<Coverage, Fail> {
     })
 }
 
-fn is_on(domain: &Domain, at: GridPlace) -> bool
+fn is_on(domain: &Domain, at: NodePlace) -> bool
     ensures { IsTrue result → IsPlaceOn domain.now at }
 {
     match domain {
@@ -66,7 +66,7 @@ fn is_on(domain: &Domain, at: GridPlace) -> bool
     }
 }
 
-fn point(alloc: Global, at: GridPlace) -> Result<Coverage, Fail> {
+fn point(alloc: Global, at: NodePlace) -> Result<Coverage, Fail> {
     let coverage = grid(alloc)?;
     let few = coverage.domain.count().is_some();
     if few && coverage.is_valid() && is_on(&coverage.domain, at) {
@@ -84,7 +84,7 @@ fn one_node(rt: HostRuntime) -> Result<(), Fail> {
         (0, 1, 2, Some(15), 20),
         (1, 1, 2, None, 10),
     ] {
-        let point = point(rt.alloc(), GridPlace { t, z: 0, y, x })?;
+        let point = point(rt.alloc(), NodePlace { t, z: 0, y, x })?;
         assert!(rt; point.is_valid());
         let ranges = point.ranges.items();
         assert_eq!(rt; ranges.len(), 2);

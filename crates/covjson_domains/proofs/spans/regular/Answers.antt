@@ -1,6 +1,7 @@
-use Rattle.std.proofs.Common.{◌≡◌, arith, pos, ◌≤◌, ◌+ℤ◌, ◌-ℤ◌, ◌*ℤ◌, unsigned_abs, Vec, Global, ℤ, List, Ok, subst}
+use Rattle.std.proofs.Common.{◌≡◌, arith, pos, ◌≤◌, ◌*◌, ◌+ℤ◌, ◌-ℤ◌, ◌*ℤ◌, unsigned_abs, Vec, Global, ℤ, List, Ok, subst}
 use Rattle.std.proofs.lemmas.Int.{to_z-of_z, fits_signed_from_abs}
 use mir.Syntax.{w64, w128}
+use Rattle.edr_base.specs.Limits.{coordinate_limit}
 use Rattle.covjson_checks.specs.Answers.{GivesUnlessMemory}
 use Rattle.covjson_domains.specs.AxisAnswers as axes
 use Rattle.covjson_domains.proofs.SpanLemmas.{span_tells, last_reached}
@@ -13,7 +14,7 @@ stepped-requires-clause-last c =
     let count = c.args.count in
     let step = c.step_of-step.result in
     let span = span_tells first last count c.requires.within in
-    let short : unsigned_abs step ≤ 200000000 = c.step_of-step.ensures.short in
+    let short : unsigned_abs step ≤ 2 * coordinate_limit = c.step_of-step.ensures.short in
     let first_is = to_z-of_z w128 first c.ranges.first in
     let last_is = to_z-of_z w128 last c.ranges.last in
     let count_is = to_z-of_z w128 count c.ranges.count in
@@ -31,7 +32,7 @@ returns c =
     let count = c.args.count in
     let step = c.step_of-step.result in
     let span = span_tells first last count c.requires.within in
-    let short : unsigned_abs step ≤ 200000000 = c.step_of-step.ensures.short in
+    let short : unsigned_abs step ≤ 2 * coordinate_limit = c.step_of-step.ensures.short in
     let first_is = to_z-of_z w128 first c.ranges.first in
     let last_is = to_z-of_z w128 last c.ranges.last in
     let count_is = to_z-of_z w128 count c.ranges.count in

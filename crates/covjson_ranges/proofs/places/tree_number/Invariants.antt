@@ -1,5 +1,6 @@
 use Rattle.std.proofs.Common.{◌≡◌, drop}
-use Rattle.covjson_ranges.specs.Ranges.{length_of, row_major, tree_place, tree_number}
+use Rattle.covjson_ranges.specs.Ranges.{length_of, tree_place, tree_number}
+use Rattle.edr_chunk.specs.RowMajor.{row_major}
 use Rattle.covjson_ranges.proofs.places.tree_number.Given as goal
 
 -- the number so far, among the axes that are left

@@ -1,11 +1,13 @@
-use Rattle.std.proofs.Common.{◌≡◌, List, codes, subst, sym, ◌∙◌}
+use Rattle.std.proofs.Common.{rules, ◌≡◌, List, Ok, codes, subst, sym}
 use Rattle.serde_json.specs.Find.{get}
 use Rattle.serde_json.specs.View.{view}
 use Rattle.covjson_value.specs.declared.axis_names.AxisName.{AxisName}
+use Rattle.covjson_value.specs.Domains.{count_of}
 use Rattle.covjson_ranges.specs.Ranges.{AreRangeAxes}
-use Rattle.covjson_ranges.specs.Orders.{ordered}
+use Rattle.covjson_ranges.specs.RangeAnswers as ranges
 use Rattle.covjson_ranges.proofs.ShapeParts.{names_stand}
-use Rattle.covjson_ranges.proofs.RangeLemmas.{read_counted, read_valid}
+use Rattle.covjson_ranges.proofs.RangeLemmas.{read_counted}
+use Rattle.covjson_ranges.proofs.RangeLaws.{range_answers, range_valid, fault_follows}
 use Rattle.covjson_ranges.proofs.ranges.range_of.Goals as goal
 
 pub in_order-requires-clause-axes : goal.in_order-requires-clause-axes
@@ -16,16 +18,30 @@ in_order-requires-clause-axes c =
 
 pub in_order-requires-clause-counted : goal.in_order-requires-clause-counted
 in_order-requires-clause-counted c =
-    read_counted c.args.read.now.domain (view c.args.tree.now) c.wanted_count.result c.in_ok-values.values.items c.in_ok-values.ensures c.wanted_count.ensures
+    read_counted (view c.args.tree.now) c.wanted_count.result (count_of c.args.read.now.domain) c.in_ok-values.values.items c.in_ok-values.ensures c.wanted_count.ensures
+
+pub returns-in_err-need_array-clause-fault : goal.returns-in_err-need_array-clause-fault
+returns-in_err-need_array-clause-fault c = fault_follows c.args.read.now (view c.args.tree.now) c.from_residual.result (search rules)
+
+pub returns-in_err-need_integers-clause-fault : goal.returns-in_err-need_integers-clause-fault
+returns-in_err-need_integers-clause-fault c = fault_follows c.args.read.now (view c.args.tree.now) c.from_residual-in_err-need_integers.result (search rules)
+
+pub returns-in_err-names-clause-fault : goal.returns-in_err-names-clause-fault
+returns-in_err-names-clause-fault c = fault_follows c.args.read.now (view c.args.tree.now) c.from_residual-in_err-names.result (search rules)
+
+pub returns-in_err-need_shape-clause-fault : goal.returns-in_err-need_shape-clause-fault
+returns-in_err-need_shape-clause-fault c = fault_follows c.args.read.now (view c.args.tree.now) c.from_residual-in_err-need_shape.result (search rules)
+
+pub returns-in_err-values-clause-fault : goal.returns-in_err-values-clause-fault
+returns-in_err-values-clause-fault c = fault_follows c.args.read.now (view c.args.tree.now) c.from_residual-in_err-values.result (search rules)
+
+pub returns-clause-stands : goal.returns-clause-stands
+returns-clause-stands c =
+    let answered : ranges.range_of c.args.read.now (view c.args.tree.now) ≡ Ok (record { values = c.of.result }) = search rules in
+    (range_answers c.args.read.now (view c.args.tree.now) (record { values = c.of.result })).0 answered
 
 pub returns-clause-valid : goal.returns-clause-valid
 returns-clause-valid c =
-    let domain = c.args.read.now.domain in
-    let turned = c.args.read.now.turned in
-    let names = c.in_ok-names.names.items in
-    let values = c.in_ok-values.values.items in
-    let named = names_stand domain (get (codes "axisNames") (view c.args.tree.now)) names c.in_ok-names.ensures in
-    let in_order : c.in_ok-values-2.values.items ≡ ordered domain turned c.deref-2.result.now values = cc (c.in_ok-values-2.ensures) in
-    let same : c.of.result ≡ ordered domain turned names values =
-    c.of.ensures ∙ subst (λ (ns : List AxisName). c.in_ok-values-2.values.items ≡ ordered domain turned ns values) c.deref-2.ensures.value in_order in
-    read_valid domain turned names (view c.args.tree.now) c.wanted_count.result values c.of.result named.1 c.in_ok-values.ensures c.wanted_count.ensures same
+    let answered : ranges.range_of c.args.read.now (view c.args.tree.now) ≡ Ok (record { values = c.of.result }) = search rules in
+    range_valid c.args.read.now.domain c.args.read.now.turned (view c.args.tree.now) (record { values = c.of.result })
+    ((range_answers c.args.read.now (view c.args.tree.now) (record { values = c.of.result })).0 answered)

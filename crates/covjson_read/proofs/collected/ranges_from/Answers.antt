@@ -5,11 +5,13 @@ use Rattle.serde_json.specs.View.{view}
 use Rattle.covjson_value.specs.Coverages.{IsParameter, IsRange}
 use Rattle.covjson_checks.specs.declared.faults.Member.TheVariants.{Parameters}
 use Rattle.covjson_checks.specs.Members.{need}
-use Rattle.covjson_read.specs.Parameters.{parameter_of, HasNameForm}
+use Rattle.edr_base.specs.Names.{IsName}
+use Rattle.covjson_read.specs.ParameterAnswers.{parameter_of}
 use Rattle.edr_json.specs.AnswerLaws.{or_fault_ok, All-push}
-use Rattle.covjson_read.proofs.ParameterLaws.{parameter_stands, named_found}
+use Rattle.covjson_read.proofs.ParameterLaws.{parameter_is}
+use Rattle.covjson_read.proofs.ParameterNames.{named_found}
 use Rattle.covjson_read.proofs.RangesInTurn.{one_more, ids_more, ids_ascend}
-use Rattle.covjson_ranges.proofs.ranges.ranges_from.Goals as goal
+use Rattle.covjson_read.proofs.collected.ranges_from.Goals as goal
 
 pub loop-id-preserved : goal.loop-id-preserved
 loop-id-preserved c =
@@ -26,12 +28,12 @@ loop-id-preserved c =
     let needed : need (string_bytes k) Parameters d ≡ Ok tree = search rules in
     let parameter : parameter_of (string_bytes k) tree ≡ Ok p = search rules in
     let same : string_bytes k ≡ c.deref-in-loop-id.result.now = search rules in
-    let form = subst HasNameForm same (named_found (string_bytes k) d tree c.requires.named (or_fault_ok (get (string_bytes k) d) _ tree needed)) in
+    let form = subst IsName same (named_found (string_bytes k) d tree c.requires.named (or_fault_ok (get (string_bytes k) d) _ tree needed)) in
     record {
       answer = one_more read d c.loop-id.kept.items c.push.new.self.items c.loop-id.found.items c.push-in-loop-id.new.self.items c.loop-id.id-iterator c.next.new.self
           k v tree p a _ c.in-Some.ensures.steps i.answer needed parameter c.in_ok-array.ensures.answer pushed put;
       ids = ids_more c.loop-id.kept.items c.push.new.self.items p c.loop-id.id-iterator c.next.new.self k v _ c.in-Some.ensures.steps
-          (parameter_stands (string_bytes k) tree p parameter).0 pushed i.ids;
+          ((parameter_is (string_bytes k) tree p).0 parameter).0 pushed i.ids;
       parameters = All-push IsParameter c.loop-id.kept.items c.push.new.self.items p pushed i.parameters (c.in_ok-parameter.ensures.valid form);
       as_many = omega (arith, i.as_many, ap length pushed, ap length put, length_push c.loop-id.kept.items p, length_push c.loop-id.found.items a);
       ranges = All-push (IsRange read.domain) c.loop-id.found.items c.push-in-loop-id.new.self.items a put i.ranges c.in_ok-array.ensures.valid;

@@ -1,10 +1,10 @@
 use Rattle.std.proofs.Common.{◌≡◌, ◌++◌, All, length}
 use Rattle.serde_json.specs.View.{view, members_view}
 use Rattle.covjson_value.specs.Coverages.{ids_of, IsParameter, IsRange}
-use Rattle.covjson_read.specs.Collected.{names_of}
-use Rattle.covjson_ranges.specs.RangeAnswers as ranges
+use Rattle.edr_json.specs.Trees.{names_of}
+use Rattle.covjson_read.specs.CollectedAnswers as ranges
 use Rattle.covjson_read.proofs.RangesInTurn.{from_here}
-use Rattle.covjson_ranges.proofs.ranges.ranges_from.Given as goal
+use Rattle.covjson_read.proofs.collected.ranges_from.Given as goal
 
 -- the answer of what is left, after what was read, is that of all; so with the names
 abbrev pub invariant-loop-id : goal.invariant-loop-id

@@ -3,7 +3,7 @@ use Rattle.serde_json.specs.View.{view, members_view}
 use Rattle.covjson_checks.specs.declared.faults.Member.TheVariants.{Ranges}
 use Rattle.covjson_checks.specs.Members.{need, object_at}
 use Rattle.covjson_read.proofs.RangesInTurn.{some_members, some_ranges}
-use Rattle.covjson_ranges.proofs.ranges.ranges_in.Goals as goal
+use Rattle.covjson_read.proofs.collected.ranges_in.Goals as goal
 
 pub returns-clause-answer : goal.returns-clause-answer
 returns-clause-answer c =

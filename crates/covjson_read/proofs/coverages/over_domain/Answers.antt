@@ -1,6 +1,7 @@
 use Rattle.std.proofs.Common.{sym, ◌∙◌, option_map}
 use Rattle.serde_json.specs.View.{view}
-use Rattle.covjson_read.proofs.ParameterLaws.{parameters_stand, have_names}
+use Rattle.covjson_read.proofs.ParameterLaws.{parameters_are}
+use Rattle.covjson_read.proofs.ParameterNames.{have_names}
 use Rattle.covjson_read.proofs.RangeSome.{some_parameters}
 use Rattle.covjson_read.proofs.coverages.over_domain.Goals as goal
 
@@ -8,7 +9,7 @@ pub ranges_in-requires-clause-named : goal.ranges_in-requires-clause-named
 ranges_in-requires-clause-named c =
     let d = view c.in_ok-parameters.parameters.now in
     let found = option_map (λ v. view v.now) c.lent-2.result in
-    have_names d (parameters_stand found d c.in_ok-parameters.ensures).1
+    have_names d ((parameters_are found d).0 c.in_ok-parameters.ensures).1
 
 pub returns-clause-valid : goal.returns-clause-valid
 returns-clause-valid c =

@@ -1,6 +1,6 @@
 use Rattle.std.proofs.Common.{◌≡◌}
 use Rattle.serde_json.specs.View.{members_view}
-use Rattle.covjson_read.specs.Parameters.{all_named_objects}
+use Rattle.covjson_read.specs.ParameterAnswers.{all_named_objects}
 use Rattle.covjson_read.proofs.parameters.all_named_objects.Given as goal
 
 abbrev pub invariant-loop-name : goal.invariant-loop-name

@@ -1,6 +1,6 @@
 use Rattle.std.proofs.Common.{◌≡◌}
 use Rattle.serde_json.specs.View.{members_view}
-use Rattle.covjson_read.specs.Parameters.{all_texts}
+use Rattle.covjson_read.specs.ParameterAnswers.{all_texts}
 use Rattle.covjson_read.proofs.parameters.all_texts.Given as goal
 
 abbrev pub invariant-loop-text : goal.invariant-loop-text

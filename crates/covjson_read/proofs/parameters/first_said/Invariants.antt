@@ -1,6 +1,6 @@
 use Rattle.std.proofs.Common.{◌≡◌, None}
 use Rattle.serde_json.specs.View.{members_view}
-use Rattle.covjson_read.specs.Parameters.{said_in}
+use Rattle.covjson_read.specs.ParameterAnswers.{said_in}
 use Rattle.covjson_read.proofs.parameters.first_said.Given as goal
 
 abbrev pub invariant-loop-lang : goal.invariant-loop-lang

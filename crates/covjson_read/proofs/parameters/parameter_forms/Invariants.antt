@@ -1,6 +1,6 @@
 use Rattle.std.proofs.Common.{◌≡◌}
 use Rattle.serde_json.specs.View.{members_view}
-use Rattle.covjson_read.specs.Parameters.{parameter_forms}
+use Rattle.covjson_read.specs.ParameterAnswers.{parameter_forms}
 use Rattle.covjson_read.proofs.parameters.parameter_forms.Given as goal
 
 abbrev pub invariant-loop-tree : goal.invariant-loop-tree

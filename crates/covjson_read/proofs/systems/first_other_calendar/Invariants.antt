@@ -1,8 +1,8 @@
 use Rattle.std.proofs.Common.{◌≡◌, drop}
 use Rattle.serde_json.specs.View.{items_view}
-use Rattle.covjson_read.specs.Systems as systems
+use Rattle.covjson_read.specs.SystemAnswers as answers
 use Rattle.covjson_read.proofs.systems.first_other_calendar.Given as goal
 
 abbrev pub invariant-loop-entry : goal.invariant-loop-entry
 invariant-loop-entry l =
-    systems.first_other_calendar (items_view (drop l.entry-index l.entries.items)) ≡ systems.first_other_calendar (items_view l.entries.items)
+    answers.first_that answers.is_other_calendar (items_view (drop l.entry-index l.entries.items)) ≡ answers.first_that answers.is_other_calendar (items_view l.entries.items)

@@ -1,4 +1,4 @@
-use Rattle.edr_base.proofs.KnownBytes.{writes_on}
+use Rattle.edr_base.specs.KnownBytes.{writes_on}
 use Rattle.edr.proofs.endings.send_line.Goals as goal
 
 pub returns-in-Ok-clause-bytes : goal.returns-in-Ok-clause-bytes

@@ -3,20 +3,27 @@ use Rattle.std.proofs.lemmas.Result.{err_from_is_err_and}
 use Rattle.edr_edition.specs.Values.{EditionValue}
 use Rattle.edr_feed.specs.Feeds.{FeedStandsIn, AreNumberedFrom}
 use Rattle.edr_feed.proofs.FeedLaws.{stands_numbered}
-use Rattle.edr_feed.proofs.KnownFeeds.{whole_stands, feed_fault, stands_no_read}
+use Rattle.edr_feed.proofs.FeedAnswers.{whole_stands, whole_fault, not_read}
 use Rattle.edr_feed.proofs.feeds.read_feed.Goals as goal
 
 pub returns-in_err-editions-clause-fault : goal.returns-in_err-editions-clause-fault
 returns-in_err-editions-clause-fault g c =
     let p = err_from_is_err_and c.from_residual-in_err-editions.result c.from_residual-in_err-editions.ensures.1 in
     let r = c.in_ok-now.ensures.read in
-    rw (p.1, p.2) (λ is. whole_stands _ _ r.bytes _ r.told r.ended (feed_fault _ (c.in_err-editions.ensures.stands r.bytes r.read) is))
+    rw (p.1, p.2) (whole_fault _ _ r.bytes _ r.told r.ended (c.in_err-editions.ensures.stands r.bytes r.read)).refused
+
+pub returns-in_err-editions-clause-inner : goal.returns-in_err-editions-clause-inner
+returns-in_err-editions-clause-inner g c =
+    let p = err_from_is_err_and c.from_residual-in_err-editions.result c.from_residual-in_err-editions.ensures.1 in
+    let r = c.in_ok-now.ensures.read in
+    rw (p.1, p.2) (whole_fault _ _ r.bytes _ r.told r.ended (c.in_err-editions.ensures.stands r.bytes r.read)).inner
 
 pub returns-in_err-editions-clause-cause : goal.returns-in_err-editions-clause-cause
 returns-in_err-editions-clause-cause g c =
     let p = err_from_is_err_and c.from_residual-in_err-editions.result c.from_residual-in_err-editions.ensures.1 in
     let r = c.in_ok-now.ensures.read in
-    rw (p.1, p.2) (λ e. absurd (stands_no_read r.bytes _ (c.in_err-editions.ensures.stands r.bytes r.read) (cc e)))
+    let own = (c.in_err-editions.ensures.stands r.bytes r.read).own in
+    rw (p.1, p.2) (λ e. absurd (not_read _ own (cc e)))
 
 pub returns-clause-editions : goal.returns-clause-editions
 returns-clause-editions g c =

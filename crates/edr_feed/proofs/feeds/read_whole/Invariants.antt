@@ -1,7 +1,8 @@
 use Rattle.std.proofs.Common.{◌≡◌, ℕ, ◌+◌, ◌-◌, List}
 use Rattle.std.specs.Io.KnownBytes.{prepend_known}
 use Rattle.edr_base.specs.Calls.{SourceLent}
-use Rattle.edr_feed.specs.Makes.{HasRead}
+use Rattle.edr_base.specs.Limits.{feed_limit}
+use Rattle.edr_feed.specs.Readings.{HasRead}
 use Rattle.edr_feed.proofs.feeds.read_whole.Given as goal
 
 abbrev pub invariant-loop-now : goal.invariant-loop-now
@@ -13,4 +14,4 @@ invariant-loop-now g l = record {
 }
 
 abbrev pub decreases-loop-now : goal.decreases-loop-now
-decreases-loop-now g l = 1_073_741_825 - (l.now.ended + l.now.length)
+decreases-loop-now g l = feed_limit + 1 - (l.now.ended + l.now.length)

@@ -1,6 +1,6 @@
 use Rattle.std.proofs.Common.{◌≡◌, List, ℕ, [], ◌∷◌, ◌++◌, append_assoc, sym, ap, ◌∙◌, subst}
 use Rattle.std.proofs.lemmas.Result.{err_from_is_err_and}
-use Rattle.edr_feed.specs.Makes.{HasRead, ReadsOn}
+use Rattle.edr_feed.specs.Readings.{HasRead, ReadsOn}
 use Rattle.edr_feed.proofs.FeedReadings.{fault_of_front, piece_part, piece_line, front_more}
 use Rattle.edr_feed.proofs.reading.read_on.Goals as goal
 

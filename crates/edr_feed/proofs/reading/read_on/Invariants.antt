@@ -1,5 +1,5 @@
 use Rattle.std.proofs.Common.{◌≡◌, ℕ, List, ◌++◌, length}
-use Rattle.edr_feed.specs.Makes.{HasRead}
+use Rattle.edr_feed.specs.Readings.{HasRead}
 use Rattle.edr_feed.proofs.reading.read_on.Given as goal
 
 abbrev pub invariant-loop-part : goal.invariant-loop-part

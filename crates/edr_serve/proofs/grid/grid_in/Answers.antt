@@ -6,12 +6,12 @@ use Rattle.edr_serve.proofs.grid.grid_in.Goals as goal
 
 pub returns-in-Ok-clause-ok : goal.returns-in-Ok-clause-ok
 returns-in-Ok-clause-ok c =
-    input_of c.grid_of.result c.args.bytes.now c.in-Some.line.now _ c.in-Some.ensures c.in-Ok.ensures.ok c.grid_of.ensures.stands c.grid_of.ensures.grid
+    input_of c.grid_of.result c.args.bytes.now c.in-Some.line.now _ c.in-Some.ensures c.in-Ok.ensures.tree c.grid_of.ensures.stands c.grid_of.ensures.grid
 
 pub returns-in-Ok-clause-none : goal.returns-in-Ok-clause-none
 returns-in-Ok-clause-none c = λ e.
-    no_grid c.args.bytes.now c.in-Some.line.now _ c.in-Some.ensures c.line_is_one.ensures c.in-Ok.ensures.ok (c.grid_of.ensures.none e)
+    no_grid c.args.bytes.now c.in-Some.line.now _ c.in-Some.ensures c.line_is_one.ensures c.in-Ok.ensures.tree (c.grid_of.ensures.none e)
 
-pub returns-in-Err-clause-none : goal.returns-in-Err-clause-none
-returns-in-Err-clause-none c = λ e.
-    no_json c.args.bytes.now c.in-Some.line.now c.in-Some.ensures c.line_is_one.ensures (c.in-Err.ensures.none (let same : c.in-Err.fault ≡ NotFeedLine = cc in ap Err same))
+pub returns-in-Err-NotJson-clause-none : goal.returns-in-Err-NotJson-clause-none
+returns-in-Err-NotJson-clause-none c = λ e.
+    no_json c.args.bytes.now c.in-Some.line.now c.in-Some.ensures c.line_is_one.ensures (c.in-Err-NotJson.ensures.none cc)

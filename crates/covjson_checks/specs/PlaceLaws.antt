@@ -1,0 +1,86 @@
+-- Laws of items of a list, by their places.
+use Rattle.std.proofs.Common.{◌≡◌, ℕ, zero, suc, ◌<◌, Bool, true, ◌&&◌, Decides, Some, inl, inr, refl, sym, ◌∙◌, subst, arith}
+use Rattle.std.proofs.lemmas.Bool.{and_parts, and_from, cases_lt}
+use Rattle.std.proofs.Math.Nat.{eq-or-lt_of_le}
+use Rattle.serde_json.specs.Data.{Data, Items, no_items, item}
+use Rattle.edr_json.specs.Trees.{item_at}
+use Rattle.covjson_checks.specs.Places.{IsAmong, EachItem, IsFirst}
+
+-- ---- each item
+
+-- no item is one
+pub each_none : (Is : Data → Type 0) → EachItem Is no_items
+each_none Is d among = let e = among.1 in cc
+
+-- the first item and each of the others
+pub each_more : (Is : Data → Type 0) (d : Data) (ds : Items) → Is d → EachItem Is ds → EachItem Is (item d ds)
+each_more Is d ds here later other (zero, at) = let same : d ≡ other = cc in subst Is same here
+each_more Is d ds here later other (suc place, at) = later other (place, at)
+
+-- the first is so where each is
+pub each_head : (Is : Data → Type 0) (d : Data) (ds : Items) → EachItem Is (item d ds) → Is d
+each_head Is d ds each = each d (0, refl)
+
+-- and so is each of the others
+pub each_tail : (Is : Data → Type 0) (d : Data) (ds : Items) → EachItem Is (item d ds) → EachItem Is ds
+each_tail Is d ds each other among = each other (suc among.0, among.1)
+
+-- a test along the items decides whether each is so where one of an item decides whether that is
+pub each_decides : (Is : Data → Type 0) (test : Data → Bool) (all : Items → Bool) → all no_items ≡ true → ((d : Data) (ds : Items) → all (item d ds) ≡ (test d && all ds))
+    → ((d : Data) → Decides (test d) (Is d)) → (ds : Items) → Decides (all ds) (EachItem Is ds)
+each_decides Is test all none more one no_items = (λ e. each_none Is, λ each. none)
+each_decides Is test all none more one (item d ds) =
+    let later = each_decides Is test all none more one ds in (
+      λ e.
+          let parts = and_parts (test d) (all ds) (sym (more d ds) ∙ e) in
+          each_more Is d ds ((one d).0 parts.0) (later.0 parts.1),
+      λ each. more d ds ∙ and_from (test d) (all ds) ((one d).1 (each_head Is d ds each)) (later.1 (each_tail Is d ds each)),
+    )
+
+-- ---- the first item
+
+-- it is the first of all
+pub first_here : (Is : Data → Type 0) (d : Data) (ds : Items) → Is d → IsFirst Is (item d ds) d
+first_here Is d ds is = record { place = 0; here = refl; is = is; none_before = λ earlier other before at. absurd (omega arith) }
+
+-- at place 0
+pub first_here_place : (Is : Data → Type 0) (d : Data) (ds : Items) (is : Is d) → (first_here Is d ds is).place ≡ 0
+unfolding first_here
+first_here_place Is d ds is = refl
+
+-- none before a place after the first item is so
+before : (Is : Data → Type 0) (d : Data) (ds : Items) (first : Data) → ¬ (Is d) → (later : IsFirst Is ds first) (earlier : ℕ) (other : Data) → earlier < suc later.place
+    → item_at (item d ds) earlier ≡ Some other → ¬ (Is other)
+before Is d ds first not later zero other h at is = let same : other ≡ d = cc in not (subst Is same is)
+before Is d ds first not later (suc earlier) other h at is = later.none_before earlier other (omega arith) at is
+
+-- or the first of the others
+pub first_later : (Is : Data → Type 0) (d : Data) (ds : Items) (first : Data) → ¬ (Is d) → IsFirst Is ds first → IsFirst Is (item d ds) first
+first_later Is d ds first not later = record { place = suc later.place; here = later.here; is = later.is; none_before = before Is d ds first not later }
+
+-- one place on
+pub first_later_place : (Is : Data → Type 0) (d : Data) (ds : Items) (first : Data) (not : ¬ (Is d)) (later : IsFirst Is ds first) → (first_later Is d ds first not later).place ≡ suc later.place
+unfolding first_later
+first_later_place Is d ds first not later = refl
+
+-- a place has one item
+one_item : (items : Items) (place other : ℕ) (d e : Data) → place ≡ other → item_at items place ≡ Some d → item_at items other ≡ Some e → d ≡ e
+one_item items place other d e same here there = let at : item_at items other ≡ Some d = subst (λ n. item_at items n ≡ Some d) same here in cc
+
+-- the first stands at one place
+pub first_place : (Is : Data → Type 0) (items : Items) (one other : Data) (a : IsFirst Is items one) (b : IsFirst Is items other) → a.place ≡ b.place
+first_place Is items one other a b = elim (cases_lt a.place b.place) [
+  | inl below ↦ absurd (b.none_before a.place one below a.here a.is)
+  | inr from ↦ elim (eq-or-lt_of_le from) [
+    | inl equal ↦ sym equal
+    | inr above ↦ absurd (a.none_before b.place other above b.here b.is)
+  ]
+]
+
+-- and is one item
+pub first_one : (Is : Data → Type 0) (items : Items) (one other : Data) → IsFirst Is items one → IsFirst Is items other → one ≡ other
+first_one Is items one other a b = one_item items a.place b.place one other (first_place Is items one other a b) a.here b.here
+
+-- the first that isn't so is one of the items
+pub first_among : (Is : Data → Type 0) (items : Items) (first : Data) → IsFirst Is items first → IsAmong first items
+first_among Is items first at = (at.place, at.here)

@@ -1,0 +1,23 @@
+-- Items of a list, by their places.
+use Rattle.std.specs.Prelude.{◌≡◌, ℕ, ◌<◌, Some}
+use Rattle.serde_json.specs.Data.{Data, Items}
+use Rattle.edr_json.specs.Trees.{item_at}
+
+-- the datum is one of the items
+abbrev pub IsAmong : Data → Items → Type 0
+IsAmong d items = (place : ℕ) × (item_at items place ≡ Some d)
+
+-- each of the items is so
+abbrev pub EachItem : (Data → Type 0) → Items → Type 0
+EachItem Is items = (d : Data) → IsAmong d items → Is d
+
+-- none of them is
+abbrev pub NoItem : (Data → Type 0) → Items → Type 0
+NoItem Is items = EachItem (λ d. ¬ (Is d)) items
+
+-- the datum is the first item that is so
+pub record IsFirst (Is : Data → Type 0) (items : Items) (first : Data) : Type 0 where
+  pub place : ℕ
+  pub here : item_at items place ≡ Some first
+  pub is : Is first
+  pub none_before : (earlier : ℕ) (other : Data) → earlier < place → item_at items earlier ≡ Some other → ¬ (Is other)

@@ -1,0 +1,191 @@
+//! The domain types (OGC 21-069r2, Domain types), and which axes a domain of each has.
+ghost use Rattle.std.specs.Prelude.{◌≡◌};
+ghost use Rattle.serde_json.specs.View.{members_view};
+ghost use Rattle.covjson_domains.specs.DomainTypes.{axis_name, presence};
+ghost use Rattle.covjson_domains.specs.TypeAnswers as types;
+
+use covjson_checks::{CovFault, Member};
+use covjson_value::{AxisName, CoordinateName};
+use serde_json::{Map, Value};
+
+/// The type of a domain (OGC 21-069r2, Domain types).
+#[derive(Clone, Copy, Debug, PartialEq, Eq)]
+pub enum DomainType {
+    /// All nodes of some axes.
+    Grid,
+    /// One place.
+    Point,
+    /// Several times at one place.
+    PointSeries,
+    /// Several levels at one place.
+    VerticalProfile,
+    /// Several places.
+    MultiPoint,
+    /// Several places at their times.
+    Trajectory,
+}
+
+/// Whether a domain of a type has an axis, and how many values that has.
+#[derive(Clone, Copy, Debug, PartialEq, Eq)]
+pub enum Presence {
+    /// There is none.
+    Absent,
+    /// There is one, unless it is left out, of any number of values.
+    Optional,
+    /// There is one, of any number of values.
+    Required,
+    /// There is one, unless it is left out, of a single value.
+    OptionalSingle,
+    /// There is one, of a single value.
+    Single,
+}
+
+/// The type of a name.
+pub fn type_named(name: &str) -> Option<DomainType>
+    ensures { result ≡ types.type_named name.now }
+{
+    if name == "Grid" {
+        Some(DomainType::Grid)
+    } else if name == "Point" {
+        Some(DomainType::Point)
+    } else if name == "PointSeries" {
+        Some(DomainType::PointSeries)
+    } else if name == "VerticalProfile" {
+        Some(DomainType::VerticalProfile)
+    } else if name == "MultiPoint" {
+        Some(DomainType::MultiPoint)
+    } else if name == "Trajectory" {
+        Some(DomainType::Trajectory)
+    } else {
+        None
+    }
+}
+
+/// Which axes a domain of a type has.
+pub fn presence_of(kind: DomainType, name: AxisName) -> Presence
+    ensures { result ≡ presence kind name }
+{
+    match name {
+        AxisName::T => match kind {
+            DomainType::Grid => Presence::Optional,
+            DomainType::PointSeries => Presence::Required,
+            DomainType::Point | DomainType::VerticalProfile | DomainType::MultiPoint =>
+                Presence::OptionalSingle,
+            DomainType::Trajectory => Presence::Absent,
+        },
+        AxisName::Z => match kind {
+            DomainType::Grid => Presence::Optional,
+            DomainType::VerticalProfile => Presence::Required,
+            DomainType::Point | DomainType::PointSeries | DomainType::Trajectory =>
+                Presence::OptionalSingle,
+            DomainType::MultiPoint => Presence::Absent,
+        },
+        AxisName::Y | AxisName::X => match kind {
+            DomainType::Grid => Presence::Required,
+            DomainType::Point | DomainType::PointSeries | DomainType::VerticalProfile =>
+                Presence::Single,
+            DomainType::MultiPoint | DomainType::Trajectory => Presence::Absent,
+        },
+        AxisName::Composite => match kind {
+            DomainType::MultiPoint | DomainType::Trajectory => Presence::Required,
+            DomainType::Grid
+            | DomainType::Point
+            | DomainType::PointSeries
+            | DomainType::VerticalProfile => Presence::Absent,
+        },
+    }
+}
+
+/// The axis that has the name of a coordinate.
+pub fn axis_name(name: CoordinateName) -> AxisName
+    ensures { result ≡ axis_name name }
+{
+    match name {
+        CoordinateName::T => AxisName::T,
+        CoordinateName::Z => AxisName::Z,
+        CoordinateName::Y => AxisName::Y,
+        CoordinateName::X => AxisName::X,
+    }
+}
+
+// Whether the axis has to be there.
+fn is_needed(presence: Presence) -> bool
+    ensures { result ≡ types.is_needed presence }
+{
+    match presence {
+        Presence::Required | Presence::Single => true,
+        Presence::Absent | Presence::Optional | Presence::OptionalSingle => false,
+    }
+}
+
+/// Whether the axis has a single value.
+pub fn is_single(presence: Presence) -> bool
+    ensures { result ≡ types.is_single presence }
+{
+    match presence {
+        Presence::OptionalSingle | Presence::Single => true,
+        Presence::Absent | Presence::Optional | Presence::Required => false,
+    }
+}
+
+/// Nothing, where the axis may be left out: Missing.
+pub fn left_out(presence: Presence, member: Member) -> Result<(), CovFault>
+    ensures { result ≡ types.left_out presence member }
+{
+    if is_needed(presence) {
+        Err(CovFault::Missing(member))
+    } else {
+        Ok(())
+    }
+}
+
+// Whether the axis may be there.
+fn is_allowed(presence: Presence) -> bool
+    ensures { result ≡ types.is_allowed presence }
+{
+    match presence {
+        Presence::Absent => false,
+        Presence::Optional | Presence::Required | Presence::OptionalSingle | Presence::Single =>
+            true,
+    }
+}
+
+fn axis_named(key: &str) -> Option<AxisName>
+    ensures { result ≡ types.axis_named key.now }
+{
+    if key == "t" {
+        Some(AxisName::T)
+    } else if key == "z" {
+        Some(AxisName::Z)
+    } else if key == "y" {
+        Some(AxisName::Y)
+    } else if key == "x" {
+        Some(AxisName::X)
+    } else if key == "composite" {
+        Some(AxisName::Composite)
+    } else {
+        None
+    }
+}
+
+// Whether a domain of a type may have an axis of that name.
+fn may_have(kind: DomainType, key: &str) -> bool
+    ensures { result ≡ types.may_have kind key.now }
+{
+    match axis_named(key) {
+        Some(name) => is_allowed(presence_of(kind, name)),
+        None => false,
+    }
+}
+
+/// Whether each member has the name of an axis that a domain of the type may have.
+pub fn has_no_others(kind: DomainType, members: &Map<String, Value>) -> bool
+    ensures { result ≡ types.has_no_others kind (members_view members.now.entries) }
+{
+    for (key, _) in members.iter() {
+        if !may_have(kind, key) {
+            return false;
+        }
+    }
+    true
+}

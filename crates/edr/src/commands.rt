@@ -1,0 +1,28 @@
+//! The commands, and the words that ask for them.
+ghost use Rattle.std.specs.Prelude.{◌≡◌, option_map};
+ghost use Rattle.edr.specs.Commands.{Asked, asked_by};
+
+use edr_base::Text;
+
+/// What the program can be asked to do.
+#[derive(Clone, Copy, Debug, PartialEq, Eq)]
+pub enum Command {
+    /// `ask TARGET`: answers a target from the grid on the input.
+    Ask,
+}
+
+/// The command that the words ask for, and the word behind it; None where they are none of the commands'. It takes no memory.
+pub fn asked_by(words: &[Text]) -> Option<(Command, &[u8])>
+    ensures { option_map (λ asked. record { command = asked.0; argument = asked.1.now }) result ≡ asked_by words.now }
+{
+    match words {
+        [word, target] => {
+            if word.bytes() == b"ask".as_slice() {
+                Some((Command::Ask, target.bytes()))
+            } else {
+                None
+            }
+        }
+        _ => None,
+    }
+}

@@ -1,0 +1,37 @@
+use Rattle.std.proofs.Common.{sym, ◌∙◌, codes}
+use Rattle.std.proofs.lemmas.Result.{err_from_is_err_and}
+use Rattle.serde_json.specs.View.{view}
+use Rattle.edr_feed.specs.FormParts.{HasName, line_of}
+use Rattle.edr_feed.proofs.FormLemmas.{no_entry_by}
+use Rattle.edr_feed.proofs.FormOutlines.{drop_outline, drop_collection, drop_whole, drop_instance_whole}
+use Rattle.edr_feed.proofs.FormFaults.{drop_instance_outline, drop_counts}
+use Rattle.edr_feed.proofs.forms.drop_entry.Goals as goal
+
+pub returns-in_err-collection-clause-reads : goal.returns-in_err-collection-clause-reads
+returns-in_err-collection-clause-reads c =
+    let d = view c.args.tree.now in
+    let p = err_from_is_err_and c.from_residual.result c.from_residual.ensures.1 in
+    rw (p.1, p.2) (no_entry_by (HasName (codes "collection") d) (line_of (codes "drop") d) _ c.in_err-collection.ensures (λ outline. let drops = drop_outline d outline in drop_collection d drops.0 drops.1))
+
+pub returns-then-has_members-clause-reads : goal.returns-then-has_members-clause-reads
+returns-then-has_members-clause-reads c =
+    drop_whole _ (view c.args.tree.now) (record { has_collection = c.in_ok-collection.ensures; counts = sym c.has_members.ensures ∙ c.if-has_members.true })
+
+pub returns-then-not-has_members-clause-reads : goal.returns-then-not-has_members-clause-reads
+returns-then-not-has_members-clause-reads c =
+    drop_counts (view c.args.tree.now) (sym c.has_members.ensures ∙ c.if-has_members.false) (sym c.has_members-2.ensures ∙ c.if-not-has_members.true)
+
+pub returns-in_err-instance-clause-reads : goal.returns-in_err-instance-clause-reads
+returns-in_err-instance-clause-reads c =
+    let d = view c.args.tree.now in
+    let p = err_from_is_err_and c.from_residual-in_err-instance.result c.from_residual-in_err-instance.ensures.1 in
+    rw (p.1, p.2) (no_entry_by (HasName (codes "instance") d) (line_of (codes "drop") d) _ c.in_err-instance.ensures
+    (λ outline. let drops = drop_instance_outline d (sym c.has_members.ensures ∙ c.if-has_members.false) outline in (drops.instance, drops.parts.has_instance)))
+
+pub returns-clause-reads : goal.returns-clause-reads
+returns-clause-reads c =
+    drop_instance_whole _ _ (view c.args.tree.now) (record {
+      has_collection = c.in_ok-collection.ensures;
+      has_instance = c.in_ok-instance.ensures;
+      counts = sym c.has_members-2.ensures ∙ c.if-not-has_members.false;
+    })

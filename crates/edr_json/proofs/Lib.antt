@@ -1,0 +1,5 @@
+pub mod Contents
+pub mod Lexemes
+pub mod Grammar
+pub mod Puts
+pub mod TreesOfTexts
