@@ -1,5 +1,6 @@
 pub mod Values
 pub mod Instances
+pub mod InstanceLaws
 pub mod Parameters
 pub mod Editions
 pub mod Changes
