@@ -8,37 +8,39 @@ use covjson_value::{Coverage, Domain, NdArray, Parameter, Referencing};
 use edr_axes::Axis;
 use edr_base::{Items, Text};
 use edr_chunk::{GridPlace, GridShape};
+use std::alloc::Global;
+use std::process::Abort;
 use std::rt::HostRuntime;
 
-fn text(rt: HostRuntime, bytes: &[u8]) -> Text {
-    Text::of(rt.alloc(), bytes).expect(&rt, "a text")
+fn text(rt: &impl Abort, alloc: Global, bytes: &[u8]) -> Text {
+    Text::of(alloc, bytes).expect(rt, "a text")
 }
 
-fn axis(rt: HostRuntime, values: &[i64]) -> Axis {
-    Axis::of(rt.alloc(), values).expect(&rt, "an axis")
+fn axis(rt: &impl Abort, alloc: Global, values: &[i64]) -> Axis {
+    Axis::of(alloc, values).expect(rt, "an axis")
 }
 
-fn parameters(rt: HostRuntime, label: &[u8]) -> Items<Parameter> {
-    let mut parameters = Vec::new(rt.alloc());
+fn parameters(rt: &impl Abort, alloc: Global, label: &[u8]) -> Items<Parameter> {
+    let mut parameters = Vec::new(alloc);
     let parameter = Parameter {
-        id: text(rt, b"temp"),
-        lang: text(rt, b"en"),
-        label: text(rt, label),
+        id: text(rt, alloc, b"temp"),
+        lang: text(rt, alloc, b"en"),
+        label: text(rt, alloc, label),
         unit: None,
     };
     assert!(rt; parameters.push(parameter).is_ok());
     Items::of(parameters)
 }
 
-fn ranges(rt: HostRuntime, values: &[Option<i64>]) -> Items<NdArray> {
-    let mut ranges = Vec::new(rt.alloc());
-    let values = Items::of(Vec::from_slice(rt.alloc(), values).expect(&rt, "values"));
+fn ranges(rt: &impl Abort, alloc: Global, values: &[Option<i64>]) -> Items<NdArray> {
+    let mut ranges = Vec::new(alloc);
+    let values = Items::of(Vec::from_slice(alloc, values).expect(rt, "values"));
     assert!(rt; ranges.push(NdArray { values }).is_ok());
     Items::of(ranges)
 }
 
 // A bare grid of two times, two rows and three columns.
-fn bare(rt: HostRuntime, label: &[u8]) -> Change
+fn bare(rt: &impl Abort, alloc: Global, label: &[u8]) -> Change
     ensures { IsChange result }
 {
     let values = [
@@ -58,29 +60,29 @@ fn bare(rt: HostRuntime, label: &[u8]) -> Change
     let coverage = Coverage {
         id: None,
         domain: Domain::Grid {
-            t: Some(axis(rt, &[0, 3600])),
+            t: Some(axis(rt, alloc, &[0, 3600])),
             z: None,
-            y: axis(rt, &[0, 100]),
-            x: axis(rt, &[0, 100, 200]),
+            y: axis(rt, alloc, &[0, 100]),
+            x: axis(rt, alloc, &[0, 100, 200]),
         },
         referencing: Referencing {
-            crs: text(rt, b"local"),
+            crs: text(rt, alloc, b"local"),
             vertical: None,
         },
-        parameters: parameters(rt, label),
-        ranges: ranges(rt, &values),
+        parameters: parameters(rt, alloc, label),
+        ranges: ranges(rt, alloc, &values),
     };
     assert!(rt; coverage.is_valid());
     Change::Bare(coverage)
 }
 
 // The newest instance of the collection of bare grids.
-fn newest(rt: HostRuntime, edition: &Edition) -> &GridInstance {
-    let collection = edition.collection(b"grid").expect(&rt, "a collection");
-    collection.newest().expect(&rt, "an instance")
+fn newest<'a>(rt: &impl Abort, edition: &'a Edition) -> &'a GridInstance {
+    let collection = edition.collection(b"grid").expect(rt, "a collection");
+    collection.newest().expect(rt, "an instance")
 }
 
-fn label(rt: HostRuntime, edition: &Edition) -> &[u8] {
+fn label<'a>(rt: &impl Abort, edition: &'a Edition) -> &'a [u8] {
     match newest(rt, edition).parameters() {
         [parameter] => parameter.label.bytes(),
         _ => b"",
@@ -89,14 +91,15 @@ fn label(rt: HostRuntime, edition: &Edition) -> &[u8] {
 
 #[test]
 fn an_edition_never_changes(rt: HostRuntime) {
-    let mut draft = Draft::empty(rt.alloc());
-    assert!(rt; draft.apply(bare(rt, b"Temperature")).is_ok());
+    let alloc = rt.alloc();
+    let mut draft = Draft::empty(alloc);
+    assert!(rt; draft.apply(bare(&rt, alloc, b"Temperature")).is_ok());
     let first = draft.finish(1);
-    let mut draft = Draft::from_edition(rt.alloc(), &first).expect(&rt, "a draft");
-    assert!(rt; draft.apply(bare(rt, b"Heat")).is_ok());
+    let mut draft = Draft::from_edition(alloc, &first).expect(&rt, "a draft");
+    assert!(rt; draft.apply(bare(&rt, alloc, b"Heat")).is_ok());
     let second = draft.finish(2);
-    assert_eq!(rt; label(rt, &first), b"Temperature".as_slice());
-    assert_eq!(rt; label(rt, &second), b"Heat".as_slice());
+    assert_eq!(rt; label(&rt, &first), b"Temperature".as_slice());
+    assert_eq!(rt; label(&rt, &second), b"Heat".as_slice());
 }
 
 fn is_within(shape: GridShape, at: GridPlace) -> bool
@@ -111,10 +114,11 @@ fn is_within(shape: GridShape, at: GridPlace) -> bool
 
 #[test]
 fn samples_stand_at_their_places(rt: HostRuntime) {
-    let mut draft = Draft::empty(rt.alloc());
-    assert!(rt; draft.apply(bare(rt, b"Temperature")).is_ok());
+    let alloc = rt.alloc();
+    let mut draft = Draft::empty(alloc);
+    assert!(rt; draft.apply(bare(&rt, alloc, b"Temperature")).is_ok());
     let edition = draft.finish(1);
-    let instance = newest(rt, &edition);
+    let instance = newest(&rt, &edition);
     // t, y, x and the sample
     for (t, y, x, sample) in [
         (0, 0, 0, Some(10)),

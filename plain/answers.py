@@ -1,0 +1,138 @@
+"""What the readers answer, in the plain notation that `edr_bench answers` has too."""
+
+from coverage_json_read import CoverageFault, read_document
+from coverage_json_written import write_document
+from editions import ChangeFault, Collection, Collections
+from feeds import FeedFault, read_feed
+from levels import At, Between, Levels, Listed, Series, read_levels
+from limits import COORDINATE
+from times import Times, read_instant, read_times, write_instant
+from well_known_text import WktFault, read_wkt, write_wkt
+from whole_numbers import NotWhole, TooLarge, whole_number
+
+
+def number_answer(text: bytes) -> str:
+    """What is read as a whole number of a size up to 100,000,000."""
+    try:
+        return f"Value({whole_number(text, COORDINATE)})"
+    except NotWhole:
+        return "NotWhole"
+    except TooLarge:
+        return "TooLarge"
+
+
+def instant_answer(text: bytes) -> str:
+    """The time, and its written form."""
+    time = read_instant(text)
+    return "None" if time is None else f"{time} {write_instant(time)}"
+
+
+def _has_around(has, *numbers: int) -> str:
+    """Whether there are the number before, the number itself and the one after, for each of some numbers."""
+    return "".join("1" if has(near) else "0" for number in numbers for near in (number - 1, number, number + 1))
+
+
+def times_answer(text: bytes) -> str:
+    """The times of a request, and whether they have those round their ends."""
+    times = read_times(text)
+    if times is None:
+        return "None"
+    return f"{_times_notation(times)} {_has_around(times.has, *_ends(times))}"
+
+
+def _times_notation(times: Times) -> str:
+    if times.single:
+        return f"At({times.first})"
+    if times.first is None and times.last is None:
+        return "All"
+    return f"Between({_optional(times.first)}, {_optional(times.last)})"
+
+
+def _optional(number: int | None) -> str:
+    return "None" if number is None else f"Some({number})"
+
+
+def _ends(times: Times) -> list[int]:
+    if times.single:
+        return [times.first]
+    if times.first is None and times.last is None:
+        return [0]
+    return [times.first or 0, times.last or 0]
+
+
+def levels_answer(text: bytes) -> str:
+    """The levels of a request, and whether they have those round each of them."""
+    levels = read_levels(text)
+    return "NotLevels" if levels is None else _levels_notation(levels)
+
+
+def _levels_notation(levels: Levels) -> str:
+    match levels:
+        case At(level):
+            return f"At {level} {_has_around(levels.has, level)}"
+        case Between(least, greatest):
+            return f"Between {least} {greatest} {_has_around(levels.has, least, greatest)}"
+        case Listed(listed):
+            return "List " + "".join(f"{level} {_has_around(levels.has, level)} " for level in listed)
+        case Series(count, first, step):
+            return f"Series {count} {first} {step} {_has_around(levels.has, first, first + step, levels.last())}"
+
+
+def geometry_answer(text: bytes) -> str:
+    """The written form of a geometry, or its fault."""
+    try:
+        return write_wkt(read_wkt(text))
+    except WktFault as fault:
+        return str(fault)
+
+
+def document_answer(text: bytes, short_axes: bool = True) -> str:
+    """The written form of a document, or its fault."""
+    try:
+        return write_document(read_document(text), short_axes)
+    except CoverageFault as fault:
+        return str(fault)
+
+
+def feed_answer(text: bytes) -> str:
+    """The editions of a feed, or its fault."""
+    try:
+        editions = read_feed(text)
+    except FeedFault as fault:
+        return _feed_fault_notation(fault)
+    return "".join(_edition_notation(number, edition) for number, edition in enumerate(editions, 1))
+
+
+def _feed_fault_notation(fault: FeedFault) -> str:
+    name = fault.name if fault.line is None else f"{fault.name}({fault.line})"
+    return name if fault.inner is None else f"{name} {fault.inner}"
+
+
+def _edition_notation(number: int, edition: Collections) -> str:
+    collections = [edition[id_] for id_ in sorted(edition)]
+    return f"edition {number}" + "".join(map(_collection_notation, collections)) + "\n"
+
+
+def _collection_notation(collection: Collection) -> str:
+    newest = collection.newest()
+    parameters = newest.parameters if newest else []
+    head = f"\n collection {collection.id}: {collection.title}; {collection.crs}; {_or_dash(collection.vertical)}; "
+    for parameter in parameters:
+        head += f"{parameter.id},{parameter.language},{parameter.label},{_or_dash(parameter.unit)}; "
+    return head + "".join(_instance_notation(id_, collection.instances[id_]) for id_ in sorted(collection.instances))
+
+
+def _or_dash(text: str | None) -> str:
+    return "-" if text is None else text
+
+
+def _instance_notation(id_: str, grid) -> str:
+    axes = grid.domain.axes
+    text = f"\n  instance {id_}: "
+    for name in ("t", "z", "y", "x"):
+        text += _numbers(axes[name]) + "; " if name in axes else "- ; "
+    return text + "".join(_numbers(values) for values in grid.ranges)
+
+
+def _numbers(numbers) -> str:
+    return "".join("- " if number is None else f"{number} " for number in numbers)

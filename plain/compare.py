@@ -1,0 +1,218 @@
+"""Compares the proved program with the plain one on random inputs.
+
+    python3 plain/compare.py --edr crates/edr/out/edr --bench crates/edr_bench/out/edr_bench --seed 1 --count 1000
+
+`--edr` names the program, which is asked by its words and its input (the kind `ask`); `--bench` names `edr_bench`, whose
+command `answers` gives what the readers answer (all other kinds). With `--tried` in place of both, `rt try` runs the crates
+of this repository without proof. Each kind gets `--count` inputs, which the seed, the kind and their number decide. Every
+difference is printed with what reproduces it; the last line is `N agreed, M differ`, and the status is 1 where any differ.
+"""
+
+import argparse
+import re
+import sys
+from collections import Counter
+from concurrent.futures import ProcessPoolExecutor
+from dataclasses import dataclass, replace
+from functools import partial
+from typing import Callable
+
+import answers
+from edr import Ending, run
+from inputs import large
+from inputs.asks import Ask, ask_input
+from inputs.documents import document_text
+from inputs.draws import Draw
+from inputs.feed_lines import feed_text
+from inputs.geometries import geometry_text
+from inputs.texts import instant_text, levels_text, number_text, times_text
+from programs import endings, reader_answers
+
+
+@dataclass(frozen=True)
+class Kind:
+    """A kind of input: how one is made, what the plain program answers, and the mark of its reader."""
+
+    make: Callable
+    answer: Callable
+    mark: str
+
+
+READERS = {
+    "number": Kind(number_text, answers.number_answer, "n"),
+    "instant": Kind(instant_text, answers.instant_answer, "i"),
+    "times": Kind(times_text, answers.times_answer, "t"),
+    "levels": Kind(levels_text, answers.levels_answer, "l"),
+    "wkt": Kind(geometry_text, answers.geometry_answer, "w"),
+    "document": Kind(document_text, answers.document_answer, "d"),
+    "feed": Kind(feed_text, answers.feed_answer, "f"),
+}
+
+# These are large and slow, and are compared where they are asked for by name.
+LARGE_READERS = {
+    "large-wkt": Kind(large.many_positions, answers.geometry_answer, "w"),
+    "large-document": Kind(large.wide_document, answers.document_answer, "d"),
+    "large-feed": Kind(large.large_feed, answers.feed_answer, "f"),
+}
+
+
+@dataclass(frozen=True)
+class Settings:
+    """What all inputs of a comparison share. Where a program is None, `rt try` runs it."""
+
+    seed: str
+    edr: str | None
+    bench: str | None
+    axes_as_lists: bool
+
+
+@dataclass(frozen=True)
+class Place:
+    """An input, by its kind and number."""
+
+    kind: str
+    number: int
+
+    def draw(self, seed: str) -> Draw:
+        """The draw that the input is made with."""
+        return Draw(f"{seed} {self.kind} {self.number}")
+
+
+@dataclass(frozen=True)
+class Result:
+    """What the two programs answer to an input; the program's answer is None where it couldn't be asked."""
+
+    place: Place
+    input: str
+    plain: str
+    program: str | None
+    word: str  # the kind of the plain answer
+
+    def differs(self) -> bool:
+        """Whether the two answers differ."""
+        return self.program is not None and self.program != self.plain
+
+    def shortened(self) -> "Result":
+        """The result without its texts, where the answers agree."""
+        return self if self.differs() else replace(self, input="", plain="", program=self.program and "")
+
+
+def compare(settings: Settings, places: list[Place]) -> list[Result]:
+    """Compares some inputs."""
+    asks = [place for place in places if place.kind == "ask"]
+    reads = [place for place in places if place.kind != "ask"]
+    results = _compare_asks(settings, asks) if asks else []
+    results += _compare_reads(settings, reads) if reads else []
+    return [result.shortened() for result in results]
+
+
+def _compare_asks(settings: Settings, places: list[Place]) -> list[Result]:
+    asks = [ask_input(place.draw(settings.seed)) for place in places]
+    found = endings(settings.edr, asks)
+    return [_ask_result(place, ask, ending) for place, ask, ending in zip(places, asks, found)]
+
+
+def _ask_result(place: Place, ask: Ask, ending: Ending | None) -> Result:
+    plain = run(list(ask.words), lambda: ask.input)
+    word = f"{plain.status} {plain.errors[:30].decode(errors='replace').strip()}"
+    return Result(place, repr(ask), repr(plain), ending and repr(ending), word)
+
+
+def _compare_reads(settings: Settings, places: list[Place]) -> list[Result]:
+    kinds = [(READERS | LARGE_READERS)[place.kind] for place in places]
+    texts = [kind.make(place.draw(settings.seed)) for kind, place in zip(kinds, places)]
+    found = reader_answers(settings.bench, [(kind.mark, text) for kind, text in zip(kinds, texts)])
+    return [_read_result(settings, *parts) for parts in zip(places, kinds, texts, found)]
+
+
+def _read_result(settings: Settings, place: Place, kind: Kind, text: bytes, answer: bytes) -> Result:
+    if settings.axes_as_lists and kind.answer is answers.document_answer:
+        plain = answers.document_answer(text, short_axes=False)
+    else:
+        plain = kind.answer(text)
+    return Result(place, repr(text), repr(plain.encode("utf-8")), repr(answer), _first_word(plain))
+
+
+def _first_word(answer: str) -> str:
+    word = re.split(r"[{ (]", answer)[0]
+    if word.lstrip("-").isdigit():
+        return "a time"
+    return word or "a document"
+
+
+def print_difference(result: Result, seed: str, whole: bool) -> None:
+    """Prints a difference, with what reproduces it."""
+    length = None if whole else 1500
+    print(f"differs: --kind {result.place.kind} --seed {seed} --only {result.place.number}")
+    print(f"  input   {result.input[:length]}")
+    print(f"  plain   {result.plain[:length]}")
+    print(f"  program {result.program[:length]}")
+
+
+def parsed_words() -> argparse.Namespace:
+    """The words of the command."""
+    parser = argparse.ArgumentParser(description=__doc__, formatter_class=argparse.RawDescriptionHelpFormatter)
+    parser.add_argument("--edr", help="the program edr")
+    parser.add_argument("--bench", help="the program edr_bench")
+    parser.add_argument("--tried", action="store_true", help="run the crates by rt try, in one process")
+    parser.add_argument("--seed", required=True)
+    parser.add_argument("--count", type=int, default=1000, help="how many inputs of each kind")
+    parser.add_argument("--kind", action="append", choices=["ask", *READERS, *LARGE_READERS], help="may be given several times")
+    parser.add_argument("--only", type=int, help="compare the input of this number alone, and print it whole")
+    parser.add_argument("--axes-as-lists", action="store_true", help="the program writes regular axes as lists")
+    parser.add_argument("--at-once", type=int, default=500, help="how many inputs a process takes at a time")
+    parser.add_argument("--processes", type=int, default=2)
+    return parser.parse_args()
+
+
+def kinds_of(words: argparse.Namespace) -> list[str]:
+    """The kinds that are asked for, or those that the programs can answer."""
+    if words.kind:
+        return words.kind
+    asks = ["ask"] if words.edr or words.tried else []
+    return asks + (list(READERS) if words.bench or words.tried else [])
+
+
+def jobs_of(words: argparse.Namespace, kinds: list[str]) -> list[list[Place]]:
+    """The inputs that are asked for, cut into jobs. `rt try` builds for each job, so it gets one for all readers."""
+    numbers = range(words.count) if words.only is None else [words.only]
+    jobs = []
+    for kind in kinds:
+        places = [Place(kind, number) for number in numbers]
+        step = 1 if kind in LARGE_READERS else words.at_once
+        jobs += [places[first : first + step] for first in range(0, len(places), step)]
+    if words.tried:
+        places = [place for job in jobs for place in job]
+        jobs = [[place for place in places if (place.kind == "ask") == is_ask] for is_ask in (False, True)]
+    return [job for job in jobs if job]
+
+
+def print_counts(results: list[Result]) -> None:
+    """Prints how many inputs of each kind agreed, and what was answered to them."""
+    for kind in dict.fromkeys(result.place.kind for result in results):
+        of_kind = [result for result in results if result.place.kind == kind]
+        differ = sum(result.differs() for result in of_kind)
+        left_out = sum(result.program is None for result in of_kind)
+        print(f"{kind}: {len(of_kind) - differ - left_out} agreed, {differ} differ, {left_out} left out")
+        counts = Counter(result.word for result in of_kind).most_common()
+        print("  answers: " + ", ".join(f"{count} {word}" for word, count in counts))
+
+
+def main() -> int:
+    words = parsed_words()
+    settings = Settings(words.seed, words.edr, words.bench, words.axes_as_lists)
+    results = []
+    with ProcessPoolExecutor(1 if words.tried else words.processes) as pool:
+        for found in pool.map(partial(compare, settings), jobs_of(words, kinds_of(words))):
+            for result in filter(Result.differs, found):
+                print_difference(result, words.seed, whole=words.only is not None)
+            results += found
+    print_counts(results)
+    differ = sum(map(Result.differs, results))
+    agreed = sum(result.program is not None for result in results) - differ
+    print(f"{agreed} agreed, {differ} differ")
+    return 1 if differ else 0
+
+
+if __name__ == "__main__":
+    sys.exit(main())

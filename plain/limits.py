@@ -1,0 +1,27 @@
+"""The limits of the profile."""
+
+COORDINATE = 100_000_000  # metres, of the size of x, y and z; of levels too
+EARLIEST_TIME = -62_167_219_200  # 0000-01-01T00:00:00Z
+LATEST_TIME = 253_402_300_799  # 9999-12-31T23:59:59Z
+SAMPLE = 9_007_199_254_740_991
+NAME_BYTES = 128
+NODES = 4_000_000  # of a grid, for each parameter
+SPANNED_VALUES = 4_000_000  # of an axis that is given by start, stop and num
+POSITIONS = 10_000  # of a geometry
+LINE_BYTES = 16_777_216  # the line feed isn't counted
+FEED_BYTES = 1_073_741_824
+
+
+def is_coordinate(number: int) -> bool:
+    """Whether a number is a coordinate or a level."""
+    return -COORDINATE <= number <= COORDINATE
+
+
+def is_time(number: int) -> bool:
+    """Whether a number is a time, in seconds since 1970-01-01T00:00:00Z."""
+    return EARLIEST_TIME <= number <= LATEST_TIME
+
+
+def is_sample(number: int) -> bool:
+    """Whether a number is a sample."""
+    return -SAMPLE <= number <= SAMPLE

@@ -1,0 +1,107 @@
+"""Runs the programs that are compared: built ones, or by `rt try` without proof."""
+
+import os
+import re
+import subprocess
+import tempfile
+from pathlib import Path
+
+from edr import Ending
+from inputs.asks import Ask
+
+_CRATES = Path(__file__).resolve().parent.parent / "crates"
+_LENGTH_DIGITS = 8
+
+
+class NoAnswer(Exception):
+    """A program ended without answering all inputs."""
+
+
+# Readers: edr_bench answers many cases at a time
+
+
+Case = tuple[str, bytes]  # the mark of a reader, and a text
+
+
+def reader_answers(program: str | None, cases: list[Case]) -> list[bytes]:
+    """What `edr_bench answers` answers to some cases; by `rt try` where there is no built program."""
+    if program is None:
+        return _tried_reader_answers(cases)
+    done = subprocess.run([program, "answers"], input=_written(cases), capture_output=True)
+    return _cut_answers(done.stdout, len(cases), done.stderr)
+
+
+def _written(cases: list[Case]) -> bytes:
+    return b"".join(mark.encode() + b"%08d" % len(text) + text for mark, text in cases)
+
+
+def _cut_answers(output: bytes, count: int, errors: bytes) -> list[bytes]:
+    answers, at = [], 0
+    while at < len(output) and len(answers) < count:
+        length = int(output[at : at + _LENGTH_DIGITS])
+        at += _LENGTH_DIGITS
+        answers.append(output[at : at + length])
+        at += length + 1
+    if len(answers) != count:
+        raise NoAnswer(f"{len(answers)} answers to {count} cases: {errors[-400:].decode(errors='replace')}")
+    return answers
+
+
+_TRIED_AT_ONCE = 300  # `rt try` takes 1 MiB of output
+
+
+def _tried_reader_answers(cases: list[Case]) -> list[bytes]:
+    parts = [cases[at : at + _TRIED_AT_ONCE] for at in range(0, len(cases), _TRIED_AT_ONCE)]
+    with tempfile.TemporaryDirectory() as folder:
+        for number, part in enumerate(parts):
+            Path(folder, f"{number:06}").write_bytes(_written(part))
+        done = _try("edr_bench", folder, ["--", "answers"])
+    answers = []
+    for number, part in enumerate(parts):
+        head = b"== %06d\n" % number
+        at = done.stdout.find(head)
+        if at < 0:
+            raise NoAnswer(done.stderr[-400:].decode(errors="replace"))
+        answers += _cut_answers(done.stdout[at + len(head) :], len(part), done.stderr)
+    return answers
+
+
+def _try(crate: str, folder: str, words: list[str]) -> subprocess.CompletedProcess:
+    return subprocess.run(["rt", "try", "--cases", folder, *words], cwd=_CRATES / crate, capture_output=True)
+
+
+# The program edr: a process for each input
+
+
+def endings(program: str | None, asks: list[Ask]) -> list[Ending | None]:
+    """How `edr` ends for some words and inputs; by `rt try` where there is no built program, and then None where it can't tell."""
+    if program is None:
+        return _tried_endings(asks)
+    return [_ending(program, ask) for ask in asks]
+
+
+def _ending(program: str, ask: Ask) -> Ending:
+    done = subprocess.run([os.fsencode(program), *ask.words], input=ask.input, capture_output=True)
+    return Ending(done.returncode, done.stdout, done.stderr)
+
+
+def _tried_endings(asks: list[Ask]) -> list[Ending | None]:
+    with tempfile.TemporaryDirectory() as folder:
+        for number, ask in enumerate(asks):
+            # arguments are given one a line, and braces stand for the case's file
+            if _is_triable(ask):
+                Path(folder, f"{number:06}").write_bytes(ask.input)
+                Path(folder, f"{number:06}.args").write_bytes(b"".join(word + b"\n" for word in ask.words))
+        done = _try("edr", folder, [])
+    outputs = re.split(rb"^== ([0-9]{6})\n", done.stdout, flags=re.MULTILINE)[1:]
+    output_of = {int(number): output for number, output in zip(outputs[::2], outputs[1::2])}
+    lines = re.split(rb"^case=([0-9]{6}) run=ended status=([0-9]+).*\n", done.stderr, flags=re.MULTILINE)
+    found: list[Ending | None] = [None] * len(asks)
+    for errors, number, status in zip(lines[::3], lines[1::3], lines[2::3]):
+        place = int(number)
+        found[place] = Ending(int(status), output_of.get(place, b"").removesuffix(b"\n"), errors)
+    return found
+
+
+def _is_triable(ask: Ask) -> bool:
+    return all(b"\n" not in word and b"\r" not in word and b"{" not in word and word for word in ask.words) and bool(ask.words)
