@@ -29,7 +29,7 @@ def _days_in_year(year: int) -> int:
     return 366 if _is_leap(year) else 365
 
 
-# The day on which each of the years 0000 to 9999 begins, counted from 0000-01-01.
+# The day on which each of the years 0000 to 9999 begins, counted from 1 January 0000.
 _YEAR_BEGINS = [0, *accumulate(_days_in_year(year) for year in range(9999))]
 _DAY_OF_1970 = _YEAR_BEGINS[1970]
 

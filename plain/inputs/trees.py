@@ -32,7 +32,7 @@ _BROKEN_TEXTS = [
 _TEXTS = (
     "Coverage CoverageCollection Domain Grid Point PointSeries VerticalProfile MultiPoint Trajectory Polygon Section coverage "
     "NdArray TiledNdArray integer float string tuple polygon t x y z composite ProjectedCRS GeographicCRS VerticalCRS TemporalRS "
-    "Gregorian gregorian Julian en de temp wind grid 1 2024-01-01 2024-01-01T00:00:00Z 2024-01-01t00:00z 2023-02-29T00:00:00Z "
+    "Gregorian gregorian Julian en de temp wind grid 1 2024-06-19 2024-01-01T00:00:00Z 2024-01-01t00:00z 2023-02-29T00:00:00Z "
     "2016-12-31T23:59:60Z 0000-01-01T00:00:00+00:01 9999-12-31T23:59:59-00:01 2024-01-01T01:00:00+01:00"
 ).split() + ["", "a,b", "\x7f", "é", "x" * 128, "x" * 129, "é" * 64, "é" * 65, "\U0001f600", "a\nb", 'a"b\\c', "\x1f", "\x0b\x1b", "\x00"]
 KEYS = (
