@@ -86,10 +86,10 @@ def geometry_answer(text: bytes) -> str:
         return str(fault)
 
 
-def document_answer(text: bytes, short_axes: bool = True) -> str:
+def document_answer(text: bytes) -> str:
     """The written form of a document, or its fault."""
     try:
-        return write_document(read_document(text), short_axes)
+        return write_document(read_document(text))
     except CoverageFault as fault:
         return str(fault)
 

@@ -63,7 +63,6 @@ class Settings:
     seed: str
     edr: str | None
     bench: str | None
-    axes_as_lists: bool
 
 
 @dataclass(frozen=True)
@@ -122,14 +121,11 @@ def _compare_reads(settings: Settings, places: list[Place]) -> list[Result]:
     kinds = [(READERS | LARGE_READERS)[place.kind] for place in places]
     texts = [kind.make(place.draw(settings.seed)) for kind, place in zip(kinds, places)]
     found = reader_answers(settings.bench, [(kind.mark, text) for kind, text in zip(kinds, texts)])
-    return [_read_result(settings, *parts) for parts in zip(places, kinds, texts, found)]
+    return [_read_result(*parts) for parts in zip(places, kinds, texts, found)]
 
 
-def _read_result(settings: Settings, place: Place, kind: Kind, text: bytes, answer: bytes) -> Result:
-    if settings.axes_as_lists and kind.answer is answers.document_answer:
-        plain = answers.document_answer(text, short_axes=False)
-    else:
-        plain = kind.answer(text)
+def _read_result(place: Place, kind: Kind, text: bytes, answer: bytes) -> Result:
+    plain = kind.answer(text)
     return Result(place, repr(text), repr(plain.encode("utf-8")), repr(answer), _first_word(plain))
 
 
@@ -159,7 +155,6 @@ def parsed_words() -> argparse.Namespace:
     parser.add_argument("--count", type=int, default=1000, help="how many inputs of each kind")
     parser.add_argument("--kind", action="append", choices=["ask", *READERS, *LARGE_READERS], help="may be given several times")
     parser.add_argument("--only", type=int, help="compare the input of this number alone, and print it whole")
-    parser.add_argument("--axes-as-lists", action="store_true", help="the program writes regular axes as lists")
     parser.add_argument("--at-once", type=int, default=500, help="how many inputs a process takes at a time")
     parser.add_argument("--processes", type=int, default=2)
     return parser.parse_args()
@@ -200,7 +195,7 @@ def print_counts(results: list[Result]) -> None:
 
 def main() -> int:
     words = parsed_words()
-    settings = Settings(words.seed, words.edr, words.bench, words.axes_as_lists)
+    settings = Settings(words.seed, words.edr, words.bench)
     results = []
     with ProcessPoolExecutor(1 if words.tried else words.processes) as pool:
         for found in pool.map(partial(compare, settings), jobs_of(words, kinds_of(words))):

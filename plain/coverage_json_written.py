@@ -6,19 +6,19 @@ from limits import SPANNED_VALUES
 from times import write_instant
 
 
-def write_document(document: Document, short_axes: bool = True) -> str:
-    """The text of a document. Where `short_axes` is false, regular axes are lists as all others."""
-    trees = [coverage_tree(coverage, short_axes) for coverage in document.coverages]
+def write_document(document: Document) -> str:
+    """The text of a document."""
+    trees = [coverage_tree(coverage) for coverage in document.coverages]
     if document.is_collection:
         return write_json({"type": "CoverageCollection", "coverages": trees})
     return write_json(trees[0])
 
 
-def coverage_tree(coverage: Coverage, short_axes: bool = True) -> dict:
+def coverage_tree(coverage: Coverage) -> dict:
     """The tree of a coverage."""
     tree = {
         "type": "Coverage",
-        "domain": _domain_tree(coverage.domain, coverage.referencing, short_axes),
+        "domain": _domain_tree(coverage.domain, coverage.referencing),
         "parameters": {parameter.id: parameter_tree(parameter) for parameter in coverage.parameters},
         "ranges": {
             parameter.id: _range_tree(coverage.domain, values)
@@ -30,16 +30,16 @@ def coverage_tree(coverage: Coverage, short_axes: bool = True) -> dict:
     return tree
 
 
-def _domain_tree(domain: Domain, referencing: Referencing, short_axes: bool) -> dict:
+def _domain_tree(domain: Domain, referencing: Referencing) -> dict:
     return {
         "type": "Domain",
         "domainType": domain.type,
-        "axes": {name: _axis_tree(domain, name, short_axes) for name in domain.axes},
+        "axes": {name: _axis_tree(domain, name) for name in domain.axes},
         "referencing": _referencing_tree(domain, referencing),
     }
 
 
-def _axis_tree(domain: Domain, name: str, short_axes: bool) -> dict:
+def _axis_tree(domain: Domain, name: str) -> dict:
     values = domain.axes[name]
     if name == COMPOSITE:
         return {
@@ -47,7 +47,7 @@ def _axis_tree(domain: Domain, name: str, short_axes: bool) -> dict:
             "coordinates": list(domain.coordinates),
             "values": [[_coordinate(*pair) for pair in zip(domain.coordinates, numbers)] for numbers in values],
         }
-    if name != "t" and short_axes and _is_regular(values):
+    if name != "t" and _is_regular(values):
         return {"start": values[0], "stop": values[-1], "num": len(values)}
     return {"values": [_coordinate(name, value) for value in values]}
 
