@@ -1,19 +1,16 @@
 //! What the commands print.
-use crate::notation::Notation;
 use edr_base::OutOfMemory;
 use edr_wkt::WktFault;
 use std::alloc::AllocError;
 use std::fmt;
 
 /// What a command that was done prints.
-#[derive(Drop)]
+#[derive(Clone, Copy, Debug, PartialEq, Eq)]
 pub enum Answer {
     /// How many positions a geometry has, how many samples a grid, how many bytes a text, or how many members an object.
     Count(usize),
     /// Why a text is no geometry.
     NoGeometry(WktFault),
-    /// What the readers answer to cases.
-    Notation(Notation),
 }
 
 /// Why a command wasn't done.
@@ -46,7 +43,6 @@ impl fmt::Display for Answer {
         match self {
             Answer::Count(count) => write!(f, "{count}"),
             Answer::NoGeometry(fault) => write!(f, "{fault:?}"),
-            Answer::Notation(_) => Ok(()),
         }
     }
 }
@@ -57,7 +53,7 @@ impl fmt::Display for BenchFault {
             BenchFault::Usage => {
                 write!(
                     f,
-                    "usage: edr_bench wkt | make COUNT | write COUNT ROUNDS | tree COUNT ROUNDS | read ROUNDS | parse ROUNDS | answers"
+                    "usage: edr_bench wkt | make COUNT | write COUNT ROUNDS | tree COUNT ROUNDS | read ROUNDS | parse ROUNDS"
                 )
             }
             BenchFault::Input => write!(f, "input not read"),

@@ -16,8 +16,6 @@ pub enum Command {
     Read(u32),
     /// Reads a tree of JSON so many times.
     Parse(u32),
-    /// Answers cases.
-    Answers,
 }
 
 fn rows_of(word: &String) -> Option<Rows> {
@@ -35,7 +33,6 @@ fn rounds_of(word: &String) -> Option<u32> {
 pub fn command_of(words: &[String]) -> Option<Command> {
     match words {
         [name] if name.as_str() == "wkt" => Some(Command::Wkt),
-        [name] if name.as_str() == "answers" => Some(Command::Answers),
         [name, count] if name.as_str() == "make" => Some(Command::Make(rows_of(count)?)),
         [name, count, rounds] if name.as_str() == "write" => {
             Some(Command::Write(rows_of(count)?, rounds_of(rounds)?))

@@ -8,26 +8,17 @@
 //! - `read ROUNDS` reads standard input as a document of CoverageJSON so many times, and prints the number of its values, or
 //!   of its coverages.
 //! - `parse ROUNDS` reads it as a tree of JSON so many times, and prints the number of its members.
-//! - `answers` reads cases from standard input, and prints what the readers answer to each, to be compared with another
-//!   program's answers. A case is the mark of a reader (`n` number, `i` instant, `t` times, `l` levels, `w` well-known text,
-//!   `d` document, `f` feed), eight digits of a length, and so many bytes. An answer is eight digits of its length, so many
-//!   bytes, and a line feed.
 #![tactic(auto)]
 
-mod answering;
 mod answers;
-mod cases;
 mod commands;
-mod editions;
 mod grids;
-mod notation;
 mod running;
 
-use answers::{Answer, BenchFault};
+use answers::BenchFault;
 use commands::command_of;
 use edr_base::RealSource;
 use running::carry_out;
-use std::io::Write;
 use std::process::ExitCode;
 use std::rt::HostRuntime;
 use std::{env, io};
@@ -41,13 +32,6 @@ fn words_of(rt: &HostRuntime) -> io::Result<Vec<String>> {
     Ok(words)
 }
 
-fn print_answer(rt: &HostRuntime, answer: &Answer) -> io::Result<()> {
-    match answer {
-        Answer::Notation(notation) => rt.stdout().write_all(notation.bytes()),
-        _ => println!(rt; "{answer}"),
-    }
-}
-
 fn main(rt: HostRuntime) -> ExitCode {
     let mut input = RealSource::of(rt.stdin());
     let done = match words_of(&rt) {
@@ -58,7 +42,7 @@ fn main(rt: HostRuntime) -> ExitCode {
         Err(_) => Err(BenchFault::OutOfMemory),
     };
     match done {
-        Ok(answer) => match print_answer(&rt, &answer) {
+        Ok(answer) => match println!(rt; "{answer}") {
             Ok(()) => ExitCode::SUCCESS,
             Err(_) => ExitCode::FAILURE,
         },

@@ -1,7 +1,6 @@
 //! What each command does.
 ghost use Rattle.covjson_value.specs.Coverages.{IsValidDocument};
 
-use crate::answering::answers_of;
 use crate::answers::{Answer, BenchFault};
 use crate::commands::Command;
 use crate::grids::{Rows, grid_of};
@@ -140,7 +139,7 @@ fn parse_rounds(alloc: Global, text: &[u8], rounds: u32) -> Result<usize, BenchF
     Ok(count)
 }
 
-/// Does what a command asks for. Only `wkt`, `read`, `parse` and `answers` read the input.
+/// Does what a command asks for. Only `wkt`, `read` and `parse` read the input.
 pub fn carry_out<S: Source>(
     alloc: Global,
     command: Command,
@@ -158,10 +157,6 @@ pub fn carry_out<S: Source>(
         Command::Parse(rounds) => {
             let text = text_of(alloc, input)?;
             Ok(Answer::Count(parse_rounds(alloc, &text, rounds)?))
-        }
-        Command::Answers => {
-            let text = text_of(alloc, input)?;
-            Ok(Answer::Notation(answers_of(alloc, &text)?))
         }
     }
 }
