@@ -1,10 +1,10 @@
 """Compares the proved program with the plain one on random inputs.
 
-    python3 plain/compare.py --edr crates/edr/out/edr --bench crates/edr_bench/out/edr_bench --seed 1 --count 1000
+    python3 plain/compare.py --edr crates/edr/out/edr --seed 1 --count 1000
 
-`--edr` names the program, which is asked by its words and its input (the kind `ask`); `--bench` names `edr_bench`, whose
-command `answers` gives what the readers answer (all other kinds). With `--tried` in place of both, `rt try` runs the crates
-of this repository without proof. Each kind gets `--count` inputs, which the seed, the kind and their number decide. Every
+`--edr` names the program, which is asked by its words and its input (the kind `ask`); `--bench` names a program
+whose command `answers` gives what the readers answer (all other kinds). With `--tried` in place of `--edr`, `rt try` runs
+the crate `edr` without proof. Each kind gets `--count` inputs, which the seed, the kind and their number decide. Every
 difference is printed with what reproduces it; the last line is `N agreed, M differ`, and the status is 1 where any differ.
 """
 
@@ -149,8 +149,8 @@ def parsed_words() -> argparse.Namespace:
     """The words of the command."""
     parser = argparse.ArgumentParser(description=__doc__, formatter_class=argparse.RawDescriptionHelpFormatter)
     parser.add_argument("--edr", help="the program edr")
-    parser.add_argument("--bench", help="the program edr_bench")
-    parser.add_argument("--tried", action="store_true", help="run the crates by rt try, in one process")
+    parser.add_argument("--bench", help="a program whose command answers gives what the readers answer")
+    parser.add_argument("--tried", action="store_true", help="run the crate edr by rt try, in one process")
     parser.add_argument("--seed", required=True)
     parser.add_argument("--count", type=int, default=1000, help="how many inputs of each kind")
     parser.add_argument("--kind", action="append", choices=["ask", *READERS, *LARGE_READERS], help="may be given several times")
@@ -165,11 +165,11 @@ def kinds_of(words: argparse.Namespace) -> list[str]:
     if words.kind:
         return words.kind
     asks = ["ask"] if words.edr or words.tried else []
-    return asks + (list(READERS) if words.bench or words.tried else [])
+    return asks + (list(READERS) if words.bench else [])
 
 
 def jobs_of(words: argparse.Namespace, kinds: list[str]) -> list[list[Place]]:
-    """The inputs that are asked for, cut into jobs. `rt try` builds for each job, so it gets one for all readers."""
+    """The inputs that are asked for, cut into jobs. `rt try` builds for each job, so it gets one for all asks."""
     numbers = range(words.count) if words.only is None else [words.only]
     jobs = []
     for kind in kinds:

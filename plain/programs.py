@@ -17,16 +17,17 @@ class NoAnswer(Exception):
     """A program ended without answering all inputs."""
 
 
-# Readers: edr_bench answers many cases at a time
+# Readers: a program that answers many cases at a time
 
 
 Case = tuple[str, bytes]  # the mark of a reader, and a text
 
 
-def reader_answers(program: str | None, cases: list[Case]) -> list[bytes]:
-    """What `edr_bench answers` answers to some cases; by `rt try` where there is no built program."""
-    if program is None:
-        return _tried_reader_answers(cases)
+def reader_answers(program: str, cases: list[Case]) -> list[bytes]:
+    """What the program answers to some cases.
+
+    It reads a mark, eight digits of a length and a text for each, and writes eight digits, an answer and a line end.
+    """
     done = subprocess.run([program, "answers"], input=_written(cases), capture_output=True)
     return _cut_answers(done.stdout, len(cases), done.stderr)
 
@@ -44,25 +45,6 @@ def _cut_answers(output: bytes, count: int, errors: bytes) -> list[bytes]:
         at += length + 1
     if len(answers) != count:
         raise NoAnswer(f"{len(answers)} answers to {count} cases: {errors[-400:].decode(errors='replace')}")
-    return answers
-
-
-_TRIED_AT_ONCE = 300  # `rt try` takes 1 MiB of output
-
-
-def _tried_reader_answers(cases: list[Case]) -> list[bytes]:
-    parts = [cases[at : at + _TRIED_AT_ONCE] for at in range(0, len(cases), _TRIED_AT_ONCE)]
-    with tempfile.TemporaryDirectory() as folder:
-        for number, part in enumerate(parts):
-            Path(folder, f"{number:06}").write_bytes(_written(part))
-        done = _try("edr_bench", folder, ["--", "answers"])
-    answers = []
-    for number, part in enumerate(parts):
-        head = b"== %06d\n" % number
-        at = done.stdout.find(head)
-        if at < 0:
-            raise NoAnswer(done.stderr[-400:].decode(errors="replace"))
-        answers += _cut_answers(done.stdout[at + len(head) :], len(part), done.stderr)
     return answers
 
 
