@@ -1,0 +1,62 @@
+-- How tiles are kept: for private clauses.
+use Rattle.std.specs.Prelude.{◌≡◌, ℕ, ℤ, ◌+◌, ◌*◌, ◌-◌, ◌/◌, ◌%◌, ◌^◌, ◌<◌, min, List, [], length, map, Option, None}
+use Rattle.std.specs.List.{slice_index_or, range_with_len, flat_map}
+use Rattle.edr_chunk.specs.declared.shapes.GridShape.{GridShape}
+use Rattle.edr_chunk.specs.declared.shapes.GridPlace.{GridPlace}
+use Rattle.edr_chunk.specs.Places.{Within, count, number, IsShape}
+use Rattle.edr_chunk.specs.AllPlaces.{at}
+use Rattle.edr_chunk.specs.Tiles.{with_parameters, tile_place, tiles, tile_of}
+
+-- one parameter of a shape, and a shape with one more
+abbrev pub one_of : GridShape → GridShape
+one_of shape = with_parameters shape 1
+
+abbrev pub one_more : GridShape → GridShape
+one_more shape = with_parameters shape (shape.parameters + 1)
+
+-- the height and the width of a tile
+abbrev pub height_at : GridShape → GridPlace → ℕ
+height_at shape tile = min (shape.rows - tile.y * 64) 64
+
+abbrev pub width_at : GridShape → GridPlace → ℕ
+width_at shape tile = min (shape.columns - tile.x * 64) 64
+
+-- the value so many columns behind a place
+abbrev pub row_value : GridShape → List (Option ℤ) → GridPlace → ℕ → Option ℤ
+row_value shape values place column =
+    slice_index_or values (number shape (at place.parameter place.t place.z place.y (place.x + column))) None
+
+-- the first place of a row of a tile
+abbrev pub row_start : GridPlace → ℕ → GridPlace
+row_start tile row = at tile.parameter tile.t tile.z (tile.y * 64 + row) (tile.x * 64)
+
+-- the values of a tile, row by row
+abbrev pub cut_values : GridShape → List (Option ℤ) → GridPlace → List (Option ℤ)
+cut_values shape values tile =
+    flat_map (λ row. map (row_value shape values (row_start tile row)) (range_with_len 0 (width_at shape tile)))
+    (range_with_len 0 (height_at shape tile))
+
+-- where a place's value stands in its tile, and what kept tiles have at a place
+abbrev pub inner : GridShape → GridPlace → ℕ
+inner shape place = (place.y % 64) * (min (shape.columns - place.x / 64 * 64) 64) + place.x % 64
+
+abbrev pub stored : GridShape → List (List (Option ℤ)) → GridPlace → Option ℤ
+stored shape kept place = slice_index_or (slice_index_or kept (tile_of shape place) []) (inner shape place) None
+
+-- tiles are kept as a shape asks, which may have no parameter yet
+pub record AreTiles (shape : GridShape) (kept : List (List (Option ℤ))) : Type 0 where
+  pub one : IsShape (one_of shape)
+  pub fits : count shape < 2 ^ 64
+  pub many : length kept ≡ tiles shape
+  pub inside : (place : GridPlace) → Within shape place → inner shape place < length (slice_index_or kept (tile_of shape place) [])
+
+-- and it has one
+pub record IsPacked (shape : GridShape) (kept : List (List (Option ℤ))) : Type 0 where
+  pub sides : IsShape shape
+  pub stand : AreTiles shape kept
+
+-- the first tiles have the values
+pub record Filled (shape : GridShape) (values : List (Option ℤ)) (kept : List (List (Option ℤ))) (filled : ℕ) : Type 0 where
+  pub many : length kept ≡ filled
+  pub each : (place : GridPlace) → Within shape place → tile_of shape place < filled
+      → slice_index_or kept (tile_of shape place) [] ≡ cut_values shape values (tile_place place)

@@ -1,0 +1,159 @@
+//! A list of samples that is kept in as few bytes a sample as its values allow.
+ghost use Rattle.std.specs.Prelude.{◌≡◌, ◌<◌, IfOk, None, length, pos, ◌+ℤ◌};
+ghost use Rattle.std.specs.List.{slice_index_or};
+ghost use Rattle.edr_chunk.specs.Samples.{IsSample, AreSamples};
+ghost use Rattle.edr_chunk.specs.Codes.{IsFloor, AreBetween};
+ghost use Rattle.edr_chunk.specs.KeptCodes.{samples};
+
+use crate::codes::{codes_of, sample_in, samples_of};
+use crate::spans::{Span, are_all, span_of};
+use edr_base::OutOfMemory;
+use std::alloc::Global;
+use std::marker::Model;
+
+// The codes of a list: one sample that each is, or a code each, as wide as the span of the samples asks.
+#[derive(Drop)]
+enum Codes {
+    Same { value: Option<i64>, count: usize },
+    Bytes(Vec<u8>),
+    Pairs(Vec<u16>),
+    Triples(Vec<[u8; 3]>),
+    Words(Vec<u32>),
+    Whole(Vec<i64>),
+}
+
+/// A list of samples, packed.
+#[derive(Drop)]
+pub struct Packed {
+    floor: i64,
+    codes: Codes,
+}
+
+impl Model for Packed {
+    ghost use Rattle.std.specs.Prelude.{ℤ, Option, List};
+    ghost use Rattle.edr_chunk.specs.Codes.{IsFloor};
+    ghost use Rattle.edr_chunk.specs.KeptCodes.{samples};
+
+    ghost Value = { List (Option ℤ) };
+
+    ghost view = { λ p. samples p.floor p.codes };
+
+    ghost invariant = { λ p. IsFloor p.floor };
+}
+
+impl Packed {
+    #[tactic(auto, using(crate::proofs::SampleLists::replicated))]
+    /// A list of samples, packed, or want of memory. A list of equal samples takes no memory of its own. Other lists take
+    /// 1, 2, 3, 4 or 8 bytes a sample, missing ones too: the least in which each sample and one code more can be told apart.
+    pub fn pack(alloc: Global, values: &[Option<i64>]) -> Result<Packed, OutOfMemory>
+        requires { AreSamples values.now }
+        ensures { IfOk result (λ packed. packed ≡ values.now) }
+    {
+        match values.first() {
+            Some(first) if are_all(values, *first) => Ok(Packed {
+                floor: 0,
+                codes: Codes::Same {
+                    value: *first,
+                    count: values.len(),
+                },
+            }),
+            _ => Packed::coded(alloc, values, span_of(values)),
+        }
+    }
+
+    // A list of samples as codes of one width.
+    fn coded(alloc: Global, values: &[Option<i64>], span: Span) -> Result<Packed, OutOfMemory>
+        requires samples { AreSamples values.now }
+        requires least { IsSample span.least }
+        requires greatest { IsSample span.greatest }
+        requires between { AreBetween span.least span.greatest values.now }
+        ensures { IfOk result (λ packed. packed ≡ values.now) }
+    {
+        let floor = span.least - 1;
+        let codes = codes_from(alloc, values, floor, span.greatest)?;
+        Ok(Packed { floor, codes })
+    }
+
+    /// The list, or want of memory.
+    pub fn unpack(&self, alloc: Global) -> Result<Vec<Option<i64>>, OutOfMemory>
+        ensures { IfOk result (λ values. values.items ≡ self.now) }
+    {
+        match &self.codes {
+            Codes::Same { value, count } => Ok(vec![in alloc; *value; *count]?),
+            Codes::Bytes(codes) => samples_of(alloc, codes, self.floor),
+            Codes::Pairs(codes) => samples_of(alloc, codes, self.floor),
+            Codes::Triples(codes) => samples_of(alloc, codes, self.floor),
+            Codes::Words(codes) => samples_of(alloc, codes, self.floor),
+            Codes::Whole(numbers) => samples_of(alloc, numbers, self.floor),
+        }
+    }
+
+    /// The list again, as it is packed, or want of memory.
+    pub(crate) fn copy(&self, alloc: Global) -> Result<Packed, OutOfMemory>
+        ensures { IfOk result (λ packed. packed ≡ self.now) }
+    {
+        Ok(Packed {
+            floor: self.floor,
+            codes: copy_codes(alloc, &self.codes, self.floor)?,
+        })
+    }
+
+    /// The sample at a place of the list. It takes no memory.
+    pub(crate) fn sample_at(&self, place: usize) -> Option<i64>
+        requires { place < length self.now }
+        ensures { result ≡ slice_index_or self.now place None }
+    {
+        match &self.codes {
+            Codes::Same { value, count: _ } => *value,
+            Codes::Bytes(codes) => sample_in(codes, place, self.floor),
+            Codes::Pairs(codes) => sample_in(codes, place, self.floor),
+            Codes::Triples(codes) => sample_in(codes, place, self.floor),
+            Codes::Words(codes) => sample_in(codes, place, self.floor),
+            Codes::Whole(numbers) => sample_in(numbers, place, self.floor),
+        }
+    }
+}
+
+// The same codes again, or want of memory.
+fn copy_codes(alloc: Global, codes: &Codes, floor: i64) -> Result<Codes, OutOfMemory>
+    ensures { IfOk result (λ copy. samples floor copy ≡ samples floor codes.now) }
+{
+    Ok(match codes {
+        Codes::Same { value, count } => Codes::Same {
+            value: *value,
+            count: *count,
+        },
+        Codes::Bytes(codes) => Codes::Bytes(Vec::from_slice(alloc, codes)?),
+        Codes::Pairs(codes) => Codes::Pairs(Vec::from_slice(alloc, codes)?),
+        Codes::Triples(codes) => Codes::Triples(Vec::from_slice(alloc, codes)?),
+        Codes::Words(codes) => Codes::Words(Vec::from_slice(alloc, codes)?),
+        Codes::Whole(numbers) => Codes::Whole(Vec::from_slice(alloc, numbers)?),
+    })
+}
+
+// The codes of samples between a floor and the greatest of them.
+fn codes_from(
+    alloc: Global,
+    values: &[Option<i64>],
+    floor: i64,
+    greatest: i64,
+) -> Result<Codes, OutOfMemory>
+    requires samples { AreSamples values.now }
+    requires floor { IsFloor floor }
+    requires greatest { IsSample greatest }
+    requires above { AreBetween (floor +ℤ pos 1) greatest values.now }
+    ensures { IfOk result (λ codes. samples floor codes ≡ values.now) }
+{
+    let most = greatest - floor;
+    if most <= u8::MAX as i64 {
+        Ok(Codes::Bytes(codes_of(alloc, values, floor)?))
+    } else if most <= u16::MAX as i64 {
+        Ok(Codes::Pairs(codes_of(alloc, values, floor)?))
+    } else if most <= 16_777_215 {
+        Ok(Codes::Triples(codes_of(alloc, values, floor)?))
+    } else if most <= u32::MAX as i64 {
+        Ok(Codes::Words(codes_of(alloc, values, floor)?))
+    } else {
+        Ok(Codes::Whole(codes_of(alloc, values, floor)?))
+    }
+}

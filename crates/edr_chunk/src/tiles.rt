@@ -1,0 +1,50 @@
+//! A tile that was opened.
+ghost use Rattle.std.specs.Prelude.{◌≡◌, ◌-◌, ◌*◌, min};
+ghost use Rattle.edr_chunk.specs.Places.{Within};
+ghost use Rattle.edr_chunk.specs.Tiles.{tile_shape, value_in, lies_in};
+
+use crate::{GridPlace, GridShape, Packed};
+use std::marker::Model;
+
+/// The samples of one tile: up to 64 rows and 64 columns of a grid, of one parameter, time and level. They stay packed, so a
+/// tile takes 1, 2, 3, 4 or 8 bytes a sample, or none where all are equal.
+#[derive(Drop)]
+pub struct Tile {
+    row: u32,
+    column: u32,
+    width: u32,
+    samples: Packed,
+}
+
+impl Model for Tile {
+    ghost use Rattle.edr_chunk.specs.Tiles.{TileValue};
+
+    ghost Value = { TileValue };
+
+    ghost view = { λ t. record { row = t.row; column = t.column; width = t.width; values = t.samples } };
+}
+
+impl Tile {
+    /// The sample at a row and a column of the grid, and None where it is missing. It takes no memory.
+    pub fn get(&self, row: u32, column: u32) -> Option<i64>
+        requires { lies_in self.now row column }
+        ensures { result ≡ value_in self.now row column }
+    {
+        let place = (row - self.row) as u64 * self.width as u64 + (column - self.column) as u64;
+        self.samples.sample_at(place as usize)
+    }
+}
+
+/// The tile at a place among the tiles of a shape. It takes no memory.
+pub fn tile_from(shape: GridShape, corner: GridPlace, samples: Packed) -> Tile
+    requires { Within (tile_shape shape) corner }
+    ensures { result ≡ record { row = corner.y * 64; column = corner.x * 64; width = min (shape.columns - corner.x * 64) 64; values = samples } }
+{
+    let column = corner.x * 64;
+    Tile {
+        row: corner.y * 64,
+        column,
+        width: (shape.columns - column).min(64),
+        samples,
+    }
+}
