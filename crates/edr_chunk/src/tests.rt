@@ -1,5 +1,13 @@
-use crate::{GridPlace, GridShape};
+ghost use Rattle.std.specs.Prelude.{◌≡◌, ◌<◌, ◌+◌, ◌^◌, IfOk, length};
+ghost use Rattle.edr_chunk.specs.Samples.{HasSample, AreSamples};
+ghost use Rattle.edr_chunk.specs.Places.{count};
+
+use crate::tile_numbers::place_of;
+use crate::{GridPacker, GridPlace, GridShape, Packed, PackedGrid, Reads, open_packed};
+use edr_base::{OutOfMemory, SAMPLE_LIMIT};
+use std::alloc::Global;
 use std::rt::HostRuntime;
+use std::test::Fail;
 
 #[test]
 fn values_are_numbered_with_x_fastest(rt: HostRuntime) {
@@ -21,4 +29,159 @@ fn values_are_numbered_with_x_fastest(rt: HostRuntime) {
         assert!(rt; shape.number(place) == n as u64);
         assert!(rt; shape.node_number(place) == (n % 120) as u64);
     }
+}
+
+// A sample as it is written; what isn't one is missing.
+fn sample_of(word: &str) -> Option<i64>
+    ensures { HasSample result }
+{
+    match word.parse::<i64>() {
+        Ok(number) if number.unsigned_abs() <= SAMPLE_LIMIT => Some(number),
+        _ => None,
+    }
+}
+
+fn samples_of(alloc: Global, line: &str) -> Result<Vec<Option<i64>>, OutOfMemory>
+    ensures { IfOk result (λ samples. AreSamples samples.items) }
+{
+    let mut samples = Vec::new(alloc);
+    for word in line.split(' ') {
+        if !word.is_empty() {
+            samples.push(sample_of(word))?;
+        }
+    }
+    Ok(samples)
+}
+
+// A mixed list, the empty one, equal ones, and the last span of each width with the first of the next.
+const LISTS: &str = "5 null -3 9007199254740991
+
+7 7 7
+null null
+-9007199254740991 9007199254740991
+0 null 254
+0 null 255
+-1 null 65533
+-1 null 65534
+0 null 16777214
+0 null 16777215
+0 null 4294967294
+0 null 4294967295";
+
+#[test]
+fn lists_come_back(rt: HostRuntime) -> Result<(), Fail> {
+    let mut reads = Reads::new(rt.alloc());
+    let mut number = 0;
+    for line in LISTS.lines() {
+        let samples = samples_of(rt.alloc(), line)?;
+        let packed = Packed::pack(rt.alloc(), &samples)?;
+        assert!(rt; packed.unpack(rt.alloc())?.as_slice() == samples.as_slice());
+        let opened = open_packed(rt.alloc(), &packed, number, &mut reads)?;
+        assert!(rt; opened.as_slice() == samples.as_slice());
+        number = number.wrapping_add(1);
+    }
+    assert!(rt; reads.numbers() == [0, 1, 2, 3, 4, 5, 6, 7, 8, 9, 10, 11, 12].as_slice());
+    Ok(())
+}
+
+const SQUARE: GridShape = GridShape {
+    parameters: 1,
+    times: 1,
+    levels: 1,
+    rows: 65,
+    columns: 65,
+};
+
+const SEVERAL: GridShape = GridShape {
+    parameters: 2,
+    times: 2,
+    levels: 2,
+    rows: 65,
+    columns: 66,
+};
+
+// A value for each number, some of them missing.
+fn sample_at(number: u32) -> Option<i64>
+    ensures { HasSample result }
+{
+    if number % 11 == 10 {
+        return None;
+    }
+    Some(number as i64 * 3 - 5_000)
+}
+
+fn samples_from(alloc: Global, first: u32, count: u32) -> Result<Vec<Option<i64>>, OutOfMemory>
+    requires { first + count < 2 ^ 32 }
+    ensures samples { IfOk result (λ samples. AreSamples samples.items) }
+    ensures count { IfOk result (λ samples. length samples.items ≡ count) }
+{
+    let mut samples = Vec::new(alloc);
+    for number in 0..count {
+        samples.push(sample_at(first + number))?;
+    }
+    Ok(samples)
+}
+
+// The value of a number, read from its tile.
+fn value_at(
+    alloc: Global,
+    grid: &PackedGrid,
+    number: u64,
+    reads: &mut Reads,
+) -> Result<Option<i64>, OutOfMemory>
+    requires { number < count grid.now.shape }
+{
+    let place = place_of(grid.shape(), number);
+    let tile = grid.open(alloc, grid.tile_of(place), reads)?;
+    Ok(tile.get(place.y, place.x))
+}
+
+// Whether each 17th value of a grid, read from its tile, is that of a list: some of each row and of each column.
+fn has_many(alloc: Global, grid: &PackedGrid, samples: &[Option<i64>]) -> Result<bool, OutOfMemory>
+    requires { length samples.now ≡ count grid.now.shape }
+{
+    let mut reads = Reads::new(alloc);
+    for step in 0..samples.len() / 17 {
+        let number = step * 17;
+        if value_at(alloc, grid, number as u64, &mut reads)? != samples[number] {
+            return Ok(false);
+        }
+    }
+    Ok(reads.numbers().len() == samples.len() / 17)
+}
+
+#[test]
+fn tiles_are_numbered_row_by_row(rt: HostRuntime) -> Result<(), Fail> {
+    let samples = samples_from(rt.alloc(), 0, 4_225)?;
+    let grid = PackedGrid::pack(rt.alloc(), SQUARE, &samples)?;
+    let below = GridPlace {
+        parameter: 0,
+        t: 0,
+        z: 0,
+        y: 64,
+        x: 0,
+    };
+    let mut reads = Reads::new(rt.alloc());
+    assert!(rt; grid.tiles() == 4);
+    assert!(rt; grid.tile_of(below) == 2);
+    assert!(rt; value_at(rt.alloc(), &grid, 4_160, &mut reads)? == Some(7_480));
+    assert!(rt; value_at(rt.alloc(), &grid, 4_224, &mut reads)? == Some(7_672));
+    assert!(rt; reads.numbers() == [2, 3].as_slice());
+    assert!(rt; has_many(rt.alloc(), &grid, &samples)?);
+    Ok(())
+}
+
+#[test]
+fn parameters_are_packed_in_turn(rt: HostRuntime) -> Result<(), Fail> {
+    let samples = samples_from(rt.alloc(), 0, 34_320)?;
+    let grid = PackedGrid::pack(rt.alloc(), SEVERAL, &samples)?;
+    assert!(rt; grid.tiles() == 32);
+    assert!(rt; has_many(rt.alloc(), &grid, &samples)?);
+    let mut packer = GridPacker::new(rt.alloc(), SEVERAL);
+    packer.add(rt.alloc(), &samples_from(rt.alloc(), 0, 17_160)?)?;
+    packer.add(rt.alloc(), &samples_from(rt.alloc(), 17_160, 17_160)?)?;
+    let same = packer.finish();
+    assert!(rt; same.shape() == SEVERAL);
+    assert!(rt; has_many(rt.alloc(), &same, &samples)?);
+    Ok(())
 }
