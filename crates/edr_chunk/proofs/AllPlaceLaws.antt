@@ -1,5 +1,5 @@
 -- All places against the places within a shape.
-use Rattle.std.proofs.Common.{◌≡◌, ℕ, zero, suc, ◌+◌, ◌*◌, ◌<◌, ◌≤◌, Bool, true, false, List, [], ◌∷◌, ◌++◌, All, length, get_or, refl, ap, sym, ◌∙◌, inl, inr, arith}
+use Rattle.std.proofs.Common.{◌≡◌, ℕ, zero, suc, ◌+◌, ◌*◌, ◌<◌, ◌≤◌, Bool, true, false, List, [], ◌∷◌, All, length, get_or, refl, ap, sym, ◌∙◌, inl, inr, arith}
 use Rattle.std.specs.Prelude.{map, ◌||◌, ◌⊎◌}
 use Rattle.std.specs.List.{range_with_len, flat_map, list_any}
 use Rattle.std.proofs.Math.Nat.{le-mul_of_pos_right}
@@ -11,10 +11,10 @@ use Rattle.std.proofs.lemmas.List.Elements.{All-nil, All-append, All-cons}
 use Rattle.edr_base.specs.Limits.{node_limit}
 use Rattle.edr_chunk.specs.declared.shapes.GridShape.{GridShape}
 use Rattle.edr_chunk.specs.declared.shapes.GridPlace.{GridPlace}
-use Rattle.edr_chunk.specs.Places.{Within, IsShape, nodes, count, number}
+use Rattle.edr_chunk.specs.Places.{Within, IsShape, count, number}
 use Rattle.edr_chunk.specs.AllPlaces.{at, places}
 use Rattle.edr_chunk.specs.PlaceLaws.{number-below, number-once}
-use Rattle.edr_chunk.specs.Tiles.{tiles_along, tile_shape, tile_place}
+use Rattle.edr_chunk.specs.Tiles.{tile_shape, tile_place}
 use Rattle.edr_chunk.specs.LawsOfPlaces.{Found, PlacesAreListed, TilesAreNumbered, SidesAreSmall}
 use Rattle.edr_chunk.proofs.PlaceNumbers.{numbered, read_place, tile_within, tiles_le, along_le, nodes_le}
 

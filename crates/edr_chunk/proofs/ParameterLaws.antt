@@ -1,14 +1,14 @@
 -- The tiles of one parameter more stand behind those that were kept.
-use Rattle.std.proofs.Common.{◌≡◌, ℕ, suc, ◌+◌, ◌*◌, ◌^◌, ◌<◌, ◌≤◌, List, [], ◌∷◌, ◌++◌, ap, sym, ◌∙◌, subst, refl, arith, Option, None, length, get_or, inl, inr, length-append, append-nil, take, drop}
+use Rattle.std.proofs.Common.{◌≡◌, ℕ, ◌+◌, ◌*◌, ◌^◌, ◌<◌, ◌≤◌, List, [], ◌++◌, ap, sym, ◌∙◌, subst, refl, arith, Option, None, length, get_or, inl, inr, length-append, append-nil, take, drop}
 use Rattle.std.specs.Prelude.{map, ℤ}
 use Rattle.std.specs.List.{range_with_len, flat_map}
 use Rattle.std.proofs.lemmas.Bool.{cases_lt}
 use Rattle.std.proofs.Math.Nat.{mul-le-mul_right}
 use Rattle.std.proofs.Math.Seq.{take-add}
-use Rattle.std.proofs.lemmas.List.{get_or_append_left, get_or-append-add, map-append}
+use Rattle.std.proofs.lemmas.List.{get_or_append_left, get_or-append-add}
 use Rattle.edr_chunk.specs.declared.shapes.GridShape.{GridShape}
 use Rattle.edr_chunk.specs.declared.shapes.GridPlace.{GridPlace}
-use Rattle.edr_chunk.specs.Places.{number, nodes, node_number, count, Within, IsShape}
+use Rattle.edr_chunk.specs.Places.{nodes, node_number, count, Within, IsShape}
 use Rattle.edr_chunk.specs.AllPlaces.{at, places}
 use Rattle.edr_chunk.specs.PlaceLaws.{number-below, number-by_node}
 use Rattle.edr_chunk.specs.Tiles.{with_parameters, tile_shape, tile_place, tiles, tile_of}

@@ -1,11 +1,11 @@
 -- All places and their numbers.
 use Rattle.std.proofs.lemmas.Simd.{map-map}
-use Rattle.std.proofs.lemmas.Nat.{rows, same_from_place, mul-le}
+use Rattle.std.proofs.lemmas.Nat.{rows, mul-le}
 use Rattle.std.proofs.lemmas.Bool.{cases_lt}
 use Rattle.std.proofs.Math.Nat.{le-mul_of_pos_right, mul-le-mul_right, mul-le-mul_left}
 use Rattle.std.proofs.lemmas.List.FromFn.{fill_by_all, length-map-range_with_len, get_or-map-range_with_len}
 use Rattle.std.proofs.Math.Nat.{mul_assoc}
-use Rattle.std.proofs.Common.{take, drop, add_assoc, subst, ◌≡◌, ℕ, suc, ◌+◌, ◌*◌, ◌<◌, ◌≤◌, ◌^◌, inl, inr, List, refl, ap, sym, ◌∙◌, arith, length, get_or, zero-add}
+use Rattle.std.proofs.Common.{take, drop, add_assoc, subst, ◌≡◌, ℕ, suc, ◌+◌, ◌*◌, ◌<◌, ◌≤◌, inl, inr, List, refl, ap, sym, ◌∙◌, arith, length, get_or, zero-add}
 use Rattle.std.specs.Prelude.{map}
 use Rattle.std.specs.List.{range_with_len, flat_map}
 use Rattle.edr_chunk.specs.declared.shapes.GridShape.{GridShape}

@@ -1,5 +1,5 @@
 -- Tiles hold the values of the flat list.
-use Rattle.std.proofs.Common.{◌≡◌, ℕ, ◌+◌, ◌*◌, ◌-◌, ◌/◌, ◌%◌, ◌^◌, ◌<◌, List, [], ◌∷◌, ◌++◌, ap, sym, ◌∙◌, subst, arith, Option, None, length, get_or, inl, inr, min, length-append}
+use Rattle.std.proofs.Common.{◌≡◌, ℕ, ◌+◌, ◌*◌, ◌-◌, ◌/◌, ◌%◌, ◌<◌, List, [], ◌∷◌, ◌++◌, ap, sym, ◌∙◌, subst, arith, Option, None, length, get_or, inl, inr, min, length-append}
 use Rattle.std.specs.Prelude.{map, ℤ}
 use Rattle.std.specs.List.{range_with_len, flat_map}
 use Rattle.std.proofs.lemmas.Nat.{div-add-mod'}
@@ -10,7 +10,7 @@ use Rattle.std.proofs.lemmas.List.Elements.{All-nil, All-append, All-map}
 use Rattle.edr_chunk.specs.Samples.{HasSample, AreSamples}
 use Rattle.edr_chunk.specs.declared.shapes.GridShape.{GridShape}
 use Rattle.edr_chunk.specs.declared.shapes.GridPlace.{GridPlace}
-use Rattle.edr_chunk.specs.Places.{number, count, Within, IsShape}
+use Rattle.edr_chunk.specs.Places.{number, count, Within}
 use Rattle.edr_chunk.specs.AllPlaces.{at, places}
 use Rattle.edr_chunk.specs.Tiles.{tile_shape, tile_place, tiles, tile_of, IsTile, value_in, lies_in}
 use Rattle.edr_chunk.specs.Grids.{value}

@@ -1,5 +1,5 @@
 -- Laws of places and of tiles, for the proofs of callers.
-use Rattle.std.specs.Prelude.{◌≡◌, ℕ, ◌+◌, ◌*◌, ◌<◌, ◌≤◌, Bool, true, List, All, map, length}
+use Rattle.std.specs.Prelude.{◌≡◌, ◌<◌, ◌≤◌, Bool, true, List, All, map, length}
 use Rattle.std.specs.List.{slice_index_or, range_with_len, list_any}
 use Rattle.edr_base.specs.Limits.{node_limit}
 use Rattle.edr_chunk.specs.declared.shapes.GridShape.{GridShape}

@@ -1,10 +1,9 @@
-use Rattle.std.proofs.Common.{◌+◌, rules, arith, ◌≡◌, ◌<◌, ◌^◌, ◌++◌, ◌∷◌, [], sym, ap, subst, List, ℕ, Option}
+use Rattle.std.proofs.Common.{◌+◌, rules, arith, ◌≡◌, ◌++◌, ◌∷◌, [], sym, subst, List, ℕ, Option}
 use Rattle.std.specs.Prelude.{ℤ}
 use Rattle.edr_chunk.specs.declared.shapes.GridShape.{GridShape}
 use Rattle.edr_chunk.specs.Samples.{AreSamples}
-use Rattle.edr_chunk.specs.Places.{count, Within, number}
+use Rattle.edr_chunk.specs.Places.{Within, number}
 use Rattle.edr_chunk.specs.Tiles.{tiles}
-use Rattle.edr_chunk.specs.Grids.{Values}
 use Rattle.edr_chunk.specs.KeptTiles.{Filled, cut_values}
 use Rattle.edr_chunk.proofs.TileLaws.{cut_samples, filled_more}
 use Rattle.edr_chunk.proofs.packers.packed_tiles.Goals as goal

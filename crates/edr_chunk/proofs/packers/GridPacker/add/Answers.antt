@@ -1,11 +1,10 @@
-use Rattle.std.proofs.Common.{rules, ◌≡◌, ◌<◌, ◌^◌, ◌++◌, sym, ap, subst, ◌∙◌, List, ℕ, Option, length}
+use Rattle.std.proofs.Common.{rules, ◌≡◌, ◌<◌, ◌^◌, ◌++◌, sym, ap, subst, ◌∙◌, List, Option, length}
 use Rattle.std.specs.Prelude.{ℤ, map}
 use Rattle.edr_chunk.specs.declared.shapes.GridShape.{GridShape}
 use Rattle.edr_chunk.specs.Places.{nodes, count}
 use Rattle.edr_chunk.specs.AllPlaces.{places}
 use Rattle.edr_chunk.specs.Grids.{Values}
-use Rattle.edr_chunk.specs.Tiles.{tiles}
-use Rattle.edr_chunk.specs.KeptTiles.{one_of, one_more, stored, AreTiles, Filled}
+use Rattle.edr_chunk.specs.KeptTiles.{one_more, stored, AreTiles}
 use Rattle.edr_chunk.proofs.ParameterLaws.{more_tiles, more_values}
 use Rattle.edr_chunk.proofs.packers.GridPacker.add.Goals as goal
 

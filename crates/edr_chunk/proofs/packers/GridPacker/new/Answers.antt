@@ -1,4 +1,4 @@
-use Rattle.std.proofs.Common.{[], ap, List, Option}
+use Rattle.std.proofs.Common.{ap, List, Option}
 use Rattle.std.specs.Prelude.{ℤ}
 use Rattle.edr_chunk.specs.Grids.{Values}
 use Rattle.edr_chunk.specs.Tiles.{with_parameters}
