@@ -1,6 +1,6 @@
-use Rattle.std.proofs.Common.{◌≡◌, ap, sym, ◌∙◌, subst}
+use Rattle.std.proofs.Common.{sym, subst}
 use Rattle.std.specs.Arc.{arc_value}
-use Rattle.edr_ids.specs.Ids.{AscendBy, with_item}
+use Rattle.edr_ids.specs.Ids.{AscendBy}
 use Rattle.edr_ids.specs.ListLaws.{AscendBy-with_item}
 use Rattle.edr_ids.proofs.by_id.ById.put.Goals as goal
 
