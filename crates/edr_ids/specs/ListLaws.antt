@@ -1,7 +1,7 @@
 -- Laws of lists of items with ids, for the proofs of callers.
 use Rattle.std.proofs.Common.{◌≡◌, inl, inr, ℕ, zero, suc, ◌<◌, Bool, true, false, not, if◌then◌else◌, List, [], ◌∷◌, ◌++◌, length, map, slice_set, All, Some, None, Result, Err, Ordering, Less, Equal, Greater, bytes_eq, refl, sym, ap, ◌∙◌, subst}
 use Rattle.std.proofs.Math.Nat.{zero-lt-suc, suc-le-suc_iff, le_of_suc-le-suc, not-suc-le-zero, lt_trans}
-use Rattle.std.proofs.lemmas.Bool.{false≢true, cases_lt}
+use Rattle.std.proofs.lemmas.Bool.{false≢true, cases_Bool, cases_lt}
 use Rattle.std.proofs.lemmas.Cmp.{nat_list_cmp_total, tied_itself}
 use Rattle.std.proofs.lemmas.List.{get_or-map, length-map}
 use Rattle.std.proofs.lemmas.List.Elements.{All-append, All-cons, All-head, All-tail, filter_passes}
@@ -80,6 +80,17 @@ module _ {V : Type 0} (test : V → Bool) where
   filter_keeps_none (item ∷ items) h =
       ap (λ b. if b then item ∷ filter test items else filter test items) (All-head (λ x. test x ≡ false) item items h)
       ∙ filter_keeps_none items (All-tail (λ x. test x ≡ false) item items h)
+
+-- ---- where no item has an id
+
+module _ {V : Type 0} (id_of : V → List ℕ) where
+  -- taking it out leaves all
+  pub without_id-none : (id : List ℕ) (items : List V) → item_of id_of id items ≡ None → without_id id_of id items ≡ items
+  without_id-none id [] h = refl
+  without_id-none id (item ∷ items) h = elim (cases_Bool (has_id id_of id item)) [
+    | inl has ↦ (let found : Some item ≡ None = rw has at h in cc)
+    | inr lacks ↦ (let rest : item_of id_of id items ≡ None = rw lacks at h in rw lacks (ap (λ left. item ∷ left) (without_id-none id items rest)))
+  ]
 
 -- ---- by places
 

@@ -1,32 +1,10 @@
 //! Lists of items in strictly ascending order of their ids.
-ghost use Rattle.std.specs.Prelude.{◌≡◌, ℕ, List, None, option_map, OnOk, OnErr};
-ghost use Rattle.edr_ids.specs.Ids.{AreById, AscendBy, IsPlaceOf, with_item, without_id};
+ghost use Rattle.std.specs.Prelude.{◌≡◌, None, option_map, OnOk, OnErr};
+ghost use Rattle.edr_ids.specs.Ids.{AscendBy, IsPlaceOf, with_item, without_id};
 ghost use Rattle.edr_ids.specs.Ids as ids;
-ghost use Rattle.std.specs.Arc.{arc_value};
 
+use crate::identified::Identified;
 use edr_base::OutOfMemory;
-use std::alloc::Global;
-use std::sync::Arc;
-
-/// What has an id. Ids are compared byte by byte.
-pub trait Identified {
-    /// Its id.
-    ghost id_of: { Self → List ℕ };
-
-    /// Its id. It takes no memory.
-    fn id(&self) -> &[u8]
-        ensures { result.now ≡ id_of self.now };
-}
-
-/// What is shared has the id of what it is.
-impl<T: Identified> Identified for Arc<T, Global> {
-    ghost id_of = { λ shared. T.id_of (arc_value shared) };
-
-    fn id(&self) -> &[u8] {
-        let item: &T = self;
-        item.id()
-    }
-}
 
 /// `Ok` with the place of the item of an id, from 0, or `Err` with the place where it would stand. The ids have to ascend
 /// strictly, here and in the calls below. It takes no memory.
@@ -78,8 +56,3 @@ pub fn take_item<T: Identified>(items: &mut Vec<T>, id: &[u8]) -> Option<T>
         Err(_) => None,
     }
 }
-
-/// The item of an id is the one that has it, and setting an item or taking one out leaves those of other ids.
-pub fn items_are_by_id<T: Identified>()
-    ensures { AreById T.id_of }
-{}

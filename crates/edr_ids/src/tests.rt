@@ -1,11 +1,7 @@
-//! Lists of words: found, set and taken out by their ids.
-ghost use Rattle.std.specs.Prelude.{IfOk};
-ghost use Rattle.edr_ids.specs.Ids.{AscendBy};
-
-use crate::{Identified, item_of, place_of, put_item, take_item};
+//! Lists of words: found, set and taken out by their ids, and shared.
+use crate::{ById, Identified};
 use std::alloc::Global;
 use std::rt::HostRuntime;
-use std::sync::Arc;
 use std::test::Fail;
 
 #[derive(Clone, Copy, Debug, PartialEq, Eq)]
@@ -20,41 +16,57 @@ impl Identified for Word {
 }
 
 // Words set one after another, numbered in that order.
-fn words(alloc: Global, ids: &'static str) -> Result<Vec<Word>, Fail>
-    ensures { IfOk result (λ words. AscendBy (λ word. word.0.now) words.items) }
-{
-    let mut items = Vec::new(alloc);
+fn words(alloc: Global, ids: &'static str) -> Result<ById<Word>, Fail> {
+    let mut items = ById::empty();
     for (number, id) in ids.split(' ').enumerate() {
-        put_item(&mut items, Word(id, number))?;
+        items.put(alloc, Word(id, number))?;
     }
     Ok(items)
 }
 
-// Words that are set in turn and an id: its place and the number of its word, and the words when it is taken out.
+// The words in the order of the list, each with its number.
+fn written(alloc: Global, items: &ById<Word>) -> Result<String, Fail> {
+    let mut text = String::new(alloc);
+    for place in 0..items.len() {
+        let word = items.at(place);
+        text.push_str(&format!(in alloc; " {}{}", word.0, word.1)?)?;
+    }
+    Ok(text)
+}
+
+// Words that are set in turn and an id: the number of its word, and the words when it is taken out.
 const TABLE: &str = "\
-d b f/a => Err(0) None [Word(\"b\", 1), Word(\"d\", 0), Word(\"f\", 2)]
-d b f/b => Ok(0) Some(1) [Word(\"d\", 0), Word(\"f\", 2)]
-d b f/bb => Err(1) None [Word(\"b\", 1), Word(\"d\", 0), Word(\"f\", 2)]
-d b f/d => Ok(1) Some(0) [Word(\"b\", 1), Word(\"f\", 2)]
-d b f/e => Err(2) None [Word(\"b\", 1), Word(\"d\", 0), Word(\"f\", 2)]
-d b f/f => Ok(2) Some(2) [Word(\"b\", 1), Word(\"d\", 0)]
-d b f/~ => Err(3) None [Word(\"b\", 1), Word(\"d\", 0), Word(\"f\", 2)]
-d b f/ => Err(0) None [Word(\"b\", 1), Word(\"d\", 0), Word(\"f\", 2)]
-b d a/x => Err(3) None [Word(\"a\", 2), Word(\"b\", 0), Word(\"d\", 1)]
-b bb c/b => Ok(0) Some(0) [Word(\"bb\", 1), Word(\"c\", 2)]
-b d b/x => Err(2) None [Word(\"b\", 2), Word(\"d\", 1)]
-b b b/b => Ok(0) Some(2) []
+d b f/a => None b1 d0 f2
+d b f/b => Some(1) d0 f2
+d b f/bb => None b1 d0 f2
+d b f/d => Some(0) b1 f2
+d b f/e => None b1 d0 f2
+d b f/f => Some(2) b1 d0
+d b f/~ => None b1 d0 f2
+d b f/ => None b1 d0 f2
+b d a/x => None a2 b0 d1
+b bb c/b => Some(0) bb1 c2
+b d b/x => None b2 d1
+b b b/b => Some(2)
+a b c d e f g h/d => Some(3) a0 b1 c2 e4 f5 g6 h7
+h g f e d c b a/d => Some(4) a7 b6 c5 e3 f2 g1 h0
+a h b g c f d e/f => Some(5) a0 b2 c4 d6 e7 g3 h1
+a b c d e f g h c/a => Some(0) b1 c8 d3 e4 f5 g6 h7
 ";
 
 fn answers(alloc: Global, ids: &'static str, id: &str) -> Result<String, Fail> {
     let mut items = words(alloc, ids)?;
-    let place = place_of(&items, id.as_bytes());
-    let number = item_of(&items, id.as_bytes()).map(|word| word.1);
-    let taken = take_item(&mut items, id.as_bytes()).map(|word| word.1);
-    (number == taken)
+    let before = items.share()?;
+    let number = items.item_of(id.as_bytes()).map(|word| word.1);
+    let was = items.take_out(alloc, id.as_bytes())?;
+    (was == number.is_some())
         .then_some(())
-        .ok_or("another word is taken out")?;
-    Ok(format!(in alloc; "{place:?} {number:?} {:?}", items.as_slice())?)
+        .ok_or("it is taken out where there is none")?;
+    (before.item_of(id.as_bytes()).map(|word| word.1) == number)
+        .then_some(())
+        .ok_or("the copy has changed")?;
+    let left = written(alloc, &items)?;
+    Ok(format!(in alloc; "{number:?}{left}")?)
 }
 
 #[test]
@@ -68,14 +80,20 @@ fn found_set_and_taken_out(rt: HostRuntime) -> Result<(), Fail> {
 }
 
 #[test]
-fn shared(rt: HostRuntime) -> Result<(), Fail> {
-    let mut items: Vec<Arc<Word>> = Vec::new(rt.alloc());
-    for word in words(rt.alloc(), "d b f d")? {
-        put_item(&mut items, Arc::new(rt.alloc(), word)?)?;
-    }
-    assert_eq!(rt; place_of(&items, b"f"), Ok(2));
-    assert_eq!(rt; item_of(&items, b"d").map(|word| word.1), Some(3));
-    assert_eq!(rt; take_item(&mut items, b"b").map(|word| word.1), Some(1));
-    assert_eq!(rt; items.len(), 2);
+fn a_copy_stays_as_it_is(rt: HostRuntime) -> Result<(), Fail> {
+    let mut items = words(rt.alloc(), "d b f")?;
+    let copy = items.share()?;
+    items.put(rt.alloc(), Word("b", 7))?;
+    items.put(rt.alloc(), Word("e", 8))?;
+    assert_eq!(rt; written(rt.alloc(), &copy)?.as_str(), " b1 d0 f2");
+    assert_eq!(rt; written(rt.alloc(), &items)?.as_str(), " b7 d0 e8 f2");
+    Ok(())
+}
+
+fn is_shared_by_threads<T: Send + Sync + Drop>(_: &T) {}
+
+#[test]
+fn lists_are_shared_by_threads(rt: HostRuntime) -> Result<(), Fail> {
+    is_shared_by_threads(&words(rt.alloc(), "d b f")?);
     Ok(())
 }

@@ -1,0 +1,335 @@
+//! Balanced trees that share what is equal, seen as lists.
+//!
+//! A change copies the branches on the way from the top to its place, and shares all others with the tree that it was
+//! made of. Each branch knows how many items it has, and balances its sides by that number plus one: no side weighs more
+//! than three times what the other does (Y. Hirai and K. Yamamoto, Balancing weight-balanced trees, 2011).
+ghost use Rattle.std.specs.Prelude.{◌≡◌, ◌<◌, [], ◌++◌, ◌∷◌, length, option_map, IfOk, MatchOption};
+ghost use Rattle.std.specs.List.{slice_index_or};
+ghost use Rattle.std.specs.Arc.{arc_value};
+ghost use Rattle.edr_ids.specs.Ids as ids;
+ghost use Rattle.edr_ids.specs.Ids.{AscendBy, with_item, without_id};
+
+use crate::identified::Identified;
+use edr_base::OutOfMemory;
+use std::alloc::Global;
+use std::cmp::Ordering;
+use std::marker::Model;
+use std::sync::Arc;
+
+/// A list of shared items.
+#[cycle(tree)]
+#[derive(Drop)]
+pub struct Tree<T> {
+    top: Option<Arc<Branch<T>>>,
+}
+
+// The items before one, it, the items behind it, and how many these are.
+#[cycle(tree)]
+#[derive(Drop)]
+struct Branch<T> {
+    before: Tree<T>,
+    item: Arc<T>,
+    behind: Tree<T>,
+    len: usize,
+}
+
+impl<T> Model for Tree<T> {
+    ghost use Rattle.std.specs.Prelude.{List, length};
+    ghost use Rattle.std.specs.Coded.{coded_list};
+
+    ghost Value = { List T };
+
+    ghost coded = { coded_list T.code };
+
+    ghost use Rattle.edr_ids.specs.Trees.{items_of, IsCounted};
+
+    ghost view = { λ tree. items_of tree.top };
+
+    ghost invariant = { λ tree. IsCounted tree.top };
+
+    ghost size = { length };
+
+    ghost use Rattle.edr_ids.specs.TreeDepths.{sides_are_shorter};
+
+    ghost size_decreases = { λ tree counted. sides_are_shorter tree.top };
+}
+
+impl<T> Tree<T> {
+    /// A tree without items. It takes no memory.
+    pub fn empty() -> Tree<T>
+        ensures { result ≡ [] }
+    {
+        Tree { top: None }
+    }
+
+    /// How many items it has.
+    pub fn len(&self) -> usize
+        ensures { result ≡ length self.now }
+    {
+        match &self.top {
+            None => 0,
+            Some(branch) => branch.len,
+        }
+    }
+
+    /// The item at a place, from 0.
+    pub fn at(&self, place: usize) -> &T
+        requires { place < length self.now }
+        ensures { (d : T) → result.now ≡ slice_index_or self.now place d }
+    {
+        match &self.top {
+            None => unreachable!(),
+            Some(branch) => {
+                let before = branch.before.len();
+                if place < before {
+                    branch.before.at(place)
+                } else if place == before {
+                    &branch.item
+                } else {
+                    branch.behind.at(place - before - 1)
+                }
+            }
+        }
+    }
+
+    /// An equal tree, which shares all branches.
+    pub fn share(&self) -> Result<Tree<T>, OutOfMemory>
+        ensures { IfOk result (λ tree. tree ≡ self.now) }
+    {
+        match &self.top {
+            None => Ok(Tree { top: None }),
+            Some(branch) => Ok(Tree {
+                top: Some(Arc::try_clone(branch)?),
+            }),
+        }
+    }
+
+    // What it weighs against another side.
+    fn weight(&self) -> usize {
+        self.len().saturating_add(1)
+    }
+}
+
+impl<T: Drop> Tree<T> {
+    // The items before the one at the top, it, and those behind it; None exactly where there is none.
+    fn parts(&self) -> Result<Option<(Tree<T>, Arc<T>, Tree<T>)>, OutOfMemory>
+        ensures { IfOk result (λ found. MatchOption found (self.now ≡ []) (λ parts. self.now ≡ parts.0 ++ arc_value parts.1 ∷ parts.2)) }
+    {
+        match &self.top {
+            None => Ok(None),
+            Some(branch) => Ok(Some((
+                branch.before.share()?,
+                Arc::try_clone(&branch.item)?,
+                branch.behind.share()?,
+            ))),
+        }
+    }
+}
+
+// A tree of the items before one, it, and those behind it.
+fn joined<T: Drop>(
+    alloc: Global,
+    before: Tree<T>,
+    item: Arc<T>,
+    behind: Tree<T>,
+) -> Result<Tree<T>, OutOfMemory>
+    ensures { IfOk result (λ tree. tree ≡ before ++ arc_value item ∷ behind) }
+{
+    let Some(others) = before.len().checked_add(behind.len()) else {
+        return Err(OutOfMemory);
+    };
+    let Some(len) = others.checked_add(1) else {
+        return Err(OutOfMemory);
+    };
+    let branch = Branch {
+        before,
+        item,
+        behind,
+        len,
+    };
+    Ok(Tree {
+        top: Some(Arc::new(alloc, branch)?),
+    })
+}
+
+// The same, where the side behind the item weighs too much: it gives up its front.
+fn turned_to_front<T: Drop>(
+    alloc: Global,
+    before: Tree<T>,
+    item: Arc<T>,
+    behind: Tree<T>,
+) -> Result<Tree<T>, OutOfMemory>
+    ensures { IfOk result (λ tree. tree ≡ before ++ arc_value item ∷ behind) }
+{
+    let Some((inner, top, outer)) = behind.parts()? else {
+        return joined(alloc, before, item, behind);
+    };
+    if inner.weight() < outer.weight().saturating_mul(2) {
+        let front = joined(alloc, before, item, inner)?;
+        return joined(alloc, front, top, outer);
+    }
+    let Some((low, middle, high)) = inner.parts()? else {
+        return joined(alloc, before, item, behind);
+    };
+    let front = joined(alloc, before, item, low)?;
+    let back = joined(alloc, high, top, outer)?;
+    joined(alloc, front, middle, back)
+}
+
+// The same, where the side before the item weighs too much: it gives up its back.
+fn turned_to_back<T: Drop>(
+    alloc: Global,
+    before: Tree<T>,
+    item: Arc<T>,
+    behind: Tree<T>,
+) -> Result<Tree<T>, OutOfMemory>
+    ensures { IfOk result (λ tree. tree ≡ before ++ arc_value item ∷ behind) }
+{
+    let Some((outer, top, inner)) = before.parts()? else {
+        return joined(alloc, before, item, behind);
+    };
+    if inner.weight() < outer.weight().saturating_mul(2) {
+        let back = joined(alloc, inner, item, behind)?;
+        return joined(alloc, outer, top, back);
+    }
+    let Some((low, middle, high)) = inner.parts()? else {
+        return joined(alloc, before, item, behind);
+    };
+    let front = joined(alloc, outer, top, low)?;
+    let back = joined(alloc, high, item, behind)?;
+    joined(alloc, front, middle, back)
+}
+
+// The same, of sides that may differ by one change from those of a balanced tree.
+fn balanced<T: Drop>(
+    alloc: Global,
+    before: Tree<T>,
+    item: Arc<T>,
+    behind: Tree<T>,
+) -> Result<Tree<T>, OutOfMemory>
+    ensures { IfOk result (λ tree. tree ≡ before ++ arc_value item ∷ behind) }
+{
+    let (front, back) = (before.weight(), behind.weight());
+    if back > front.saturating_mul(3) {
+        turned_to_front(alloc, before, item, behind)
+    } else if front > back.saturating_mul(3) {
+        turned_to_back(alloc, before, item, behind)
+    } else {
+        joined(alloc, before, item, behind)
+    }
+}
+
+impl<T: Drop> Tree<T> {
+    // The first item and the others; None exactly where there is none.
+    fn first_and_others(&self, alloc: Global) -> Result<Option<(Arc<T>, Tree<T>)>, OutOfMemory>
+        ensures { IfOk result (λ found. MatchOption found (self.now ≡ []) (λ parts. self.now ≡ arc_value parts.0 ∷ parts.1)) }
+    {
+        let Some(branch) = &self.top else {
+            return Ok(None);
+        };
+        let Some((first, before)) = branch.before.first_and_others(alloc)? else {
+            return Ok(Some((Arc::try_clone(&branch.item)?, branch.behind.share()?)));
+        };
+        let item = Arc::try_clone(&branch.item)?;
+        let others = balanced(alloc, before, item, branch.behind.share()?)?;
+        Ok(Some((first, others)))
+    }
+
+    // The items of one tree and then those of another.
+    fn followed_by(&self, alloc: Global, behind: &Tree<T>) -> Result<Tree<T>, OutOfMemory>
+        ensures { IfOk result (λ tree. tree ≡ self.now ++ behind.now) }
+    {
+        match behind.first_and_others(alloc)? {
+            None => self.share(),
+            Some((first, others)) => balanced(alloc, self.share()?, first, others),
+        }
+    }
+}
+
+impl<T: Identified> Tree<T> {
+    /// The item of an id, or None exactly where there is none. It takes no memory.
+    pub fn item_of(&self, id: &[u8]) -> Option<&T>
+        requires { AscendBy T.id_of self.now }
+        ensures { option_map (λ item. item.now) result ≡ ids.item_of T.id_of id.now self.now }
+    {
+        match &self.top {
+            None => None,
+            Some(branch) => {
+                let branch: &Branch<T> = branch;
+                match id.cmp(branch.item.id()) {
+                    Ordering::Less => branch.before.item_of(id),
+                    Ordering::Equal => Some(&branch.item),
+                    Ordering::Greater => branch.behind.item_of(id),
+                }
+            }
+        }
+    }
+}
+
+impl<T: Identified + Drop> Tree<T> {
+    /// The items with one set.
+    pub fn with(&self, alloc: Global, item: Arc<T>) -> Result<Tree<T>, OutOfMemory>
+        requires { AscendBy T.id_of self.now }
+        ensures { IfOk result (λ tree. tree ≡ with_item T.id_of (arc_value item) self.now) }
+    {
+        let Some(branch) = &self.top else {
+            return joined(alloc, Tree::empty(), item, Tree::empty());
+        };
+        let branch: &Branch<T> = branch;
+        let (before, behind) = (&branch.before, &branch.behind);
+        match item.id().cmp(branch.item.id()) {
+            Ordering::Less => {
+                let before = before.with(alloc, item)?;
+                balanced(
+                    alloc,
+                    before,
+                    Arc::try_clone(&branch.item)?,
+                    behind.share()?,
+                )
+            }
+            Ordering::Equal => joined(alloc, before.share()?, item, behind.share()?),
+            Ordering::Greater => {
+                let behind = behind.with(alloc, item)?;
+                balanced(
+                    alloc,
+                    before.share()?,
+                    Arc::try_clone(&branch.item)?,
+                    behind,
+                )
+            }
+        }
+    }
+
+    /// The items without that of an id.
+    pub fn without(&self, alloc: Global, id: &[u8]) -> Result<Tree<T>, OutOfMemory>
+        requires { AscendBy T.id_of self.now }
+        ensures { IfOk result (λ tree. tree ≡ without_id T.id_of id.now self.now) }
+    {
+        let Some(branch) = &self.top else {
+            return Ok(Tree::empty());
+        };
+        let branch: &Branch<T> = branch;
+        let (before, behind) = (&branch.before, &branch.behind);
+        match id.cmp(branch.item.id()) {
+            Ordering::Less => {
+                let before = before.without(alloc, id)?;
+                balanced(
+                    alloc,
+                    before,
+                    Arc::try_clone(&branch.item)?,
+                    behind.share()?,
+                )
+            }
+            Ordering::Equal => before.followed_by(alloc, behind),
+            Ordering::Greater => {
+                let behind = behind.without(alloc, id)?;
+                balanced(
+                    alloc,
+                    before.share()?,
+                    Arc::try_clone(&branch.item)?,
+                    behind,
+                )
+            }
+        }
+    }
+}
