@@ -1,0 +1,14 @@
+pub mod ListLemmas
+pub mod AddressLemmas
+pub mod PathLemmas
+pub mod PairLemmas
+pub mod CoordsLemmas
+pub mod NameLemmas
+pub mod DistanceLemmas
+pub mod SaidLemmas
+pub mod BoxLemmas
+pub mod RefusalLemmas
+pub mod ReadLemmas
+pub mod StepLemmas
+pub mod QueryLemmas
+pub mod TargetLemmas

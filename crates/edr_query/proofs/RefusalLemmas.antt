@@ -1,0 +1,103 @@
+-- The least refusal, step by step.
+use Rattle.std.proofs.Common.{◌≡◌, ◌⊎◌, inl, inr, ⊎_elim, ℕ, ◌+◌, ◌==◌, ◌<◌, ◌≤◌, List, refl, ap, sym, ◌∙◌, subst, arith, Result, Ok, Err, Some, None}
+use Rattle.std.specs.Prelude.{if◌then◌else◌}
+use Rattle.std.proofs.lemmas.Bool.Decides.{leb_tells}
+use Rattle.edr_base.specs.FirstThatApplies.{IsLeast, NoneApplies}
+use Rattle.edr_base.specs.declared.refusals.Refusal.{Refusal}
+use Rattle.edr_base.specs.declared.refusals.Refusal.TheVariants.{BadHead, BodyNotAllowed, BadHost, VersionNotOffered, MethodNotOffered, NoSuchPage, UnknownParameter, RepeatedParameter, BadFormat, MissingParameter, BadCoords, WrongGeometry, BadBbox, BadDatetime, BadLevel, BadDistance, Conflict, UnknownCollection, UnknownInstance, UnknownLocation, QueryNotOffered, UnknownParameterName, BadCrs, NoLevels, NoSamples, TooLarge}
+use Rattle.edr_query.specs.declared.addresses.PageKind.{PageKind}
+use Rattle.edr_query.specs.declared.reading.TargetFault.{TargetFault}
+use Rattle.edr_query.specs.declared.reading.TargetFault.TheVariants.{Refused, OutOfMemory}
+use Rattle.edr_query.specs.Parameters.{Pair}
+use Rattle.edr_query.specs.Targets.{rank, Applies}
+use Rattle.edr_query.specs.Reads.{Passed, Steps}
+
+-- the refusal of a number
+abbrev refusal_at : ℕ → Refusal
+refusal_at n =
+    if n == 1 then BadHead else if n == 2 then BodyNotAllowed else if n == 3 then BadHost else if n == 4 then VersionNotOffered else
+    if n == 5 then MethodNotOffered else if n == 6 then NoSuchPage else if n == 7 then UnknownParameter else if n == 8 then RepeatedParameter else
+    if n == 9 then BadFormat else if n == 10 then MissingParameter else if n == 11 then BadCoords else if n == 12 then WrongGeometry else
+    if n == 13 then BadBbox else if n == 14 then BadDatetime else if n == 15 then BadLevel else if n == 16 then BadDistance else
+    if n == 17 then Conflict else if n == 18 then UnknownCollection else if n == 19 then UnknownInstance else if n == 20 then UnknownLocation else
+    if n == 21 then QueryNotOffered else if n == 22 then UnknownParameterName else if n == 23 then BadCrs else if n == 24 then NoLevels else
+    if n == 25 then NoSamples else TooLarge
+
+rank_back : (r : Refusal) → refusal_at (rank r) ≡ r
+rank_back BadHead = refl
+rank_back BodyNotAllowed = refl
+rank_back BadHost = refl
+rank_back VersionNotOffered = refl
+rank_back MethodNotOffered = refl
+rank_back NoSuchPage = refl
+rank_back UnknownParameter = refl
+rank_back RepeatedParameter = refl
+rank_back BadFormat = refl
+rank_back MissingParameter = refl
+rank_back BadCoords = refl
+rank_back WrongGeometry = refl
+rank_back BadBbox = refl
+rank_back BadDatetime = refl
+rank_back BadLevel = refl
+rank_back BadDistance = refl
+rank_back Conflict = refl
+rank_back UnknownCollection = refl
+rank_back UnknownInstance = refl
+rank_back UnknownLocation = refl
+rank_back QueryNotOffered = refl
+rank_back UnknownParameterName = refl
+rank_back BadCrs = refl
+rank_back NoLevels = refl
+rank_back NoSamples = refl
+rank_back TooLarge = refl
+
+-- a number is one refusal's
+pub rank_same : (a b : Refusal) → rank a ≡ rank b → a ≡ b
+rank_same a b e = sym (rank_back a) ∙ ap refusal_at e ∙ rank_back b
+
+below_or_same : (a b : ℕ) → a < b + 1 → (a < b) ⊎ (a ≡ b)
+below_or_same a b h = ⊎_elim (λ t. inr (omega (arith, t.1))) (λ t. inl t.1) (leb_tells b a)
+
+-- one refusal more doesn't apply
+pub more : (page : PageKind) (pairs : List Pair) (r : Refusal) → Passed page pairs (rank r) → ¬ (Applies page pairs r) → Passed page pairs (rank r + 1)
+more page pairs r passed not other below applies =
+    ⊎_elim (λ l. passed other l applies) (λ e. not (subst (Applies page pairs) (rank_same other r e) applies)) (below_or_same (rank other) (rank r) below)
+
+-- the refusals before the first of parameters apply to none
+pub start : (page : PageKind) (pairs : List Pair) → Passed page pairs 7
+start page pairs UnknownParameter below applies = absurd (omega (arith, below))
+start page pairs RepeatedParameter below applies = absurd (omega (arith, below))
+start page pairs BadFormat below applies = absurd (omega (arith, below))
+start page pairs MissingParameter below applies = absurd (omega (arith, below))
+start page pairs BadCoords below applies = absurd (omega (arith, below))
+start page pairs WrongGeometry below applies = absurd (omega (arith, below))
+start page pairs BadBbox below applies = absurd (omega (arith, below))
+start page pairs BadDatetime below applies = absurd (omega (arith, below))
+start page pairs BadLevel below applies = absurd (omega (arith, below))
+start page pairs BadDistance below applies = absurd (omega (arith, below))
+start page pairs Conflict below applies = absurd (omega (arith, below))
+start page pairs _ below applies = applies
+
+-- past the last none applies
+pub done : (page : PageKind) (pairs : List Pair) → Passed page pairs 18 → NoneApplies (Applies page pairs)
+done page pairs passed UnknownParameter applies = passed UnknownParameter (omega arith) applies
+done page pairs passed RepeatedParameter applies = passed RepeatedParameter (omega arith) applies
+done page pairs passed BadFormat applies = passed BadFormat (omega arith) applies
+done page pairs passed MissingParameter applies = passed MissingParameter (omega arith) applies
+done page pairs passed BadCoords applies = passed BadCoords (omega arith) applies
+done page pairs passed WrongGeometry applies = passed WrongGeometry (omega arith) applies
+done page pairs passed BadBbox applies = passed BadBbox (omega arith) applies
+done page pairs passed BadDatetime applies = passed BadDatetime (omega arith) applies
+done page pairs passed BadLevel applies = passed BadLevel (omega arith) applies
+done page pairs passed BadDistance applies = passed BadDistance (omega arith) applies
+done page pairs passed Conflict applies = passed Conflict (omega arith) applies
+done page pairs passed _ applies = applies
+
+-- the refusal that a step looks for is the least
+pub stopped : {T : Type 0} (Reads : T → Type 0) (page : PageKind) (pairs : List Pair) (fault : TargetFault) (r : Refusal)
+    → (fault ≡ OutOfMemory) ⊎ ((fault ≡ Refused r) × Applies page pairs r) → Passed page pairs (rank r) → Steps (Err fault) Reads page pairs
+stopped {T = T} Reads page pairs fault r (inl e) passed =
+    let P : TargetFault → Type 0 = λ f. Steps {T = T} (Err f) Reads page pairs in subst P (sym e) tt
+stopped {T = T} Reads page pairs fault r (inr (e, applies)) passed =
+    let P : TargetFault → Type 0 = λ f. Steps {T = T} (Err f) Reads page pairs in
+    subst P (sym e) (record { applies = applies; none_before = passed })

@@ -1,0 +1,28 @@
+//! Targets of requests: the page or the query that each asks for, or the first refusal that applies (OGC 19-086r6).
+#![tactic(auto)]
+
+mod addresses;
+mod asking;
+mod coords;
+mod copying;
+mod distances;
+mod filters;
+mod laws;
+mod pages;
+mod pairs;
+mod parameters;
+mod paths;
+mod queries;
+mod reading;
+mod said;
+mod shapes;
+mod steps;
+
+pub use addresses::{Address, ID_SET, PageKind, QueryKind};
+pub use laws::target_is_one;
+pub use pages::Page;
+pub use parameters::Parameter;
+pub use queries::Query;
+pub use reading::{TargetFault, read_target};
+pub use said::Said;
+pub use shapes::{BoundingBox, Shape};
