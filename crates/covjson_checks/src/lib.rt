@@ -3,8 +3,6 @@
 
 mod faults;
 mod members;
-#[cfg(test)]
-mod tests;
 mod texts;
 mod turned;
 

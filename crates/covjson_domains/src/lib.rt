@@ -6,8 +6,6 @@ mod domain_types;
 mod domains;
 mod laws;
 mod spans;
-#[cfg(test)]
-mod tests;
 mod tuples;
 
 pub use domains::domain_of;

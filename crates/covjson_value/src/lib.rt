@@ -21,6 +21,3 @@ pub use laws::{
     document_texts_read_back, texts_read_back, texts_tell_coverages, texts_tell_documents,
 };
 pub use trees::{document_tree, tree_of};
-
-#[cfg(test)]
-mod tests;

@@ -6,4 +6,8 @@ mod whole;
 pub use whole::write_whole;
 
 #[cfg(test)]
+mod documents;
+#[cfg(test)]
 mod tests;
+#[cfg(test)]
+mod validity_tests;

@@ -1,16 +1,13 @@
 //! Texts of documents, written by hand (OGC 21-069r2).
+use crate::documents::{coverage, document, parameter, range};
 use crate::write_whole;
-use covjson_value::{Coverage, Document, Domain, NdArray, Parameter, Referencing};
-use edr_axes::Axis;
-use edr_base::{Items, OutOfMemory, Position, Text};
+use covjson_value::{Coverage, Document, Parameter};
+use edr_base::{Items, Text};
 use std::alloc::Global;
 use std::str;
 use std::test::Fail;
 
-// A line for each document, which is a coverage or coverages between `[` and `]`, and its text.
-// A coverage is its domain type and some words: `t`, `z`, `y` and `x` of the domain, `at` with its tuples x/y/z/m, `own`
-// where these have levels of their own, and the `values` of its parameter, `-` for an absent one. It may have a `crs`, a
-// `vertical` and an `id`.
+// A line for each document, and its text; each coverage has the parameter `a`.
 const DOCUMENTS: &str = r#"# grids
 Grid y=0 x=7 crs=m values=5 => {"domain":{"axes":{"x":{"values":[7]},"y":{"values":[0]}},"domainType":"Grid","referencing":[{"coordinates":["x","y"],"system":{"id":"m","type":"ProjectedCRS"}}],"type":"Domain"},"parameters":{"a":{"observedProperty":{"label":{"en":"A"}},"type":"Parameter"}},"ranges":{"a":{"axisNames":["y","x"],"dataType":"integer","shape":[1,1],"type":"NdArray","values":[5]}},"type":"Coverage"}
 Grid t=-1 y=-20,0 x=-1,0,100000000 crs=m values=1,-,3,-4,-,6 => {"domain":{"axes":{"t":{"values":["1969-12-31T23:59:59Z"]},"x":{"values":[-1,0,100000000]},"y":{"values":[-20,0]}},"domainType":"Grid","referencing":[{"coordinates":["x","y"],"system":{"id":"m","type":"ProjectedCRS"}},{"coordinates":["t"],"system":{"calendar":"Gregorian","type":"TemporalRS"}}],"type":"Domain"},"parameters":{"a":{"observedProperty":{"label":{"en":"A"}},"type":"Parameter"}},"ranges":{"a":{"axisNames":["t","y","x"],"dataType":"integer","shape":[1,2,3],"type":"NdArray","values":[1,null,3,-4,null,6]}},"type":"Coverage"}
@@ -57,195 +54,6 @@ MultiPoint at=1/2/3/0 own=z vertical=depth values=5 => {"domain":{"axes":{"compo
 [Point y=2 x=1 crs=m id=z values=8;Point y=2 x=1 crs=m id=a values=9] => {"coverages":[{"domain":{"axes":{"x":{"values":[1]},"y":{"values":[2]}},"domainType":"Point","referencing":[{"coordinates":["x","y"],"system":{"id":"m","type":"ProjectedCRS"}}],"type":"Domain"},"id":"z","parameters":{"a":{"observedProperty":{"label":{"en":"A"}},"type":"Parameter"}},"ranges":{"a":{"dataType":"integer","type":"NdArray","values":[8]}},"type":"Coverage"},{"domain":{"axes":{"x":{"values":[1]},"y":{"values":[2]}},"domainType":"Point","referencing":[{"coordinates":["x","y"],"system":{"id":"m","type":"ProjectedCRS"}}],"type":"Domain"},"id":"a","parameters":{"a":{"observedProperty":{"label":{"en":"A"}},"type":"Parameter"}},"ranges":{"a":{"dataType":"integer","type":"NdArray","values":[9]}},"type":"Coverage"}],"type":"CoverageCollection"}
 "#;
 
-// The value of a word, where a line has it.
-fn word<'a>(line: &'a str, name: &str) -> Option<&'a str> {
-    for part in line.split(' ') {
-        if let Some((key, value)) = part.split_once('=') {
-            if key == name {
-                return Some(value);
-            }
-        }
-    }
-    None
-}
-
-fn number(text: &str) -> Result<i64, Fail> {
-    Ok(text.parse::<i64>().ok().ok_or("no number")?)
-}
-
-fn number_in(line: &str, name: &str) -> Result<Option<i64>, Fail> {
-    match word(line, name) {
-        Some(text) => Ok(Some(number(text)?)),
-        None => Ok(None),
-    }
-}
-
-// The number of a word, and 0 where a line hasn't it.
-fn number_or_zero(line: &str, name: &str) -> Result<i64, Fail> {
-    Ok(number_in(line, name)?.unwrap_or(0))
-}
-
-fn axis_in(alloc: Global, line: &str, name: &str) -> Result<Option<Axis>, Fail> {
-    let Some(text) = word(line, name) else {
-        return Ok(None);
-    };
-    let mut values = Vec::new(alloc);
-    for part in text.split(',') {
-        values.push(number(part)?)?;
-    }
-    Ok(Some(Axis::of(alloc, &values)?))
-}
-
-fn axis(alloc: Global, line: &str, name: &str) -> Result<Axis, Fail> {
-    Ok(axis_in(alloc, line, name)?.ok_or("no axis")?)
-}
-
-fn tuple(text: &str) -> Result<Position, Fail> {
-    let (x, rest) = text.split_once('/').ok_or("no y")?;
-    let (y, rest) = rest.split_once('/').ok_or("no z")?;
-    let (z, m) = rest.split_once('/').ok_or("no m")?;
-    Ok(Position {
-        x: number(x)?,
-        y: number(y)?,
-        z: number(z)?,
-        m: number(m)?,
-    })
-}
-
-fn tuples(alloc: Global, line: &str) -> Result<Items<Position>, Fail> {
-    let mut items = Vec::new(alloc);
-    if let Some(text) = word(line, "at") {
-        for part in text.split(',') {
-            items.push(tuple(part)?)?;
-        }
-    }
-    Ok(Items::of(items))
-}
-
-fn grid(alloc: Global, line: &str) -> Result<Domain, Fail> {
-    Ok(Domain::Grid {
-        t: axis_in(alloc, line, "t")?,
-        z: axis_in(alloc, line, "z")?,
-        y: axis(alloc, line, "y")?,
-        x: axis(alloc, line, "x")?,
-    })
-}
-
-fn point(line: &str) -> Result<Domain, Fail> {
-    Ok(Domain::Point {
-        t: number_in(line, "t")?,
-        z: number_in(line, "z")?,
-        y: number_or_zero(line, "y")?,
-        x: number_or_zero(line, "x")?,
-    })
-}
-
-fn point_series(alloc: Global, line: &str) -> Result<Domain, Fail> {
-    Ok(Domain::PointSeries {
-        t: axis(alloc, line, "t")?,
-        z: number_in(line, "z")?,
-        y: number_or_zero(line, "y")?,
-        x: number_or_zero(line, "x")?,
-    })
-}
-
-fn vertical_profile(alloc: Global, line: &str) -> Result<Domain, Fail> {
-    Ok(Domain::VerticalProfile {
-        t: number_in(line, "t")?,
-        z: axis(alloc, line, "z")?,
-        y: number_or_zero(line, "y")?,
-        x: number_or_zero(line, "x")?,
-    })
-}
-
-fn domain(alloc: Global, line: &str) -> Result<Domain, Fail> {
-    let has_z = word(line, "own").is_some();
-    let (kind, _) = line.split_once(' ').unwrap_or((line, ""));
-    match kind {
-        "Grid" => grid(alloc, line),
-        "Point" => point(line),
-        "PointSeries" => point_series(alloc, line),
-        "VerticalProfile" => vertical_profile(alloc, line),
-        "MultiPoint" => Ok(Domain::MultiPoint {
-            t: number_in(line, "t")?,
-            has_z,
-            spots: tuples(alloc, line)?,
-        }),
-        "Trajectory" => Ok(Domain::Trajectory {
-            z: number_in(line, "z")?,
-            has_z,
-            steps: tuples(alloc, line)?,
-        }),
-        _ => Err(Fail::new("no domain type")),
-    }
-}
-
-fn text_in(alloc: Global, line: &str, name: &str) -> Result<Option<Text>, OutOfMemory> {
-    match word(line, name) {
-        Some(text) => Ok(Some(Text::of(alloc, text.as_bytes())?)),
-        None => Ok(None),
-    }
-}
-
-// The parameter `a`.
-fn parameter(alloc: Global) -> Result<Parameter, OutOfMemory> {
-    Ok(Parameter {
-        id: Text::of(alloc, b"a")?,
-        lang: Text::of(alloc, b"en")?,
-        label: Text::of(alloc, b"A")?,
-        unit: None,
-    })
-}
-
-// The values of the line.
-fn range(alloc: Global, line: &str) -> Result<NdArray, Fail> {
-    let mut values = Vec::new(alloc);
-    for part in word(line, "values").ok_or("no values")?.split(',') {
-        let value = if part == "-" {
-            None
-        } else {
-            Some(number(part)?)
-        };
-        values.push(value)?;
-    }
-    Ok(NdArray {
-        values: Items::of(values),
-    })
-}
-
-fn coverage(alloc: Global, line: &str) -> Result<Coverage, Fail> {
-    let mut parameters = Vec::new(alloc);
-    parameters.push(parameter(alloc)?)?;
-    let mut ranges = Vec::new(alloc);
-    ranges.push(range(alloc, line)?)?;
-    let crs = word(line, "crs").unwrap_or("");
-    let referencing = Referencing {
-        crs: Text::of(alloc, crs.as_bytes())?,
-        vertical: text_in(alloc, line, "vertical")?,
-    };
-    Ok(Coverage {
-        id: text_in(alloc, line, "id")?,
-        domain: domain(alloc, line)?,
-        referencing,
-        parameters: Items::of(parameters),
-        ranges: Items::of(ranges),
-    })
-}
-
-fn document(alloc: Global, line: &str) -> Result<Document, Fail> {
-    let Some(lines) = line.strip_prefix('[') else {
-        return Ok(Document::One(coverage(alloc, line)?));
-    };
-    let lines = lines.strip_suffix(']').unwrap_or(lines);
-    let mut coverages = Vec::new(alloc);
-    if !lines.is_empty() {
-        for line in lines.split(';') {
-            coverages.push(coverage(alloc, line)?)?;
-        }
-    }
-    Ok(Document::Many(Items::of(coverages)))
-}
-
 // The bytes as a text, to be read where they aren't what was wanted.
 fn shown(text: &Text) -> &str {
     str::from_utf8(text.bytes()).unwrap_or("no UTF-8")
@@ -258,7 +66,7 @@ fn documents(rt: HostRuntime) -> Result<(), Fail> {
             continue;
         }
         let (words, wanted) = line.split_once(" => ").ok_or("a line without a text")?;
-        let document = document(rt.alloc(), words)?;
+        let document = document(rt.alloc(), words, "a")?;
         assert!(rt; document.is_valid(), "{line}");
         let text = write_whole(rt.alloc(), &document)?;
         assert_eq!(rt; shown(&text), wanted);
@@ -278,11 +86,11 @@ fn two_parameters(alloc: Global) -> Result<Coverage, Fail> {
     };
     let mut parameters = Vec::new(alloc);
     parameters.push(first)?;
-    parameters.push(parameter(alloc)?)?;
+    parameters.push(parameter(alloc, "a")?)?;
     let mut ranges = Vec::new(alloc);
     ranges.push(range(alloc, "values=9007199254740991")?)?;
     ranges.push(range(alloc, "values=-")?)?;
-    let mut one = coverage(alloc, "Point y=2 x=1 crs=m values=-")?;
+    let mut one = coverage(alloc, "Point y=2 x=1 crs=m values=-", "a")?;
     one.id = Some(Text::of(alloc, b"s 1")?);
     one.parameters = Items::of(parameters);
     one.ranges = Items::of(ranges);
