@@ -1,5 +1,5 @@
 -- Collections in the order of their ids, and what a change makes of them.
-use Rattle.std.proofs.Common.{◌≡◌, inl, inr, ℕ, zero, suc, ◌<◌, not, codes, List, [], ◌∷◌, length, get_or, slice_set, Contains, Option, Some, None, Result, Ok, Err, IfSome, unwrap_or, refl, sym, ap, ◌∙◌, subst, arith}
+use Rattle.std.proofs.Common.{◌≡◌, inl, inr, ℕ, zero, suc, ◌<◌, not, codes, List, [], ◌∷◌, Contains, Option, Some, None, Result, Ok, Err, IfSome, unwrap_or, refl, sym, ap, ◌∙◌, subst, arith}
 use Rattle.std.proofs.lemmas.Bool.{cases_Bool}
 use Rattle.std.proofs.lemmas.List.Elements.{All-nil, All-append, All-cons, All-filter}
 use Rattle.std.proofs.lemmas.Slice.Eq.{bytes_eq-Decides}
@@ -12,7 +12,7 @@ use Rattle.covjson_value.specs.Coverages.{IsReferencing, IsValid}
 use Rattle.edr_base.specs.FirstThatApplies.{NoneApplies}
 use Rattle.edr_base.specs.Names.{IsNameByte, IsName}
 use Rattle.edr_ids.specs.Ids.{has_id, is_below, is_above, item_of, with_item, without_id}
-use Rattle.edr_ids.specs.ListLaws.{with_item-found, item_of-found, AscendBy-with_item, AscendBy-without_id}
+use Rattle.edr_ids.specs.ListLaws.{AscendBy-with_item, AscendBy-without_id}
 use Rattle.edr_edition.specs.declared.kinds.Kind.TheVariants.{Grid as Grids}
 use Rattle.edr_edition.specs.declared.changes.Change.{Change}
 use Rattle.edr_edition.specs.declared.changes.Change.TheVariants.{Collection, Grid, DropCollection, DropInstance, Bare}
@@ -41,16 +41,6 @@ collections_without id cs are = record {
   each = All-filter (λ c. not (has_id collection_id id c)) IsCollection cs are.each;
   ascending = AscendBy-without_id collection_id id cs are.ascending;
 }
-
--- the collection at a place is the one of its id
-pub collection_at : (collections : List CollectionValue) (place : ℕ) (d : CollectionValue) (id : List ℕ) → AreCollections collections → place < length collections
-    → (get_or collections place d).id ≡ id → collection_in collections id ≡ Some (get_or collections place d)
-collection_at cs place d id are inside own = item_of-found collection_id id cs place d are.ascending inside own
-
--- and one of that id takes its place
-pub collection_set : (collections : List CollectionValue) (place : ℕ) (d : CollectionValue) (collection : CollectionValue) → AreCollections collections → place < length collections
-    → (get_or collections place d).id ≡ collection.id → slice_set collections place collection ≡ with_item collection_id collection collections
-collection_set cs place d c are inside own = with_item-found collection_id c cs place d are.ascending inside own
 
 -- ---- the item of an id
 

@@ -2,9 +2,11 @@ pub mod FaultLaws
 pub mod RefusalLaws
 pub mod OutcomeLaws
 pub mod InstanceLaws
-pub mod SharedLists
-pub mod SharedInstances
+pub mod CollectionInstances
 pub mod ParameterLaws
 pub mod GridShapes
 pub mod CollectionLaws
 pub mod StepLaws
+pub mod TallySteps
+pub mod PackedGrids
+pub mod NewestLaws

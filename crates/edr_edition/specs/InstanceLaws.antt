@@ -1,5 +1,5 @@
 -- Laws of Grids with times, for the proofs of callers.
-use Rattle.std.proofs.Common.{◌≡◌, List, ℤ, Option, Some, None, true, refl}
+use Rattle.std.proofs.Common.{◌≡◌, Some, None, true, refl}
 use Rattle.covjson_value.specs.declared.coverages.Coverage.{Coverage}
 use Rattle.covjson_value.specs.declared.domains.CoordinateName.TheVariants.{T, Z, Y, X}
 use Rattle.covjson_value.specs.declared.domains.Domain.{Domain}

@@ -1,8 +1,12 @@
 pub mod Values
+pub mod Tallies
+pub mod TallyLaws
 pub mod Instances
 pub mod InstanceLaws
 pub mod Parameters
 pub mod Editions
+pub mod Stores
+pub mod Shelves
 pub mod Changes
 pub mod Outcomes
 pub mod Steps

@@ -7,7 +7,8 @@ ghost use Rattle.edr_ids.specs.Ids as ids;
 ghost use Rattle.edr_ids.specs.Ids.{with_item, without_id};
 ghost use Rattle.edr_edition.specs.Values.{InstanceValue, instance_id, parameters_of};
 ghost use Rattle.edr_edition.specs.Instances.{IsInstance};
-ghost use Rattle.edr_edition.specs.Editions.{IsCollection, IsNewest};
+ghost use Rattle.edr_edition.specs.Editions.{IsCollection};
+ghost use Rattle.edr_edition.specs.Stores.{newest};
 ghost use Rattle.edr_edition.specs.Changes.{empty_collection, with_instances, without_instance};
 ghost use Rattle.edr_edition.specs.declared.kinds.Kind.TheVariants.{Grid};
 
@@ -15,7 +16,7 @@ use crate::instances::GridInstance;
 use crate::kinds::Kind;
 use covjson_value::{Parameter, Referencing};
 use edr_base::{OutOfMemory, Text};
-use edr_ids::{Identified, item_of, put_item, take_item};
+use edr_ids::{ById, Identified};
 use std::alloc::Global;
 use std::marker::Model;
 use std::sync::Arc;
@@ -35,11 +36,10 @@ struct Head {
 #[derive(Drop)]
 pub struct CollectionData {
     head: Arc<Head>,
-    instances: Vec<Arc<GridInstance>>,
+    instances: ById<GridInstance>,
 }
 
 impl Model for CollectionData {
-    ghost use Rattle.std.specs.Prelude.{map};
     ghost use Rattle.std.specs.Arc.{arc_value};
     ghost use Rattle.edr_edition.specs.Values.{CollectionValue};
     ghost use Rattle.edr_edition.specs.Editions.{IsCollection};
@@ -51,7 +51,7 @@ impl Model for CollectionData {
       title = (arc_value c.head).title;
       kind = (arc_value c.head).kind;
       referencing = (arc_value c.head).referencing;
-      instances = map arc_value c.instances.items;
+      instances = c.instances;
     } };
 
     ghost invariant = { λ c. IsCollection (record {
@@ -59,7 +59,7 @@ impl Model for CollectionData {
       title = (arc_value c.head).title;
       kind = (arc_value c.head).kind;
       referencing = (arc_value c.head).referencing;
-      instances = map arc_value c.instances.items;
+      instances = c.instances;
     }) };
 }
 
@@ -107,10 +107,10 @@ impl CollectionData {
     pub fn parameters(&self) -> &[Parameter]
         ensures { result.now ≡ parameters_of self.now.instances }
     {
-        match self.instances.first() {
-            Some(instance) => instance.parameters(),
-            None => &[],
+        if self.instances.len() == 0 {
+            return &[];
         }
+        self.instances.at(0).parameters()
     }
 
     /// How many instances it has.
@@ -125,25 +125,22 @@ impl CollectionData {
         requires { place < length self.now.instances }
         ensures { (d : InstanceValue) → result.now ≡ slice_index_or self.now.instances place d }
     {
-        &self.instances[place]
+        self.instances.at(place)
     }
 
     /// The instance of an id, None exactly where there is none. It takes no memory.
     pub fn instance(&self, id: &[u8]) -> Option<&GridInstance>
         ensures { option_map (λ instance. instance.now) result ≡ ids.item_of instance_id id.now self.now.instances }
     {
-        match item_of(&self.instances, id) {
-            Some(instance) => Some(instance),
-            None => None,
-        }
+        self.instances.item_of(id)
     }
 
     /// The instance with the greatest id, byte by byte; None exactly where there is no instance.
     pub fn newest(&self) -> Option<&GridInstance>
-        ensures { MatchOption result (self.now.instances ≡ []) (λ instance. IsNewest self.now.instances instance.now) }
+        ensures { option_map (λ instance. instance.now) result ≡ newest self.now.instances }
     {
-        match self.instances.last() {
-            Some(instance) => Some(instance),
+        match self.instances.len().checked_sub(1) {
+            Some(place) => Some(self.instances.at(place)),
             None => None,
         }
     }
@@ -172,21 +169,17 @@ impl CollectionData {
         )?;
         Ok(CollectionData {
             head,
-            instances: Vec::new(alloc),
+            instances: ById::empty(),
         })
     }
 
-    // An equal collection, which shares its instances.
-    pub(crate) fn share(&self, alloc: Global) -> Result<CollectionData, OutOfMemory>
+    // An equal collection, which shares its instances. It takes no memory.
+    pub(crate) fn share(&self) -> Result<CollectionData, OutOfMemory>
         ensures { IfOk result (λ collection. collection ≡ self.now) }
     {
-        let mut instances = Vec::with_capacity(alloc, self.instances.len())?;
-        for instance in &self.instances {
-            instances.push(Arc::try_clone(instance)?)?;
-        }
         Ok(CollectionData {
             head: Arc::try_clone(&self.head)?,
-            instances,
+            instances: self.instances.share()?,
         })
     }
 
@@ -196,7 +189,8 @@ impl CollectionData {
             (λ instance. Contains (without_id instance_id id.now self.now.instances) instance.now) }
         ensures collection { IsCollection self.now }
     {
-        for instance in &self.instances {
+        for place in 0..self.instances.len() {
+            let instance = self.instances.at(place);
             if instance.id() != id {
                 return Some(instance);
             }
@@ -212,15 +206,15 @@ impl CollectionData {
         ensures set { OnOk result (self.new ≡ with_instances self.old (with_item instance_id instance self.old.instances)) }
         ensures kept { OnErr result (self.new ≡ self.old) }
     {
-        let shared = Arc::new(alloc, instance)?;
-        put_item(&mut self.instances, shared)
+        self.instances.put(alloc, instance)
     }
 
     // Takes out the instance of an id, and says whether there was one.
-    pub(crate) fn take_out(&mut self, id: &[u8]) -> bool
-        ensures was { result ≡ is_some (ids.item_of instance_id id.now self.old.instances) }
-        ensures without { self.new ≡ without_instance id.now self.old }
+    pub(crate) fn take_out(&mut self, alloc: Global, id: &[u8]) -> Result<bool, OutOfMemory>
+        ensures was { IfOk result (λ was. was ≡ is_some (ids.item_of instance_id id.now self.old.instances)) }
+        ensures without { OnOk result (self.new ≡ without_instance id.now self.old) }
+        ensures kept { OnErr result (self.new ≡ self.old) }
     {
-        take_item(&mut self.instances, id).is_some()
+        self.instances.take_out(alloc, id)
     }
 }

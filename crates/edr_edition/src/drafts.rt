@@ -10,6 +10,7 @@ use crate::editions::Edition;
 use crate::steps::{add_collection, drop_collection, drop_instance, set_bare, set_instance};
 use covjson_value::Referencing;
 use edr_base::OutOfMemory;
+use edr_ids::ById;
 use std::alloc::Global;
 use std::marker::Model;
 
@@ -17,7 +18,7 @@ use std::marker::Model;
 #[derive(Drop)]
 pub struct Draft {
     alloc: Global,
-    collections: Vec<CollectionData>,
+    collections: ById<CollectionData>,
 }
 
 impl Model for Draft {
@@ -27,20 +28,20 @@ impl Model for Draft {
 
     ghost Value = { List CollectionValue };
 
-    ghost view = { λ draft. draft.collections.items };
+    ghost view = { λ draft. draft.collections };
 
-    ghost invariant = { λ draft. AreCollections draft.collections.items };
+    ghost invariant = { λ draft. AreCollections draft.collections };
 }
 
 // One change of the collections.
 fn change_collections(
     alloc: Global,
-    collections: &mut Vec<CollectionData>,
+    collections: &mut ById<CollectionData>,
     change: Change,
 ) -> Result<(), ChangeFault>
-    requires collections { AreCollections collections.old.items }
+    requires collections { AreCollections collections.old }
     requires change { IsChange change }
-    ensures made { IsMade collections.old.items change result collections.new.items }
+    ensures made { IsMade collections.old change result collections.new }
 {
     match change {
         Change::Collection {
@@ -62,8 +63,13 @@ fn change_collections(
             instance,
             coverage,
         } => set_instance(alloc, collections, collection.bytes(), instance, coverage),
-        Change::DropCollection(collection) => drop_collection(collections, collection.bytes()),
+        Change::DropCollection(collection) => drop_collection(
+            alloc,
+            collections,
+            collection.bytes(),
+        ),
         Change::DropInstance(collection, instance) => drop_instance(
+            alloc,
             collections,
             collection.bytes(),
             instance.bytes(),
@@ -80,19 +86,19 @@ impl Draft {
     {
         Draft {
             alloc,
-            collections: Vec::new(alloc),
+            collections: ById::empty(),
         }
     }
 
-    /// A draft with an edition's collections, whose instances it shares. Want of memory is the only error.
+    /// A draft with an edition's collections, which it shares. It takes no memory; its only error is that there are too many
+    /// copies to be counted.
     pub fn from_edition(alloc: Global, edition: &Edition) -> Result<Draft, OutOfMemory>
         ensures { IfOk result (λ draft. draft ≡ edition.now.collections) }
     {
-        let mut collections = Vec::with_capacity(alloc, edition.len())?;
-        for place in 0..edition.len() {
-            collections.push(edition.collection_at(place).share(alloc)?)?;
-        }
-        Ok(Draft { alloc, collections })
+        Ok(Draft {
+            alloc,
+            collections: edition.collections()?,
+        })
     }
 
     /// Makes a change, or answers the first fault that applies. That, and want of memory too, leaves the draft as it is, and

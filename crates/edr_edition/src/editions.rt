@@ -1,12 +1,13 @@
 //! Editions.
-ghost use Rattle.std.specs.Prelude.{◌≡◌, ◌<◌, length, option_map};
+ghost use Rattle.std.specs.Prelude.{◌≡◌, ◌<◌, length, option_map, IfOk};
 ghost use Rattle.std.specs.List.{slice_index_or};
 ghost use Rattle.edr_ids.specs.Ids as ids;
 ghost use Rattle.edr_edition.specs.Values.{CollectionValue, collection_id};
 ghost use Rattle.edr_edition.specs.Editions.{AreCollections};
 
 use crate::collections::CollectionData;
-use edr_ids::item_of;
+use edr_base::OutOfMemory;
+use edr_ids::ById;
 use std::marker::Model;
 
 /// The whole state of all collections after one publish. It never changes.
@@ -15,7 +16,7 @@ use std::marker::Model;
 #[derive(Drop)]
 pub struct Edition {
     number: u64,
-    collections: Vec<CollectionData>,
+    collections: ById<CollectionData>,
 }
 
 impl Model for Edition {
@@ -24,16 +25,16 @@ impl Model for Edition {
 
     ghost Value = { EditionValue };
 
-    ghost view = { λ e. record { number = e.number; collections = e.collections.items } };
+    ghost view = { λ e. record { number = e.number; collections = e.collections } };
 
-    ghost invariant = { λ e. AreCollections e.collections.items };
+    ghost invariant = { λ e. AreCollections e.collections };
 }
 
 impl Edition {
     // The edition of that number of these collections.
-    pub(crate) fn of(number: u64, collections: Vec<CollectionData>) -> Edition
-        requires { AreCollections collections.items }
-        ensures { result ≡ record { number = number; collections = collections.items } }
+    pub(crate) fn of(number: u64, collections: ById<CollectionData>) -> Edition
+        requires { AreCollections collections }
+        ensures { result ≡ record { number = number; collections = collections } }
     {
         Edition {
             number,
@@ -61,13 +62,21 @@ impl Edition {
         requires { place < length self.now.collections }
         ensures { (d : CollectionValue) → result.now ≡ slice_index_or self.now.collections place d }
     {
-        &self.collections[place]
+        self.collections.at(place)
     }
 
     /// The collection of an id, None exactly where there is none. It takes no memory.
     pub fn collection(&self, id: &[u8]) -> Option<&CollectionData>
         ensures { option_map (λ collection. collection.now) result ≡ ids.item_of collection_id id.now self.now.collections }
     {
-        item_of(&self.collections, id)
+        self.collections.item_of(id)
+    }
+
+    // Equal collections, which share all that they hold. It takes no memory.
+    pub(crate) fn collections(&self) -> Result<ById<CollectionData>, OutOfMemory>
+        ensures same { IfOk result (λ collections. collections ≡ self.now.collections) }
+        ensures collections { AreCollections self.now.collections }
+    {
+        self.collections.share()
     }
 }

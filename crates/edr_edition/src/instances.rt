@@ -1,21 +1,25 @@
 //! Instances of collections of grids.
-ghost use Rattle.std.specs.Prelude.{◌≡◌, option_map, length};
-ghost use Rattle.edr_chunk.specs.Grids.{value};
-ghost use Rattle.edr_chunk.specs.Places.{Within, IsShape};
+ghost use Rattle.std.specs.Prelude.{◌≡◌, option_map, length, All, IfOk};
+ghost use Rattle.edr_chunk.specs.Places.{IsShape};
+ghost use Rattle.covjson_value.specs.declared.coverages.NdArray.{NdArray as NdArrayValue};
 ghost use Rattle.edr_base.specs.Names.{IsName};
-ghost use Rattle.edr_edition.specs.Instances.{IsTimedGrid, instance_of, IsInstance};
+ghost use Rattle.edr_edition.specs.Instances.{IsTimedGrid, instance_of, values_of, IsInstance, shape_over, FillsNodes};
+ghost use Rattle.edr_edition.specs.Tallies.{tally_of};
 
+use crate::tallies::Tally;
 use covjson_value::{Coverage, Domain, NdArray, Parameter};
 use edr_axes::Axis;
-use edr_base::{Items, Text};
-use edr_chunk::{GridPlace, GridShape};
+use edr_base::{Items, OutOfMemory, Text};
+use edr_chunk::{GridPacker, GridShape, PackedGrid};
 use edr_ids::Identified;
+use std::alloc::Global;
 use std::marker::Model;
 
 /// One grid of a collection, such as one run of a forecast (OGC 19-086r6, instances).
 ///
 /// It stands for a valid coverage of CoverageJSON whose domain is a Grid (OGC 21-069r2, domain types) with times and at
-/// most `edr_base::NODE_LIMIT` nodes; contracts see its axes, and its values in the order parameter, t, z, y, x.
+/// most `edr_base::NODE_LIMIT` nodes; contracts see its axes, and its values in the order parameter, t, z, y, x. They are
+/// kept in packed tiles.
 #[derive(Drop)]
 pub struct GridInstance {
     id: Text,
@@ -24,19 +28,86 @@ pub struct GridInstance {
     ys: Axis,
     xs: Axis,
     parameters: Items<Parameter>,
-    ranges: Items<NdArray>,
+    grid: PackedGrid,
+    tally: Tally,
 }
 
 impl Model for GridInstance {
-    ghost use Rattle.edr_base.specs.Names.{IsName};
+    ghost use Rattle.std.specs.Prelude.{◌≡◌};
     ghost use Rattle.edr_edition.specs.Values.{InstanceValue};
-    ghost use Rattle.edr_edition.specs.Instances.{IsTimedGrid, instance_of, grid_of};
+    ghost use Rattle.edr_edition.specs.Instances.{IsInstance};
+    ghost use Rattle.edr_edition.specs.Tallies.{tally_of};
 
     ghost Value = { InstanceValue };
 
-    ghost view = { λ i. instance_of i.id (grid_of i.times i.levels i.ys i.xs i.parameters i.ranges) };
+    ghost view = { λ i. record {
+      id = i.id;
+      parameters = i.parameters;
+      ts = i.times;
+      zs = i.levels;
+      ys = i.ys;
+      xs = i.xs;
+      grid = i.grid;
+    } };
 
-    ghost invariant = { λ i. IsName i.id × IsTimedGrid (grid_of i.times i.levels i.ys i.xs i.parameters i.ranges) };
+    ghost invariant = { λ i. IsInstance (record {
+      id = i.id;
+      parameters = i.parameters;
+      ts = i.times;
+      zs = i.levels;
+      ys = i.ys;
+      xs = i.xs;
+      grid = i.grid;
+    }) × (i.tally ≡ tally_of i.grid.values) };
+}
+
+// The shape of a grid of some parameters over some axes.
+fn shape_of(
+    parameters: usize,
+    times: &Axis,
+    levels: &Option<Axis>,
+    ys: &Axis,
+    xs: &Axis,
+) -> GridShape
+    requires { IsShape (shape_over parameters times.now levels.now ys.now xs.now) }
+    ensures { result ≡ shape_over parameters times.now levels.now ys.now xs.now }
+{
+    let levels = match levels {
+        Some(levels) => levels.len(),
+        None => 1,
+    };
+    GridShape {
+        parameters: parameters as u64,
+        times: times.len() as u32,
+        levels: levels as u32,
+        rows: ys.len() as u32,
+        columns: xs.len() as u32,
+    }
+}
+
+// A grid of that shape with the values of each parameter's range.
+fn packed(alloc: Global, shape: GridShape, ranges: &[NdArray]) -> Result<PackedGrid, OutOfMemory>
+    requires shape { IsShape shape }
+    requires many { shape.parameters ≡ length ranges.now }
+    requires ranges { All (λ (range : NdArrayValue). FillsNodes shape range.values) ranges.now }
+    ensures { IfOk result (λ grid. grid ≡ record { shape = shape; values = values_of ranges.now }) }
+{
+    let mut packer = GridPacker::new(alloc, shape);
+    for range in ranges {
+        packer.add(alloc, range.values.items())?;
+    }
+    Ok(packer.finish())
+}
+
+// The tally of all values.
+fn tally_of(ranges: &[NdArray]) -> Result<Tally, OutOfMemory>
+    ensures { IfOk result (λ tally. tally ≡ tally_of (values_of ranges.now)) }
+{
+    let mut tally = Tally::none();
+    for range in ranges {
+        tally = tally.with_all(range.values.items())?;
+    }
+    Ok(tally)
 }
 
 impl Identified for GridInstance {
@@ -49,10 +120,14 @@ impl Identified for GridInstance {
 
 impl GridInstance {
     // The instance of that id that a grid is.
-    pub(crate) fn of(id: Text, coverage: Coverage) -> GridInstance
+    pub(crate) fn of(
+        alloc: Global,
+        id: Text,
+        coverage: Coverage,
+    ) -> Result<GridInstance, OutOfMemory>
         requires id { IsName id }
         requires grid { IsTimedGrid coverage }
-        ensures { result ≡ instance_of id coverage }
+        ensures { IfOk result (λ instance. instance ≡ instance_of id coverage) }
     {
         let Coverage {
             id: _,
@@ -71,15 +146,19 @@ impl GridInstance {
             unreachable!()
         };
         let Some(times) = t else { unreachable!() };
-        GridInstance {
+        let shape = shape_of(parameters.items().len(), &times, &levels, &ys, &xs);
+        let grid = packed(alloc, shape, ranges.items())?;
+        let tally = tally_of(ranges.items())?;
+        Ok(GridInstance {
             id,
             times,
             levels,
             ys,
             xs,
             parameters,
-            ranges,
-        }
+            grid,
+            tally,
+        })
     }
 
     /// Its id, which is a name.
@@ -126,31 +205,17 @@ impl GridInstance {
         self.parameters.items()
     }
 
-    /// How many parameters, times, levels, rows and columns its values have.
-    pub fn shape(&self) -> GridShape
-        ensures same { result ≡ self.now.grid.shape }
-        ensures shape { IsShape result }
+    /// Its values, in packed tiles.
+    pub fn grid(&self) -> &PackedGrid
+        ensures { result.now ≡ self.now.grid }
     {
-        let levels = match &self.levels {
-            Some(levels) => levels.len(),
-            None => 1,
-        };
-        GridShape {
-            parameters: self.parameters.items().len() as u64,
-            times: self.times.len() as u32,
-            levels: levels as u32,
-            rows: self.ys.len() as u32,
-            columns: self.xs.len() as u32,
-        }
+        &self.grid
     }
 
-    /// The sample at a place, None where it is missing.
-    pub fn sample(&self, at: GridPlace) -> Option<i64>
-        requires { Within self.now.grid.shape at }
-        ensures { result ≡ value self.now.grid at }
+    /// How many samples it has, how many of them aren't missing, and their sum.
+    pub fn tally(&self) -> Tally
+        ensures { result ≡ tally_of self.now.grid.values }
     {
-        let node = self.shape().node_number(at);
-        let range = &self.ranges.items()[at.parameter as usize];
-        range.values.items()[node as usize]
+        self.tally
     }
 }

@@ -1,5 +1,6 @@
 //! Laws of changes and of instances.
 ghost use Rattle.edr_edition.specs.Editions.{NewestIsOne};
+ghost use Rattle.edr_edition.specs.Stores.{NewestIsNewest};
 ghost use Rattle.edr_edition.specs.Outcomes.{ChangesHaveOneOutcome, ChangesKeepOthers};
 
 use crate::collections::CollectionData;
@@ -20,4 +21,9 @@ pub fn changes_keep_others()
 /// No second instance is the newest.
 pub fn newest_is_one()
     ensures { NewestIsOne }
+{}
+
+/// The newest of instances in the order of their ids is the one whose id no other one's is above.
+pub fn newest_is_newest()
+    ensures { NewestIsNewest }
 {}

@@ -11,6 +11,8 @@ mod instances;
 mod kinds;
 mod laws;
 mod steps;
+mod stores;
+mod tallies;
 
 pub use changes::{Change, ChangeFault};
 pub use collections::CollectionData;
@@ -18,7 +20,9 @@ pub use drafts::Draft;
 pub use editions::Edition;
 pub use instances::GridInstance;
 pub use kinds::Kind;
-pub use laws::{changes_have_one_outcome, changes_keep_others, newest_is_one};
+pub use laws::{changes_have_one_outcome, changes_keep_others, newest_is_newest, newest_is_one};
+pub use stores::Store;
+pub use tallies::{Tally, tallies_add_up};
 
 #[cfg(test)]
 mod tests;

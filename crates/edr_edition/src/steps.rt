@@ -17,104 +17,112 @@ use crate::instances::GridInstance;
 use crate::kinds::Kind;
 use covjson_value::{Coverage, Referencing};
 use edr_base::{OutOfMemory, Text};
-use edr_ids::{place_of, put_item, take_item};
+use edr_ids::ById;
 use std::alloc::Global;
 
 /// Adds an empty collection: SameCollection.
 pub fn add_collection(
     alloc: Global,
-    collections: &mut Vec<CollectionData>,
+    collections: &mut ById<CollectionData>,
     id: Text,
     kind: Kind,
     title: Text,
     referencing: Referencing,
 ) -> Result<(), ChangeFault>
-    requires collections { AreCollections collections.old.items }
+    requires collections { AreCollections collections.old }
     requires id { IsName id }
     requires title { IsUtf8 title }
     requires referencing { IsReferencing referencing }
-    ensures made { IsMade collections.old.items (Collection id kind title referencing.crs referencing.vertical) result collections.new.items }
+    ensures made { IsMade collections.old (Collection id kind title referencing.crs referencing.vertical) result collections.new }
 {
-    if place_of(collections, id.bytes()).is_ok() {
+    if collections.item_of(id.bytes()).is_some() {
         return Err(ChangeFault::SameCollection);
     }
     let collection = CollectionData::empty(alloc, id, kind, title, referencing)?;
-    put_item(collections, collection)?;
+    collections.put(alloc, collection)?;
     Ok(())
 }
 
-/// Sets an instance of the collection at a place.
-fn set_at(
+// Sets an instance of a collection, and sets that among the collections.
+fn set_with(
     alloc: Global,
-    collections: &mut Vec<CollectionData>,
-    place: usize,
+    collections: &mut ById<CollectionData>,
+    collection: CollectionData,
     id: Text,
     coverage: Coverage,
 ) -> Result<(), ChangeFault>
-    requires collections { AreCollections collections.old.items }
-    requires place { place < length collections.old.items }
+    requires collections { AreCollections collections.old }
     requires id { IsName id }
     requires coverage { IsValid coverage }
-    ensures finds { (d : CollectionValue) → Finds (AppliesToGrid (Some (slice_index_or collections.old.items place d)) id coverage) result }
-    ensures becomes { (d : CollectionValue) → Becomes collections.old.items
-        (with_item collection_id (with_grid id coverage (slice_index_or collections.old.items place d)) collections.old.items) result collections.new.items }
+    ensures finds { Finds (AppliesToGrid (Some collection) id coverage) result }
+    ensures becomes { Becomes collections.old (with_item collection_id (with_grid id coverage collection) collections.old) result collections.new }
 {
-    check_grid(alloc, &collections[place], id.bytes(), &coverage)?;
-    let instance = GridInstance::of(id, coverage);
-    let collection = &mut collections[place];
+    check_grid(alloc, &collection, id.bytes(), &coverage)?;
+    let mut collection = collection;
+    let instance = GridInstance::of(alloc, id, coverage)?;
     collection.put(alloc, instance)?;
+    collections.put(alloc, collection)?;
     Ok(())
 }
 
 /// Sets an instance: UnknownCollection, and then as the grid is.
 pub fn set_instance(
     alloc: Global,
-    collections: &mut Vec<CollectionData>,
+    collections: &mut ById<CollectionData>,
     collection: &[u8],
     id: Text,
     coverage: Coverage,
 ) -> Result<(), ChangeFault>
-    requires collections { AreCollections collections.old.items }
+    requires collections { AreCollections collections.old }
     requires id { IsName id }
     requires coverage { IsValid coverage }
-    ensures made { IsMade collections.old.items (Grid collection.now id coverage) result collections.new.items }
+    ensures made { IsMade collections.old (Grid collection.now id coverage) result collections.new }
 {
-    match place_of(collections, collection) {
-        Ok(place) => set_at(alloc, collections, place, id, coverage),
-        Err(_) => Err(ChangeFault::UnknownCollection),
-    }
+    let Some(held) = collections.item_of(collection) else {
+        return Err(ChangeFault::UnknownCollection);
+    };
+    let held = held.share()?;
+    set_with(alloc, collections, held, id, coverage)
 }
 
 /// Drops a collection: UnknownCollection.
-pub fn drop_collection(collections: &mut Vec<CollectionData>, id: &[u8]) -> Result<(), ChangeFault>
-    requires collections { AreCollections collections.old.items }
-    ensures made { IsMade collections.old.items (DropCollection id.now) result collections.new.items }
+pub fn drop_collection(
+    alloc: Global,
+    collections: &mut ById<CollectionData>,
+    id: &[u8],
+) -> Result<(), ChangeFault>
+    requires collections { AreCollections collections.old }
+    ensures made { IsMade collections.old (DropCollection id.now) result collections.new }
 {
-    match take_item(collections, id) {
-        Some(_) => Ok(()),
-        None => Err(ChangeFault::UnknownCollection),
+    let there = collections.take_out(alloc, id)?;
+    if !there {
+        return Err(ChangeFault::UnknownCollection);
     }
+    Ok(())
 }
 
 /// Drops an instance: UnknownCollection, WrongKind, UnknownInstance.
 pub fn drop_instance(
-    collections: &mut Vec<CollectionData>,
+    alloc: Global,
+    collections: &mut ById<CollectionData>,
     collection: &[u8],
     id: &[u8],
 ) -> Result<(), ChangeFault>
-    requires collections { AreCollections collections.old.items }
-    ensures made { IsMade collections.old.items (DropInstance collection.now id.now) result collections.new.items }
+    requires collections { AreCollections collections.old }
+    ensures made { IsMade collections.old (DropInstance collection.now id.now) result collections.new }
 {
-    let Ok(place) = place_of(collections, collection) else {
+    let Some(held) = collections.item_of(collection) else {
         return Err(ChangeFault::UnknownCollection);
     };
-    let held = &mut collections[place];
     if held.kind() != Kind::Grid {
         return Err(ChangeFault::WrongKind);
     }
-    if !held.take_out(id) {
+    let mut left = held.share()?;
+    let there = left.take_out(alloc, id)?;
+    if !there {
         return Err(ChangeFault::UnknownInstance);
     }
+    collections.put(alloc, left)?;
     Ok(())
 }
 
@@ -150,43 +158,32 @@ fn empty_bare_collection(
     CollectionData::empty(alloc, id, Kind::Grid, title, referencing)
 }
 
-// Sets the first instance of a new collection, and adds that.
-fn add_with(
+// The collection that bare coverages go to: the one that is there, shared, or an empty one with these systems.
+fn bare_collection_of(
     alloc: Global,
-    collections: &mut Vec<CollectionData>,
-    collection: CollectionData,
-    id: Text,
-    coverage: Coverage,
-) -> Result<(), ChangeFault>
-    requires collections { AreCollections collections.old.items }
-    requires id { IsName id }
-    requires coverage { IsValid coverage }
-    ensures finds { Finds (AppliesToGrid (Some collection) id coverage) result }
-    ensures becomes { Becomes collections.old.items (with_item collection_id (with_grid id coverage collection) collections.old.items) result collections.new.items }
+    collections: &ById<CollectionData>,
+    referencing: &Referencing,
+) -> Result<CollectionData, OutOfMemory>
+    requires { IsReferencing referencing.now }
+    ensures { IfOk result (λ collection. collection ≡ bare_collection collections.now referencing.now) }
 {
-    check_grid(alloc, &collection, id.bytes(), &coverage)?;
-    let mut collection = collection;
-    collection.put(alloc, GridInstance::of(id, coverage))?;
-    put_item(collections, collection)?;
-    Ok(())
+    match collections.item_of(b"grid") {
+        Some(held) => held.share(),
+        None => empty_bare_collection(alloc, referencing),
+    }
 }
 
 /// Sets a bare coverage: as the grid is.
 pub fn set_bare(
     alloc: Global,
-    collections: &mut Vec<CollectionData>,
+    collections: &mut ById<CollectionData>,
     coverage: Coverage,
 ) -> Result<(), ChangeFault>
-    requires collections { AreCollections collections.old.items }
+    requires collections { AreCollections collections.old }
     requires coverage { IsValid coverage }
-    ensures made { IsMade collections.old.items (Bare coverage) result collections.new.items }
+    ensures made { IsMade collections.old (Bare coverage) result collections.new }
 {
     let id = Text::of(alloc, b"1")?;
-    match place_of(collections, b"grid") {
-        Ok(place) => set_at(alloc, collections, place, id, coverage),
-        Err(_) => {
-            let collection = empty_bare_collection(alloc, &coverage.referencing)?;
-            add_with(alloc, collections, collection, id, coverage)
-        }
-    }
+    let collection = bare_collection_of(alloc, collections, &coverage.referencing)?;
+    set_with(alloc, collections, collection, id, coverage)
 }

@@ -1,13 +1,12 @@
 //! A draft from its first change to its second edition. The faults of changes are tested by the lines of feeds.
-ghost use Rattle.std.specs.Prelude.{IsTrue};
-ghost use Rattle.edr_chunk.specs.Places.{Within};
 ghost use Rattle.edr_edition.specs.Changes.{IsChange};
 
-use crate::{Change, Draft, Edition, GridInstance};
+use crate::{Change, CollectionData, Draft, Edition, GridInstance, Kind, Store};
 use covjson_value::{Coverage, Domain, NdArray, Parameter, Referencing};
 use edr_axes::Axis;
-use edr_base::{Items, Text};
-use edr_chunk::{GridPlace, GridShape};
+use edr_base::{Items, OutOfMemory, Text};
+use edr_chunk::Reads;
+use edr_ids::ById;
 use std::alloc::Global;
 use std::process::Abort;
 use std::rt::HostRuntime;
@@ -102,48 +101,52 @@ fn an_edition_never_changes(rt: HostRuntime) {
     assert_eq!(rt; label(&rt, &second), b"Heat".as_slice());
 }
 
-fn is_within(shape: GridShape, at: GridPlace) -> bool
-    ensures { IsTrue result → Within shape at }
-{
-    at.parameter < shape.parameters
-        && at.t < shape.times
-        && at.z < shape.levels
-        && at.y < shape.rows
-        && at.x < shape.columns
+// What a store over the newest bare grid lists once its first tile was opened; nothing where there is no such grid.
+fn opened(alloc: Global, edition: &Edition) -> Result<Reads, OutOfMemory> {
+    let Some(collection) = edition.collection(b"grid") else {
+        return Ok(Reads::new(alloc));
+    };
+    let Some(instance) = collection.newest() else {
+        return Ok(Reads::new(alloc));
+    };
+    if collection.kind() != Kind::Grid || instance.grid().tiles() == 0 {
+        return Ok(Reads::new(alloc));
+    }
+    let mut store = Store::of(alloc, edition, b"grid", None);
+    let _ = store.tile(alloc, 0)?;
+    Ok(store.into_reads())
 }
 
 #[test]
-fn samples_stand_at_their_places(rt: HostRuntime) {
+fn a_store_lists_what_it_opened(rt: HostRuntime) {
     let alloc = rt.alloc();
     let mut draft = Draft::empty(alloc);
     assert!(rt; draft.apply(bare(&rt, alloc, b"Temperature")).is_ok());
     let edition = draft.finish(1);
-    let instance = newest(&rt, &edition);
-    // t, y, x and the sample
-    for (t, y, x, sample) in [
-        (0, 0, 0, Some(10)),
-        (0, 0, 2, Some(12)),
-        (0, 1, 1, None),
-        (1, 0, 0, Some(20)),
-        (1, 1, 2, Some(25)),
-    ] {
-        let at = GridPlace {
-            parameter: 0,
-            t,
-            z: 0,
-            y,
-            x,
-        };
-        assert!(rt; is_within(instance.shape(), at));
-        assert_eq!(rt; instance.sample(at), sample);
-    }
+    let reads = opened(alloc, &edition).expect(&rt, "a tile");
+    assert_eq!(rt; reads.numbers(), [0u64].as_slice());
+}
+
+#[test]
+fn samples_are_counted_and_summed(rt: HostRuntime) {
+    let alloc = rt.alloc();
+    let mut draft = Draft::empty(alloc);
+    assert!(rt; draft.apply(bare(&rt, alloc, b"Temperature")).is_ok());
+    let edition = draft.finish(1);
+    let tally = newest(&rt, &edition).tally();
+    assert!(rt; tally.samples == 12 && tally.present == 11 && tally.sum == 196);
 }
 
 fn is_shared_by_threads<T: Send + Sync + Drop>(_: &T) {}
 
+fn collections_are_shared_by_threads(collections: &ById<CollectionData>) {
+    is_shared_by_threads(collections);
+}
+
+// All that an edition and a draft hold, but for a number and the allocator.
 #[test]
-fn editions_are_shared_by_threads(rt: HostRuntime) {
-    let draft = Draft::empty(rt.alloc());
-    is_shared_by_threads(&draft);
-    is_shared_by_threads(&draft.finish(1));
+fn collections_can_be_shared(rt: HostRuntime) {
+    let edition = Draft::empty(rt.alloc()).finish(1);
+    let collections = edition.collections().expect(&rt, "a copy");
+    collections_are_shared_by_threads(&collections);
 }

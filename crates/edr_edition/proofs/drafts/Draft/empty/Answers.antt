@@ -9,7 +9,7 @@ none_are_collections : AreCollections []
 none_are_collections = record { each = All-nil IsCollection; ascending = AscendBy-nil collection_id }
 
 pub invariant_of-result : goal.invariant_of-result
-invariant_of-result c = subst AreCollections (sym c.new.ensures.items) none_are_collections
+invariant_of-result c = subst AreCollections (sym c.empty.ensures) none_are_collections
 
 pub returns-clause-collections : goal.returns-clause-collections
-returns-clause-collections c = subst AreCollections (sym c.new.ensures.items) none_are_collections
+returns-clause-collections c = subst AreCollections (sym c.empty.ensures) none_are_collections

@@ -4,7 +4,7 @@ use Rattle.edr_edition.specs.Changes.{AppliesToGrid}
 use Rattle.edr_edition.specs.Steps.{Finds}
 use Rattle.edr_edition.proofs.FaultLaws.{fits}
 use Rattle.edr_edition.proofs.StepLaws.{still_finds, fits_instance}
-use Rattle.edr_edition.proofs.steps.add_with.Goals as goal
+use Rattle.edr_edition.proofs.steps.set_with.Goals as goal
 
 pub returns-in_err-check_grid-clause-finds : goal.returns-in_err-check_grid-clause-finds
 returns-in_err-check_grid-clause-finds c =
@@ -24,4 +24,4 @@ put-requires-clause-kind c =
 pub put-requires-clause-same : goal.put-requires-clause-same
 put-requires-clause-same c =
     let is : IsCollection c.args.collection = subst IsCollection c.collection.view_is c.collection.invariant in
-    fits_instance c.args.collection c.bytes.result.now c.args.id c.args.coverage c.of.result (fits c.args.collection c.bytes.result.now c.args.coverage is c.requires.coverage c.in_ok-check_grid.ensures) c.bytes.ensures c.of.ensures
+    fits_instance c.args.collection c.bytes.result.now c.args.id c.args.coverage c.in_ok-instance.instance (fits c.args.collection c.bytes.result.now c.args.coverage is c.requires.coverage c.in_ok-check_grid.ensures) c.bytes.ensures c.in_ok-instance.ensures
