@@ -15,7 +15,8 @@ use Rattle.edr_feed.specs.declared.refusals.FeedRefusal.TheVariants as refusals
 use Rattle.edr_feed.specs.Forms.{HasForm, HasOutline, TreesHaveOneForm}
 use Rattle.edr_feed.specs.Lines.{read_lines}
 use Rattle.edr_feed.specs.Steps.{Progress, at_start, published, published_if_bare, EntryMakes, UnlessBlank, LineRows, EachLineRows}
-use Rattle.edr_feed.specs.Feeds.{FeedStands, AreNumberedFrom, FeedsHaveOneAnswer}
+use Rattle.edr_edition.specs.Shelves.{AreNumberedFrom}
+use Rattle.edr_feed.specs.Feeds.{FeedStands, FeedsHaveOneAnswer}
 
 -- ---- bytes have one answer
 

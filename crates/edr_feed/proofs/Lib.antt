@@ -9,3 +9,5 @@ pub mod StepLemmas
 pub mod FeedReadings
 pub mod FeedAnswers
 pub mod FeedLaws
+pub mod SummaryLemmas
+pub mod ReadFaults

@@ -73,8 +73,3 @@ InnerStandsIn (Some bytes) fault = InnerStands bytes fault
 -- bytes are at most one feed, or have one first refusal
 abbrev pub FeedsHaveOneAnswer : Type 0
 FeedsHaveOneAnswer = (bytes : List ℕ) (one other : Result (List EditionValue) FeedRefusal) → FeedStands bytes one → FeedStands bytes other → one ≡ other
-
--- the numbers ascend by one from that number on
-abbrev pub AreNumberedFrom : ℕ → List EditionValue → Type 0
-AreNumberedFrom number [] = ⊤
-AreNumberedFrom number (edition ∷ editions) = (edition.number ≡ number) × AreNumberedFrom (number + 1) editions

@@ -4,7 +4,8 @@ ghost use Rattle.std.specs.Io.KnownBytes.{IsAtEnd};
 ghost use Rattle.edr_base.specs.Calls.{SourceLent, ReadsAtMost, buffer_size};
 ghost use Rattle.edr_base.specs.Limits.{feed_limit};
 ghost use Rattle.edr_base.specs.Outside.{Rose};
-ghost use Rattle.edr_feed.specs.Feeds.{FeedStandsIn, InnerStandsIn, AreNumberedFrom, FeedsHaveOneAnswer};
+ghost use Rattle.edr_edition.specs.Shelves.{AreNumberedFrom};
+ghost use Rattle.edr_feed.specs.Feeds.{FeedStandsIn, InnerStandsIn, FeedsHaveOneAnswer};
 ghost use Rattle.edr_feed.specs.Readings.{ReadsWhole};
 ghost use Rattle.edr_feed.specs.Refusals.{refusal_of};
 

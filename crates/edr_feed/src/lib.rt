@@ -9,11 +9,13 @@ mod lines;
 mod reading;
 mod refusals;
 mod steps;
+mod summaries;
 
 pub use faults::FeedFault;
 pub use feeds::{Feed, feeds_have_one_answer, read_feed};
 pub use forms::{trees_have_one_form, trees_hold_one_coverage};
 pub use refusals::FeedRefusal;
+pub use summaries::summary;
 
 #[cfg(test)]
 mod tests;

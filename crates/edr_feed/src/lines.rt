@@ -1,8 +1,10 @@
 //! Lines of a feed.
-ghost use Rattle.std.specs.Prelude.{◌≡◌, IfOk, IfSome};
+ghost use Rattle.std.specs.Prelude.{◌≡◌, ◌≤◌, length, IfOk, IfSome, IsTrue};
 ghost use Rattle.std.specs.List.{list_all};
 ghost use Rattle.edr_base.specs.Names.{is_blank};
+ghost use Rattle.edr_base.specs.Limits.{line_limit};
 ghost use Rattle.edr_feed.specs.FormParts.{IsEntry};
+ghost use Rattle.edr_feed.specs.Lines.{IsBlank};
 ghost use Rattle.edr_feed.specs.Readings.{Says};
 
 use crate::entries::Entry;
@@ -16,6 +18,13 @@ fn all_blank(line: &[u8]) -> bool
     ensures { result ≡ list_all is_blank line.now }
 {
     line.iter().all(|byte| is_blank(*byte))
+}
+
+/// Whether a line is within the limit, and blank.
+pub fn is_blank_line(line: &[u8]) -> bool
+    ensures { IsTrue result → (length line.now ≤ line_limit) × IsBlank line.now }
+{
+    line.len() <= LINE_LIMIT && all_blank(line)
 }
 
 /// What a line says: nothing where it is blank, else its entry; or LineTooLong, NotJson, NotFeedLine, or the fault of its

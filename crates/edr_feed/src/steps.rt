@@ -6,7 +6,7 @@ ghost use Rattle.edr_feed.specs.Readings.{progress_of, is_bare, DoesEntry, DoesL
 
 use crate::entries::Entry;
 use crate::faults::LineFault;
-use crate::lines::line_says;
+use crate::lines::{is_blank_line, line_says};
 use edr_edition::{Change, Draft, Edition};
 use std::alloc::Global;
 use std::mem;
@@ -57,6 +57,10 @@ fn do_entry(alloc: Global, now: &mut Drafting, entry: Entry) -> Result<(), LineF
 pub fn do_line(alloc: Global, now: &mut Drafting, line: &[u8]) -> Result<(), LineFault>
     ensures { DoesLine line.now (progress_of now.old) result (progress_of now.new) }
 {
+    // most of a long feed of short lines may be blank
+    if is_blank_line(line) {
+        return Ok(());
+    }
     let said = line_says(alloc, line)?;
     match said {
         Some(entry) => do_entry(alloc, now, entry),

@@ -1,7 +1,8 @@
 use Rattle.std.proofs.Common.{Ok, List, sym, subst}
 use Rattle.std.proofs.lemmas.Result.{err_from_is_err_and}
 use Rattle.edr_edition.specs.Values.{EditionValue}
-use Rattle.edr_feed.specs.Feeds.{FeedStandsIn, AreNumberedFrom}
+use Rattle.edr_edition.specs.Shelves.{AreNumberedFrom}
+use Rattle.edr_feed.specs.Feeds.{FeedStandsIn}
 use Rattle.edr_feed.proofs.FeedLaws.{stands_numbered}
 use Rattle.edr_feed.proofs.FeedAnswers.{whole_stands, whole_fault, not_read}
 use Rattle.edr_feed.proofs.feeds.read_feed.Goals as goal

@@ -1,3 +1,5 @@
+use Rattle.std.proofs.lemmas.Result.{err_from_is_err_and}
+use Rattle.edr_feed.proofs.ReadFaults.{read_fault_inside}
 use Rattle.std.proofs.Common.{rules, ◌++◌, take, length-append, length-take, arith}
 use Rattle.std.proofs.lemmas.Result.{err_from_is_err_and}
 use Rattle.edr_base.specs.KnownBytes.{took_on}
@@ -58,3 +60,8 @@ returns-in_err-read_on-clause-cause g c =
     let piece = take c.in_ok-count.count c.read.new.buf in
     let own = (c.in_err-read_on.ensures i.bytes i.read piece).own in
     rw (p.1, p.2) (λ e. absurd (not_read _ own (cc e)))
+
+pub returns-in_err-count-clause-inner : goal.returns-in_err-count-clause-inner
+returns-in_err-count-clause-inner g c =
+    let p = err_from_is_err_and c.from_residual.result c.from_residual.ensures.1 in
+    rw (p.1, p.2) (read_fault_inside (g.S.Source.left c.args.source.now))
