@@ -1,54 +1,91 @@
 -- The commands of the program: what the words ask for, and what each command uses, gives and refuses. One more command is
 -- one more row in each table.
-use Rattle.std.specs.Prelude.{◌+◌, ℕ, bytes_eq, codes, if◌then◌else◌, List, [], ◌∷◌, None, Some}
+use Rattle.std.specs.Prelude.{◌≡◌, ◌+◌, ℕ, bytes_eq, codes, if◌then◌else◌, ◌&&◌, List, [], ◌∷◌, ◌++◌, length, Ok, Err, None, Some}
 use Rattle.std.specs.declared.option.Option.{Option}
+use Rattle.std.specs.Fmt.{decimal}
+use Rattle.std.specs.List.{flat_map}
 use Rattle.edr_base.specs.Outside.{Asked as AskedOf}
-use Rattle.edr_base.specs.Limits.{line_limit}
+use Rattle.edr_base.specs.Limits.{line_limit, feed_limit}
 use Rattle.edr_base.specs.Calls.{buffer_size}
 use Rattle.edr_base.specs.declared.refusals.Refusal.{Refusal}
+use Rattle.edr_edition.specs.Values.{EditionValue}
+use Rattle.edr_feed.specs.Feeds.{FeedStandsIn}
+use Rattle.edr_feed.specs.Summaries.{summary_line}
+use Rattle.edr_feed.specs.declared.refusals.FeedRefusal.{FeedRefusal}
+use Rattle.edr_feed.specs.declared.refusals.FeedRefusal.TheVariants.{NotFeedLine}
 use Rattle.edr_serve.specs.Grids.{HoldsNoGridIn}
 use Rattle.edr_serve.specs.Answer.{IsReplyTo, IsRefusalOf}
 use Rattle.edr.specs.declared.commands.Command.{Command}
-use Rattle.edr.specs.declared.commands.Command.TheVariants.{Ask}
+use Rattle.edr.specs.declared.commands.Command.TheVariants.{Ask, Check, CheckSummary}
 
--- a command, and the word behind it
+-- a command, and the word behind it that it goes by, where it has one
 pub record Asked : Type 0 where
   pub command : Command
   pub argument : List ℕ
 
+abbrev pub asks : Command → List ℕ → Option Asked
+asks command argument = Some (record { command = command; argument = argument })
+
 -- what the words ask for, and None where they are none of the commands'
 abbrev pub asked_by : List (List ℕ) → Option Asked
 asked_by [] = None
-asked_by (word ∷ []) = None
-asked_by (word ∷ argument ∷ []) = if bytes_eq word (codes "ask") then Some (record { command = Ask; argument = argument }) else None
-asked_by (word ∷ argument ∷ more ∷ words) = None
+asked_by (word ∷ []) = if bytes_eq word (codes "check") then asks Check [] else None
+asked_by (word ∷ next ∷ []) =
+    if bytes_eq word (codes "ask") then asks Ask next
+    else if bytes_eq word (codes "check") && bytes_eq next (codes "--summary") then asks CheckSummary []
+    else None
+asked_by (word ∷ next ∷ more ∷ words) = None
 
 -- ---- what each command uses of the files and of the link: what it asks of them, and None where it doesn't touch them
 
 abbrev pub files_asked : Command → List ℕ → Option (List AskedOf)
 files_asked Ask argument = None
+files_asked Check argument = None
+files_asked CheckSummary argument = None
 
 abbrev pub link_asked : Command → List ℕ → Option (List AskedOf)
 link_asked Ask argument = None
+link_asked Check argument = None
+link_asked CheckSummary argument = None
 
 -- ---- how many bytes each command takes from the input at most: what it reads, and what a read may have taken beside
 
 abbrev pub read_at_most : Command → ℕ
 read_at_most Ask = line_limit + 1 + buffer_size
+read_at_most Check = feed_limit + buffer_size
+read_at_most CheckSummary = feed_limit + buffer_size
 
 -- ---- what each command gives from what the input holds
 
--- the text that is asked for: the reply to the target
+-- the line that tells how many editions there are
+abbrev pub count_line : List EditionValue → List ℕ
+count_line editions = codes "ok: " ++ decimal (length editions) ++ codes " editions\n"
+
+-- the line of each edition
+abbrev pub summary_lines : List EditionValue → List ℕ
+summary_lines editions = flat_map summary_line editions
+
+-- the input is a feed, and this the text of its editions
+abbrev pub IsTextOfFeed : (List EditionValue → List ℕ) → Option (List ℕ) → List ℕ → Type 0
+IsTextOfFeed text_of input text = (editions : List EditionValue) × FeedStandsIn input (Ok editions) × (text ≡ text_of editions)
+
+-- the text that is asked for: the reply to the target, or what is told of the feed
 abbrev pub IsOutputOf : Command → List ℕ → Option (List ℕ) → List ℕ → Type 0
 IsOutputOf Ask target input text = IsReplyTo input target text
+IsOutputOf Check argument input text = IsTextOfFeed count_line input text
+IsOutputOf CheckSummary argument input text = IsTextOfFeed summary_lines input text
 
--- the input holds nothing that the command reads: no grid
-abbrev pub IsNoInputOf : Command → Option (List ℕ) → Type 0
-IsNoInputOf Ask input = HoldsNoGridIn input
+-- the input holds nothing that the command reads: no grid, or no feed, for that reason
+abbrev pub IsNoInputOf : Command → Option (List ℕ) → FeedRefusal → Type 0
+IsNoInputOf Ask input refusal = HoldsNoGridIn input × (refusal ≡ NotFeedLine 1)
+IsNoInputOf Check input refusal = FeedStandsIn input (Err refusal)
+IsNoInputOf CheckSummary input refusal = FeedStandsIn input (Err refusal)
 
 -- what is asked for is refused
 abbrev pub IsRefusedBy : Command → List ℕ → Option (List ℕ) → Refusal → Type 0
 IsRefusedBy Ask target input refusal = IsRefusalOf input target refusal
+IsRefusedBy Check argument input refusal = ⊥
+IsRefusedBy CheckSummary argument input refusal = ⊥
 
 -- ---- the same of words, which may ask for nothing
 
@@ -56,9 +93,9 @@ abbrev pub IsOutput : Option Asked → Option (List ℕ) → List ℕ → Type 0
 IsOutput None input text = ⊥
 IsOutput (Some asked) input text = IsOutputOf asked.command asked.argument input text
 
-abbrev pub IsNoInput : Option Asked → Option (List ℕ) → Type 0
-IsNoInput None input = ⊥
-IsNoInput (Some asked) input = IsNoInputOf asked.command input
+abbrev pub IsNoInput : Option Asked → Option (List ℕ) → FeedRefusal → Type 0
+IsNoInput None input refusal = ⊥
+IsNoInput (Some asked) input refusal = IsNoInputOf asked.command input refusal
 
 abbrev pub IsRefused : Option Asked → Option (List ℕ) → Refusal → Type 0
 IsRefused None input refusal = ⊥

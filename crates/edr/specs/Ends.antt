@@ -2,32 +2,49 @@
 -- differs from command to command.
 use Rattle.std.specs.Prelude.{◌≡◌, ◌⊎◌, ℕ, ◌++◌, ⊤, codes, List, [], Result, IsErrOf, IsNone, None, Some, option_map}
 use Rattle.std.specs.declared.option.Option.{Option}
+use Rattle.std.specs.Fmt.{decimal}
 use Rattle.std.specs.Io.KnownBytes.{IsAtEnd}
 use Rattle.edr_base.specs.RefusalTable.{body_of}
 use Rattle.edr_base.specs.Outside.{Aside, Asked as AskedOf, Rose}
 use Rattle.edr_base.specs.Calls.{Writes, WrittenWhole, WrittenInPart, ReadsAtMost}
 use Rattle.edr_base.specs.declared.sending.SendFault.{SendFault}
 use Rattle.edr_base.specs.declared.sending.SendFault.TheVariants.{WriteFault as ErrorsFault}
+use Rattle.edr_feed.specs.declared.refusals.FeedRefusal.{FeedRefusal}
+use Rattle.edr_feed.specs.declared.refusals.FeedRefusal.TheVariants.{TooLong, LineTooLong, NotJson, NotFeedLine, Cov, Change, NothingPublished}
 use Rattle.edr.specs.declared.commands.Command.{Command}
-use Rattle.edr.specs.declared.commands.Command.TheVariants.{Ask}
+use Rattle.edr.specs.declared.commands.Command.TheVariants.{Ask, Check, CheckSummary}
 use Rattle.edr.specs.declared.endings.Ending.{Ending}
-use Rattle.edr.specs.declared.endings.Ending.TheVariants.{Done, Usage, NotFeedLine, ReadFault, WriteFault, OutOfMemory, Refused}
+use Rattle.edr.specs.declared.endings.Ending.TheVariants.{Done, Usage, NotFeed, ReadFault, WriteFault, OutOfMemory, Refused}
 use Rattle.edr.specs.Commands.{Asked, IsOutput, IsNoInput, IsRefused, files_asked, link_asked, read_at_most}
 
 abbrev pub status_of : Ending → ℕ
 status_of Done = 0
 status_of Usage = 1
-status_of NotFeedLine = 2
+status_of (NotFeed refusal) = 2
 status_of ReadFault = 3
 status_of WriteFault = 4
 status_of OutOfMemory = 5
 status_of (Refused refusal) = 6
 
+-- a line of the feed
+abbrev pub at_line : ℕ → List ℕ
+at_line line = codes " line " ++ decimal line
+
+-- the name of a refusal, and the line where it has one
+abbrev pub name_of : FeedRefusal → List ℕ
+name_of TooLong = codes "TooLong"
+name_of (LineTooLong line) = codes "LineTooLong" ++ at_line line
+name_of (NotJson line) = codes "NotJson" ++ at_line line
+name_of (NotFeedLine line) = codes "NotFeedLine" ++ at_line line
+name_of (Cov line) = codes "Cov" ++ at_line line
+name_of (Change line) = codes "Change" ++ at_line line
+name_of NothingPublished = codes "NothingPublished"
+
 -- what is said on errors
 abbrev pub said_of : Ending → List ℕ
 said_of Done = []
 said_of Usage = codes "usage: edr ask TARGET | replay FEED [--advance] | check [--summary] | make NUMBER | show | fetch URL"
-said_of NotFeedLine = codes "feed: NotFeedLine line 1"
+said_of (NotFeed refusal) = codes "feed: " ++ name_of refusal
 said_of ReadFault = codes "read fault"
 said_of WriteFault = codes "write fault"
 said_of OutOfMemory = codes "out of memory"
@@ -37,7 +54,7 @@ said_of (Refused refusal) = body_of refusal
 abbrev pub line_of : Ending → List ℕ
 line_of Done = []
 line_of Usage = said_of Usage ++ codes "\n"
-line_of NotFeedLine = said_of NotFeedLine ++ codes "\n"
+line_of (NotFeed refusal) = said_of (NotFeed refusal) ++ codes "\n"
 line_of ReadFault = said_of ReadFault ++ codes "\n"
 line_of WriteFault = said_of WriteFault ++ codes "\n"
 line_of OutOfMemory = said_of OutOfMemory ++ codes "\n"
@@ -47,7 +64,7 @@ line_of (Refused refusal) = said_of (Refused refusal) ++ codes "\n"
 abbrev pub OutputEnds : Ending → (List ℕ → Type 0) → Option (List ℕ) → Option (List ℕ) → Option ℕ → Type 0
 OutputEnds Done P old new flushed = WrittenWhole P old new flushed
 OutputEnds Usage P old new flushed = new ≡ old
-OutputEnds NotFeedLine P old new flushed = new ≡ old
+OutputEnds (NotFeed refusal) P old new flushed = new ≡ old
 OutputEnds ReadFault P old new flushed = new ≡ old
 OutputEnds WriteFault P old new flushed = WrittenInPart P old new
 OutputEnds OutOfMemory P old new flushed = (new ≡ old) ⊎ WrittenInPart P old new
@@ -63,10 +80,14 @@ pub record Counts : Type 0 where
 -- a read failed: of the input
 abbrev pub ReadFailed : Command → Counts → Counts → Type 0
 ReadFailed Ask before after = Rose before.input after.input
+ReadFailed Check before after = Rose before.input after.input
+ReadFailed CheckSummary before after = Rose before.input after.input
 
 -- a write failed: on the output
 abbrev pub WriteFailed : Command → Counts → Counts → Type 0
 WriteFailed Ask before after = Rose before.output after.output
+WriteFailed Check before after = Rose before.output after.output
+WriteFailed CheckSummary before after = Rose before.output after.output
 
 -- the same of words, which may ask for nothing, and then nothing fails
 abbrev pub FailsIn : (Command → Counts → Counts → Type 0) → Option Asked → Counts → Counts → Type 0
@@ -77,7 +98,7 @@ FailsIn Failed (Some asked) before after = Failed asked.command before after
 abbrev pub HasCause : Ending → Option Asked → Option (List ℕ) → Counts → Counts → Type 0
 HasCause Done asked input before after = ⊤
 HasCause Usage asked input before after = IsNone asked
-HasCause NotFeedLine asked input before after = IsNoInput asked input
+HasCause (NotFeed refusal) asked input before after = IsNoInput asked input refusal
 HasCause ReadFault asked input before after = FailsIn ReadFailed asked before after
 HasCause WriteFault asked input before after = FailsIn WriteFailed asked before after
 HasCause OutOfMemory asked input before after = ⊤
@@ -96,7 +117,7 @@ ReadsBy (Some asked) old new = ReadsAtMost (read_at_most asked.command) old new
 abbrev pub IsReadByEnd : Ending → Option (List ℕ) → Type 0
 IsReadByEnd Done left = IsAtEnd left
 IsReadByEnd Usage left = ⊤
-IsReadByEnd NotFeedLine left = ⊤
+IsReadByEnd (NotFeed refusal) left = ⊤
 IsReadByEnd ReadFault left = ⊤
 IsReadByEnd WriteFault left = ⊤
 IsReadByEnd OutOfMemory left = ⊤
@@ -140,3 +161,10 @@ pub record Ends (ending : Ending) (asked : Option Asked) (status : ℕ) (before 
   pub output : OutputEnds ending (IsOutput asked before.left) before.written after.written after.flushed
   pub cause : HasCause ending asked before.left before.counts after.counts
   pub line : Tells (line_of ending) before.told after.told before.errors after.errors
+
+-- ---- for private clauses
+
+-- a line of the feed, where one is named
+abbrev pub place_of : Option ℕ → List ℕ
+place_of None = []
+place_of (Some line) = at_line line

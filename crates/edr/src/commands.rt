@@ -9,19 +9,25 @@ use edr_base::Text;
 pub enum Command {
     /// `ask TARGET`: answers a target from the grid on the input.
     Ask,
+    /// `check`: tells how many editions the feed on the input has.
+    Check,
+    /// `check --summary`: tells what each edition of the feed on the input has.
+    CheckSummary,
 }
 
-/// The command that the words ask for, and the word behind it; None where they are none of the commands'. It takes no memory.
+/// The command that the words ask for, and the word behind it where it goes by one; None where they are none of the
+/// commands'. It takes no memory.
 pub fn asked_by(words: &[Text]) -> Option<(Command, &[u8])>
     ensures { option_map (λ asked. record { command = asked.0; argument = asked.1.now }) result ≡ asked_by words.now }
 {
     match words {
-        [word, target] => {
-            if word.bytes() == b"ask".as_slice() {
-                Some((Command::Ask, target.bytes()))
-            } else {
-                None
-            }
+        [word] if word.bytes() == b"check".as_slice() => Some((Command::Check, &[])),
+        [word, target] if word.bytes() == b"ask".as_slice() => {
+            Some((Command::Ask, target.bytes()))
+        }
+        [word, next]
+            if word.bytes() == b"check".as_slice() && next.bytes() == b"--summary".as_slice() => {
+            Some((Command::CheckSummary, &[]))
         }
         _ => None,
     }

@@ -1,10 +1,15 @@
 //! How a run ends.
 ghost use Rattle.std.specs.Prelude.{◌≡◌, ◌++◌, codes, IsErrOf};
-ghost use Rattle.edr.specs.Ends.{status_of, said_of, line_of, Tells};
+ghost use Rattle.edr.specs.Ends.{status_of, said_of, line_of, place_of, Tells};
 ghost use Rattle.edr_base.specs.Calls.{SinkLent, Writes};
 ghost use Rattle.edr_base.specs.Outside.{Rose};
 
 use edr_base::{Refusal, SendFault, Sink, send, settle};
+use edr_feed::FeedRefusal;
+use itoa::Buffer;
+
+const USAGE: &[u8] =
+    b"usage: edr ask TARGET | replay FEED [--advance] | check [--summary] | make NUMBER | show | fetch URL";
 
 /// How a run ends, by its cause.
 #[derive(Clone, Copy, Debug, PartialEq, Eq)]
@@ -13,8 +18,8 @@ pub enum Ending {
     Done,
     /// The words are none of the commands'.
     Usage,
-    /// The input isn't one line that is a grid.
-    NotFeedLine,
+    /// The input is no feed, or not one line that is a grid.
+    NotFeed(FeedRefusal),
     /// A read failed.
     ReadFault,
     /// A write failed.
@@ -33,7 +38,7 @@ impl Ending {
         match self {
             Ending::Done => 0,
             Ending::Usage => 1,
-            Ending::NotFeedLine => 2,
+            Ending::NotFeed(_) => 2,
             Ending::ReadFault => 3,
             Ending::WriteFault => 4,
             Ending::OutOfMemory => 5,
@@ -42,32 +47,86 @@ impl Ending {
     }
 }
 
-// What the line of an ending says.
-fn said(ending: Ending) -> &'static [u8]
-    ensures { result.now ≡ said_of ending }
+// The name of a refusal of a feed behind the word that all of them have, and the line where it names one.
+fn said_of_feed(refusal: FeedRefusal) -> (&'static [u8], Option<usize>)
+    ensures { result.0.now ++ place_of result.1 ≡ said_of (Ending.NotFeed refusal) }
 {
-    match ending {
-        Ending::Done => b"",
-        Ending::Usage => {
-            b"usage: edr ask TARGET | replay FEED [--advance] | check [--summary] | make NUMBER | show | fetch URL"
-        }
-        Ending::NotFeedLine => b"feed: NotFeedLine line 1",
-        Ending::ReadFault => b"read fault",
-        Ending::WriteFault => b"write fault",
-        Ending::OutOfMemory => b"out of memory",
-        Ending::Refused(refusal) => refusal.body(),
+    match refusal {
+        FeedRefusal::TooLong => (b"feed: TooLong", None),
+        FeedRefusal::LineTooLong(line) => (b"feed: LineTooLong", Some(line)),
+        FeedRefusal::NotJson(line) => (b"feed: NotJson", Some(line)),
+        FeedRefusal::NotFeedLine(line) => (b"feed: NotFeedLine", Some(line)),
+        FeedRefusal::Cov(line) => (b"feed: Cov", Some(line)),
+        FeedRefusal::Change(line) => (b"feed: Change", Some(line)),
+        FeedRefusal::NothingPublished => (b"feed: NothingPublished", None),
     }
 }
 
-// Writes a text and a line feed.
+// What the line of an ending says, and the line of the feed that it names behind that.
+fn said(ending: Ending) -> (&'static [u8], Option<usize>)
+    ensures { result.0.now ++ place_of result.1 ≡ said_of ending }
+{
+    match ending {
+        Ending::Done => (b"", None),
+        Ending::Usage => (USAGE, None),
+        Ending::NotFeed(refusal) => said_of_feed(refusal),
+        Ending::ReadFault => (b"read fault", None),
+        Ending::WriteFault => (b"write fault", None),
+        Ending::OutOfMemory => (b"out of memory", None),
+        Ending::Refused(refusal) => (refusal.body(), None),
+    }
+}
+
+// Writes one text and then another.
 #[tactic(auto, using(edr_base::specs::KnownBytes::writes_stop))]
-fn send_line<D: Sink>(sink: &mut D, text: &[u8]) -> Result<(), SendFault>
-    ensures bytes { Writes result (text.now ++ codes "\n") (D.written sink.old) (D.written sink.new) }
+fn send_both<D: Sink>(sink: &mut D, first: &[u8], second: &[u8]) -> Result<(), SendFault>
+    ensures bytes { Writes result (first.now ++ second.now) (D.written sink.old) (D.written sink.new) }
+    ensures lent { SinkLent (D.beside sink.old) (D.beside sink.new) (D.faults sink.old) (D.faults sink.new) }
+    ensures cause { IsErrOf result SendFault.WriteFault → Rose (D.faults sink.old) (D.faults sink.new) }
+{
+    match send(sink, first) {
+        Ok(()) => send(sink, second),
+        Err(fault) => Err(fault),
+    }
+}
+
+// Writes the line of the feed that is named, where there is one.
+fn send_place<D: Sink>(sink: &mut D, line: Option<usize>) -> Result<(), SendFault>
+    ensures bytes { Writes result (place_of line) (D.written sink.old) (D.written sink.new) }
+    ensures lent { SinkLent (D.beside sink.old) (D.beside sink.new) (D.faults sink.old) (D.faults sink.new) }
+    ensures cause { IsErrOf result SendFault.WriteFault → Rose (D.faults sink.old) (D.faults sink.new) }
+{
+    match line {
+        Some(line) => {
+            let mut buffer = Buffer::new();
+            send_both(sink, b" line ", buffer.format(line).as_bytes())
+        }
+        None => send(sink, b""),
+    }
+}
+
+// Writes the line of the feed that is named, where there is one, and a line feed.
+#[tactic(auto, using(edr_base::specs::KnownBytes::writes_stop))]
+fn send_end<D: Sink>(sink: &mut D, line: Option<usize>) -> Result<(), SendFault>
+    ensures bytes { Writes result (place_of line ++ codes "\n") (D.written sink.old) (D.written sink.new) }
+    ensures lent { SinkLent (D.beside sink.old) (D.beside sink.new) (D.faults sink.old) (D.faults sink.new) }
+    ensures cause { IsErrOf result SendFault.WriteFault → Rose (D.faults sink.old) (D.faults sink.new) }
+{
+    match send_place(sink, line) {
+        Ok(()) => send(sink, b"\n"),
+        Err(fault) => Err(fault),
+    }
+}
+
+// Writes a text, the line of the feed that is named behind it, and a line feed.
+#[tactic(auto, using(edr_base::specs::KnownBytes::writes_stop))]
+fn send_line<D: Sink>(sink: &mut D, text: &[u8], line: Option<usize>) -> Result<(), SendFault>
+    ensures bytes { Writes result (text.now ++ (place_of line ++ codes "\n")) (D.written sink.old) (D.written sink.new) }
     ensures lent { SinkLent (D.beside sink.old) (D.beside sink.new) (D.faults sink.old) (D.faults sink.new) }
     ensures cause { IsErrOf result SendFault.WriteFault → Rose (D.faults sink.old) (D.faults sink.new) }
 {
     match send(sink, text) {
-        Ok(()) => send(sink, b"\n"),
+        Ok(()) => send_end(sink, line),
         Err(fault) => Err(fault),
     }
 }
@@ -80,6 +139,7 @@ pub fn tell<D: Sink>(ending: Ending, errors: &mut D)
     if let Ending::Done = ending {
         return;
     }
-    let _ = send_line(errors, said(ending));
+    let (text, line) = said(ending);
+    let _ = send_line(errors, text, line);
     let _ = settle(errors);
 }

@@ -4,9 +4,11 @@ ghost use Rattle.edr_base.specs.Calls.{SourceLent, SinkLent};
 ghost use Rattle.edr.specs.Commands.{asked_by, IsOutput};
 ghost use Rattle.edr.specs.Ends.{Ends, EndsByWords, OutputEnds, HasCause, IsReadByEnd, ReadsBy, AskedBeside, of_files, of_link};
 
+use crate::checking::check;
 use crate::commands::{Command, asked_by};
 use crate::endings::{Ending, tell};
 use edr_base::{Files, Link, Sink, Source, Text};
+use edr_feed::FeedRefusal;
 use edr_serve::{FirstFault, ask_first};
 use std::alloc::Global;
 
@@ -24,7 +26,7 @@ fn ask<S: Source, K: Sink>(alloc: Global, target: &[u8], input: &mut S, output: 
 {
     match ask_first(alloc, input, target, output) {
         Ok(()) => Ending::Done,
-        Err(FirstFault::NotFeedLine) => Ending::NotFeedLine,
+        Err(FirstFault::NotFeedLine) => Ending::NotFeed(FeedRefusal::NotFeedLine(1)),
         Err(FirstFault::Refused(refusal)) => Ending::Refused(refusal),
         Err(FirstFault::ReadFault) => Ending::ReadFault,
         Err(FirstFault::WriteFault) => Ending::WriteFault,
@@ -58,14 +60,16 @@ fn carry_out<S: Source, K: Sink, F: Files, L: Link>(
     let _ = link;
     match asked_by(words) {
         Some((Command::Ask, target)) => ask(alloc, target, input, output),
+        Some((Command::Check, _)) => check(alloc, false, input, output),
+        Some((Command::CheckSummary, _)) => check(alloc, true, input, output),
         None => Ending::Usage,
     }
 }
 
 /// All that the program does, over the objects that it is lent: `words` are those after the program's name.
 ///
-/// `ask TARGET` reads one grid from `input`, answers the target from it, and writes the body to `output`. The answer is
-/// the status of the program; with each but 0 one line says why on `errors`. Of files and of the link nothing is asked that
+/// `ask TARGET` reads one grid from `input`, answers the target from it, and writes the body to `output`. `check` reads a feed
+/// from `input` and writes how many editions it has; `check --summary` writes what each of them has. The answer is the status of the program; with each but 0 one line says why on `errors`. Of files and of the link nothing is asked that
 /// the words don't ask for, and where they ask for nothing there neither is touched.
 pub fn run<S: Source, K: Sink, D: Sink, F: Files, L: Link>(
     alloc: Global,

@@ -1,0 +1,8 @@
+use Rattle.edr.proofs.running.run.Goals as goal
+
+pub returns-clause-ends : goal.returns-clause-ends
+returns-clause-ends g c =
+    let ending = c.carry_out-ending.ensures in (
+      c.carry_out-ending.result,
+      record { number = c.status.ensures; words = ending.words; input = ending.read; ended = ending.ended; output = ending.output; cause = ending.cause; line = c.tell.ensures.line },
+    )
