@@ -1,4 +1,4 @@
-"""What the readers answer, in a plain notation."""
+"""What the readers answer, in the plain notation that `edr_answers` has too."""
 
 from coverage_json_read import CoverageFault, read_document
 from coverage_json_written import write_document

@@ -1,9 +1,9 @@
 """Compares the proved program with the plain one on random inputs.
 
-    python3 plain/compare.py --edr crates/edr/out/edr --seed 1 --count 1000
+    python3 plain/compare.py --edr crates/edr/out/edr --answers crates/edr_answers/out/edr_answers --seed 1 --count 1000
 
-`--edr` names the program, which is asked by its words and its input (the kind `ask`); `--bench` names a program
-whose command `answers` gives what the readers answer (all other kinds). With `--tried` in place of `--edr`, `rt try` runs
+`--edr` names the program, which is asked by its words and its input (the kinds `ask` and `check`); `--answers` names `edr_answers`,
+which gives what the readers answer (all other kinds). With `--tried` in place of `--edr`, `rt try` runs
 the crate `edr` without proof. Each kind gets `--count` inputs, which the seed, the kind and their number decide. Every
 difference is printed with what reproduces it; the last line is `N agreed, M differ`, and the status is 1 where any differ.
 """
@@ -38,6 +38,14 @@ class Kind:
     mark: str
 
 
+def check_input(draw: Draw) -> Ask:
+    """A feed, or nearly one, to be checked or summed up."""
+    return Ask(draw.pick((b"check",), (b"check", b"--summary")), feed_text(draw))
+
+
+# What the program is started with.
+ASKS = {"ask": ask_input, "check": check_input}
+
 READERS = {
     "number": Kind(number_text, answers.number_answer, "n"),
     "instant": Kind(instant_text, answers.instant_answer, "i"),
@@ -62,7 +70,7 @@ class Settings:
 
     seed: str
     edr: str | None
-    bench: str | None
+    answers: str | None
 
 
 @dataclass(frozen=True)
@@ -98,15 +106,15 @@ class Result:
 
 def compare(settings: Settings, places: list[Place]) -> list[Result]:
     """Compares some inputs."""
-    asks = [place for place in places if place.kind == "ask"]
-    reads = [place for place in places if place.kind != "ask"]
+    asks = [place for place in places if place.kind in ASKS]
+    reads = [place for place in places if place.kind not in ASKS]
     results = _compare_asks(settings, asks) if asks else []
     results += _compare_reads(settings, reads) if reads else []
     return [result.shortened() for result in results]
 
 
 def _compare_asks(settings: Settings, places: list[Place]) -> list[Result]:
-    asks = [ask_input(place.draw(settings.seed)) for place in places]
+    asks = [ASKS[place.kind](place.draw(settings.seed)) for place in places]
     found = endings(settings.edr, asks)
     return [_ask_result(place, ask, ending) for place, ask, ending in zip(places, asks, found)]
 
@@ -120,7 +128,7 @@ def _ask_result(place: Place, ask: Ask, ending: Ending | None) -> Result:
 def _compare_reads(settings: Settings, places: list[Place]) -> list[Result]:
     kinds = [(READERS | LARGE_READERS)[place.kind] for place in places]
     texts = [kind.make(place.draw(settings.seed)) for kind, place in zip(kinds, places)]
-    found = reader_answers(settings.bench, [(kind.mark, text) for kind, text in zip(kinds, texts)])
+    found = reader_answers(settings.answers, [(kind.mark, text) for kind, text in zip(kinds, texts)])
     return [_read_result(*parts) for parts in zip(places, kinds, texts, found)]
 
 
@@ -149,11 +157,11 @@ def parsed_words() -> argparse.Namespace:
     """The words of the command."""
     parser = argparse.ArgumentParser(description=__doc__, formatter_class=argparse.RawDescriptionHelpFormatter)
     parser.add_argument("--edr", help="the program edr")
-    parser.add_argument("--bench", help="a program whose command answers gives what the readers answer")
+    parser.add_argument("--answers", help="the program edr_answers")
     parser.add_argument("--tried", action="store_true", help="run the crate edr by rt try, in one process")
     parser.add_argument("--seed", required=True)
     parser.add_argument("--count", type=int, default=1000, help="how many inputs of each kind")
-    parser.add_argument("--kind", action="append", choices=["ask", *READERS, *LARGE_READERS], help="may be given several times")
+    parser.add_argument("--kind", action="append", choices=[*ASKS, *READERS, *LARGE_READERS], help="may be given several times")
     parser.add_argument("--only", type=int, help="compare the input of this number alone, and print it whole")
     parser.add_argument("--at-once", type=int, default=500, help="how many inputs a process takes at a time")
     parser.add_argument("--processes", type=int, default=2)
@@ -164,8 +172,8 @@ def kinds_of(words: argparse.Namespace) -> list[str]:
     """The kinds that are asked for, or those that the programs can answer."""
     if words.kind:
         return words.kind
-    asks = ["ask"] if words.edr or words.tried else []
-    return asks + (list(READERS) if words.bench else [])
+    asks = list(ASKS) if words.edr or words.tried else []
+    return asks + (list(READERS) if words.answers else [])
 
 
 def jobs_of(words: argparse.Namespace, kinds: list[str]) -> list[list[Place]]:
@@ -178,7 +186,7 @@ def jobs_of(words: argparse.Namespace, kinds: list[str]) -> list[list[Place]]:
         jobs += [places[first : first + step] for first in range(0, len(places), step)]
     if words.tried:
         places = [place for job in jobs for place in job]
-        jobs = [[place for place in places if (place.kind == "ask") == is_ask] for is_ask in (False, True)]
+        jobs = [[place for place in places if (place.kind in ASKS) == is_ask] for is_ask in (False, True)]
     return [job for job in jobs if job]
 
 
@@ -195,7 +203,7 @@ def print_counts(results: list[Result]) -> None:
 
 def main() -> int:
     words = parsed_words()
-    settings = Settings(words.seed, words.edr, words.bench)
+    settings = Settings(words.seed, words.edr, words.answers)
     results = []
     with ProcessPoolExecutor(1 if words.tried else words.processes) as pool:
         for found in pool.map(partial(compare, settings), jobs_of(words, kinds_of(words))):

@@ -1,11 +1,13 @@
-"""The commands of the program: python3 plain/edr.py ask TARGET < input"""
+"""The commands of the program: python3 plain/edr.py ask TARGET < input, or check [--summary]"""
 
 import os
 import sys
 from dataclasses import dataclass
 
 from ask import NotFeedLine, ask
+from feeds import FeedFault, read_feed
 from refusals import Refused
+from summaries import count_line, summary_lines
 
 USAGE = "usage: edr ask TARGET | replay FEED [--advance] | check [--summary] | make NUMBER | show | fetch URL"
 
@@ -25,6 +27,10 @@ def _ended(status: int, line: str) -> Ending:
 
 def run(words: list[bytes], read_input) -> Ending:
     """What the program does for its words. The input is read where the words ask for it."""
+    if words == [b"check"]:
+        return _told(read_input(), count_line)
+    if words == [b"check", b"--summary"]:
+        return _told(read_input(), summary_lines)
     if len(words) != 2 or words[0] != b"ask":
         return _ended(1, USAGE)
     try:
@@ -33,6 +39,13 @@ def run(words: list[bytes], read_input) -> Ending:
         return _ended(2, "feed: NotFeedLine line 1")
     except Refused as refused:
         return _ended(6, refused.body())
+
+
+def _told(feed: bytes, text_of) -> Ending:
+    try:
+        return Ending(0, text_of(read_feed(feed)).encode("utf-8"))
+    except FeedFault as fault:
+        return _ended(2, f"feed: {fault.name}" + (f" line {fault.line}" if fault.line else ""))
 
 
 def main() -> int:

@@ -17,7 +17,7 @@ class NoAnswer(Exception):
     """A program ended without answering all inputs."""
 
 
-# Readers: a program that answers many cases at a time
+# Readers: edr_answers answers many cases at a time
 
 
 Case = tuple[str, bytes]  # the mark of a reader, and a text
@@ -28,7 +28,7 @@ def reader_answers(program: str, cases: list[Case]) -> list[bytes]:
 
     It reads a mark, eight digits of a length and a text for each, and writes eight digits, an answer and a line end.
     """
-    done = subprocess.run([program, "answers"], input=_written(cases), capture_output=True)
+    done = subprocess.run([program], input=_written(cases), capture_output=True)
     return _cut_answers(done.stdout, len(cases), done.stderr)
 
 
