@@ -12,3 +12,10 @@ pub mod ReadLemmas
 pub mod StepLemmas
 pub mod QueryLemmas
 pub mod TargetLemmas
+pub mod ByteLemmas
+pub mod SpelledPaths
+pub mod SpelledPairs
+pub mod SpelledValues
+pub mod SpelledNames
+pub mod SpelledTexts
+pub mod SpelledQueries

@@ -1,8 +1,11 @@
 //! Laws of targets.
 ghost use Rattle.edr_query.specs.Targets.{TargetIsOne};
+ghost use Rattle.edr_query.specs.Spelling.{WrittenQueriesReadBack};
 
-use edr_axes::{levels_are_unique, times_are_unique};
-use edr_wkt::wkt_is_one;
+use edr_axes::{
+    levels_are_unique, times_are_unique, times_are_written, written_times_are_instants,
+};
+use edr_wkt::{wkt_is_one, written_wkt_reads_back};
 
 /// A target has one answer: it asks for one page, or one refusal is the least of those that apply.
 pub fn target_is_one()
@@ -11,4 +14,16 @@ pub fn target_is_one()
     wkt_is_one();
     times_are_unique();
     levels_are_unique();
+}
+
+/// The written form of a query asks for that query; by `target_is_one` it asks for no other.
+pub fn written_queries_read_back()
+    ensures { WrittenQueriesReadBack }
+{
+    wkt_is_one();
+    times_are_unique();
+    levels_are_unique();
+    written_wkt_reads_back();
+    written_times_are_instants();
+    times_are_written();
 }

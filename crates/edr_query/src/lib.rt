@@ -19,7 +19,7 @@ mod shapes;
 mod steps;
 
 pub use addresses::{Address, ID_SET, PageKind, QueryKind};
-pub use laws::target_is_one;
+pub use laws::{target_is_one, written_queries_read_back};
 pub use pages::Page;
 pub use parameters::Parameter;
 pub use queries::Query;
