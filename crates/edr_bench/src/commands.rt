@@ -1,5 +1,6 @@
 //! The commands, as the words after the program's name give them.
 use crate::grids::Rows;
+use crate::tiles::Samples;
 
 /// What is to be done.
 #[derive(Clone, Copy, Debug, PartialEq, Eq)]
@@ -16,6 +17,8 @@ pub enum Command {
     Read(u32),
     /// Reads a tree of JSON so many times.
     Parse(u32),
+    /// Packs a grid and opens each of its tiles so many times.
+    Tiles(Samples, u32),
 }
 
 fn rows_of(word: &String) -> Option<Rows> {
@@ -39,6 +42,12 @@ pub fn command_of(words: &[String]) -> Option<Command> {
         }
         [name, count, rounds] if name.as_str() == "tree" => {
             Some(Command::Tree(rows_of(count)?, rounds_of(rounds)?))
+        }
+        [name, rounds] if name.as_str() == "tiles1" => {
+            Some(Command::Tiles(Samples::OneDigit, rounds_of(rounds)?))
+        }
+        [name, rounds] if name.as_str() == "tiles5" => {
+            Some(Command::Tiles(Samples::FiveDigits, rounds_of(rounds)?))
         }
         [name, rounds] if name.as_str() == "read" => Some(Command::Read(rounds_of(rounds)?)),
         [name, rounds] if name.as_str() == "parse" => Some(Command::Parse(rounds_of(rounds)?)),

@@ -7,6 +7,8 @@
 //! - `tree COUNT ROUNDS` makes that grid and its tree of JSON and writes the tree so many times, and prints the length.
 //! - `read ROUNDS` reads standard input as a document of CoverageJSON so many times, and prints the number of its values, or
 //!   of its coverages.
+//! - `tiles1 ROUNDS` and `tiles5 ROUNDS` pack a grid of 2,000 by 2,000 samples of one or up to five digits, open each of its
+//!   tiles so many times, and print how many were opened.
 //! - `parse ROUNDS` reads it as a tree of JSON so many times, and prints the number of its members.
 #![tactic(auto)]
 
@@ -14,6 +16,7 @@ mod answers;
 mod commands;
 mod grids;
 mod running;
+mod tiles;
 
 use answers::BenchFault;
 use commands::command_of;

@@ -4,6 +4,7 @@ ghost use Rattle.covjson_value.specs.Coverages.{IsValidDocument};
 use crate::answers::{Answer, BenchFault};
 use crate::commands::Command;
 use crate::grids::{Rows, grid_of};
+use crate::tiles::open_tiles;
 use covjson_checks::CovFault;
 use covjson_read::read_document;
 use covjson_value::{Document, document_tree};
@@ -150,6 +151,7 @@ pub fn carry_out<S: Source>(
         Command::Make(rows) => make(alloc, rows),
         Command::Write(rows, rounds) => write(alloc, rows, rounds),
         Command::Tree(rows, rounds) => write_tree(alloc, rows, rounds),
+        Command::Tiles(samples, rounds) => Ok(Answer::Count(open_tiles(alloc, samples, rounds)?)),
         Command::Read(rounds) => {
             let text = text_of(alloc, input)?;
             Ok(Answer::Count(read_rounds(alloc, &text, rounds)?))

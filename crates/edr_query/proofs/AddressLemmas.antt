@@ -1,12 +1,12 @@
 -- The parts of an address, and the address of parts.
-use Rattle.std.proofs.Common.{◌≡◌, ℕ, List, [], ◌∷◌, refl, ap, ap₂, sym, ◌∙◌, ⊎_elim, Some, None, codes}
+use Rattle.std.proofs.Common.{◌≡◌, ℕ, List, [], ◌∷◌, refl, ap, ◌∙◌, ⊎_elim, Some, None, codes}
 use Rattle.std.specs.declared.option.Option.{Option}
 use Rattle.edr_query.specs.declared.addresses.QueryKind.{QueryKind}
 use Rattle.edr_query.specs.declared.addresses.QueryKind.TheVariants.{Position, Radius, Area, Cube, Trajectory, Corridor}
 use Rattle.edr_query.specs.declared.addresses.Address.{Address}
 use Rattle.edr_query.specs.declared.addresses.Address.TheVariants.{Landing, Conformance, Collections, Collection, Instances, Instance, Locations, Location, Query}
 use Rattle.edr_query.specs.Paths.{kind_text, parts_of}
-use Rattle.edr_query.specs.PathReads.{kind_in, query_of, top_page, named_page, id_page, instance_page, collection_page, address_in}
+use Rattle.edr_query.specs.PathReads.{kind_in, query_of, named_page, id_page, instance_page, collection_page, address_in}
 use Rattle.edr_query.proofs.ListLemmas.{some_same, none_some, choice, when_text}
 
 kind_back : (kind : QueryKind) → kind_in (kind_text kind) ≡ Some kind

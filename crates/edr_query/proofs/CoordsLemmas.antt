@@ -1,5 +1,5 @@
 -- Coordinates, heights along them, and boxes.
-use Rattle.std.proofs.Common.{◌≡◌, ◌≢◌, ◌⊎◌, inl, inr, ⊎_elim, ℕ, ℤ, ◌≤◌, List, [], ◌∷◌, length, Bool, true, false, refl, ap, sym, ◌∙◌, subst, arith, Some, None}
+use Rattle.std.proofs.Common.{◌≡◌, inl, inr, ⊎_elim, ℕ, ℤ, ◌≤◌, List, [], length, true, false, refl, ap, sym, ◌∙◌, subst, arith, Some, None}
 use Rattle.std.specs.Prelude.{is_some}
 use Rattle.std.specs.declared.option.Option.{Option}
 use Rattle.edr_axes.specs.declared.levels.Levels.{Levels}
@@ -15,16 +15,16 @@ use Rattle.edr_wkt.specs.declared.faults.WktFault.{WktFault}
 use Rattle.edr_wkt.specs.declared.faults.WktFault.TheVariants as wkt
 use Rattle.edr_wkt.specs.Faults.{IsFaultless, MatchWkt, Applies as WktApplies}
 use Rattle.edr_query.specs.declared.addresses.QueryKind.{QueryKind}
-use Rattle.edr_query.specs.declared.addresses.QueryKind.TheVariants.{Position, Radius, Area, Cube, Trajectory, Corridor}
+use Rattle.edr_query.specs.declared.addresses.QueryKind.TheVariants.{Corridor}
 use Rattle.edr_query.specs.declared.addresses.PageKind.{PageKind}
-use Rattle.edr_query.specs.declared.addresses.PageKind.TheVariants.{Description, Location, Query}
+use Rattle.edr_query.specs.declared.addresses.PageKind.TheVariants.{Query}
 use Rattle.edr_query.specs.declared.parameters.Parameter.{Parameter}
 use Rattle.edr_query.specs.declared.parameters.Parameter.TheVariants as p
 use Rattle.edr_query.specs.declared.shapes.BoundingBox.{BoundingBox}
-use Rattle.edr_query.specs.Parameters.{Pair, value_of, Given, IsGiven, MaySay}
-use Rattle.edr_query.specs.Distances.{numbers_with, numbers_of, IsOrdered, IsRange, IsBoxText, HasNoBox}
+use Rattle.edr_query.specs.Parameters.{Pair, value_of, Given, MaySay}
+use Rattle.edr_query.specs.Distances.{numbers_with, numbers_of, IsBoxText, HasNoBox}
 use Rattle.edr_query.specs.Queries.{IsGeometryText, takes}
-use Rattle.edr_query.specs.Targets.{Coords, IsAlongZ, LacksRequired, LacksHeight, IsMissing, HasBadCoords, HasWrongGeometry, HasBadBox}
+use Rattle.edr_query.specs.Targets.{Coords, IsAlongZ, LacksRequired, LacksHeight, IsMissing, HasBadCoords, HasWrongGeometry}
 use Rattle.edr_query.specs.Reads.{IsHeightPaired, is_along_z, is_corridor, query_kind, list_in, IsBoxOf}
 use Rattle.edr_query.proofs.ListLemmas.{true_false, some_same, none_some, given, absent}
 

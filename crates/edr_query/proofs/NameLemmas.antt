@@ -1,13 +1,13 @@
 -- Names between commas.
 use Rattle.std.proofs.Common.{◌≡◌, ◌≢◌, ◌⊎◌, inl, inr, ℕ, zero, suc, ◌+◌, ◌<◌, ◌==◌, List, [], ◌∷◌, ◌++◌, length, take, drop, get_or, Bool, true, false, cond, refl, ap, sym, ◌∙◌, subst, arith, ⊎_elim}
 use lib.Utf8.{encode}
-use Rattle.std.specs.Prelude.{IsUtf8, bytes_eq, if◌then◌else◌, ◌||◌}
+use Rattle.std.specs.Prelude.{IsUtf8, bytes_eq, ◌||◌}
 use Rattle.std.specs.List.{Contains, AllByRecursion, list_any, slice_split}
 use Rattle.std.proofs.lemmas.Str.{IsUtf8-append, IsUtf8-take, IsUtf8-drop, IsCharBoundary-after_ascii, IsCharBoundary-at_seam}
 use Rattle.std.proofs.lemmas.Bool.{false≢true}
 use Rattle.std.proofs.lemmas.Slice.Eq.{bytes_eq-Decides}
 use Rattle.edr_base.specs.Cuts.{IsCut}
-use Rattle.edr_query.specs.Queries.{with_name, with_names, names_in, HasNoTwins, AreNames}
+use Rattle.edr_query.specs.Queries.{with_name, with_names, HasNoTwins, AreNames}
 use Rattle.edr_query.proofs.ListLemmas.{true_false, split_cut, split_whole}
 
 -- ---- a text of UTF-8 cut at a comma

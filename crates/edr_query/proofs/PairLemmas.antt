@@ -1,6 +1,6 @@
 -- Names of parameters, their values, and pairs whose names are known and stand once.
-use Rattle.std.proofs.Common.{◌≡◌, ◌≢◌, ◌⊎◌, inl, inr, ⊎_elim, ℕ, List, [], ◌∷◌, ◌++◌, map, Bool, true, false, cond, refl, ap, sym, ◌∙◌, subst, append_assoc, Some, None, codes}
-use Rattle.std.specs.Prelude.{MatchOption, is_some, bytes_eq}
+use Rattle.std.proofs.Common.{◌≡◌, ◌≢◌, ◌⊎◌, inl, inr, ⊎_elim, ℕ, List, [], ◌∷◌, ◌++◌, Bool, true, false, cond, refl, ap, sym, ◌∙◌, subst, append_assoc, Some, None, codes}
+use Rattle.std.specs.Prelude.{bytes_eq}
 use Rattle.std.specs.declared.option.Option.{Option}
 use Rattle.std.proofs.lemmas.Bool.{false≢true}
 use Rattle.std.proofs.lemmas.Slice.Eq.{bytes_eq-Decides}
@@ -9,7 +9,7 @@ use Rattle.edr_query.specs.declared.parameters.Parameter.{Parameter}
 use Rattle.edr_query.specs.declared.parameters.Parameter.TheVariants.{Format, Coords, Within, WithinUnits, Bbox, CorridorWidth, WidthUnits, CorridorHeight, HeightUnits, Datetime, Z, ParameterName, Crs}
 use Rattle.edr_query.specs.Parameters.{Pair, name_of, value_of, is_taken, IsUnknown, HasUnknown, HasName, HasRepeat}
 use Rattle.edr_query.specs.Reads.{parameter_in, place_in, if_absent, with_pair, IsFound}
-use Rattle.edr_query.proofs.ListLemmas.{some_same, none_some, choice, same_text, other_text, given, absent}
+use Rattle.edr_query.proofs.ListLemmas.{some_same, none_some, choice, same_text, other_text}
 
 -- ---- names
 

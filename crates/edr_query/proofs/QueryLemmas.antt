@@ -1,20 +1,19 @@
 -- The query that the parameters of a page say, and what it is.
-use Rattle.std.proofs.Common.{◌≡◌, ◌≢◌, ◌⊎◌, inl, inr, ⊎_elim, ℕ, ℤ, ◌≤◌, List, [], ◌∷◌, Bool, true, false, refl, ap, sym, ◌∙◌, subst, arith, Some, None, pos, codes}
-use Rattle.std.specs.Prelude.{is_some, option_map, IfSome, All, IsUtf8, ◌&&◌, ◌||◌, not, ◌≤ℤ◌}
+use Rattle.std.proofs.Common.{◌≡◌, ◌⊎◌, inl, inr, ⊎_elim, ℕ, ℤ, List, [], ◌∷◌, Bool, true, false, refl, ap, sym, ◌∙◌, subst, arith, Some, None, codes}
+use Rattle.std.specs.Prelude.{is_some, option_map, IfSome, All, ◌&&◌, ◌||◌, not}
 use Rattle.std.specs.List.{AllByRecursion}
 use Rattle.std.specs.declared.option.Option.{Option}
 use Rattle.std.proofs.lemmas.Int.{ints}
 use Rattle.std.proofs.lemmas.List.Elements.{All-head, All-tail, All-from_recursion}
 use Rattle.edr_base.specs.FirstThatApplies.{NoneApplies}
-use Rattle.edr_base.specs.Limits.{distance_limit}
-use Rattle.edr_base.specs.declared.refusals.Refusal.TheVariants.{UnknownParameter, MissingParameter, WrongGeometry, Conflict}
+use Rattle.edr_base.specs.declared.refusals.Refusal.TheVariants.{MissingParameter, WrongGeometry, Conflict}
 use Rattle.edr_base.specs.declared.places.Spot.{Spot}
 use Rattle.edr_axes.specs.declared.times.Times.{Times}
 use Rattle.edr_axes.specs.declared.times.Times.TheVariants as some_times
 use Rattle.edr_axes.specs.declared.levels.Levels.{Levels}
 use Rattle.edr_axes.specs.declared.levels.Levels.TheVariants as some_levels
 use Rattle.edr_axes.specs.Times.{IsTimes, IsTimesText, IsSideText, IsSideTime}
-use Rattle.edr_axes.specs.Levels.{IsLevel, IsLevels, IsLevelsText, AreLevelTexts}
+use Rattle.edr_axes.specs.Levels.{IsLevel, IsLevelsText, AreLevelTexts}
 use Rattle.edr_wkt.specs.declared.geometry.Geometry.{Geometry}
 use Rattle.edr_wkt.specs.Wkt.{has_z_of}
 use Rattle.edr_query.specs.declared.addresses.QueryKind.{QueryKind}
@@ -30,10 +29,10 @@ use Rattle.edr_query.specs.declared.shapes.Shape.TheVariants as at
 use Rattle.edr_query.specs.declared.said.Said.{Said}
 use Rattle.edr_query.specs.Paths.{kind_text, IsPart, parts_of}
 use Rattle.edr_query.specs.Parameters.{Pair, value_of, is_required, MaySay, MaySayBoth}
-use Rattle.edr_query.specs.Distances.{IsDistance, IsBoxText, numbers_with, IsOrdered, IsRange}
+use Rattle.edr_query.specs.Distances.{IsDistance, IsBoxText, numbers_with}
 use Rattle.edr_query.specs.Values.{QueryValue}
-use Rattle.edr_query.specs.Queries.{IsGeometryText, IsSaid, takes, has_z, has_m, has_levels, are_several, conflicts, around, along, inside, shape_of, IsTaken, IsMetres, IsBox, IsHeight, IsShape, IsInstanceOf, IsLevelsAsked, coords_of, within_of, box_of, width_of, height_of, said_of, IsQuery}
-use Rattle.edr_query.specs.Targets.{Applies, HasWrongGeometry, IsMissing, Coords}
+use Rattle.edr_query.specs.Queries.{IsGeometryText, takes, has_z, has_m, has_levels, are_several, conflicts, around, along, inside, shape_of, IsTaken, IsMetres, IsBox, IsHeight, IsShape, IsInstanceOf, IsLevelsAsked, coords_of, within_of, box_of, width_of, height_of, IsQuery}
+use Rattle.edr_query.specs.Targets.{Applies, HasWrongGeometry, IsMissing}
 use Rattle.edr_query.specs.Reads.{IsAllSaid}
 use Rattle.edr_query.proofs.ListLemmas.{true_false, not_true, some_same, none_some}
 use Rattle.edr_query.proofs.CoordsLemmas.{said_some, said_none, coords_there}

@@ -1,5 +1,5 @@
 -- The pairs of a query text, one after another.
-use Rattle.std.proofs.Common.{◌≡◌, ◌⊎◌, inl, inr, ⊎_elim, ℕ, List, [], ◌∷◌, ◌++◌, map, true, refl, ap, sym, ◌∙◌, subst, append-nil, Some, None, Ok, Err}
+use Rattle.std.proofs.Common.{◌≡◌, ◌⊎◌, inl, inr, ⊎_elim, ℕ, List, [], ◌∷◌, ◌++◌, map, true, ap, sym, ◌∙◌, subst, append-nil, Some, None, Err}
 use Rattle.std.specs.declared.option.Option.{Option}
 use Rattle.edr_base.specs.FirstThatApplies.{IsLeast}
 use Rattle.edr_base.specs.declared.refusals.Refusal.TheVariants.{UnknownParameter, RepeatedParameter}

@@ -1,35 +1,20 @@
 -- What the parameters say is one, and what a query is made of.
-use Rattle.std.proofs.Common.{◌≡◌, ◌≢◌, ◌⊎◌, inl, inr, ⊎_elim, ℕ, ℤ, ◌≤◌, List, [], ◌∷◌, length, Bool, true, false, refl, ap, sym, ◌∙◌, subst, arith, Some, None, pos}
-use Rattle.std.specs.Prelude.{is_some, option_map, IfSome, All, ◌&&◌, ◌||◌, not, ◌≤ℤ◌}
-use Rattle.std.specs.List.{AllByRecursion}
+use Rattle.std.proofs.Common.{◌≡◌, ℕ, ℤ, List, [], ◌∷◌, length, refl, ap, ◌∙◌, arith, Some, None, pos}
 use Rattle.std.specs.declared.option.Option.{Option}
-use Rattle.std.proofs.lemmas.List.Elements.{All-head, All-tail}
-use Rattle.edr_base.specs.Limits.{distance_limit}
 use Rattle.edr_base.specs.declared.places.Spot.{Spot}
 use Rattle.edr_axes.specs.declared.times.Times.{Times}
-use Rattle.edr_axes.specs.declared.times.Times.TheVariants as some_times
 use Rattle.edr_axes.specs.declared.levels.Levels.{Levels}
 use Rattle.edr_axes.specs.declared.levels.Levels.TheVariants as some_levels
-use Rattle.edr_axes.specs.Times.{IsTimes, IsTimesText, TimesAreUnique, IsSideText, IsSideTime}
-use Rattle.edr_axes.specs.Levels.{IsLevel, IsLevels, IsLevelsText, LevelsAreUnique, AreLevelTexts}
+use Rattle.edr_axes.specs.Times.{IsTimesText, TimesAreUnique}
+use Rattle.edr_axes.specs.Levels.{IsLevelsText, LevelsAreUnique}
 use Rattle.edr_wkt.specs.declared.geometry.Geometry.{Geometry}
-use Rattle.edr_wkt.specs.Wkt.{IsWkt, has_z_of, has_m_of}
-use Rattle.edr_wkt.specs.Faults.{IsGeometry}
-use Rattle.edr_query.specs.declared.addresses.QueryKind.{QueryKind}
-use Rattle.edr_query.specs.declared.addresses.QueryKind.TheVariants.{Position, Radius, Area, Cube, Trajectory, Corridor}
-use Rattle.edr_query.specs.declared.addresses.PageKind.{PageKind}
-use Rattle.edr_query.specs.declared.addresses.PageKind.TheVariants.{Query}
-use Rattle.edr_query.specs.declared.parameters.Parameter.{Parameter}
 use Rattle.edr_query.specs.declared.parameters.Parameter.TheVariants as p
 use Rattle.edr_query.specs.declared.shapes.BoundingBox.{BoundingBox}
-use Rattle.edr_query.specs.declared.shapes.Shape.{Shape}
-use Rattle.edr_query.specs.declared.shapes.Shape.TheVariants as at
 use Rattle.edr_query.specs.declared.said.Said.{Said}
 use Rattle.edr_query.specs.Parameters.{Pair, value_of, MaySay, MaySayBoth}
-use Rattle.edr_query.specs.Distances.{IsDistance, IsBoxText, numbers_of, numbers_with, IsOrdered, IsRange}
-use Rattle.edr_query.specs.Queries.{IsGeometryText, IsSaid, takes, has_z, has_m, has_levels, are_several, conflicts}
+use Rattle.edr_query.specs.Distances.{IsDistance, IsBoxText, numbers_of, numbers_with}
+use Rattle.edr_query.specs.Queries.{IsGeometryText, IsSaid}
 use Rattle.edr_query.specs.Reads.{list_in}
-use Rattle.edr_query.proofs.ListLemmas.{some_same, none_some}
 use Rattle.edr_query.proofs.CoordsLemmas.{WktIsOne, box_levels}
 use Rattle.edr_query.proofs.DistanceLemmas.{distance_same}
 

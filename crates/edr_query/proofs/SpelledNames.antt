@@ -1,13 +1,12 @@
 -- Written names read back, and what is written is UTF-8.
-use Rattle.std.proofs.Common.{◌≡◌, ◌≢◌, ◌⊎◌, inl, inr, ⊎_elim, ℕ, zero, suc, ℤ, pos, negsuc, ◌<◌, ◌≤◌, ◌+◌, ◌/◌, ◌%◌, ◌^◌, ◌==◌, List, [], ◌∷◌, ◌++◌, length, All, IsUtf8, Bool, true, false, cond, refl, ap, sym, ◌∙◌, subst, arith, append-nil, append_assoc, Some, None, codes}
-use Rattle.std.specs.Prelude.{bytes_eq, if◌then◌else◌, unsigned_abs, ◌||◌, IfSome}
+use Rattle.std.proofs.Common.{◌≡◌, ◌⊎◌, inl, inr, ⊎_elim, ℕ, zero, suc, ℤ, pos, negsuc, ◌<◌, ◌^◌, List, [], ◌∷◌, ◌++◌, IsUtf8, Bool, false, cond, refl, ap, sym, ◌∙◌, arith, append-nil, append_assoc}
+use Rattle.std.specs.Prelude.{bytes_eq, unsigned_abs, ◌||◌}
 use Rattle.std.specs.Fmt.{decimal, signed_decimal}
 use Rattle.std.specs.Str.{IsAscii}
-use Rattle.std.specs.List.{flat_map, AllByRecursion, slice_split, list_any, Contains}
-use Rattle.std.proofs.lemmas.Bool.{false≢true}
+use Rattle.std.specs.List.{flat_map, AllByRecursion, list_any, Contains}
 use Rattle.std.proofs.lemmas.Fmt.{IsAscii-decimal}
 use Rattle.std.proofs.lemmas.Slice.Eq.{bytes_eq-Decides}
-use Rattle.std.proofs.lemmas.Str.{IsUtf8-append, IsUtf8-nil, IsUtf8-from_ascii, IsAscii-append}
+use Rattle.std.proofs.lemmas.Str.{IsUtf8-append, IsUtf8-nil, IsUtf8-from_ascii}
 use Rattle.edr_wkt.specs.Spelling.{joined}
 use Rattle.edr_query.specs.Queries.{with_name, with_names, names_in, HasNoTwins, AreNames}
 use Rattle.edr_query.proofs.ListLemmas.{not_true, split_cut, split_whole}

@@ -1,5 +1,5 @@
 -- The pairs of a written query: their names are known and stand once, and each has its value.
-use Rattle.std.proofs.Common.{◌≡◌, ◌≢◌, ◌⊎◌, inl, inr, ⊎_elim, ℕ, List, [], ◌∷◌, ◌++◌, map, All, IsUtf8, Bool, true, false, not, cond, refl, ap, ap₂, sym, ◌∙◌, subst, Some, None, codes}
+use Rattle.std.proofs.Common.{◌≡◌, ◌⊎◌, ⊎_elim, ℕ, List, [], ◌∷◌, map, All, IsUtf8, Bool, true, false, not, cond, refl, ap, ap₂, sym, ◌∙◌, Some, None}
 use Rattle.std.specs.Prelude.{◌&&◌, bytes_eq, IfSome, option_map, if◌then◌else◌}
 use Rattle.std.specs.declared.option.Option.{Option}
 use Rattle.std.specs.List.{flat_map}
@@ -11,7 +11,7 @@ use Rattle.form_urlencoded.specs.Form.{raw_pairs, decode, extend_pairs}
 use Rattle.form_urlencoded.proofs.FormLemmas as form
 use Rattle.edr_query.specs.declared.addresses.PageKind.{PageKind}
 use Rattle.edr_query.specs.declared.parameters.Parameter.{Parameter}
-use Rattle.edr_query.specs.Parameters.{Pair, read_pair, pairs_in, name_of, value_of, is_taken, IsUnknown, HasUnknown, HasName, HasRepeat, MaySay, MaySayBoth}
+use Rattle.edr_query.specs.Parameters.{Pair, read_pair, pairs_in, name_of, value_of, is_taken, HasUnknown, HasName, HasRepeat, MaySay, MaySayBoth}
 use Rattle.edr_query.specs.Spelling.{pair_with}
 use Rattle.edr_query.proofs.ListLemmas.{same_text}
 use Rattle.edr_query.proofs.ByteLemmas.{bytes_from_utf8}

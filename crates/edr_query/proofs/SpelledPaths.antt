@@ -1,5 +1,5 @@
 -- The written path of an address names it.
-use Rattle.std.proofs.Common.{◌≡◌, ◌≢◌, ℕ, ◌==◌, ◌<◌, List, [], ◌∷◌, ◌++◌, map, All, IsUtf8, Bool, true, false, not, refl, ap, ap₂, sym, ◌∙◌, subst, append-nil, append_assoc, codes, Some, None, ⊎_elim, eq-eqb}
+use Rattle.std.proofs.Common.{◌≡◌, ◌≢◌, ℕ, ◌==◌, ◌<◌, List, [], ◌∷◌, ◌++◌, map, All, IsUtf8, Bool, true, false, not, refl, ap, ap₂, sym, ◌∙◌, subst, append-nil, Some, eq-eqb}
 use Rattle.std.specs.Prelude.{◌&&◌}
 use Rattle.std.specs.List.{slice_split, flat_map}
 use Rattle.std.proofs.lemmas.Bool.{agree_below, agree_below_at, false≢true, and_parts}
@@ -8,13 +8,11 @@ use Rattle.std.proofs.lemmas.List.Splits.{slice_split_at, slice_split_none}
 use Rattle.percent_encoding.specs.AsciiSet.{should_percent_encode}
 use Rattle.percent_encoding.specs.Percent.{percent_encode_byte, encode_byte, percent_encode, percent_decode}
 use Rattle.percent_encoding.proofs.PercentLemmas.{round_trip, IsByte}
-use Rattle.form_urlencoded.specs.Form.{split_once}
 use Rattle.form_urlencoded.proofs.FormLemmas as form
 use Rattle.edr_query.specs.declared.addresses.TheConstants.{ID_SET}
 use Rattle.edr_query.specs.declared.addresses.Address.{Address}
-use Rattle.edr_query.specs.Paths.{parts_of, IsPart, HasParts, IsPath, path_text, without_empty_last, behind_slash, path_in, query_in}
+use Rattle.edr_query.specs.Paths.{parts_of, IsPart, HasParts, IsPath, path_text, without_empty_last, path_in, query_in}
 use Rattle.edr_query.specs.PathReads.{raw_in}
-use Rattle.edr_query.proofs.ListLemmas.{not_true}
 use Rattle.edr_query.proofs.PathLemmas.{behind}
 use Rattle.edr_query.proofs.ByteLemmas.{bytes_from_utf8}
 

@@ -1,5 +1,5 @@
 -- The written form of a query asks for that query.
-use Rattle.std.proofs.Common.{◌≡◌, ◌≢◌, ◌⊎◌, inl, inr, ⊎_elim, ℕ, ℤ, List, [], ◌∷◌, ◌++◌, All, IsUtf8, Bool, true, false, refl, ap, sym, ◌∙◌, subst, append-nil, Some, None, codes, Result, Ok, Err}
+use Rattle.std.proofs.Common.{◌≡◌, inl, inr, ℕ, ℤ, List, [], ◌∷◌, ◌++◌, All, IsUtf8, Bool, true, false, refl, ap, sym, ◌∙◌, subst, append-nil, Some, None, codes}
 use Rattle.std.specs.Prelude.{IfSome, option_map, is_some, ◌&&◌}
 use Rattle.std.specs.Fmt.{signed_decimal}
 use Rattle.std.specs.declared.option.Option.{Option}
@@ -20,21 +20,19 @@ use Rattle.edr_wkt.specs.Faults.{IsGeometry}
 use Rattle.edr_wkt.specs.Spelling.{spelled, joined}
 use Rattle.edr_query.specs.declared.addresses.QueryKind.{QueryKind}
 use Rattle.edr_query.specs.declared.addresses.QueryKind.TheVariants.{Position, Radius, Area, Cube, Trajectory, Corridor}
-use Rattle.edr_query.specs.declared.addresses.PageKind.TheVariants.{Location, Query}
+use Rattle.edr_query.specs.declared.addresses.PageKind.TheVariants.{Query}
 use Rattle.edr_query.specs.declared.addresses.Address.{Address}
 use Rattle.edr_query.specs.declared.addresses.Address.TheVariants as to
-use Rattle.edr_query.specs.declared.pages.Page.TheVariants.{Ask}
 use Rattle.edr_query.specs.declared.parameters.Parameter.TheVariants as p
-use Rattle.edr_query.specs.declared.shapes.BoundingBox.{BoundingBox}
 use Rattle.edr_query.specs.declared.shapes.Shape.{Shape}
 use Rattle.edr_query.specs.declared.shapes.Shape.TheVariants as at
 use Rattle.edr_query.specs.Paths.{kind_text, parts_of, page_kind, IsPart, IsPath, path_text, path_in, query_in}
 use Rattle.edr_query.specs.Parameters.{Pair, pairs_in, value_of, MaySay, MaySayBoth}
 use Rattle.edr_query.specs.Distances.{IsDistance, IsBoxText}
 use Rattle.edr_query.specs.Values.{QueryValue}
-use Rattle.edr_query.specs.Queries.{IsGeometryText, IsSaid, shape_of, IsPlaced, Says, names_in, AreNames, IsMetres, IsBox, IsHeight, IsShape, IsInstanceOf, IsLevelsAsked, coords_of, within_of, box_of, width_of, height_of, said_of, IsQuery}
-use Rattle.edr_query.specs.Targets.{Applies, HasBadFormat, LacksHeight, HasWrongGeometry, IsTarget}
-use Rattle.edr_query.specs.Reads.{Passed, has_required, is_along_z, IsHeightPaired, IsAllSaid}
+use Rattle.edr_query.specs.Queries.{IsGeometryText, IsSaid, shape_of, IsPlaced, Says, names_in, AreNames, IsMetres, IsBox, IsShape, IsInstanceOf, IsLevelsAsked, coords_of, within_of, box_of, width_of, height_of, said_of, IsQuery}
+use Rattle.edr_query.specs.Targets.{Applies, HasBadFormat, LacksHeight, HasWrongGeometry}
+use Rattle.edr_query.specs.Reads.{has_required, is_along_z, IsAllSaid}
 use Rattle.edr_query.specs.Spelling.{times_text, levels_text, box_text, metres_unit, pairs_of, address_at, address_of, query_text, spell, WrittenQueriesReadBack}
 use Rattle.edr_query.proofs.ListLemmas.{none_some}
 use Rattle.edr_query.proofs.CoordsLemmas.{WktIsOne, none_given, taken_coords, no_coords, paired_both, paired_none, height_given, height_unwanted}
@@ -44,7 +42,7 @@ use Rattle.edr_query.proofs.TargetLemmas.{none_up}
 use Rattle.edr_query.proofs.SpelledPaths.{Parts, written_path, path_before, query_after, path_alone, query_none}
 use Rattle.edr_query.proofs.SpelledPairs.{Entry, pairs_with, value_look, or_none, AreKnown, known_entries, distinct_entries, AreTexts, entries_back, no_pairs, says_back, both_back}
 use Rattle.edr_query.proofs.SpelledValues.{distance_back, box_back, times_back, levels_back}
-use Rattle.edr_query.proofs.SpelledNames.{plain, names_back, joined_utf8, number_utf8}
+use Rattle.edr_query.proofs.SpelledNames.{plain, names_back}
 use Rattle.edr_query.proofs.SpelledTexts.{geometry_utf8, metres_utf8, box_utf8, times_utf8, levels_utf8, names_utf8, name_utf8, unit_utf8, collections_part, instances_part, locations_part, kind_part}
 
 abbrev entries : Shape → Option Times → Option Levels → Option (List (List ℕ)) → Option (List ℕ) → List Entry

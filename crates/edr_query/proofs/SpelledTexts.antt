@@ -1,5 +1,5 @@
 -- The texts of a written query are UTF-8.
-use Rattle.std.proofs.Common.{◌≡◌, ◌⊎◌, ℕ, zero, suc, ℤ, pos, negsuc, ◌<◌, ◌≤◌, ◌+◌, ◌/◌, ◌%◌, ◌^◌, ◌==◌, List, [], ◌∷◌, ◌++◌, All, IsUtf8, Bool, true, false, cond, refl, ap, sym, ◌∙◌, subst, arith, Some, None, codes, ltb}
+use Rattle.std.proofs.Common.{◌≡◌, ℕ, ℤ, pos, negsuc, ◌<◌, ◌≤◌, ◌+◌, ◌/◌, ◌%◌, ◌^◌, List, [], ◌∷◌, ◌++◌, IsUtf8, Bool, true, false, cond, refl, sym, subst, arith, Some, None, codes, ltb}
 use Rattle.std.specs.Prelude.{unsigned_abs, IfSome, ◌&&◌, ◌≤ℤ◌}
 use Rattle.std.specs.Fmt.{signed_decimal}
 use Rattle.std.specs.List.{flat_map, AllByRecursion}
@@ -23,7 +23,7 @@ use Rattle.edr_wkt.specs.declared.geometry.Polygon.{Polygon}
 use Rattle.edr_wkt.specs.Wkt.{kind_of, has_z_of, has_m_of}
 use Rattle.edr_wkt.specs.Geometries.{positions_of}
 use Rattle.edr_wkt.specs.Faults.{IsInRange as PositionIn, IsGeometry}
-use Rattle.edr_wkt.specs.Spelling.{number_text, position_text, member_text, ring_text, polygon_text, joined, in_brackets, dims_part, heading_text, areas_text, body_text, spelled}
+use Rattle.edr_wkt.specs.Spelling.{number_text, position_text, member_text, ring_text, polygon_text, joined, in_brackets, dims_part, heading_text, body_text, spelled}
 use Rattle.edr_query.specs.declared.addresses.QueryKind.{QueryKind}
 use Rattle.edr_query.specs.declared.addresses.QueryKind.TheVariants.{Position, Radius, Area, Cube, Trajectory, Corridor}
 use Rattle.edr_query.specs.declared.parameters.Parameter.{Parameter}

@@ -1,27 +1,26 @@
 -- Written values read back.
-use Rattle.std.proofs.Common.{◌≡◌, ◌≢◌, ◌⊎◌, inl, inr, ⊎_elim, ℕ, suc, ℤ, pos, negsuc, ◌<◌, ◌≤◌, ◌+◌, ◌/◌, ◌%◌, ◌^◌, ◌*◌, ◌==◌, List, [], ◌∷◌, ◌++◌, length, replicate, map, All, IsUtf8, Bool, true, false, cond, refl, ap, sym, ◌∙◌, subst, arith, append-nil, Some, None, codes}
-use Rattle.std.specs.Prelude.{IfSome, unsigned_abs, ◌≤ℤ◌}
+use Rattle.std.proofs.Common.{◌≡◌, inl, inr, ℕ, ℤ, pos, negsuc, ◌<◌, ◌≤◌, ◌^◌, ◌*◌, List, [], ◌∷◌, ◌++◌, length, All, refl, ap, sym, ◌∙◌, subst, arith, append-nil, Some, None, codes}
+use Rattle.std.specs.Prelude.{IfSome, unsigned_abs}
 use Rattle.std.specs.Fmt.{decimal, signed_decimal}
-use Rattle.std.specs.List.{flat_map, AllByRecursion, slice_split, list_any, Contains}
+use Rattle.std.specs.List.{AllByRecursion}
 use Rattle.std.specs.Str.Parse.{AllDigits, digits_value}
 use Rattle.std.specs.declared.option.Option.{Option}
 use Rattle.std.proofs.lemmas.Fmt.{decimal_is_IsNumeral}
 use Rattle.std.proofs.lemmas.Int.{ints}
 use Rattle.std.proofs.lemmas.List.Elements.{recursion_from_All}
-use Rattle.edr_base.specs.Limits.{coordinate_limit, distance_limit}
-use Rattle.edr_base.specs.Numbers.{IsNumeral, IsWhole}
+use Rattle.edr_base.specs.Limits.{distance_limit}
+use Rattle.edr_base.specs.Numbers.{IsWhole}
 use Rattle.edr_base.specs.NumberLaws.{numeral-decimal}
 use Rattle.edr_axes.specs.declared.times.Times.{Times}
 use Rattle.edr_axes.specs.declared.times.Times.TheVariants as some_times
 use Rattle.edr_axes.specs.declared.levels.Levels.{Levels}
 use Rattle.edr_axes.specs.declared.levels.Levels.TheVariants as some_levels
-use Rattle.edr_axes.specs.Instants.{IsTime, instant_text}
-use Rattle.edr_axes.specs.InstantGrammar.{IsInstant, WrittenTimesAreInstants}
+use Rattle.edr_axes.specs.InstantGrammar.{WrittenTimesAreInstants}
 use Rattle.edr_axes.specs.Times.{IsTimes, IsTimesText, IsSideText, IsSideTime}
-use Rattle.edr_axes.specs.Levels.{IsLevel, IsLevels, IsLevelText, AreLevelTexts, IsLevelsText, IsRangeText, IsSeriesText}
+use Rattle.edr_axes.specs.Levels.{IsLevel, IsLevelText, AreLevelTexts, IsLevelsText}
 use Rattle.edr_wkt.specs.Spelling.{joined}
 use Rattle.edr_query.specs.declared.shapes.BoundingBox.{BoundingBox}
-use Rattle.edr_query.specs.Distances.{IsUnit, IsDistance, IsBoxText, numbers_of, numbers_with, IsOrdered, IsRange}
+use Rattle.edr_query.specs.Distances.{IsUnit, IsDistance, IsBoxText, numbers_with}
 use Rattle.edr_query.specs.Queries.{IsMetres, IsBox, IsLevelsAsked}
 use Rattle.edr_query.specs.Spelling.{side_text, times_text, levels_text, box_text}
 

@@ -1,7 +1,7 @@
 -- The steps by which the parameters of a page are read.
-use Rattle.std.proofs.Common.{◌≡◌, ◌⊎◌, inl, inr, ⊎_elim, ℕ, ℤ, List, [], ◌∷◌, Bool, true, false, refl, ap, sym, ◌∙◌, subst, Some, None}
+use Rattle.std.proofs.Common.{◌≡◌, ◌⊎◌, inl, inr, ⊎_elim, ℕ, ℤ, List, Bool, true, false, refl, ap, sym, ◌∙◌, subst, Some, None}
 use Rattle.std.specs.declared.option.Option.{Option}
-use Rattle.edr_base.specs.declared.refusals.Refusal.TheVariants.{BadFormat, MissingParameter, BadCoords, WrongGeometry, BadBbox, BadDatetime, BadLevel, BadDistance, Conflict}
+use Rattle.edr_base.specs.declared.refusals.Refusal.TheVariants.{BadFormat, MissingParameter, BadCoords, BadBbox, BadDatetime, BadLevel, BadDistance, Conflict}
 use Rattle.edr_axes.specs.declared.times.Times.{Times}
 use Rattle.edr_axes.specs.declared.levels.Levels.{Levels}
 use Rattle.edr_axes.specs.Times.{IsTimesText, TimesAreUnique}
@@ -23,7 +23,7 @@ use Rattle.edr_query.specs.declared.said.Said.{Said}
 use Rattle.edr_query.specs.Parameters.{Pair, value_of, is_required, Given, GivenBoth, MaySay, MaySayBoth}
 use Rattle.edr_query.specs.Distances.{IsDistance, HasNoDistance, IsBoxText}
 use Rattle.edr_query.specs.Queries.{IsGeometryText, IsSaid, conflicts}
-use Rattle.edr_query.specs.Targets.{Applies, HasBadCoords, HasBadDistance, HasBadFormat, LacksRequired, LacksHeight, IsMissing, HasWrongGeometry, IsConflict}
+use Rattle.edr_query.specs.Targets.{HasBadCoords, HasBadDistance, HasBadFormat, LacksRequired, LacksHeight}
 use Rattle.edr_query.specs.Reads.{Passed, Steps, is_given, has_required, IsAllSaid}
 use Rattle.edr_query.proofs.ListLemmas.{true_false, some_same, none_some, given, absent}
 use Rattle.edr_query.proofs.CoordsLemmas.{WktIsOne, said_some, said_none}

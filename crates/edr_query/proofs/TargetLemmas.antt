@@ -1,6 +1,5 @@
 -- A target has one answer, and the least refusal of parameters is that of their target.
-use Rattle.std.proofs.Common.{◌≡◌, ◌⊎◌, inl, inr, ⊎_elim, ℕ, ◌<◌, ◌≤◌, List, [], ◌∷◌, refl, ap, sym, ◌∙◌, subst, arith, Some, None, Result, Ok, Err, All}
-use Rattle.std.specs.Prelude.{option_map}
+use Rattle.std.proofs.Common.{◌≡◌, ◌⊎◌, inl, inr, ⊎_elim, ℕ, ◌<◌, ◌≤◌, List, refl, ap, sym, ◌∙◌, subst, arith, Some, None, Ok, Err}
 use Rattle.std.specs.declared.option.Option.{Option}
 use Rattle.std.proofs.lemmas.Bool.Decides.{leb_tells}
 use Rattle.edr_base.specs.FirstThatApplies.{IsLeast, NoneApplies}
@@ -15,14 +14,13 @@ use Rattle.edr_query.specs.declared.addresses.Address.TheVariants as to
 use Rattle.edr_query.specs.declared.pages.Page.{Page}
 use Rattle.edr_query.specs.declared.pages.Page.TheVariants.{Landing, Conformance, Collections, Collection, Instances, Instance, Locations, Ask}
 use Rattle.edr_query.specs.declared.shapes.Shape.{Shape}
-use Rattle.edr_query.specs.declared.shapes.Shape.TheVariants as at
 use Rattle.edr_query.specs.declared.said.Said.{Said}
-use Rattle.edr_query.specs.Paths.{parts_of, page_kind, IsPart, IsPath, path_in, query_in}
+use Rattle.edr_query.specs.Paths.{parts_of, page_kind, IsPath, path_in, query_in}
 use Rattle.edr_query.specs.PathReads.{HasNoAddress, address_in}
 use Rattle.edr_query.specs.Parameters.{Pair, pairs_in}
 use Rattle.edr_query.specs.Values.{QueryValue}
-use Rattle.edr_query.specs.Queries.{shape_of, IsPlaced, Says}
-use Rattle.edr_query.specs.Targets.{Names, Refuses, Applies, rank, IsPage, IsAsked, IsTarget, MatchTarget, TargetIsOne}
+use Rattle.edr_query.specs.Queries.{IsPlaced, Says}
+use Rattle.edr_query.specs.Targets.{Names, Refuses, Applies, rank, IsPage, IsAsked, MatchTarget, TargetIsOne}
 use Rattle.edr_query.specs.declared.reading.TargetFault.{TargetFault}
 use Rattle.edr_query.specs.declared.reading.TargetFault.TheVariants.{Refused, OutOfMemory}
 use Rattle.edr_query.specs.declared.addresses.PageKind.{PageKind}

@@ -1,5 +1,5 @@
 -- The view of parameters that were read.
-use Rattle.std.specs.Prelude.{ℕ, List, String, string_bytes}
+use Rattle.std.specs.Prelude.{String, string_bytes}
 use Rattle.edr_query.specs.declared.parameters.Parameter.{Parameter}
 use Rattle.edr_query.specs.Parameters.{Pair, name_of}
 

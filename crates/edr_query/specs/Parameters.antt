@@ -5,7 +5,7 @@ use Rattle.std.specs.Str.Lossy.{utf8_lossy}
 use Rattle.form_urlencoded.specs.Form.{raw_pairs, decode}
 use Rattle.edr_query.specs.declared.addresses.QueryKind.TheVariants.{Radius, Cube, Corridor}
 use Rattle.edr_query.specs.declared.addresses.PageKind.{PageKind}
-use Rattle.edr_query.specs.declared.addresses.PageKind.TheVariants.{Description, Location, Query}
+use Rattle.edr_query.specs.declared.addresses.PageKind.TheVariants.{Description, Query}
 use Rattle.edr_query.specs.declared.parameters.Parameter.{Parameter}
 use Rattle.edr_query.specs.declared.parameters.Parameter.TheVariants.{Format, Coords, Within, WithinUnits, Bbox, CorridorWidth, WidthUnits, CorridorHeight, HeightUnits, Datetime, Z, ParameterName, Crs}
 

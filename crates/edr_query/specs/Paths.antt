@@ -1,5 +1,5 @@
 -- What the path of a target names (OGC 19-086r6, section 7), by its parts between slashes.
-use Rattle.std.specs.Prelude.{◌≡◌, ◌≢◌, ℕ, ◌==◌, List, [], ◌∷◌, ◌++◌, map, codes, All, Option, None, Some, IsUtf8}
+use Rattle.std.specs.Prelude.{◌≡◌, ◌≢◌, ℕ, ◌==◌, List, [], ◌∷◌, map, codes, All, Option, None, Some, IsUtf8}
 use Rattle.std.specs.List.{slice_split, flat_map}
 use Rattle.percent_encoding.specs.Percent.{percent_encode, percent_decode}
 use Rattle.form_urlencoded.specs.Form.{split_once}

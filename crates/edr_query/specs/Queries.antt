@@ -1,9 +1,7 @@
 -- What the parameters of a target say, the query that they make, and what every query is.
-use Rattle.std.specs.Prelude.{◌≡◌, ◌≢◌, ◌⊎◌, ◌≤◌, ◌≤ℤ◌, ⊤, ℕ, ◌==◌, ℤ, pos, Bool, true, false, not, ◌&&◌, ◌||◌, bytes_eq, if◌then◌else◌, List, [], ◌∷◌, ◌++◌, Contains, Option, None, Some, option_map, is_some, IfSome, IsUtf8}
+use Rattle.std.specs.Prelude.{◌≡◌, ◌≢◌, ◌≤ℤ◌, ⊤, ℕ, ◌==◌, ℤ, pos, Bool, true, false, not, ◌&&◌, ◌||◌, bytes_eq, if◌then◌else◌, List, [], ◌∷◌, ◌++◌, Contains, Option, None, Some, option_map, is_some, IfSome, IsUtf8}
 use Rattle.std.specs.List.{AllByRecursion, list_any, slice_split}
 use Rattle.edr_base.specs.Limits.{distance_limit}
-use Rattle.edr_base.specs.declared.places.Spot.{Spot}
-use Rattle.edr_axes.specs.declared.times.Times.{Times}
 use Rattle.edr_axes.specs.declared.levels.Levels.{Levels}
 use Rattle.edr_axes.specs.declared.levels.Levels.TheVariants as some_levels
 use Rattle.edr_axes.specs.Times.{IsTimes, IsTimesText}

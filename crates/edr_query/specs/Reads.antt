@@ -1,5 +1,5 @@
 -- For private clauses: what the calls that read the parameters of a target answer.
-use Rattle.std.specs.Prelude.{◌≡◌, ◌≢◌, ◌⊎◌, ◌<◌, ℕ, ℤ, Bool, true, false, ◌&&◌, is_some, bytes_eq, if◌then◌else◌, List, [], ◌∷◌, ◌++◌, map, codes, Option, None, Some, Result, Ok, Err, MatchResult}
+use Rattle.std.specs.Prelude.{◌≡◌, ◌⊎◌, ◌<◌, ℕ, ℤ, Bool, true, false, ◌&&◌, is_some, bytes_eq, if◌then◌else◌, List, [], ◌∷◌, ◌++◌, codes, Option, None, Some, Result, Ok, Err, MatchResult}
 use Rattle.std.specs.Str.Lossy.{utf8_lossy}
 use Rattle.form_urlencoded.specs.Form.{decode}
 use Rattle.edr_base.specs.FirstThatApplies.{IsLeast, NoneApplies}
@@ -20,7 +20,7 @@ use Rattle.edr_query.specs.declared.said.Said.{Said}
 use Rattle.edr_query.specs.declared.reading.TargetFault.{TargetFault}
 use Rattle.edr_query.specs.declared.reading.TargetFault.TheVariants.{Refused, OutOfMemory}
 use Rattle.edr_query.specs.Paths.{page_kind}
-use Rattle.edr_query.specs.Parameters.{Pair, name_of, value_of, is_taken, IsGiven, HasUnknown, HasRepeat}
+use Rattle.edr_query.specs.Parameters.{Pair, name_of, value_of, IsGiven, HasUnknown, HasRepeat}
 use Rattle.edr_query.specs.declared.shapes.BoundingBox.{BoundingBox}
 use Rattle.edr_query.specs.Distances.{numbers_of, IsOrdered, IsRange}
 use Rattle.edr_query.specs.Queries.{IsSaid}

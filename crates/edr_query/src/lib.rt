@@ -26,3 +26,6 @@ pub use queries::Query;
 pub use reading::{TargetFault, read_target};
 pub use said::Said;
 pub use shapes::{BoundingBox, Shape};
+
+#[cfg(test)]
+mod tests;

@@ -1,4 +1,4 @@
-use Rattle.std.proofs.Common.{rules, sym, ◌∙◌}
+use Rattle.std.proofs.Common.{rules}
 use Rattle.edr_query.proofs.CoordsLemmas.{height_unwanted}
 use Rattle.edr_query.proofs.coords.check_height_along.Goals as goal
 

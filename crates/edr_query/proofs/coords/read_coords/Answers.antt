@@ -1,4 +1,4 @@
-use Rattle.std.proofs.Common.{rules, refl, sym, subst, inr, List, ℕ}
+use Rattle.std.proofs.Common.{refl, subst, inr, List, ℕ}
 use Rattle.std.specs.Prelude.{Err}
 use Rattle.edr_wkt.specs.Faults.{MatchWkt}
 use Rattle.edr_query.proofs.CoordsLemmas.{no_geometry}

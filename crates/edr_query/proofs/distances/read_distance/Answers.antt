@@ -1,4 +1,4 @@
-use Rattle.std.proofs.Common.{rules, ◌≡◌, ◌<◌, ◌^◌, ℕ, ℤ, List, length, pos, sym, subst, arith, to_z, w64}
+use Rattle.std.proofs.Common.{rules, ◌<◌, ℤ, length, sym, subst, arith, w64}
 use Rattle.std.proofs.lemmas.Bool.Decides.{nat_tests}
 use Rattle.std.proofs.lemmas.Int.{to_z_pos}
 use Rattle.edr_base.specs.TestLaws.{holds, fails}

@@ -1,4 +1,4 @@
-use Rattle.std.proofs.Common.{rules, ◌≡◌, ◌++◌, List, ℕ, length, take, drop, sym, ap, ap₂, ◌∙◌, subst, arith, ◌<◌}
+use Rattle.std.proofs.Common.{rules, ◌≡◌, ◌++◌, List, ℕ, length, sym, ap, ap₂, ◌∙◌, subst, arith, ◌<◌}
 use Rattle.std.proofs.lemmas.List.{take-append-drop}
 use Rattle.std.specs.Str.Parse.{digits_value_after}
 use Rattle.edr_base.specs.Limits.{distance_limit}

@@ -1,4 +1,4 @@
-use Rattle.std.proofs.Common.{◌≡◌, map, sym, subst, List}
+use Rattle.std.proofs.Common.{map, sym, subst, List}
 use Rattle.std.specs.declared.option.Option.{Option}
 use Rattle.form_urlencoded.specs.Parse.{raw_pairs_left}
 use Rattle.edr_query.specs.Parameters.{Pair, read_pair, pairs_in}

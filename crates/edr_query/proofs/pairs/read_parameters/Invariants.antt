@@ -1,4 +1,4 @@
-use Rattle.std.proofs.Common.{◌≡◌, map}
+use Rattle.std.proofs.Common.{map}
 use Rattle.form_urlencoded.specs.Parse.{raw_pairs_left}
 use Rattle.edr_query.specs.Parameters.{read_pair, pairs_in, HasUnknown}
 use Rattle.edr_query.specs.Reads.{IsFound}

@@ -1,4 +1,4 @@
-use Rattle.std.proofs.Common.{◌≡◌, subst, refl, List, ℕ}
+use Rattle.std.proofs.Common.{subst, refl, List, ℕ}
 use Rattle.std.specs.Prelude.{MatchOption}
 use Rattle.std.specs.declared.option.Option.{Option}
 use Rattle.std.proofs.lemmas.Result.{err_from_is_err_and}

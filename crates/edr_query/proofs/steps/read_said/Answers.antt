@@ -1,6 +1,6 @@
-use Rattle.std.proofs.Common.{rules, sym, ◌∙◌, inl, inr, ⊎_elim, subst, refl}
+use Rattle.std.proofs.Common.{sym, ◌∙◌}
 use Rattle.std.proofs.lemmas.Result.{err_from_is_err_and}
-use Rattle.edr_base.specs.declared.refusals.Refusal.TheVariants.{BadFormat, MissingParameter, BadCoords, WrongGeometry, BadBbox, BadDatetime, BadLevel, BadDistance, Conflict}
+use Rattle.edr_base.specs.declared.refusals.Refusal.TheVariants.{BadFormat, MissingParameter, WrongGeometry, BadBbox, BadDatetime, BadLevel, BadDistance}
 use Rattle.edr_query.specs.declared.said.Said.{Said}
 use Rattle.edr_query.specs.Queries.{IsSaid}
 use Rattle.edr_query.specs.Reads.{IsAllSaid}

@@ -1,0 +1,6 @@
+use Rattle.std.proofs.Common.{◌≡◌, length}
+use Rattle.edr_chunk.specs.Samples.{AreSamples}
+use Rattle.edr_bench.proofs.tiles.values.Given as goal
+
+abbrev pub invariant-loop-number : goal.invariant-loop-number
+invariant-loop-number l = (length l.values.items ≡ l.number) × AreSamples l.values.items

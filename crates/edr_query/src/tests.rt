@@ -1,0 +1,361 @@
+//! Rows of targets and of distances.
+use super::{Page, Query, Shape, TargetFault, read_target};
+use crate::distances::read_distance;
+use std::rt::HostRuntime;
+use std::test::Fail;
+
+// A line for each target: the target, and the kind of page that it asks for or its refusal.
+const TARGETS: &str = "\
+# pages
+/ => landing
+/? => landing
+/?f=json => landing
+/?f=JSON => landing
+/?f=Application/Json => landing
+/?f=CoverageJSON => BadFormat
+/?f=application/prs.coverage%2Bjson => BadFormat
+/conformance => conformance
+/conformance/ => conformance
+/%63onformance => conformance
+/Conformance => NoSuchPage
+/collections => collections
+/collections/ => collections
+/collections// => NoSuchPage
+//collections => NoSuchPage
+/collections/grid => collection
+/collections/grid/ => collection
+/collections/a%2Fb => collection
+/collections/a+b => collection
+/collections/a%20b => collection
+/collections/%3D%26%3F => collection
+/collections/%FF => NoSuchPage
+/collections/%C3%A9 => collection
+/collections/%zz => collection
+/collections/grid/instances => instances
+/collections/grid/instances/7 => instance
+/collections/grid/instances/7/ => instance
+/collections/grid/instances//position => NoSuchPage
+/collections/grid/locations => locations
+/collections/grid/Locations => NoSuchPage
+/collections/grid/items => NoSuchPage
+/collections/grid/instances/7/items => NoSuchPage
+/collections/grid/instances/7/locations => NoSuchPage
+/collections/grid/locations/A/position => NoSuchPage
+/collections/grid/instances/7/position/x => NoSuchPage
+/none => NoSuchPage
+collections => NoSuchPage
+ => NoSuchPage
+? => NoSuchPage
+/collections/grid?datetime=x => UnknownParameter
+/collections/grid?f=json&f=json => RepeatedParameter
+# positions
+/collections/grid/position?coords=POINT(50 0) => position
+/collections/grid/position?coords=POINT%2850+0%29 => position
+/collections/grid/position?&&coords=POINT(50 0)& => position
+/collections/grid/position?%63oords=POINT(50 0) => position
+/collections/grid/position?Coords=POINT(50 0) => UnknownParameter
+/collections/grid/position?coords+=POINT(50 0) => UnknownParameter
+/collections/grid/position?coords=POINT(50 0)&= => UnknownParameter
+/collections/grid/position?coords=POINT(50 0)&=x => UnknownParameter
+/collections/grid/position?coords=POINT(50 0)&f => BadFormat
+/collections/grid/position?coords=POINT(50 0)&f=coveragejson => position
+/collections/grid/position?coords=POINT(50 0)&f=JSON => position
+/collections/grid/position?coords=POINT(50 0)&f=application/prs.coverage%2Bjson => position
+/collections/grid/position?coords=POINT(50 0)&f=application/prs.coverage+json => BadFormat
+/collections/grid/position?coords=POINT(50 0)&f=application/json => BadFormat
+/collections/grid/position?coords=POINT(50 0)&datetime=2024-01-01T01:00:00+01:00 => position
+/collections/grid/position?coords=POINT(50 0)&datetime=2024-01-01T01:00:00%2B01:00 => position
+/collections/grid/position?coords=POINT(50 0)&datetime=..%2F.. => position
+/collections/grid/position?coords=POINT(50 0)&datetime=/2024-01-01T00:00Z => position
+/collections/grid/position?coords=POINT(50 0)&datetime=2024-01-02T00:00Z/2024-01-01T00:00Z => BadDatetime
+/collections/grid/position?coords=POINT(50 0)&datetime= => BadDatetime
+/collections/grid/position?coords=POINT(50 0)&z=10 => position
+/collections/grid/position?coords=POINT(50 0)&z=10/20 => position
+/collections/grid/position?coords=POINT(50 0)&z=20/10 => BadLevel
+/collections/grid/position?coords=POINT(50 0)&parameter-name=temp,wind,temp => position
+/collections/grid/position?coords=POINT(50 0)&parameter-name= => position
+/collections/grid/position?coords=POINT(50 0)&parameter-name=,a, => position
+/collections/grid/position?coords=POINT(50 0)&crs= => position
+/collections/grid/position?coords=POINT(50 0)&crs=a%2Bb+c => position
+/collections/grid/position?coords=POINT(50 0)&crs=%FF => position
+/collections/grid/position?coords=POINT(50 0)?x => BadCoords
+/collections/grid/position?coords=MULTIPOINT(0 0,1 1) => position
+/collections/grid/position?coords=MULTIPOINT Z(0 0 0,1 1 1) => WrongGeometry
+/collections/grid/position?coords=POINT Z(0 0 20) => position
+/collections/grid/position?coords=POINT Z(0 0 20)&z=20 => Conflict
+/collections/grid/position?coords=POINT M(0 0 20) => WrongGeometry
+/collections/grid/position?coords=POINT(100000001 0) => BadCoords
+/collections/grid/position => MissingParameter
+/collections/grid/instances/2/position?coords=POINT(0 0) => position
+/collections/grid/locations/A => location
+/collections/grid/locations/A?datetime=2024-01-01T00:00Z => location
+/collections/grid/locations/A?coords=POINT(0 0) => UnknownParameter
+# distances
+/collections/grid/radius?coords=POINT(0 0)&within=5&within-units=m => radius
+/collections/grid/radius?coords=POINT(0 0)&within=5.&within-units=M => radius
+/collections/grid/radius?coords=POINT(0 0)&within=005.000&within-units=m => radius
+/collections/grid/radius?coords=POINT(0 0)&within=5.1&within-units=m => BadDistance
+/collections/grid/radius?coords=POINT(0 0)&within=.5&within-units=km => BadDistance
+/collections/grid/radius?coords=POINT(0 0)&within=0.1&within-units=km => radius
+/collections/grid/radius?coords=POINT(0 0)&within=1.2345&within-units=km => BadDistance
+/collections/grid/radius?coords=POINT(0 0)&within=1.23400&within-units=Km => radius
+/collections/grid/radius?coords=POINT(0 0)&within=1.0001&within-units=km => BadDistance
+/collections/grid/radius?coords=POINT(0 0)&within=400000&within-units=km => radius
+/collections/grid/radius?coords=POINT(0 0)&within=400000.001&within-units=km => BadDistance
+/collections/grid/radius?coords=POINT(0 0)&within=400000001&within-units=m => BadDistance
+/collections/grid/radius?coords=POINT(0 0)&within=99999999999999999999&within-units=m => BadDistance
+/collections/grid/radius?coords=POINT(0 0)&within=5&within-units=mi => BadDistance
+/collections/grid/radius?coords=POINT(0 0)&within=5&within-units= => BadDistance
+/collections/grid/radius?coords=POINT(0 0)&within=&within-units=m => BadDistance
+/collections/grid/radius?coords=POINT(0 0)&within=+5&within-units=m => BadDistance
+/collections/grid/radius?coords=POINT(0 0)&within=-5&within-units=m => BadDistance
+/collections/grid/radius?coords=POINT(0 0)&within=5 => MissingParameter
+/collections/grid/radius?coords=MULTIPOINT(0 0)&within=5&within-units=m => WrongGeometry
+# boxes
+/collections/grid/cube?bbox=0,1,2,3 => cube
+/collections/grid/cube?bbox=0,1,5,2,3,6 => cube
+/collections/grid/cube?bbox=0,1,6,2,3,5 => BadBbox
+/collections/grid/cube?bbox=2,1,0,3 => BadBbox
+/collections/grid/cube?bbox=0,3,2,1 => BadBbox
+/collections/grid/cube?bbox=0,1,2 => BadBbox
+/collections/grid/cube?bbox=0,1,2,3,4 => BadBbox
+/collections/grid/cube?bbox=0,1,2,3,4,5,6 => BadBbox
+/collections/grid/cube?bbox=0,1,2, => BadBbox
+/collections/grid/cube?bbox=7 => BadBbox
+/collections/grid/cube?bbox=1/2 => BadBbox
+/collections/grid/cube?bbox=+0.0,1.,2.00,3 => cube
+/collections/grid/cube?bbox=0,0,100000001,1 => BadBbox
+/collections/grid/cube?bbox=0,0,0,1,1,1&z=0 => Conflict
+# areas and lines
+/collections/grid/area?coords=POLYGON((0 0,9 0,0 9,0 0)) => area
+/collections/grid/area?coords=POLYGON Z((0 0 0,9 0 0,0 9 0,0 0 0)) => WrongGeometry
+/collections/grid/area?coords=POINT(0 0) => WrongGeometry
+/collections/grid/trajectory?coords=LINESTRING M(0 0 1,1 1 2) => trajectory
+/collections/grid/trajectory?coords=LINESTRING M(0 0 2,1 1 1) => BadCoords
+/collections/grid/trajectory?coords=LINESTRING M(0 0 1,1 1 2)&datetime=../.. => Conflict
+/collections/grid/trajectory?coords=LINESTRING M(0 0 1,1 1 2)&datetime=../..&z=x => BadLevel
+/collections/grid/corridor?coords=LINESTRING(0 0,1 1)&corridor-width=1&width-units=km => corridor
+/collections/grid/corridor?coords=LINESTRING(0 0,1 1)&corridor-width=1&width-units=m&corridor-height=2 => MissingParameter
+/collections/grid/corridor?coords=LINESTRING(0 0,1 1)&corridor-width=1&width-units=m&height-units=m => MissingParameter
+/collections/grid/corridor?coords=LINESTRING(0 0,1 1)&corridor-width=1&width-units=m&corridor-height=2&height-units=m => corridor
+/collections/grid/corridor?coords=LINESTRING(0 0,1 1)&corridor-width=1&width-units=m&corridor-height=2&height-units=m&z=7 => corridor
+/collections/grid/corridor?coords=LINESTRING(0 0,1 1)&corridor-width=1&width-units=m&corridor-height=2&height-units=m&z=7/8 => Conflict
+/collections/grid/corridor?coords=LINESTRING Z(0 0 0,1 1 1)&corridor-width=1&width-units=m => MissingParameter
+/collections/grid/corridor?coords=POINT Z(0 0 0)&corridor-width=1&width-units=m => WrongGeometry
+/collections/grid/corridor?coords=LINESTRING Z(0 0 0,1 1 x)&corridor-width=1&width-units=m => BadCoords
+# two refusals at once, both ways round
+/collections/grid/corridor?colour=red&coords=LINESTRING(0 0,1 1)&corridor-width=1&width-units=m&crs=a&crs=a => UnknownParameter
+/collections/grid/corridor?crs=a&crs=a&coords=LINESTRING(0 0,1 1)&corridor-width=1&width-units=m&colour=red => UnknownParameter
+/collections/grid/corridor?colour=red&coords=LINESTRING(0 0,1 1)&corridor-width=1&width-units=m&f=XML => UnknownParameter
+/collections/grid/corridor?f=XML&coords=LINESTRING(0 0,1 1)&corridor-width=1&width-units=m&colour=red => UnknownParameter
+/collections/grid/corridor?colour=red&coords=LINESTRING(0 0,1 1)&corridor-width=1 => UnknownParameter
+/collections/grid/corridor?coords=LINESTRING(0 0,1 1)&corridor-width=1&colour=red => UnknownParameter
+/collections/grid/corridor?colour=red&corridor-width=1&width-units=m&coords=x => UnknownParameter
+/collections/grid/corridor?coords=x&corridor-width=1&width-units=m&colour=red => UnknownParameter
+/collections/grid/corridor?colour=red&corridor-width=1&width-units=m&coords=POINT(0 0) => UnknownParameter
+/collections/grid/corridor?coords=POINT(0 0)&corridor-width=1&width-units=m&colour=red => UnknownParameter
+/collections/grid/corridor?colour=red&coords=LINESTRING(0 0,1 1)&corridor-width=1&width-units=m&datetime=x => UnknownParameter
+/collections/grid/corridor?datetime=x&coords=LINESTRING(0 0,1 1)&corridor-width=1&width-units=m&colour=red => UnknownParameter
+/collections/grid/corridor?colour=red&coords=LINESTRING(0 0,1 1)&corridor-width=1&width-units=m&z=x => UnknownParameter
+/collections/grid/corridor?z=x&coords=LINESTRING(0 0,1 1)&corridor-width=1&width-units=m&colour=red => UnknownParameter
+/collections/grid/corridor?colour=red&coords=LINESTRING(0 0,1 1)&width-units=m&corridor-width=x => UnknownParameter
+/collections/grid/corridor?corridor-width=x&coords=LINESTRING(0 0,1 1)&width-units=m&colour=red => UnknownParameter
+/collections/grid/corridor?colour=red&coords=LINESTRING(0 0,1 1)&corridor-width=1&width-units=m&corridor-height=1&height-units=m&z=1/2 => UnknownParameter
+/collections/grid/corridor?corridor-height=1&height-units=m&z=1/2&coords=LINESTRING(0 0,1 1)&corridor-width=1&width-units=m&colour=red => UnknownParameter
+/collections/grid/corridor?crs=a&crs=a&coords=LINESTRING(0 0,1 1)&corridor-width=1&width-units=m&f=XML => RepeatedParameter
+/collections/grid/corridor?f=XML&coords=LINESTRING(0 0,1 1)&corridor-width=1&width-units=m&crs=a&crs=a => RepeatedParameter
+/collections/grid/corridor?crs=a&crs=a&coords=LINESTRING(0 0,1 1)&corridor-width=1 => RepeatedParameter
+/collections/grid/corridor?coords=LINESTRING(0 0,1 1)&corridor-width=1&crs=a&crs=a => RepeatedParameter
+/collections/grid/corridor?crs=a&crs=a&corridor-width=1&width-units=m&coords=x => RepeatedParameter
+/collections/grid/corridor?coords=x&corridor-width=1&width-units=m&crs=a&crs=a => RepeatedParameter
+/collections/grid/corridor?crs=a&crs=a&corridor-width=1&width-units=m&coords=POINT(0 0) => RepeatedParameter
+/collections/grid/corridor?coords=POINT(0 0)&corridor-width=1&width-units=m&crs=a&crs=a => RepeatedParameter
+/collections/grid/corridor?crs=a&crs=a&coords=LINESTRING(0 0,1 1)&corridor-width=1&width-units=m&datetime=x => RepeatedParameter
+/collections/grid/corridor?datetime=x&coords=LINESTRING(0 0,1 1)&corridor-width=1&width-units=m&crs=a&crs=a => RepeatedParameter
+/collections/grid/corridor?crs=a&crs=a&coords=LINESTRING(0 0,1 1)&corridor-width=1&width-units=m&z=x => RepeatedParameter
+/collections/grid/corridor?z=x&coords=LINESTRING(0 0,1 1)&corridor-width=1&width-units=m&crs=a&crs=a => RepeatedParameter
+/collections/grid/corridor?crs=a&crs=a&coords=LINESTRING(0 0,1 1)&width-units=m&corridor-width=x => RepeatedParameter
+/collections/grid/corridor?corridor-width=x&coords=LINESTRING(0 0,1 1)&width-units=m&crs=a&crs=a => RepeatedParameter
+/collections/grid/corridor?crs=a&crs=a&coords=LINESTRING(0 0,1 1)&corridor-width=1&width-units=m&corridor-height=1&height-units=m&z=1/2 => RepeatedParameter
+/collections/grid/corridor?corridor-height=1&height-units=m&z=1/2&coords=LINESTRING(0 0,1 1)&corridor-width=1&width-units=m&crs=a&crs=a => RepeatedParameter
+/collections/grid/corridor?f=XML&coords=LINESTRING(0 0,1 1)&corridor-width=1 => BadFormat
+/collections/grid/corridor?coords=LINESTRING(0 0,1 1)&corridor-width=1&f=XML => BadFormat
+/collections/grid/corridor?f=XML&corridor-width=1&width-units=m&coords=x => BadFormat
+/collections/grid/corridor?coords=x&corridor-width=1&width-units=m&f=XML => BadFormat
+/collections/grid/corridor?f=XML&corridor-width=1&width-units=m&coords=POINT(0 0) => BadFormat
+/collections/grid/corridor?coords=POINT(0 0)&corridor-width=1&width-units=m&f=XML => BadFormat
+/collections/grid/corridor?f=XML&coords=LINESTRING(0 0,1 1)&corridor-width=1&width-units=m&datetime=x => BadFormat
+/collections/grid/corridor?datetime=x&coords=LINESTRING(0 0,1 1)&corridor-width=1&width-units=m&f=XML => BadFormat
+/collections/grid/corridor?f=XML&coords=LINESTRING(0 0,1 1)&corridor-width=1&width-units=m&z=x => BadFormat
+/collections/grid/corridor?z=x&coords=LINESTRING(0 0,1 1)&corridor-width=1&width-units=m&f=XML => BadFormat
+/collections/grid/corridor?f=XML&coords=LINESTRING(0 0,1 1)&width-units=m&corridor-width=x => BadFormat
+/collections/grid/corridor?corridor-width=x&coords=LINESTRING(0 0,1 1)&width-units=m&f=XML => BadFormat
+/collections/grid/corridor?f=XML&coords=LINESTRING(0 0,1 1)&corridor-width=1&width-units=m&corridor-height=1&height-units=m&z=1/2 => BadFormat
+/collections/grid/corridor?corridor-height=1&height-units=m&z=1/2&coords=LINESTRING(0 0,1 1)&corridor-width=1&width-units=m&f=XML => BadFormat
+/collections/grid/corridor?corridor-width=1&coords=x => MissingParameter
+/collections/grid/corridor?coords=x&corridor-width=1 => MissingParameter
+/collections/grid/corridor?corridor-width=1&coords=POINT(0 0) => MissingParameter
+/collections/grid/corridor?coords=POINT(0 0)&corridor-width=1 => MissingParameter
+/collections/grid/corridor?coords=LINESTRING(0 0,1 1)&corridor-width=1&datetime=x => MissingParameter
+/collections/grid/corridor?datetime=x&coords=LINESTRING(0 0,1 1)&corridor-width=1 => MissingParameter
+/collections/grid/corridor?coords=LINESTRING(0 0,1 1)&corridor-width=1&z=x => MissingParameter
+/collections/grid/corridor?z=x&coords=LINESTRING(0 0,1 1)&corridor-width=1 => MissingParameter
+/collections/grid/corridor?coords=LINESTRING(0 0,1 1)&corridor-width=x => MissingParameter
+/collections/grid/corridor?corridor-width=x&coords=LINESTRING(0 0,1 1) => MissingParameter
+/collections/grid/corridor?coords=LINESTRING(0 0,1 1)&corridor-width=1&corridor-height=1&height-units=m&z=1/2 => MissingParameter
+/collections/grid/corridor?corridor-height=1&height-units=m&z=1/2&coords=LINESTRING(0 0,1 1)&corridor-width=1 => MissingParameter
+/collections/grid/corridor?coords=x&corridor-width=1&width-units=m&datetime=x => BadCoords
+/collections/grid/corridor?datetime=x&corridor-width=1&width-units=m&coords=x => BadCoords
+/collections/grid/corridor?coords=x&corridor-width=1&width-units=m&z=x => BadCoords
+/collections/grid/corridor?z=x&corridor-width=1&width-units=m&coords=x => BadCoords
+/collections/grid/corridor?coords=x&width-units=m&corridor-width=x => BadCoords
+/collections/grid/corridor?corridor-width=x&width-units=m&coords=x => BadCoords
+/collections/grid/corridor?coords=x&corridor-width=1&width-units=m&corridor-height=1&height-units=m&z=1/2 => BadCoords
+/collections/grid/corridor?corridor-height=1&height-units=m&z=1/2&corridor-width=1&width-units=m&coords=x => BadCoords
+/collections/grid/corridor?coords=POINT(0 0)&corridor-width=1&width-units=m&datetime=x => WrongGeometry
+/collections/grid/corridor?datetime=x&corridor-width=1&width-units=m&coords=POINT(0 0) => WrongGeometry
+/collections/grid/corridor?coords=POINT(0 0)&corridor-width=1&width-units=m&z=x => WrongGeometry
+/collections/grid/corridor?z=x&corridor-width=1&width-units=m&coords=POINT(0 0) => WrongGeometry
+/collections/grid/corridor?coords=POINT(0 0)&width-units=m&corridor-width=x => WrongGeometry
+/collections/grid/corridor?corridor-width=x&width-units=m&coords=POINT(0 0) => WrongGeometry
+/collections/grid/corridor?coords=POINT(0 0)&corridor-width=1&width-units=m&corridor-height=1&height-units=m&z=1/2 => WrongGeometry
+/collections/grid/corridor?corridor-height=1&height-units=m&z=1/2&corridor-width=1&width-units=m&coords=POINT(0 0) => WrongGeometry
+/collections/grid/corridor?datetime=x&coords=LINESTRING(0 0,1 1)&corridor-width=1&width-units=m&z=x => BadDatetime
+/collections/grid/corridor?z=x&coords=LINESTRING(0 0,1 1)&corridor-width=1&width-units=m&datetime=x => BadDatetime
+/collections/grid/corridor?datetime=x&coords=LINESTRING(0 0,1 1)&width-units=m&corridor-width=x => BadDatetime
+/collections/grid/corridor?corridor-width=x&coords=LINESTRING(0 0,1 1)&width-units=m&datetime=x => BadDatetime
+/collections/grid/corridor?datetime=x&coords=LINESTRING(0 0,1 1)&corridor-width=1&width-units=m&corridor-height=1&height-units=m&z=1/2 => BadDatetime
+/collections/grid/corridor?corridor-height=1&height-units=m&z=1/2&coords=LINESTRING(0 0,1 1)&corridor-width=1&width-units=m&datetime=x => BadDatetime
+/collections/grid/corridor?z=x&coords=LINESTRING(0 0,1 1)&width-units=m&corridor-width=x => BadLevel
+/collections/grid/corridor?corridor-width=x&coords=LINESTRING(0 0,1 1)&width-units=m&z=x => BadLevel
+/collections/grid/corridor?corridor-width=x&coords=LINESTRING(0 0,1 1)&width-units=m&corridor-height=1&height-units=m&z=1/2 => BadDistance
+/collections/grid/corridor?corridor-height=1&height-units=m&z=1/2&coords=LINESTRING(0 0,1 1)&width-units=m&corridor-width=x => BadDistance
+/collections/grid/cube?colour=red&bbox=1,0,0,0 => UnknownParameter
+/collections/grid/cube?bbox=1,0,0,0&colour=red => UnknownParameter
+/collections/grid/cube?crs=a&crs=b&bbox=1,0,0,0 => RepeatedParameter
+/collections/grid/cube?bbox=1,0,0,0&crs=a&crs=b => RepeatedParameter
+/collections/grid/cube?f=XML&bbox=1,0,0,0 => BadFormat
+/collections/grid/cube?bbox=1,0,0,0&f=XML => BadFormat
+/collections/grid/cube?bbox=1,0,0,0&datetime=x => BadBbox
+/collections/grid/cube?datetime=x&bbox=1,0,0,0 => BadBbox
+/collections/grid/cube?bbox=1,0,0,0&z=x => BadBbox
+/collections/grid/cube?z=x&bbox=1,0,0,0 => BadBbox
+/collections/grid/items?coords=POINT(0 0)&colour=red => NoSuchPage
+/collections/grid/items?colour=red&coords=POINT(0 0) => NoSuchPage
+/collections/grid/items?coords=POINT(0 0)&z=1&z=1 => NoSuchPage
+/collections/grid/items?z=1&z=1&coords=POINT(0 0) => NoSuchPage
+/collections/grid/items?coords=POINT(0 0)&f=XML => NoSuchPage
+/collections/grid/items?f=XML&coords=POINT(0 0) => NoSuchPage
+/collections/grid/items => NoSuchPage
+/collections/grid/items => NoSuchPage
+/collections/grid/items?coords=POINT(0.5 0) => NoSuchPage
+/collections/grid/items?coords=POINT(0.5 0) => NoSuchPage
+/collections/grid/items?coords=LINESTRING(0 0,1 1) => NoSuchPage
+/collections/grid/items?coords=LINESTRING(0 0,1 1) => NoSuchPage
+/collections/grid/items?coords=POINT(0 0)&datetime=x => NoSuchPage
+/collections/grid/items?datetime=x&coords=POINT(0 0) => NoSuchPage
+/collections/grid/items?coords=POINT(0 0)&z=x => NoSuchPage
+/collections/grid/items?z=x&coords=POINT(0 0) => NoSuchPage
+/collections/grid/items?coords=POINT Z(0 0 1)&z=1 => NoSuchPage
+/collections/grid/items?coords=POINT Z(0 0 1)&z=1 => NoSuchPage
+";
+
+fn kind_of(query: &Query) -> &'static str {
+    match query.shape {
+        Shape::Position(_) => "position",
+        Shape::Radius { .. } => "radius",
+        Shape::Area(_) => "area",
+        Shape::Cube { .. } => "cube",
+        Shape::Trajectory(_) => "trajectory",
+        Shape::Corridor { .. } => "corridor",
+        Shape::Location(_) => "location",
+    }
+}
+
+fn page_of(page: &Page) -> &'static str {
+    match page {
+        Page::Landing => "landing",
+        Page::Conformance => "conformance",
+        Page::Collections => "collections",
+        Page::Collection(_) => "collection",
+        Page::Instances(_) => "instances",
+        Page::Instance(..) => "instance",
+        Page::Locations(_) => "locations",
+        Page::Ask(query) => kind_of(query),
+    }
+}
+
+#[test]
+fn targets(rt: HostRuntime) -> Result<(), Fail> {
+    for line in TARGETS.lines() {
+        if line.starts_with('#') {
+            continue;
+        }
+        let (target, answer) = line.split_once(" => ").ok_or("a line without an answer")?;
+        match read_target(rt.alloc(), target.as_bytes()) {
+            Ok(page) => assert_eq!(rt; page_of(&page), answer, "{line}"),
+            Err(TargetFault::Refused(refusal)) => {
+                assert!(rt; refusal.code() == answer.as_bytes(), "{line}");
+            }
+            Err(TargetFault::OutOfMemory) => assert!(rt; false, "{line}"),
+        }
+    }
+    Ok(())
+}
+
+#[test]
+fn copies(rt: HostRuntime) -> Result<(), Fail> {
+    for line in TARGETS.lines() {
+        let (target, _) = line.split_once(" => ").unwrap_or((line, ""));
+        if let Ok(Page::Ask(query)) = read_target(rt.alloc(), target.as_bytes()) {
+            match query.copy(rt.alloc()) {
+                Ok(copy) => assert_eq!(rt; kind_of(&copy), kind_of(&query), "{line}"),
+                Err(_) => assert!(rt; false, "{line}"),
+            }
+        }
+    }
+    Ok(())
+}
+
+// A line for each distance: its number and its unit, and its metres.
+const DISTANCES: &str = "\
+5 m => Some(5)
+5. M => Some(5)
+005.000 m => Some(5)
+0 km => Some(0)
+0.1 km => Some(100)
+1.5 Km => Some(1500)
+1.234 kM => Some(1234)
+1.23400 km => Some(1234)
+400000 km => Some(400000000)
+400000000.0 m => Some(400000000)
+00000000000000000000000000000001 m => Some(1)
+.5 km => None
+5.1 m => None
+1.2345 km => None
+1.0001 km => None
+400000.001 km => None
+400000001 m => None
+99999999999999999999999999999999 m => None
++5 m => None
+-5 m => None
+5e3 m => None
+5,0 m => None
+1.2.3 km => None
+. m => None
+5 mi => None
+5 mm => None
+5 k => None
+";
+
+#[test]
+fn distances(rt: HostRuntime) -> Result<(), Fail> {
+    for line in DISTANCES.lines() {
+        let (text, answer) = line.split_once(" => ").ok_or("a line without an answer")?;
+        let (number, unit) = text.split_once(' ').ok_or("a line without a unit")?;
+        let metres = read_distance(number.as_bytes(), unit.as_bytes());
+        let shown = format!(in rt.alloc(); "{metres:?}")?;
+        assert_eq!(rt; shown.as_str(), answer, "{line}");
+    }
+    Ok(())
+}
