@@ -1,0 +1,6 @@
+mod WorkedRows
+pub mod Whole
+pub mod Edges
+pub mod FlagLemmas
+pub mod Placed
+pub mod Outside

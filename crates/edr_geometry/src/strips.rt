@@ -1,0 +1,23 @@
+//! The places of a row near a segment.
+ghost use Rattle.std.specs.Prelude.{◌≡◌, IfOk};
+ghost use Rattle.edr_geometry.specs.Planar as plane;
+ghost use Rattle.edr_geometry.specs.Masks.{row_of};
+ghost use Rattle.edr_geometry.specs.Rows.{IsRow};
+ghost use Rattle.edr_geometry.specs.Ways.{IsSegment};
+
+use crate::near::Segment;
+use crate::rows::Row;
+use std::alloc::{AllocError, Global};
+
+/// The places of a row near a segment.
+pub fn segment_of(alloc: Global, segment: &Segment, row: &Row<'_>) -> Result<Vec<bool>, AllocError>
+    requires row { IsRow row.now.y row.now.xs.now }
+    requires segment { IsSegment segment.now }
+    ensures { IfOk result (λ places. places.items ≡ row_of (λ p. plane.near_segment p segment.now.a segment.now.b segment.now.width) row.now.y row.now.xs.now) }
+{
+    let mut places = vec![in alloc; false; row.xs.len()]?;
+    for place in 0..row.xs.len() {
+        places[place] = segment.is_near(&row.spot(place));
+    }
+    Ok(places)
+}
