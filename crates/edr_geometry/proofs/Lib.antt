@@ -4,3 +4,4 @@ pub mod Edges
 pub mod FlagLemmas
 pub mod Placed
 pub mod Outside
+pub mod Beside

@@ -1,5 +1,5 @@
 -- Places left and right of a disc aren't in it.
-use Rattle.std.proofs.Common.{mul-le-mul, ◌≡◌, ℕ, zero, suc, ◌+◌, ◌*◌, ◌<◌, ◌≤◌, arith, false, refl, subst, inl, inr, replicate, ℤ, pos, negsuc, ◌+ℤ◌, ◌-ℤ◌, ◌*ℤ◌, ◌<ℤ◌, ◌≤ℤ◌, int_le, List, length, get_or}
+use Rattle.std.proofs.Common.{mul-le-mul, ◌≡◌, ℕ, zero, suc, ◌*◌, ◌<◌, ◌≤◌, arith, false, refl, subst, inl, inr, replicate, ℤ, pos, negsuc, ◌+ℤ◌, ◌-ℤ◌, ◌*ℤ◌, ◌<ℤ◌, ◌≤ℤ◌, int_le, List, length, get_or}
 use Rattle.std.specs.Int.RustNames.{unsigned_abs}
 use Rattle.std.proofs.lemmas.Bool.{cases_lt}
 use Rattle.std.proofs.lemmas.Int.{ints}
@@ -16,7 +16,7 @@ square_far d (negsuc r) h k = absurd (omega (arith, signed_arith, h))
 square_far (pos d) (pos r) h k = let more : suc r * suc r ≤ d * d = mul-le-mul k k in omega (arith, signed_arith, more)
 square_far (negsuc d) (pos r) h k = let more : suc r * suc r ≤ suc d * suc d = mul-le-mul k k in omega (arith, signed_arith, more)
 
-square_not_negative : (d : ℤ) → pos 0 ≤ℤ (d *ℤ d)
+pub square_not_negative : (d : ℤ) → pos 0 ≤ℤ (d *ℤ d)
 square_not_negative (pos d) = omega (arith, signed_arith)
 square_not_negative (negsuc d) = omega (arith, signed_arith)
 

@@ -1,11 +1,11 @@
 -- Geometries that are read or written are in the plane.
-use Rattle.std.proofs.Common.{Bool, List, [], ◌∷◌, ◌++◌, flat_map, subst}
-use Rattle.std.specs.List.{All, AllByRecursion}
+use Rattle.std.proofs.Common.{List, [], ◌∷◌, ◌++◌, flat_map, subst}
+use Rattle.std.specs.List.{AllByRecursion}
 use Rattle.std.proofs.lemmas.List.Concat.{flat_map-cons}
 use Rattle.std.proofs.lemmas.List.Elements.{All-from_recursion}
 use Rattle.edr_base.specs.declared.places.Position.{Position}
 use Rattle.edr_wkt.specs.declared.geometry.Polygon.{Polygon}
-use Rattle.edr_wkt.specs.Faults.{IsInRange, IsGeometry}
+use Rattle.edr_wkt.specs.Faults.{IsInRange}
 use Rattle.edr_geometry.specs.Limits.{IsPlaced, IsPlacedRing, IsPlacedPolygon, GeometriesArePlaced}
 
 all_parts : {A : Type 0} (P : A → Type 0) (xs ys : List A) → AllByRecursion P (xs ++ ys) → AllByRecursion P xs × AllByRecursion P ys

@@ -10,6 +10,8 @@ mod points;
 mod polygons;
 mod rows;
 mod strips;
+#[cfg(test)]
+mod tests;
 mod toggles;
 mod traces;
 
