@@ -1,4 +1,4 @@
-mod WorkedRows
+mod KnownRows
 pub mod Whole
 pub mod Edges
 pub mod FlagLemmas

@@ -145,8 +145,8 @@ impl RowMask {
 
     /// The places of a row at most half a width, in metres, from a segment, or want of memory.
     ///
-    /// `y` and the values of `xs` are metres. At each place it is `near_segment` of that node. Only places between
-    /// the ends' least x less the width and their greatest x and the width are tested.
+    /// `y` and the values of `xs` are metres. At each place it is `near_segment` of that node. Only places within `width` of
+    /// the range of the ends' x are tested.
     pub fn of_segment(
         alloc: Global,
         a: Spot,

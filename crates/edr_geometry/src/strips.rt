@@ -9,8 +9,7 @@ use crate::near::Segment;
 use crate::rows::{Row, count_left_of};
 use std::alloc::{AllocError, Global};
 
-/// The places of a row near a segment. Only the places between its least x less the width and its greatest x and the
-/// width are tested.
+/// The places of a row near a segment. Only the places within the width of the range of its ends' x are tested.
 pub fn segment_of(alloc: Global, segment: &Segment, row: &Row<'_>) -> Result<Vec<bool>, AllocError>
     requires row { IsRow row.now.y row.now.xs.now }
     requires segment { IsSegment segment.now }
