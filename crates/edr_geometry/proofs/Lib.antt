@@ -1,0 +1,7 @@
+mod KnownRows
+pub mod Whole
+pub mod Edges
+pub mod FlagLemmas
+pub mod Placed
+pub mod Outside
+pub mod Beside

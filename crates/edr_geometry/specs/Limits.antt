@@ -1,0 +1,41 @@
+-- The limits of the numbers in the plane.
+use Rattle.std.specs.Prelude.{◌≤◌, ℤ, pos, ◌≤ℤ◌, Bool, List}
+use Rattle.std.specs.Int.RustNames.{unsigned_abs}
+use Rattle.std.specs.List.{All}
+use Rattle.edr_base.specs.Limits.{coordinate_limit, distance_limit}
+use Rattle.edr_base.specs.declared.places.Position.{Position}
+use Rattle.edr_base.specs.declared.places.Spot.{Spot}
+use Rattle.edr_wkt.specs.Faults.{IsGeometry}
+use Rattle.edr_wkt.specs.declared.geometry.Polygon.{Polygon}
+use Rattle.edr_wkt.specs.declared.geometry.Geometry.TheVariants.{Polygons}
+use Rattle.edr_geometry.specs.Planar.{spot_of}
+
+-- a coordinate, in metres
+abbrev pub IsCoordinate : ℤ → Type 0
+IsCoordinate c = unsigned_abs c ≤ coordinate_limit
+
+-- a place
+pub record IsSpot (s : Spot) : Type 0 where
+  pub x : IsCoordinate s.x
+  pub y : IsCoordinate s.y
+
+-- a radius or a width, in metres
+pub record IsDistance (d : ℤ) : Type 0 where
+  pub least : pos 0 ≤ℤ d
+  pub greatest : d ≤ℤ pos distance_limit
+
+-- a position in the plane
+abbrev pub IsPlaced : Position → Type 0
+IsPlaced p = IsSpot (spot_of p)
+
+-- a ring in the plane
+abbrev pub IsPlacedRing : List Position → Type 0
+IsPlacedRing ring = All IsPlaced ring
+
+-- a polygon in the plane
+abbrev pub IsPlacedPolygon : Polygon → Type 0
+IsPlacedPolygon polygon = All IsPlacedRing polygon.rings
+
+-- the polygons of each geometry that is read or written are in the plane
+abbrev pub GeometriesArePlaced : Type 0
+GeometriesArePlaced = (multi has_z has_m : Bool) (polygons : List Polygon) → IsGeometry (Polygons multi has_z has_m polygons) → All IsPlacedPolygon polygons

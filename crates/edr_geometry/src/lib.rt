@@ -1,0 +1,22 @@
+//! Tests of places in the plane, in whole numbers, and masks of whole rows of places.
+#![tactic(auto)]
+
+mod borders;
+mod discs;
+mod laws;
+mod masks;
+mod near;
+mod points;
+mod polygons;
+mod rows;
+mod strips;
+#[cfg(test)]
+mod tests;
+mod toggles;
+mod traces;
+
+pub use laws::geometries_are_placed;
+pub use masks::RowMask;
+pub use near::near_segment;
+pub use points::{in_disc, on_segment, squared_distance};
+pub use polygons::in_polygons;
