@@ -18,7 +18,3 @@ IsSet mask place = (place < length mask) × (slice_index_or mask place false ≡
 -- no place from one to before another is set
 abbrev pub NoneSet : List Bool → ℕ → ℕ → Type 0
 NoneSet mask from end = (place : ℕ) → from ≤ place → place < end → slice_index_or mask place false ≡ false
-
--- a place is set, as a test
-abbrev pub is_set_in : List Bool → ℕ → Bool
-is_set_in mask place = slice_index_or mask place false

@@ -75,3 +75,7 @@ in_polygon_at y xs polygon place = in_polygon (spot_in y xs place) polygon
 -- an edge has a place in a row's y
 abbrev pub touches : ℤ → Edge → Bool
 touches y e = is_among e.start.y e.end.y y
+
+-- a place is set, as a test
+abbrev pub is_set_in : List Bool → ℕ → Bool
+is_set_in mask place = slice_index_or mask place false

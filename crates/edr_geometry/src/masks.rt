@@ -3,8 +3,8 @@ ghost use Rattle.std.specs.Prelude.{◌≡◌, IfOk, OnOk, ℕ, ◌+◌, ◌<◌
 ghost use Rattle.std.specs.List.{All, flat_map};
 ghost use Rattle.edr_geometry.specs.Limits.{IsSpot, IsDistance, IsPlacedPolygon, IsPlacedRing, IsCoordinate};
 ghost use Rattle.edr_geometry.specs.Planar as plane;
-ghost use Rattle.edr_geometry.specs.Rows.{IsRow, Joins, in_polygon_at, odd_behind, odd_crossed, on_edges};
-ghost use Rattle.edr_geometry.specs.Masks.{row_of, is_set_in, IsSet, NoneSet};
+ghost use Rattle.edr_geometry.specs.Rows.{IsRow, Joins, in_polygon_at, is_set_in, odd_behind, odd_crossed, on_edges};
+ghost use Rattle.edr_geometry.specs.Masks.{row_of, IsSet, NoneSet};
 
 use crate::borders::touches_polygon;
 use crate::discs::{Disc, disc_of};
