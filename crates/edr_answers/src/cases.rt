@@ -18,6 +18,8 @@ pub enum Reader {
     Document,
     /// A feed.
     Feed,
+    /// A target.
+    Target,
 }
 
 /// A text, and what it is read as.
@@ -40,6 +42,7 @@ fn reader_of(mark: u8) -> Option<Reader> {
         b'w' => Some(Reader::Geometry),
         b'd' => Some(Reader::Document),
         b'f' => Some(Reader::Feed),
+        b'q' => Some(Reader::Target),
         _ => None,
     }
 }

@@ -1,7 +1,7 @@
 //! `edr_answers`: what each reader answers to the cases of standard input, to be compared with another program's answers.
 //!
 //! A case is the mark of a reader (`n` number, `i` instant, `t` times, `l` levels, `w` well-known text, `d` document,
-//! `f` feed), eight digits of a length, and so many bytes. An answer is eight digits of its length, so many bytes, and a
+//! `f` feed, `q` target), eight digits of a length, and so many bytes. An answer is eight digits of its length, so many bytes, and a
 //! line feed. What follows the last case is passed over.
 #![tactic(auto)]
 
@@ -10,6 +10,7 @@ mod cases;
 mod editions;
 mod faults;
 mod notation;
+mod targets;
 
 use answering::answers_of;
 use edr_base::{ReadStop, RealSource, Source, read_all};

@@ -2,12 +2,13 @@
 use crate::cases::{Case, Reader};
 use crate::editions::put_feed;
 use crate::faults::AnswerFault;
+use crate::targets::put_target;
 use covjson_checks::CovFault;
 use covjson_read::read_document;
 use covjson_write::write_whole;
 use edr_axes::{LevelFault, Levels, Times, read_instant, read_levels, read_times, write_instant};
 use edr_base::{Text, whole_number};
-use edr_wkt::{WktFault, read_wkt, write_wkt};
+use edr_wkt::{Geometry, WktFault, read_wkt, write_wkt};
 use std::alloc::Global;
 
 const MOST_NUMBER: i64 = 100_000_000;
@@ -78,19 +79,24 @@ fn put_has_time(times: &Times, time: i64, notation: &mut Notation) -> Result<(),
     Ok(())
 }
 
-fn put_times(alloc: Global, text: &[u8], notation: &mut Notation) -> Result<(), AnswerFault> {
-    let Some(times) = read_times(text) else {
-        return notation.put(b"None");
-    };
+/// Puts the times of a request, and whether they have those round their ends.
+pub fn put_times(alloc: Global, times: &Times, notation: &mut Notation) -> Result<(), AnswerFault> {
     let answer = format!(in alloc; "{times:?} ")?;
     notation.put(answer.as_bytes())?;
     match times {
-        Times::All => put_has_time(&times, 0, notation),
-        Times::At(time) => put_has_time(&times, time, notation),
+        Times::All => put_has_time(times, 0, notation),
+        Times::At(time) => put_has_time(times, *time, notation),
         Times::Between(first, last) => {
-            put_has_time(&times, first.unwrap_or(0), notation)?;
-            put_has_time(&times, last.unwrap_or(0), notation)
+            put_has_time(times, first.unwrap_or(0), notation)?;
+            put_has_time(times, last.unwrap_or(0), notation)
         }
+    }
+}
+
+fn put_read_times(alloc: Global, text: &[u8], notation: &mut Notation) -> Result<(), AnswerFault> {
+    match read_times(text) {
+        Some(times) => put_times(alloc, &times, notation),
+        None => notation.put(b"None"),
     }
 }
 
@@ -104,7 +110,8 @@ fn put_has_level(levels: &Levels, level: i64, notation: &mut Notation) -> Result
     Ok(())
 }
 
-fn put_read_levels(
+/// Puts the levels of a request, and whether they have those round each of them.
+pub fn put_levels(
     alloc: Global,
     levels: &Levels,
     notation: &mut Notation,
@@ -148,17 +155,30 @@ fn put_read_levels(
     }
 }
 
-fn put_levels(alloc: Global, text: &[u8], notation: &mut Notation) -> Result<(), AnswerFault> {
+fn put_read_levels(alloc: Global, text: &[u8], notation: &mut Notation) -> Result<(), AnswerFault> {
     match read_levels(alloc, text) {
-        Ok(levels) => put_read_levels(alloc, &levels, notation),
+        Ok(levels) => put_levels(alloc, &levels, notation),
         Err(LevelFault::NotLevels) => notation.put(b"NotLevels"),
         Err(LevelFault::OutOfMemory) => Err(AnswerFault::OutOfMemory),
     }
 }
 
-fn put_geometry(alloc: Global, text: &[u8], notation: &mut Notation) -> Result<(), AnswerFault> {
+/// Puts the written form of a geometry.
+pub fn put_geometry(
+    alloc: Global,
+    geometry: &Geometry,
+    notation: &mut Notation,
+) -> Result<(), AnswerFault> {
+    notation.put(write_wkt(alloc, geometry)?.bytes())
+}
+
+fn put_read_geometry(
+    alloc: Global,
+    text: &[u8],
+    notation: &mut Notation,
+) -> Result<(), AnswerFault> {
     match read_wkt(alloc, text) {
-        Ok(geometry) => notation.put(write_wkt(alloc, &geometry)?.bytes()),
+        Ok(geometry) => put_geometry(alloc, &geometry, notation),
         Err(WktFault::OutOfMemory) => Err(AnswerFault::OutOfMemory),
         Err(fault) => {
             let answer = format!(in alloc; "{fault:?}")?;
@@ -202,10 +222,11 @@ pub fn put_answer(
     match case.reader {
         Reader::Number => put_whole(alloc, text, notation),
         Reader::Instant => put_instant(alloc, text, notation),
-        Reader::Times => put_times(alloc, text, notation),
-        Reader::Levels => put_levels(alloc, text, notation),
-        Reader::Geometry => put_geometry(alloc, text, notation),
+        Reader::Times => put_read_times(alloc, text, notation),
+        Reader::Levels => put_read_levels(alloc, text, notation),
+        Reader::Geometry => put_read_geometry(alloc, text, notation),
         Reader::Document => put_document(alloc, text, notation),
         Reader::Feed => put_feed(alloc, text, notation),
+        Reader::Target => put_target(alloc, text, notation),
     }
 }
