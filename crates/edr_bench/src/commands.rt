@@ -17,6 +17,10 @@ pub enum Command {
     Read(u32),
     /// Reads a tree of JSON so many times.
     Parse(u32),
+    /// Reads targets so many times.
+    Targets(u32),
+    /// Cuts and decodes the pairs of targets so many times.
+    Pairs(u32),
     /// Packs a grid and opens each of its tiles so many times.
     Tiles(Samples, u32),
 }
@@ -50,6 +54,8 @@ pub fn command_of(words: &[String]) -> Option<Command> {
             Some(Command::Tiles(Samples::FiveDigits, rounds_of(rounds)?))
         }
         [name, rounds] if name.as_str() == "read" => Some(Command::Read(rounds_of(rounds)?)),
+        [name, rounds] if name.as_str() == "targets" => Some(Command::Targets(rounds_of(rounds)?)),
+        [name, rounds] if name.as_str() == "pairs" => Some(Command::Pairs(rounds_of(rounds)?)),
         [name, rounds] if name.as_str() == "parse" => Some(Command::Parse(rounds_of(rounds)?)),
         _ => None,
     }

@@ -7,15 +7,18 @@
 //! - `tree COUNT ROUNDS` makes that grid and its tree of JSON and writes the tree so many times, and prints the length.
 //! - `read ROUNDS` reads standard input as a document of CoverageJSON so many times, and prints the number of its values, or
 //!   of its coverages.
+//! - `parse ROUNDS` reads it as a tree of JSON so many times, and prints the number of its members.
 //! - `tiles1 ROUNDS` and `tiles5 ROUNDS` pack a grid of 2,000 by 2,000 samples of one or up to five digits, open each of its
 //!   tiles so many times, and print how many were opened.
-//! - `parse ROUNDS` reads it as a tree of JSON so many times, and prints the number of its members.
+//! - `targets ROUNDS` reads each line of standard input as a target so many times, and prints how many ask for a page.
+//! - `pairs ROUNDS` cuts and decodes the pairs of each such line so many times, and prints how many there are.
 #![tactic(auto)]
 
 mod answers;
 mod commands;
 mod grids;
 mod running;
+mod targets;
 mod tiles;
 
 use answers::BenchFault;

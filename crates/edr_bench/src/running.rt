@@ -4,6 +4,7 @@ ghost use Rattle.covjson_value.specs.Coverages.{IsValidDocument};
 use crate::answers::{Answer, BenchFault};
 use crate::commands::Command;
 use crate::grids::{Rows, grid_of};
+use crate::targets::{decode_pairs, read_targets};
 use crate::tiles::open_tiles;
 use covjson_checks::CovFault;
 use covjson_read::read_document;
@@ -140,7 +141,7 @@ fn parse_rounds(alloc: Global, text: &[u8], rounds: u32) -> Result<usize, BenchF
     Ok(count)
 }
 
-/// Does what a command asks for. Only `wkt`, `read` and `parse` read the input.
+/// Does what a command asks for. Only `wkt`, `read`, `parse`, `targets` and `pairs` read the input.
 pub fn carry_out<S: Source>(
     alloc: Global,
     command: Command,
@@ -155,6 +156,14 @@ pub fn carry_out<S: Source>(
         Command::Read(rounds) => {
             let text = text_of(alloc, input)?;
             Ok(Answer::Count(read_rounds(alloc, &text, rounds)?))
+        }
+        Command::Targets(rounds) => {
+            let text = text_of(alloc, input)?;
+            Ok(Answer::Count(read_targets(alloc, &text, rounds)?))
+        }
+        Command::Pairs(rounds) => {
+            let text = text_of(alloc, input)?;
+            Ok(Answer::Count(decode_pairs(alloc, &text, rounds)?))
         }
         Command::Parse(rounds) => {
             let text = text_of(alloc, input)?;
