@@ -255,7 +255,7 @@ class _Target:
         path, _, query_text = target.partition(b"?")
         self.page = _page_of_path(path)
         self.pairs = _pairs(query_text)
-        self.values = dict(reversed(self.pairs))
+        self.values = dict(self.pairs)
 
     def query(self) -> str | None:
         """The query, where the page is one."""

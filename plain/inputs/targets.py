@@ -2,7 +2,7 @@
 
 import limits
 from inputs.draws import Draw, damaged_bytes
-from inputs.geometries import geometry_text
+from inputs.geometries import _Writer, geometry_text, many_positions_text
 from inputs.texts import coordinate, instant, levels_text, spelled, time, times_text
 from levels import At, read_levels
 from targets import GEOMETRIES, GREATEST_DISTANCE, REQUIRED
@@ -13,9 +13,10 @@ _MARKS = b"&=?/%+ .(),#;0123456789abcdefABCDEFkmMZzTR:-\xff\xc3\xa9\0"
 
 _IDS = [id_.encode() for id_ in ("grid", "grid", "a", "1", "2024-01-01T00:00:00Z", "a b", "a/b", "a+b", "é", "日本", "%", "100%", "%41")]
 _IDS += [id_.encode() for id_ in ("a?b", "a&b=c", "#", "..", ".", "position", "instances", "locations", "collections", ",", "a,b", " ")]
-_IDS += [b"\0", b"\x7f", b"a\x1fb", b"\n", b"x" * 128, b"x" * 129, "é".encode() * 65, "\ufffd".encode(), "\U0010ffff".encode(), b"(a); -"]
+_IDS += [b"\0", b"\x7f", b"a\x1fb", b"\n", b"x" * 128, b"x" * 129, "é".encode() * 65, "\ufffd".encode(), "\U0010ffff".encode(), b"(a); -", "\ufeff".encode()]
 
 _NAMES = [b"temp", b"temp", b"wind", b"a", b"", b" ", "é".encode(), b"temp ", b"TEMP", b"a/b", b"\0", b"x" * 129, b"a)(b", b"\xff", b"\xe2\x82"]
+_NAMES += [b"\xed\xa0\x80", b"\xf0\x9f\x98x", b"\xf4\x90\x80\x80", b"\xc0\xaf", b"\xf0\x80\x80", b"a=b", b"100%", "\ufeff".encode()]
 
 _DESCRIPTIONS = ("landing", "conformance", "collections", "collection", "instances", "instance", "locations")
 _QUERIES = tuple(REQUIRED)
@@ -28,6 +29,8 @@ _BAD_FORMATS += (b"application/json", b"CoverageJSON", b"application/prs.coverag
 _BAD_PARTS = (b"\xff", b"a\xc3", b"\xc0\x80", b"\xed\xa0\x80", b"\xf4\x90\x80\x80", b"\x80")
 
 _HEIGHT = (b"corridor-height", b"height-units")
+
+_ALL_FORMS = [(tag, dims) for tag in ("POINT", "MULTIPOINT", "LINESTRING", "POLYGON", "MULTIPOLYGON") for dims in ("", "Z", "M", "ZM")]
 
 _MANY_TRIES = 200
 
@@ -61,23 +64,11 @@ def _one_that(draw: Draw, make, is_wanted, otherwise: bytes) -> bytes:
 
 def _geometry_of(draw: Draw, forms: list[tuple[str, str]]) -> bytes:
     """A geometry of one of some tags and dims."""
-    tag, dims = draw.choice(forms)
-
-    def is_wanted(text: bytes) -> bool:
-        geometry = _read_geometry(text)
-        return geometry is not None and (geometry.tag, geometry.dims) == (tag, dims)
-
-    return _one_that(draw, geometry_text, is_wanted, otherwise=_plain_geometry(tag, dims))
-
-
-def _plain_geometry(tag: str, dims: str) -> bytes:
-    position = " ".join("0" for _ in range(2 + len(dims)))
-    counts = {"POINT": 1, "MULTIPOINT": 1, "LINESTRING": 2}
-    if tag in counts:
-        body = ",".join([position] * counts[tag])
-    else:
-        body = "(" + ",".join([position] * 4) + ")"
-    return f"{tag} {dims}({body if tag != 'MULTIPOLYGON' else '(' + body + ')'})".encode()
+    writer = _Writer(draw)
+    writer.faults = writer.slips = 0
+    tag, writer.dims = draw.choice(forms)
+    heading = writer.blank() + writer.in_any_case(tag) + writer.blank() + writer.in_any_case(writer.dims)
+    return (heading + writer.blank() + writer.body(tag) + writer.blank()).encode()
 
 
 def _times(draw: Draw) -> bytes:
@@ -194,7 +185,7 @@ class _Maker:
         self.optional_part = draw.pick(0, 0.2, 0.5, 0.9)
         self.add_pairs()
         draw.shuffle(self.pairs)
-        self.many_escapes = draw.pick(0, 0, 0, 0.1, 0.5, 1)
+        self.many_escapes = draw.pick(0, 0, 0, 0, 0.1, 0.5, 1)
         self.marks: list[bytes] = []  # put raw into the text
         self.byte_damages = 0
         self.trailing = b"/" if draw.chance(0.12) else b""
@@ -255,7 +246,7 @@ class _Maker:
         if self.wants():
             self.set(b"parameter-name", _parameter_names(self.draw))
         if self.wants():
-            self.set(b"crs", self.draw.pick(b"local", b"", b"http://www.opengis.net/def/crs/EPSG/0/32633", "é;(".encode(), b"\xff", b"a b+c"))
+            self.set(b"crs", self.draw.pick(b"local", b"", b"http://www.opengis.net/def/crs/EPSG/0/32633", "é;(".encode(), b"\xff", b"a b+c", b"a?b=c&d"))
         if self.wants():
             self.set(b"f", self.format())
 
@@ -316,8 +307,9 @@ class _Maker:
         return space.join(self.escaped(part, marks) for part in text.split(b" "))
 
     def escaped(self, text: bytes, marks: bytes) -> bytes:
-        """The text with some bytes escaped: the marks always, and others by chance."""
-        return b"".join(self.escaped_byte(byte, byte in marks) for byte in text)
+        """The text with some bytes escaped: the marks always, but perhaps a `%` at the end, and others by chance."""
+        written = b"".join(self.escaped_byte(byte, byte in marks) for byte in text)
+        return written[:-2] if written.endswith(b"%25") and self.draw.chance(0.3) else written
 
     def escaped_byte(self, byte: int, always: bool) -> bytes:
         likely = 0.7 if not 32 < byte < 127 else self.many_escapes
@@ -362,13 +354,15 @@ def _height_missing(maker: _Maker) -> None:
 
 
 def _coords(maker: _Maker) -> None:
-    if maker.page in GEOMETRIES:
+    if maker.page in GEOMETRIES and maker.draw.chance(0.02):
+        maker.set(b"coords", many_positions_text(maker.draw))
+    elif maker.page in GEOMETRIES:
         maker.set(b"coords", _bad(maker.draw, geometry_text, _read_geometry))
 
 
 def _geometry(maker: _Maker) -> None:
     if maker.page in GEOMETRIES:
-        maker.set(b"coords", _one_that(maker.draw, geometry_text, lambda text: _read_geometry(text) is not None, otherwise=b"POINT(0 0)"))
+        maker.set(b"coords", _geometry_of(maker.draw, _ALL_FORMS))
 
 
 def _box_damage(maker: _Maker) -> None:
@@ -469,5 +463,5 @@ def _bytes(maker: _Maker) -> None:
     maker.byte_damages += 1
 
 
-_DAMAGES = [_unknown_name, _name_twice, _format, _missing, _height_missing, _coords, _geometry, _box_damage, _datetime, _level]
+_DAMAGES = [_unknown_name, _name_twice, _format, _missing, _height_missing, _coords, _geometry, _geometry, _box_damage, _datetime, _level]
 _DAMAGES += [_distance_damage, _distance_damage, _m_and_datetime, _z_and_z, _six_and_z, _height_and_levels, _path, _path, _mark, _bytes]
