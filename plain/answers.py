@@ -6,6 +6,8 @@ from editions import ChangeFault, Collection, Collections
 from feeds import FeedFault, read_feed
 from levels import At, Between, Levels, Listed, Series, read_levels
 from limits import COORDINATE
+from refusals import NUMBERS, Refused
+from targets import Area, Corridor, Cube, Description, Location, Position, Query, Radius, Shape, Trajectory, read_target
 from times import Times, read_instant, read_times, write_instant
 from well_known_text import WktFault, read_wkt, write_wkt
 from whole_numbers import NotWhole, TooLarge, whole_number
@@ -35,8 +37,10 @@ def _has_around(has, *numbers: int) -> str:
 def times_answer(text: bytes) -> str:
     """The times of a request, and whether they have those round their ends."""
     times = read_times(text)
-    if times is None:
-        return "None"
+    return "None" if times is None else _times_with_ends(times)
+
+
+def _times_with_ends(times: Times) -> str:
     return f"{_times_notation(times)} {_has_around(times.has, *_ends(times))}"
 
 
@@ -136,3 +140,51 @@ def _instance_notation(id_: str, grid) -> str:
 
 def _numbers(numbers) -> str:
     return "".join("- " if number is None else f"{number} " for number in numbers)
+
+
+def target_answer(text: bytes) -> str:
+    """The page of a target, or the number of its refusal."""
+    try:
+        page = read_target(text)
+    except Refused as refused:
+        return f"refused {NUMBERS[refused.name]}"
+    return _description_notation(page) if isinstance(page, Description) else _query_notation(page)
+
+
+def _description_notation(page: Description) -> str:
+    return f"{page.name}({','.join(page.ids)})" if page.ids else page.name
+
+
+def _query_notation(query: Query) -> str:
+    parts = [
+        f"Ask ({query.collection})",
+        _bracketed_or_dash(query.instance),
+        _shape_notation(query.shape),
+        "-" if query.times is None else _times_with_ends(query.times),
+        "-" if query.levels is None else _levels_notation(query.levels),
+        "-" if query.parameters is None else "".join(map(_bracketed_or_dash, query.parameters)),
+        _bracketed_or_dash(query.crs),
+    ]
+    return "; ".join(parts)
+
+
+def _bracketed_or_dash(text: str | None) -> str:
+    return "-" if text is None else f"({text})"
+
+
+def _shape_notation(shape: Shape) -> str:
+    match shape:
+        case Position(geometry):
+            return f"Position({write_wkt(geometry)})"
+        case Radius(geometry, within):
+            return f"Radius({write_wkt(geometry)},{within})"
+        case Area(geometry):
+            return f"Area({write_wkt(geometry)})"
+        case Cube(least, greatest, levels):
+            return f"Cube({','.join(map(str, least + greatest + (levels or ())))})"
+        case Trajectory(geometry):
+            return f"Trajectory({write_wkt(geometry)})"
+        case Corridor(geometry, width, height):
+            return f"Corridor({write_wkt(geometry)},{width},{'-' if height is None else height})"
+        case Location(id_):
+            return f"Location({id_})"

@@ -25,6 +25,7 @@ from inputs.documents import document_text
 from inputs.draws import Draw
 from inputs.feed_lines import feed_text
 from inputs.geometries import geometry_text
+from inputs.targets import target_text
 from inputs.texts import instant_text, levels_text, number_text, times_text
 from programs import endings, reader_answers
 
@@ -54,6 +55,7 @@ READERS = {
     "wkt": Kind(geometry_text, answers.geometry_answer, "w"),
     "document": Kind(document_text, answers.document_answer, "d"),
     "feed": Kind(feed_text, answers.feed_answer, "f"),
+    "target": Kind(target_text, answers.target_answer, "q"),
 }
 
 # These are large and slow, and are compared where they are asked for by name.
