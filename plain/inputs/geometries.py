@@ -9,10 +9,10 @@ _MARKS = b"0123456789+-.(), \t\nZMzmPOINTe"
 
 def geometry_text(draw: Draw) -> bytes:
     """Well-known text, or nearly so."""
-    return _Writer(draw).text()
+    return Writer(draw).text()
 
 
-class _Writer:
+class Writer:
     """Writes one text. Some of its numbers, counts and marks are wrong now and then."""
 
     def __init__(self, draw: Draw):

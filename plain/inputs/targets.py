@@ -2,7 +2,7 @@
 
 import limits
 from inputs.draws import Draw, damaged_bytes
-from inputs.geometries import _Writer, geometry_text, many_positions_text
+from inputs.geometries import Writer, geometry_text, many_positions_text
 from inputs.texts import coordinate, instant, levels_text, spelled, time, times_text
 from levels import At, read_levels
 from targets import GEOMETRIES, GREATEST_DISTANCE, REQUIRED
@@ -64,7 +64,7 @@ def _one_that(draw: Draw, make, is_wanted, otherwise: bytes) -> bytes:
 
 def _geometry_of(draw: Draw, forms: list[tuple[str, str]]) -> bytes:
     """A geometry of one of some tags and dims."""
-    writer = _Writer(draw)
+    writer = Writer(draw)
     writer.faults = writer.slips = 0
     tag, writer.dims = draw.choice(forms)
     heading = writer.blank() + writer.in_any_case(tag) + writer.blank() + writer.in_any_case(writer.dims)
