@@ -7,7 +7,7 @@ use edr_axes::{
 };
 use edr_wkt::{wkt_is_one, written_wkt_reads_back};
 
-/// A target has one answer: it asks for one page, or one refusal is the least of those that apply.
+/// A target has at most one answer: it asks for one page, or one refusal is the least of those that apply.
 pub fn target_is_one()
     ensures { TargetIsOne }
 {

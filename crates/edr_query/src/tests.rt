@@ -202,6 +202,17 @@ collections => NoSuchPage
 /collections/grid/corridor?z=x&coords=LINESTRING(0 0,1 1)&corridor-width=1 => MissingParameter
 /collections/grid/corridor?coords=LINESTRING(0 0,1 1)&corridor-width=x => MissingParameter
 /collections/grid/corridor?corridor-width=x&coords=LINESTRING(0 0,1 1) => MissingParameter
+/collections/grid/corridor?corridor-width=x&width-units=m => MissingParameter
+/collections/grid/corridor?width-units=m&corridor-width=x => MissingParameter
+/collections/grid/corridor?coords=LINESTRING(0 0,1 1)&corridor-width=1&corridor-height=x&height-units=m => MissingParameter
+/collections/grid/corridor?corridor-height=x&height-units=m&corridor-width=1&coords=LINESTRING(0 0,1 1) => MissingParameter
+/collections/grid/radius?within=x&within-units=m => MissingParameter
+/collections/grid/radius?within-units=m&within=x => MissingParameter
+/collections/grid/corridor?coords=LINESTRING Z(0 0 1,1 1 1)&corridor-width=1&width-units=m&z=1 => MissingParameter
+/collections/grid/corridor?z=1&corridor-width=1&width-units=m&coords=LINESTRING Z(0 0 1,1 1 1) => MissingParameter
+/collections/grid/corridor?coords=LINESTRING Z(0 0 1,1 1 1)&corridor-width=1&width-units=m&corridor-height=1&height-units=km => corridor
+/collections/grid/corridor?coords=LINESTRING Z(0 0 1,1 1 1)&corridor-width=1&width-units=m&corridor-height=1&height-units=km&z=1 => Conflict
+/collections/grid/corridor?coords=LINESTRING Z(0 0 1,1 1 1)&corridor-width=1&width-units=m&corridor-height=x&height-units=km => BadDistance
 /collections/grid/corridor?coords=LINESTRING(0 0,1 1)&corridor-width=1&corridor-height=1&height-units=m&z=1/2 => MissingParameter
 /collections/grid/corridor?corridor-height=1&height-units=m&z=1/2&coords=LINESTRING(0 0,1 1)&corridor-width=1 => MissingParameter
 /collections/grid/corridor?coords=x&corridor-width=1&width-units=m&datetime=x => BadCoords
@@ -246,18 +257,17 @@ collections => NoSuchPage
 /collections/grid/items?z=1&z=1&coords=POINT(0 0) => NoSuchPage
 /collections/grid/items?coords=POINT(0 0)&f=XML => NoSuchPage
 /collections/grid/items?f=XML&coords=POINT(0 0) => NoSuchPage
-/collections/grid/items => NoSuchPage
-/collections/grid/items => NoSuchPage
-/collections/grid/items?coords=POINT(0.5 0) => NoSuchPage
 /collections/grid/items?coords=POINT(0.5 0) => NoSuchPage
 /collections/grid/items?coords=LINESTRING(0 0,1 1) => NoSuchPage
-/collections/grid/items?coords=LINESTRING(0 0,1 1) => NoSuchPage
+/collections/grid/items?bbox=1,0,0,0 => NoSuchPage
+/collections/grid/items?coords=POINT(0 0)&within=x&within-units=m => NoSuchPage
+/collections/grid/items?within=x&within-units=m&coords=POINT(0 0) => NoSuchPage
 /collections/grid/items?coords=POINT(0 0)&datetime=x => NoSuchPage
 /collections/grid/items?datetime=x&coords=POINT(0 0) => NoSuchPage
 /collections/grid/items?coords=POINT(0 0)&z=x => NoSuchPage
 /collections/grid/items?z=x&coords=POINT(0 0) => NoSuchPage
 /collections/grid/items?coords=POINT Z(0 0 1)&z=1 => NoSuchPage
-/collections/grid/items?coords=POINT Z(0 0 1)&z=1 => NoSuchPage
+/collections/grid/items?z=1&coords=POINT Z(0 0 1) => NoSuchPage
 ";
 
 fn kind_of(query: &Query) -> &'static str {
