@@ -30,6 +30,8 @@ const TARGETS: &str = "\
 /collections/%3D%26%3F => collection
 /collections/%FF => NoSuchPage
 /collections/%C3%A9 => collection
+/collections/é => collection
+/collections/a%00b => collection
 /collections/%zz => collection
 /collections/grid/instances => instances
 /collections/grid/instances/7 => instance
@@ -74,6 +76,16 @@ collections => NoSuchPage
 /collections/grid/position?coords=POINT(50 0)&z=20/10 => BadLevel
 /collections/grid/position?coords=POINT(50 0)&parameter-name=temp,wind,temp => position
 /collections/grid/position?coords=POINT(50 0)&parameter-name= => position
+/collections/grid/position?coords=POINT(50 0)&crs=é => position
+/collections/grid/position?coords=POINT(50 0)&crs=%00%26%3D%2F => position
+/collections/grid/position??coords=POINT(50 0) => UnknownParameter
+/collections/grid/position?coords= => BadCoords
+/collections/grid/position?coords=POINT(50 0)&z= => BadLevel
+/collections/grid/position?coords=POINT(50 0)&%63oords=POINT(50 0) => RepeatedParameter
+/collections/grid/position/?coords=POINT(50 0) => position
+/collections/grid/position?coords=POINT ZM(50 0 1 1) => WrongGeometry
+/collections/grid/cube?bbox= => BadBbox
+/collections/grid/area?coords=MULTIPOLYGON(((0 0,1 0,1 1,0 0))) => area
 /collections/grid/position?coords=POINT(50 0)&parameter-name=,a, => position
 /collections/grid/position?coords=POINT(50 0)&crs= => position
 /collections/grid/position?coords=POINT(50 0)&crs=a%2Bb+c => position
