@@ -9,21 +9,14 @@ from typing import Sequence
 
 import limits
 from coverages import AXES, COMPOSITE, DOMAIN_TYPES, Coverage, Document, Domain, Parameter, Referencing
+from faults import NamedFault
 from json_text import NotJson, is_number, is_whole, read_json
 from names import is_name
 from times import read_instant
 
 
-class CoverageFault(Exception):
+class CoverageFault(NamedFault):
     """The first check that fails: its name, and the member, place, counts or text that it is about."""
-
-    def __init__(self, name: str, *about):
-        super().__init__(name, *about)
-        self.name = name
-        self.about = about
-
-    def __str__(self) -> str:
-        return f"{self.name}({', '.join(map(str, self.about))})" if self.about else self.name
 
 
 def _check(holds: bool, name: str, *about) -> None:

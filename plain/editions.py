@@ -7,6 +7,7 @@ from dataclasses import dataclass, replace
 
 import limits
 from coverages import Coverage, Parameter
+from faults import NamedFault
 
 
 @dataclass(frozen=True)
@@ -28,16 +29,8 @@ class Collection:
 Collections = dict[str, Collection]
 
 
-class ChangeFault(Exception):
+class ChangeFault(NamedFault):
     """The first reason to refuse a change: its name, and the count or id that it is about."""
-
-    def __init__(self, name: str, *about):
-        super().__init__(name, *about)
-        self.name = name
-        self.about = about
-
-    def __str__(self) -> str:
-        return f"{self.name}({', '.join(map(str, self.about))})" if self.about else self.name
 
 
 def _refuse(applies: bool, name: str, *about) -> None:
