@@ -1,6 +1,6 @@
 //! Axes of coverages.
 ghost use Rattle.std.specs.Prelude.{◌≡◌, ◌<◌, ℕ, length, [], IfOk, Err, MatchOption, Contains, count_by, int_lt, int_le, max};
-ghost use Rattle.edr_axes.specs.Axes.{value_at, IsAscending, IsAxis, IsFirstFall, IsNearest, NearestIsOne};
+ghost use Rattle.edr_axes.specs.Axes.{value_at, IsAscending, IsAxis, IsFirstFall, IsNearest, NearestIsOne, NearestIsThere, BoundsSplitAxes};
 
 use edr_base::OutOfMemory;
 use std::alloc::{AllocError, Global};
@@ -187,4 +187,14 @@ impl Axis {
 /// No two places of an axis are nearest to one number.
 pub fn nearest_is_one()
     ensures { NearestIsOne }
+{}
+
+/// Each axis has a place that is nearest to a number.
+pub fn nearest_is_there()
+    ensures { NearestIsThere }
+{}
+
+/// Of ascending values those below a bound stand first, as many as are counted, and so do those that are at most it.
+pub fn bounds_split_axes()
+    ensures { BoundsSplitAxes }
 {}

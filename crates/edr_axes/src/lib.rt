@@ -9,7 +9,7 @@ mod reading_instants;
 mod tests;
 mod times;
 
-pub use axis::{Axis, AxisFault, nearest_is_one};
+pub use axis::{Axis, AxisFault, bounds_split_axes, nearest_is_one, nearest_is_there};
 pub use instants::{texts_tell_times, times_are_written, write_instant};
 pub use levels::{LevelFault, Levels, levels_are_unique, read_levels};
 pub use reading_instants::{

@@ -1,7 +1,7 @@
 -- Laws of lists of items with ids, for the proofs of callers.
-use Rattle.std.proofs.Common.{◌≡◌, inl, inr, ℕ, zero, suc, ◌<◌, Bool, true, false, not, if◌then◌else◌, List, [], ◌∷◌, ◌++◌, length, map, slice_set, All, Some, None, Result, Err, Ordering, Less, Equal, Greater, bytes_eq, refl, sym, ap, ◌∙◌, subst}
+use Rattle.std.proofs.Common.{◌≡◌, inl, inr, ℕ, zero, suc, ◌<◌, Bool, true, false, not, if◌then◌else◌, List, [], ◌∷◌, ◌++◌, length, map, All, Some, None, Ordering, Less, Equal, Greater, bytes_eq, refl, sym, ap, ◌∙◌, subst}
 use Rattle.std.proofs.Math.Nat.{zero-lt-suc, suc-le-suc_iff, le_of_suc-le-suc, not-suc-le-zero, lt_trans}
-use Rattle.std.proofs.lemmas.Bool.{false≢true, cases_Bool, cases_lt}
+use Rattle.std.proofs.lemmas.Bool.{false≢true, cases_Bool}
 use Rattle.std.proofs.lemmas.Cmp.{nat_list_cmp_total, tied_itself}
 use Rattle.std.proofs.lemmas.List.{get_or-map, length-map}
 use Rattle.std.proofs.lemmas.List.Elements.{All-append, All-cons, All-head, All-tail, filter_passes}
@@ -12,7 +12,7 @@ use Rattle.std.proofs.lemmas.Slice.Eq.{bytes_eq-Decides}
 use Rattle.std.specs.List.{AllByRecursion, filter, slice_index_or}
 use Rattle.std.specs.List.Sorted.{IsStrictlySortedBy}
 use Rattle.std.specs.Ordering.{ordering_reverse, is_lt, is_eq, is_gt}
-use Rattle.edr_ids.specs.Ids.{order, AscendBy, has_id, is_below, is_above, item_of, with_item, without_id, IsPlaceOf}
+use Rattle.edr_ids.specs.Ids.{order, AscendBy, has_id, is_below, is_above, item_of, with_item, without_id}
 
 -- ---- the order of ids
 
@@ -92,15 +92,9 @@ module _ {V : Type 0} (id_of : V → List ℕ) where
     | inr lacks ↦ (let rest : item_of id_of id items ≡ None = rw lacks at h in rw lacks (ap (λ left. item ∷ left) (without_id-none id items rest)))
   ]
 
--- ---- by places
+-- ---- the item of an id
 
 module _ {V : Type 0} (id_of : V → List ℕ) where
-  -- a place is one of an equal id and equal items
-  pub place_at : (id same_id : List ℕ) (items same_items : List V) (place : Result ℕ ℕ) → id ≡ same_id → items ≡ same_items
-      → IsPlaceOf id_of id items place → IsPlaceOf id_of same_id same_items place
-  place_at id same_id items same_items place ids lists at =
-      subst (λ list. IsPlaceOf id_of same_id list place) lists (subst (λ k. IsPlaceOf id_of k items place) ids at)
-
   -- the item at the place that has the id
   pub item_of-found : (id : List ℕ) (items : List V) (place : ℕ) (d : V) → AscendBy id_of items → place < length items
       → id_of (slice_index_or items place d) ≡ id → item_of id_of id items ≡ Some (slice_index_or items place d)
@@ -118,42 +112,6 @@ module _ {V : Type 0} (id_of : V → List ℕ) where
   item_of-none id (item ∷ items) h =
       ap (λ b. if b then Some item else item_of id_of id items) (All-head (λ x. has_id id_of id x ≡ false) item items h)
       ∙ item_of-none id items (All-tail (λ x. has_id id_of id x ≡ false) item items h)
-
-  -- no item has the id that would stand at a place
-  pub none_has_it : (id : List ℕ) (items : List V) (place : ℕ) → IsPlaceOf id_of id items (Err place) → All (λ item. has_id id_of id item ≡ false) items
-  none_has_it id items place at k d inside = elim (cases_lt k place) [
-    | inl before ↦ has_id_is id_of id (slice_index_or items k d) Less (less_from_test (order (id_of (slice_index_or items k d)) id) (at.1.0 k d before))
-    | inr from ↦ has_id_is id_of id (slice_index_or items k d) Greater (greater_from_test (order (id_of (slice_index_or items k d)) id) (at.1.1 k d from inside))
-  ]
-
-  pub item_of-missing : (id : List ℕ) (items : List V) (place : ℕ) → IsPlaceOf id_of id items (Err place) → item_of id_of id items ≡ None
-  item_of-missing id items place at = item_of-none id items (none_has_it id items place at)
-
-  -- an item that is written over the one of its id is set
-  pub with_item-found : (item : V) (items : List V) (place : ℕ) (d : V) → AscendBy id_of items → place < length items
-      → id_of (slice_index_or items place d) ≡ id_of item → slice_set items place item ≡ with_item id_of item items
-  with_item-found item [] place d up inside own = absurd (not-suc-le-zero inside)
-  with_item-found item (first ∷ items) zero d up inside own =
-      let id = id_of item in
-      let below = filter (is_below id_of id) in
-      let above = filter (is_above id_of id) in
-      let equal : order (id_of first) id ≡ Equal = own_id id_of id first own in
-      let higher : All (λ x. order (id_of x) id ≡ Greater) items =
-      λ k e low. (order_less_flips id (id_of (slice_index_or items k e)) (ap (λ key. order key (id_of (slice_index_or items k e))) (sym own) ∙ first_below id_of first items up k e low)) in
-      let front : below (first ∷ items) ≡ [] =
-      ap (λ o. if is_lt o then first ∷ below items else below items) equal ∙ filter_keeps_none (is_below id_of id) items (λ k e low. ap is_lt (higher k e low)) in
-      let back : above (first ∷ items) ≡ items =
-      ap (λ o. if is_gt o then first ∷ above items else above items) equal ∙ filter_keeps_all (is_above id_of id) items (λ k e low. ap is_gt (higher k e low)) in
-      sym (ap (λ list. list ++ item ∷ above (first ∷ items)) front ∙ ap (λ list. item ∷ list) back)
-  with_item-found item (first ∷ items) (suc place) d up inside own =
-      let id = id_of item in
-      let below = filter (is_below id_of id) in
-      let above = filter (is_above id_of id) in
-      let less : order (id_of first) id ≡ Less = ap (order (id_of first)) (sym own) ∙ first_below id_of first items up place d (le_of_suc-le-suc inside) in
-      let front : below (first ∷ items) ≡ first ∷ below items = ap (λ o. if is_lt o then first ∷ below items else below items) less in
-      let back : above (first ∷ items) ≡ above items = ap (λ o. if is_gt o then first ∷ above items else above items) less in
-      ap (λ list. first ∷ list) (with_item-found item items place d (tail_ascends id_of first items up) (le_of_suc-le-suc inside) own)
-      ∙ sym (ap (λ list. list ++ item ∷ above (first ∷ items)) front ∙ ap (λ list. (first ∷ below items) ++ item ∷ list) back)
 
 -- ---- the order is kept
 

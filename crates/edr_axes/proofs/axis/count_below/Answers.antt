@@ -1,6 +1,7 @@
 use Rattle.std.proofs.Common.{int_lt, sym, rules}
 use Rattle.std.proofs.lemmas.List.Sorted.{IsPartitionPoint-from_clause}
-use Rattle.edr_axes.proofs.AxisLemmas.{ascending_parted, count_of_point}
+use Rattle.edr_axes.specs.AxisLaws.{ascending_parted}
+use Rattle.edr_axes.specs.CountLaws.{count_of_point}
 use Rattle.edr_axes.proofs.axis.count_below.Goals as goal
 
 pub returns : goal.returns

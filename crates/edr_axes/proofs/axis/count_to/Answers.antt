@@ -1,6 +1,7 @@
 use Rattle.std.proofs.Common.{int_le, sym, rules}
 use Rattle.std.proofs.lemmas.List.Sorted.{IsPartitionPoint-from_clause}
-use Rattle.edr_axes.proofs.AxisLemmas.{at_most_parted, count_of_point}
+use Rattle.edr_axes.specs.AxisLaws.{at_most_parted}
+use Rattle.edr_axes.specs.CountLaws.{count_of_point}
 use Rattle.edr_axes.proofs.axis.count_to.Goals as goal
 
 pub returns : goal.returns
