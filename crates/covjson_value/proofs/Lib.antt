@@ -5,7 +5,6 @@ pub mod RegularGaps
 pub mod InOrder
 pub mod TimeTexts
 pub mod NamedParts
-pub mod NoFloat
 pub mod SampleRows
 pub mod PlainJson
 pub mod JsonBack

@@ -9,3 +9,4 @@ pub mod MemberLaws
 pub mod RegularLaws
 pub mod CountLaws
 pub mod TupleLaws
+pub mod NoFloatLaws

@@ -16,8 +16,11 @@ mod validity;
 
 pub use axis_names::{AxisName, axis_key};
 pub use coverages::{Coverage, Document, NdArray, Parameter, Referencing};
+pub use domain_trees::domain_tree;
 pub use domains::{CoordinateName, Domain};
 pub use laws::{
     document_texts_read_back, texts_read_back, texts_tell_coverages, texts_tell_documents,
 };
+pub use leaves::{put_given, put_text, text_of, time_tree};
+pub use parameter_trees::parameters_tree;
 pub use trees::{document_tree, tree_of};

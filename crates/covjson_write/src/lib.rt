@@ -1,9 +1,24 @@
 //! Documents as texts of CoverageJSON (OGC 21-069r2).
 #![tactic(auto)]
 
+mod axis_texts;
+mod heads;
+mod laws;
+mod pieces;
+mod range_heads;
+mod sending;
+mod stages;
+mod values;
 mod whole;
+mod writer;
 
+pub use laws::{
+    coverage_of_pieces, coverages_go_on, document_of_pieces, ranges_go_on, values_go_on,
+};
+pub use range_heads::RangeHead;
+pub use stages::Stage;
 pub use whole::write_whole;
+pub use writer::Writer;
 
 #[cfg(test)]
 mod documents;

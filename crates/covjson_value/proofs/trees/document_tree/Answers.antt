@@ -3,7 +3,7 @@ use Rattle.std.proofs.lemmas.Result.{IfOk-weaker}
 use Rattle.serde_json.specs.View.{view}
 use Rattle.serde_json.specs.Written.{has_float}
 use Rattle.covjson_value.specs.Trees.{array_of, coverage_data, collection_data}
-use Rattle.covjson_value.proofs.NoFloat.{collection-NoFloat}
+use Rattle.covjson_value.specs.NoFloatLaws.{collection-NoFloat}
 use Rattle.covjson_value.proofs.trees.document_tree.Goals as goal
 
 pub returns-in_ok-items-in-Many-clause-no_float : goal.returns-in_ok-items-in-Many-clause-no_float

@@ -2,7 +2,7 @@ use Rattle.std.proofs.Common.{◌≡◌, ap, ◌∙◌, rules}
 use Rattle.serde_json.specs.View.{view}
 use Rattle.serde_json.specs.Written.{has_float}
 use Rattle.covjson_value.specs.Trees.{coverage_data}
-use Rattle.covjson_value.proofs.NoFloat.{coverage-NoFloat}
+use Rattle.covjson_value.specs.NoFloatLaws.{coverage-NoFloat}
 use Rattle.covjson_value.proofs.trees.tree_of.Goals as goal
 
 pub returns-clause-no_float : goal.returns-clause-no_float

@@ -1,0 +1,5 @@
+use Rattle.covjson_write.proofs.SendLemmas.{writes_done}
+use Rattle.covjson_write.proofs.writer.Writer.coverage.Goals as goal
+
+pub returns-in-Ok-clause-bytes : goal.returns-in-Ok-clause-bytes
+returns-in-Ok-clause-bytes g c = rw (← c.self.view_is) (writes_done c.in-Ok.kept _ _ _ _ _ c.in-Ok.ensures.bytes)

@@ -1,0 +1,4 @@
+pub mod Pieces
+pub mod Writers
+pub mod PieceLaws
+pub mod Laws

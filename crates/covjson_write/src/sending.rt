@@ -1,0 +1,131 @@
+//! The pieces of a document round its values, each written at once.
+ghost use Rattle.std.specs.Prelude.{◌≡◌, ◌++◌, if◌then◌else◌, codes, IfOk, IsErrOf, []};
+ghost use Rattle.edr_base.specs.Outside.{Rose};
+ghost use Rattle.edr_base.specs.Calls.{SinkLent, Writes};
+ghost use Rattle.serde_json.specs.Written.{comma_if};
+ghost use Rattle.covjson_write.specs.Pieces.{head_of, coverage_begin, coverage_end, document_begin, document_end};
+ghost use Rattle.covjson_write.specs.Writers.{IsHead};
+
+use crate::axis_texts::opening_text;
+use crate::heads::{coverage_text, keys_of, range_text};
+use crate::range_heads::RangeHead;
+use covjson_value::Coverage;
+use edr_base::{Items, OutOfMemory, SendFault, Sink, Text, send};
+use std::alloc::Global;
+
+/// Writes the beginning of a document.
+pub fn send_begin<K: Sink>(sink: &mut K, many: bool) -> Result<(), SendFault>
+    ensures bytes { Writes result (document_begin many) (K.written sink.old) (K.written sink.new) }
+    ensures flushed { K.flushed sink.new ≡ K.flushed sink.old }
+    ensures lent { SinkLent (K.beside sink.old) (K.beside sink.new) (K.faults sink.old) (K.faults sink.new) }
+    ensures cause { IsErrOf result SendFault.WriteFault → Rose (K.faults sink.old) (K.faults sink.new) }
+{
+    if many {
+        send(sink, b"{\"coverages\":[")
+    } else {
+        send(sink, b"")
+    }
+}
+
+/// Writes the end of a document.
+pub fn send_end<K: Sink>(sink: &mut K, many: bool) -> Result<(), SendFault>
+    ensures bytes { Writes result (document_end many) (K.written sink.old) (K.written sink.new) }
+    ensures flushed { K.flushed sink.new ≡ K.flushed sink.old }
+    ensures lent { SinkLent (K.beside sink.old) (K.beside sink.new) (K.faults sink.old) (K.faults sink.new) }
+    ensures cause { IsErrOf result SendFault.WriteFault → Rose (K.faults sink.old) (K.faults sink.new) }
+{
+    if many {
+        send(sink, b"],\"type\":\"CoverageCollection\"}")
+    } else {
+        send(sink, b"")
+    }
+}
+
+/// No parameters, and ranges of no value.
+pub fn no_head(alloc: Global) -> RangeHead
+    ensures { result ≡ record { keys = []; opening = []; count = 0 } }
+{
+    RangeHead {
+        keys: Items::of(Vec::new(alloc)),
+        opening: Text::from_vec(Vec::new(alloc)),
+        count: 0,
+    }
+}
+
+// What is kept of a head.
+fn range_head(alloc: Global, head: &Coverage) -> Result<RangeHead, OutOfMemory>
+    requires { IsHead head.now }
+    ensures { IfOk result (λ kept. kept ≡ head_of head.now) }
+{
+    let Some(count) = head.domain.count() else {
+        return Err(OutOfMemory);
+    };
+    let keys = keys_of(alloc, head.parameters.items())?;
+    let opening = opening_text(alloc, &head.domain)?;
+    Ok(RangeHead {
+        keys,
+        opening,
+        count,
+    })
+}
+
+/// Writes a coverage as far as its ranges, and answers what is kept of it for these.
+#[tactic(auto, using(crate::proofs::SendLemmas::writes_nothing))]
+pub fn send_coverage<K: Sink>(
+    alloc: Global,
+    sink: &mut K,
+    later: bool,
+    head: &Coverage,
+) -> Result<RangeHead, SendFault>
+    requires { IsHead head.now }
+    ensures kept { IfOk result (λ kept. kept ≡ head_of head.now) }
+    ensures bytes { Writes result (comma_if later ++ coverage_begin head.now) (K.written sink.old) (K.written sink.new) }
+    ensures flushed { K.flushed sink.new ≡ K.flushed sink.old }
+    ensures lent { SinkLent (K.beside sink.old) (K.beside sink.new) (K.faults sink.old) (K.faults sink.new) }
+    ensures cause { IsErrOf result SendFault.WriteFault → Rose (K.faults sink.old) (K.faults sink.new) }
+{
+    let Ok(kept) = range_head(alloc, head) else {
+        return Err(SendFault::OutOfMemory);
+    };
+    let Ok(text) = coverage_text(alloc, later, head) else {
+        return Err(SendFault::OutOfMemory);
+    };
+    match send(sink, &text) {
+        Ok(()) => Ok(kept),
+        Err(fault) => Err(fault),
+    }
+}
+
+/// Writes a range as far as its values.
+#[tactic(auto, using(crate::proofs::SendLemmas::writes_nothing))]
+pub fn send_range<K: Sink>(
+    alloc: Global,
+    sink: &mut K,
+    later: bool,
+    key: &Text,
+    opening: &Text,
+) -> Result<(), SendFault>
+    ensures bytes { Writes result (comma_if later ++ (key.now ++ opening.now)) (K.written sink.old) (K.written sink.new) }
+    ensures flushed { K.flushed sink.new ≡ K.flushed sink.old }
+    ensures lent { SinkLent (K.beside sink.old) (K.beside sink.new) (K.faults sink.old) (K.faults sink.new) }
+    ensures cause { IsErrOf result SendFault.WriteFault → Rose (K.faults sink.old) (K.faults sink.new) }
+{
+    let Ok(text) = range_text(alloc, later, key, opening) else {
+        return Err(SendFault::OutOfMemory);
+    };
+    send(sink, &text)
+}
+
+/// Writes the end of a range, and of the coverage with its last range.
+pub fn send_range_end<K: Sink>(sink: &mut K, last: bool) -> Result<(), SendFault>
+    ensures bytes { Writes result (codes "]}" ++ (if last then coverage_end else [])) (K.written sink.old) (K.written sink.new) }
+    ensures flushed { K.flushed sink.new ≡ K.flushed sink.old }
+    ensures lent { SinkLent (K.beside sink.old) (K.beside sink.new) (K.faults sink.old) (K.faults sink.new) }
+    ensures cause { IsErrOf result SendFault.WriteFault → Rose (K.faults sink.old) (K.faults sink.new) }
+{
+    if last {
+        send(sink, b"]}},\"type\":\"Coverage\"}")
+    } else {
+        send(sink, b"]}")
+    }
+}
