@@ -17,7 +17,7 @@ use Rattle.edr_edition.proofs.InstanceLaws.{put_keeps, take_keeps}
 
 module _ (id : List ℕ) (kind : Kind) (title : List ℕ) (referencing : Referencing) where
   abbrev holding : List InstanceValue → CollectionValue
-  holding xs = record { id = id; title = title; kind = kind; referencing = referencing; instances = xs }
+  holding xs = record { id = id; title = title; kind = kind; referencing = referencing; instances = xs; stations = [] }
 
   module _ (now : CollectionValue) (xs ys : List InstanceValue) (is : holding xs ≡ now) where
     with_put : (i : InstanceValue) → ys ≡ with_item instance_id i xs → holding ys ≡ with_instances now (with_item instance_id i now.instances)

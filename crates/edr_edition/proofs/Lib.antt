@@ -10,3 +10,5 @@ pub mod StepLaws
 pub mod TallySteps
 pub mod PackedGrids
 pub mod NewestLaws
+pub mod HeldLaws
+pub mod InstanceGrids

@@ -1,13 +1,13 @@
 -- The newest of instances in the order of their ids is the last.
-use Rattle.std.proofs.Common.{◌≡◌, ◌⊎◌, inl, inr, ℕ, ◌+◌, if◌then◌else◌, List, [], ◌∷◌, length, get_or, All, Contains, Some, refl, sym, ap, ◌∙◌, subst, arith}
+use Rattle.std.proofs.Common.{◌≡◌, ◌⊎◌, inl, inr, ℕ, ◌+◌, if◌then◌else◌, List, [], ◌∷◌, length, get_or, All, Contains, Some, None, refl, sym, ap, ◌∙◌, subst, arith}
 use Rattle.std.specs.declared.cmp.Ordering.TheVariants.{Less}
 use Rattle.std.specs.Ordering.{is_lt}
 use Rattle.std.proofs.lemmas.List.Elements.{All-nil, All-cons, All-head, All-tail, All-contains_itself}
 use Rattle.edr_ids.specs.Ids.{order, AscendBy}
-use Rattle.edr_ids.specs.ListLaws.{first_below, tail_ascends}
+use Rattle.edr_ids.specs.ListLaws.{first_below, order_less_flips, tail_ascends}
 use Rattle.edr_edition.specs.Values.{InstanceValue, instance_id}
 use Rattle.edr_edition.specs.Editions.{IsNewest}
-use Rattle.edr_edition.specs.Stores.{newest, greater}
+use Rattle.edr_edition.specs.Stores.{newest, greater, FindsNewest}
 
 -- the last of some instances behind one
 abbrev pub last_of : InstanceValue → List InstanceValue → InstanceValue
@@ -38,11 +38,44 @@ last_greatest first (second ∷ instances) up =
     All-cons (λ (i : InstanceValue). (i ≡ last) ⊎ (order i.id last.id ≡ Less)) first (second ∷ instances) (inr below)
     (last_greatest second instances (tail_ascends instance_id first (second ∷ instances) up))
 
-pub newest_is_newest : (instances : List InstanceValue) (instance : InstanceValue) → AscendBy instance_id instances → newest instances ≡ Some instance → IsNewest instances instance
-newest_is_newest [] instance up is = cc
-newest_is_newest (first ∷ instances) instance up is =
+newest_is : (instances : List InstanceValue) (instance : InstanceValue) → AscendBy instance_id instances → newest instances ≡ Some instance → IsNewest instances instance
+newest_is [] instance up is = cc
+newest_is (first ∷ instances) instance up is =
     let same : last_of first instances ≡ instance = (let last = newest_is_last first instances up in cc) in
     subst (IsNewest (first ∷ instances)) same (record { among = last_contained first instances; greatest = last_greatest first instances up })
+
+-- the newest is below no other one, or is it
+is_or_below : (instances : List InstanceValue) (newest one : InstanceValue) → IsNewest instances newest → Contains instances one → (one ≡ newest) ⊎ (order one.id newest.id ≡ Less)
+is_or_below instances newest one is there =
+    subst (λ (i : InstanceValue). (i ≡ newest) ⊎ (order i.id newest.id ≡ Less)) there.2 (is.greatest there.0 one there.1)
+
+-- there is no second one
+pub newest_once : (instances : List InstanceValue) (newest other : InstanceValue) → IsNewest instances newest → IsNewest instances other → newest ≡ other
+newest_once instances newest other is is' = elim (is_or_below instances other newest is' is.among) [
+  | inl same ↦ same
+  | inr below ↦ elim (is_or_below instances newest other is is'.among) [
+    | inl same ↦ sym same
+    | inr above ↦ (let flips = order_less_flips newest.id other.id below in cc)
+  ]
+]
+
+newest_found : (instances : List InstanceValue) (instance : InstanceValue) → AscendBy instance_id instances → IsNewest instances instance → newest instances ≡ Some instance
+newest_found [] instance up is = absurd (omega (arith, is.among.1))
+newest_found (first ∷ instances) instance up is =
+    let last = last_of first instances in
+    newest_is_last first instances up
+    ∙ ap Some (newest_once (first ∷ instances) last instance (record { among = last_contained first instances; greatest = last_greatest first instances up }) is)
+
+newest_none : (instances : List InstanceValue) → newest instances ≡ None → instances ≡ []
+newest_none [] none = refl
+newest_none (first ∷ instances) none = cc
+
+pub newest_is_newest : (instances : List InstanceValue) → AscendBy instance_id instances → FindsNewest instances
+newest_is_newest instances up = record {
+  is = λ instance is. newest_is instances instance up is;
+  found = λ instance is. newest_found instances instance up is;
+  none = newest_none instances;
+}
 
 last_at : (first : InstanceValue) (instances : List InstanceValue) (d : InstanceValue) → get_or (first ∷ instances) (length instances) d ≡ last_of first instances
 last_at first [] d = refl

@@ -34,7 +34,7 @@ collection_in collections id = item_of collection_id id collections
 -- ---- what a change makes
 
 abbrev pub empty_collection : List ℕ → Kind → List ℕ → Referencing → CollectionValue
-empty_collection id kind title referencing = record { id = id; title = title; kind = kind; referencing = referencing; instances = [] }
+empty_collection id kind title referencing = record { id = id; title = title; kind = kind; referencing = referencing; instances = []; stations = [] }
 
 -- a collection with other instances
 abbrev pub with_instances : CollectionValue → List InstanceValue → CollectionValue
@@ -44,6 +44,7 @@ with_instances collection instances = record {
   kind = collection.kind;
   referencing = collection.referencing;
   instances = instances;
+  stations = collection.stations;
 }
 
 -- a collection with a grid as the instance of an id, in place of one that is there

@@ -1,12 +1,13 @@
 -- What one reply is made from, and the chunks that were opened for it.
-use Rattle.std.specs.Prelude.{◌≡◌, ℕ, ◌<◌, if◌then◌else◌, List, [], ◌∷◌, Option, None, Some, option_map, option_and_then}
+use Rattle.std.specs.Prelude.{⊤, ◌≡◌, ℕ, ◌<◌, if◌then◌else◌, List, [], ◌∷◌, Contains, Option, None, Some, option_map, option_and_then}
 use Rattle.std.specs.Ordering.{is_lt}
 use Rattle.edr_chunk.specs.Tiles.{tiles, TileValue, IsTile}
 use Rattle.edr_ids.specs.Ids.{order, item_of, AscendBy}
 use Rattle.edr_edition.specs.declared.kinds.Kind.{Kind}
 use Rattle.edr_edition.specs.declared.kinds.Kind.TheVariants.{Grid, Station}
-use Rattle.edr_edition.specs.Values.{InstanceValue, CollectionValue, EditionValue, instance_id, collection_id}
-use Rattle.edr_edition.specs.Editions.{IsNewest}
+use Rattle.edr_edition.specs.Values.{InstanceValue, StationValue, CollectionValue, EditionValue, instance_id, collection_id}
+use Rattle.edr_edition.specs.Instances.{IsInstance}
+use Rattle.edr_edition.specs.Editions.{IsCollection, IsNewest}
 
 -- the instance whose id is greatest, byte by byte
 abbrev pub greater : InstanceValue → Option InstanceValue → InstanceValue
@@ -22,9 +23,10 @@ abbrev pub instance_named : Option (List ℕ) → List InstanceValue → Option 
 instance_named None instances = newest instances
 instance_named (Some id) instances = item_of instance_id id instances
 
--- the data that a query is about: an instance of a collection of grids
+-- the data that a query is about: an instance of a collection of grids, or the stations of a collection of stations
 pub data Held : Type 0 where
   of_grid : InstanceValue → Held
+  of_stations : List StationValue → Held
 
 -- a collection, and what it holds that is asked for
 pub record Subject : Type 0 where
@@ -33,7 +35,7 @@ pub record Subject : Type 0 where
 
 abbrev pub held_in : CollectionValue → Kind → Option (List ℕ) → Option Held
 held_in collection Grid instance = option_map of_grid (instance_named instance collection.instances)
-held_in collection Station instance = None
+held_in collection Station instance = Some (of_stations collection.stations)
 
 abbrev pub subject_in : Option (List ℕ) → CollectionValue → Option Subject
 subject_in instance collection = option_map (λ held. record { collection = collection; held = held }) (held_in collection collection.kind instance)
@@ -42,6 +44,22 @@ subject_in instance collection = option_map (λ held. record { collection = coll
 abbrev pub subject_of : EditionValue → List ℕ → Option (List ℕ) → Option Subject
 subject_of edition collection instance = option_and_then (subject_in instance) (item_of collection_id collection edition.collections)
 
+-- the collection has what is held
+abbrev pub IsHeldBy : CollectionValue → Held → Type 0
+IsHeldBy collection (of_grid instance) = Contains collection.instances instance
+IsHeldBy collection (of_stations stations) = stations ≡ collection.stations
+
+-- an instance that is held is one
+abbrev pub IsHeld : Held → Type 0
+IsHeld (of_grid instance) = IsInstance instance
+IsHeld (of_stations stations) = ⊤
+
+-- a collection, and what it holds
+pub record IsSubject (subject : Subject) : Type 0 where
+  pub collection : IsCollection subject.collection
+  pub held_by : IsHeldBy subject.collection subject.held
+  pub held : IsHeld subject.held
+
 -- a store: what it is over, and the numbers of the chunks that it opened
 pub record StoreValue : Type 0 where
   pub subject : Subject
@@ -49,16 +67,31 @@ pub record StoreValue : Type 0 where
 
 -- ---- tiles
 
--- there is a tile of that number
+-- there is a tile of that number; stations have none
 abbrev pub HasTile : Held → ℕ → Type 0
 HasTile (of_grid instance) tile = tile < tiles instance.grid.shape
+HasTile (of_stations stations) tile = ⊥
 
 -- the tile of a number has the samples that stand there
 abbrev pub IsTileOf : Held → ℕ → TileValue → Type 0
 IsTileOf (of_grid instance) tile opened = IsTile instance.grid tile opened
+IsTileOf (of_stations stations) tile opened = ⊥
+
+-- ---- for private clauses
+
+-- what a store holds: its instance, or where it has none the stations of its collection
+abbrev pub held_by : CollectionValue → Option InstanceValue → Held
+held_by collection None = of_stations collection.stations
+held_by collection (Some instance) = of_grid instance
 
 -- ---- laws
 
--- the newest of instances in the order of their ids is the one whose id no other one's is above; there is none where there is no instance
+-- what is found is the instance whose id no other one's is above; that instance is found; and none only where there is no instance
+pub record FindsNewest (instances : List InstanceValue) : Type 0 where
+  pub is : (instance : InstanceValue) → newest instances ≡ Some instance → IsNewest instances instance
+  pub found : (instance : InstanceValue) → IsNewest instances instance → newest instances ≡ Some instance
+  pub none : newest instances ≡ None → instances ≡ []
+
+-- so it is for instances in the order of their ids
 abbrev pub NewestIsNewest : Type 0
-NewestIsNewest = (instances : List InstanceValue) (instance : InstanceValue) → AscendBy instance_id instances → newest instances ≡ Some instance → IsNewest instances instance
+NewestIsNewest = (instances : List InstanceValue) → AscendBy instance_id instances → FindsNewest instances

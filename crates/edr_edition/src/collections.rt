@@ -1,5 +1,5 @@
 //! Collections.
-ghost use Rattle.std.specs.Prelude.{◌≡◌, ◌<◌, [], length, All, Contains, is_some, option_map, IfOk, OnOk, OnErr, MatchOption, IsUtf8};
+ghost use Rattle.std.specs.Prelude.{◌≡◌, ◌<◌, [], length, All, Contains, is_some, option_map, IfOk, IfSome, OnOk, OnErr, MatchOption, IsUtf8};
 ghost use Rattle.std.specs.List.{slice_index_or};
 ghost use Rattle.covjson_value.specs.Coverages.{IsReferencing};
 ghost use Rattle.edr_base.specs.Names.{IsName};
@@ -30,7 +30,7 @@ struct Head {
     referencing: Referencing,
 }
 
-/// A collection of grids or of stations (OGC 19-086r6, collections).
+/// A collection of grids or of stations (OGC 19-086r6, collections). Stations are not kept yet: contracts see none.
 ///
 /// Its instances stand in strictly ascending order of their ids, byte by byte, and have the same parameters.
 #[derive(Drop)]
@@ -40,6 +40,7 @@ pub struct CollectionData {
 }
 
 impl Model for CollectionData {
+    ghost use Rattle.std.specs.Prelude.{[]};
     ghost use Rattle.std.specs.Arc.{arc_value};
     ghost use Rattle.edr_edition.specs.Values.{CollectionValue};
     ghost use Rattle.edr_edition.specs.Editions.{IsCollection};
@@ -52,6 +53,7 @@ impl Model for CollectionData {
       kind = (arc_value c.head).kind;
       referencing = (arc_value c.head).referencing;
       instances = c.instances;
+      stations = [];
     } };
 
     ghost invariant = { λ c. IsCollection (record {
@@ -60,6 +62,7 @@ impl Model for CollectionData {
       kind = (arc_value c.head).kind;
       referencing = (arc_value c.head).referencing;
       instances = c.instances;
+      stations = [];
     }) };
 }
 
@@ -98,14 +101,16 @@ impl CollectionData {
 
     /// The systems of its coordinates.
     pub fn referencing(&self) -> &Referencing
-        ensures { result.now ≡ self.now.referencing }
+        ensures referencing { result.now ≡ self.now.referencing }
+        ensures collection { IsCollection self.now }
     {
         &self.head.referencing
     }
 
     /// The parameters of each of its instances, in strictly ascending order of ids; none where it has no instance.
     pub fn parameters(&self) -> &[Parameter]
-        ensures { result.now ≡ parameters_of self.now.instances }
+        ensures parameters { result.now ≡ parameters_of self.now.instances }
+        ensures collection { IsCollection self.now }
     {
         if self.instances.len() == 0 {
             return &[];
@@ -115,7 +120,8 @@ impl CollectionData {
 
     /// How many instances it has.
     pub fn instances(&self) -> usize
-        ensures { result ≡ length self.now.instances }
+        ensures instances { result ≡ length self.now.instances }
+        ensures collection { IsCollection self.now }
     {
         self.instances.len()
     }
@@ -123,26 +129,38 @@ impl CollectionData {
     /// The instance at a place, from 0, in ascending order of ids.
     pub fn instance_at(&self, place: usize) -> &GridInstance
         requires { place < length self.now.instances }
-        ensures { (d : InstanceValue) → result.now ≡ slice_index_or self.now.instances place d }
+        ensures at { (d : InstanceValue) → result.now ≡ slice_index_or self.now.instances place d }
+        ensures instance { IsInstance result.now }
     {
         self.instances.at(place)
     }
 
     /// The instance of an id, None exactly where there is none. It takes no memory.
     pub fn instance(&self, id: &[u8]) -> Option<&GridInstance>
-        ensures { option_map (λ instance. instance.now) result ≡ ids.item_of instance_id id.now self.now.instances }
+        ensures item { option_map (λ instance. instance.now) result ≡ ids.item_of instance_id id.now self.now.instances }
+        ensures instance { IfSome result (λ instance. IsInstance instance.now) }
     {
         self.instances.item_of(id)
     }
 
     /// The instance with the greatest id, byte by byte; None exactly where there is no instance.
     pub fn newest(&self) -> Option<&GridInstance>
-        ensures { option_map (λ instance. instance.now) result ≡ newest self.now.instances }
+        ensures newest { option_map (λ instance. instance.now) result ≡ newest self.now.instances }
+        ensures instance { IfSome result (λ instance. IsInstance instance.now) }
     {
         match self.instances.len().checked_sub(1) {
             Some(place) => Some(self.instances.at(place)),
             None => None,
         }
+    }
+
+    /// How many stations it has: none, as stations aren't kept yet.
+    pub fn stations(&self) -> usize
+        ensures stations { result ≡ length self.now.stations }
+        ensures none { result ≡ 0 }
+    {
+        let _ = &self.instances;
+        0
     }
 
     // A collection without instances.

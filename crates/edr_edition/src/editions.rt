@@ -1,9 +1,9 @@
 //! Editions.
-ghost use Rattle.std.specs.Prelude.{◌≡◌, ◌<◌, length, option_map, IfOk};
+ghost use Rattle.std.specs.Prelude.{◌≡◌, ◌<◌, length, option_map, IfOk, IfSome};
 ghost use Rattle.std.specs.List.{slice_index_or};
 ghost use Rattle.edr_ids.specs.Ids as ids;
 ghost use Rattle.edr_edition.specs.Values.{CollectionValue, collection_id};
-ghost use Rattle.edr_edition.specs.Editions.{AreCollections};
+ghost use Rattle.edr_edition.specs.Editions.{IsCollection, AreCollections};
 
 use crate::collections::CollectionData;
 use edr_base::OutOfMemory;
@@ -60,14 +60,16 @@ impl Edition {
     /// The collection at a place, from 0, in ascending order of ids.
     pub fn collection_at(&self, place: usize) -> &CollectionData
         requires { place < length self.now.collections }
-        ensures { (d : CollectionValue) → result.now ≡ slice_index_or self.now.collections place d }
+        ensures at { (d : CollectionValue) → result.now ≡ slice_index_or self.now.collections place d }
+        ensures collection { IsCollection result.now }
     {
         self.collections.at(place)
     }
 
     /// The collection of an id, None exactly where there is none. It takes no memory.
     pub fn collection(&self, id: &[u8]) -> Option<&CollectionData>
-        ensures { option_map (λ collection. collection.now) result ≡ ids.item_of collection_id id.now self.now.collections }
+        ensures item { option_map (λ collection. collection.now) result ≡ ids.item_of collection_id id.now self.now.collections }
+        ensures collection { IfSome result (λ collection. IsCollection collection.now) }
     {
         self.collections.item_of(id)
     }

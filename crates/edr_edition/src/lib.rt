@@ -20,7 +20,10 @@ pub use drafts::Draft;
 pub use editions::Edition;
 pub use instances::GridInstance;
 pub use kinds::Kind;
-pub use laws::{changes_have_one_outcome, changes_keep_others, newest_is_newest, newest_is_one};
+pub use laws::{
+    changes_have_one_outcome, changes_keep_others, editions_cross_threads, instances_have_grids,
+    newest_is_newest, newest_is_one,
+};
 pub use stores::Store;
 pub use tallies::{Tally, tallies_add_up};
 

@@ -1,38 +1,62 @@
 //! What one reply is made from, read chunk by chunk.
-ghost use Rattle.std.specs.Prelude.{◌≡◌, ◌++◌, ◌∷◌, [], Some, IsSome, option_map, IfOk, OnOk, OnErr};
-ghost use Rattle.edr_edition.specs.Stores.{subject_of, HasTile, IsTileOf};
+ghost use Rattle.std.specs.Prelude.{◌≡◌, ◌++◌, ◌∷◌, [], None, Some, IsSome, option_map, IfOk, OnOk, OnErr};
+ghost use Rattle.edr_edition.specs.Stores.{instance_named, subject_of, IsSubject, HasTile, IsTileOf};
+ghost use Rattle.edr_edition.specs.declared.kinds.Kind.TheVariants.{Grid, Station};
 
 use crate::collections::CollectionData;
 use crate::editions::Edition;
 use crate::instances::GridInstance;
+use crate::kinds::Kind;
 use edr_base::OutOfMemory;
 use edr_chunk::{Reads, Tile};
 use std::alloc::Global;
 use std::marker::Model;
 
-/// The data of one instance of an edition, for one reply, and the numbers of the tiles that were opened. It hands out tiles
-/// and that list, and nothing else of the edition.
+/// The data of one instance of an edition, or of the stations of a collection, for one reply, and the numbers of the tiles
+/// that were opened. It hands out tiles and that list, and nothing else of the edition.
 #[derive(Drop)]
 pub struct Store<'a> {
     collection: &'a CollectionData,
-    instance: &'a GridInstance,
+    // None for a collection of stations.
+    instance: Option<&'a GridInstance>,
     reads: Reads,
 }
 
 impl<'a> Model for Store<'a> {
-    ghost use Rattle.edr_edition.specs.Stores.{StoreValue, of_grid};
+    ghost use Rattle.std.specs.Prelude.{option_map};
+    ghost use Rattle.edr_edition.specs.Stores.{StoreValue, IsSubject, held_by};
 
     ghost Value = { StoreValue };
 
     ghost view = { λ s. record {
-      subject = record { collection = s.collection.now; held = of_grid s.instance.now };
+      subject = record { collection = s.collection.now; held = held_by s.collection.now (option_map (λ i. i.now) s.instance) };
       numbers = s.reads;
     } };
+
+    ghost invariant = { λ s. IsSubject (record {
+      collection = s.collection.now;
+      held = held_by s.collection.now (option_map (λ i. i.now) s.instance);
+    }) };
+}
+
+// The instance that a store over the collection has: of grids the one of the id, or the newest where none is named.
+fn instance_held<'a>(
+    collection: &'a CollectionData,
+    instance: Option<&[u8]>,
+) -> Option<&'a GridInstance>
+    ensures grids { collection.now.kind ≡ Grid → option_map (λ found. found.now) result ≡ instance_named (option_map (λ id. id.now) instance.entry) collection.now.instances }
+    ensures stations { collection.now.kind ≡ Station → option_map (λ found. found.now) result ≡ None }
+{
+    match (collection.kind(), instance) {
+        (Kind::Grid, Some(id)) => collection.instance(id),
+        (Kind::Grid, None) => collection.newest(),
+        (Kind::Station, _) => None,
+    }
 }
 
 impl<'a> Store<'a> {
-    /// The store over a collection of an edition and the instance of an id, or its newest where none is named. No tile was
-    /// opened. It takes no memory.
+    /// The store over a collection of an edition and the instance of an id, or its newest where none is named; over its
+    /// stations where it is a collection of stations. No tile was opened. It takes no memory.
     pub fn of(
         alloc: Global,
         edition: &'a Edition,
@@ -42,20 +66,14 @@ impl<'a> Store<'a> {
         requires { IsSome (subject_of edition.now collection.now (option_map (λ id. id.now) instance)) }
         ensures subject { Some result.subject ≡ subject_of edition.now collection.now (option_map (λ id. id.now) instance.entry) }
         ensures none { result.numbers ≡ [] }
+        ensures stands { IsSubject result.subject }
     {
         let Some(collection) = edition.collection(collection) else {
             unreachable!()
         };
-        let found = match instance {
-            Some(id) => collection.instance(id),
-            None => collection.newest(),
-        };
-        let Some(instance) = found else {
-            unreachable!()
-        };
         Store {
             collection,
-            instance,
+            instance: instance_held(collection, instance),
             reads: Reads::new(alloc),
         }
     }
@@ -67,8 +85,19 @@ impl<'a> Store<'a> {
         ensures read { OnOk result (self.new.numbers ≡ self.old.numbers ++ tile ∷ []) }
         ensures unread { OnErr result (self.new.numbers ≡ self.old.numbers) }
         ensures subject { self.new.subject ≡ self.old.subject }
+        ensures stands { IsSubject self.old.subject }
     {
-        self.instance.grid().open(alloc, tile, &mut self.reads)
+        let Some(instance) = self.instance else {
+            unreachable!()
+        };
+        instance.grid().open(alloc, tile, &mut self.reads)
+    }
+
+    /// What it is over is a collection, and one of its instances or its stations.
+    pub fn subject_stands(&self)
+        ensures { IsSubject self.now.subject }
+    {
+        let _ = &self.collection;
     }
 
     /// The numbers of the tiles that were opened, in that order. It takes no memory.

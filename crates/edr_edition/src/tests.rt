@@ -1,12 +1,11 @@
 //! A draft from its first change to its second edition. The faults of changes are tested by the lines of feeds.
 ghost use Rattle.edr_edition.specs.Changes.{IsChange};
 
-use crate::{Change, CollectionData, Draft, Edition, GridInstance, Kind, Store};
+use crate::{Change, Draft, Edition, GridInstance, Kind, Store, editions_cross_threads};
 use covjson_value::{Coverage, Domain, NdArray, Parameter, Referencing};
 use edr_axes::Axis;
 use edr_base::{Items, OutOfMemory, Text};
 use edr_chunk::Reads;
-use edr_ids::ById;
 use std::alloc::Global;
 use std::process::Abort;
 use std::rt::HostRuntime;
@@ -139,14 +138,19 @@ fn samples_are_counted_and_summed(rt: HostRuntime) {
 
 fn is_shared_by_threads<T: Send + Sync + Drop>(_: &T) {}
 
-fn collections_are_shared_by_threads(collections: &ById<CollectionData>) {
-    is_shared_by_threads(collections);
+fn editions_are_shared_by_threads(edition: &Edition) {
+    editions_cross_threads();
+    is_shared_by_threads(edition);
 }
 
-// All that an edition and a draft hold, but for a number and the allocator.
+fn drafts_are_shared_by_threads(draft: &Draft) {
+    editions_cross_threads();
+    is_shared_by_threads(draft);
+}
+
 #[test]
-fn collections_can_be_shared(rt: HostRuntime) {
-    let edition = Draft::empty(rt.alloc()).finish(1);
-    let collections = edition.collections().expect(&rt, "a copy");
-    collections_are_shared_by_threads(&collections);
+fn editions_and_drafts_can_be_shared(rt: HostRuntime) {
+    let draft = Draft::empty(rt.alloc());
+    drafts_are_shared_by_threads(&draft);
+    editions_are_shared_by_threads(&draft.finish(1));
 }

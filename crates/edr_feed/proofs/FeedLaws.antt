@@ -1,5 +1,5 @@
 -- What holds of all feeds.
-use Rattle.std.proofs.Common.{◌≡◌, ℕ, ◌+◌, ◌≤◌, length, List, [], ◌∷◌, ◌++◌, Result, Ok, inl, inr, sym, ◌∙◌, subst, arith}
+use Rattle.std.proofs.Common.{◌≡◌, ◌≢◌, ℕ, ◌+◌, ◌≤◌, length, List, [], ◌∷◌, ◌++◌, Result, Ok, inl, inr, sym, ◌∙◌, subst, arith}
 use Rattle.edr_feed.proofs.RowLemmas.{HasOneAnswer, gives_one, check_one, find_one, then_one}
 use Rattle.edr_base.specs.FirstThatApplies.{Gives}
 use Rattle.edr_base.specs.Limits.{line_limit, feed_limit}
@@ -15,7 +15,7 @@ use Rattle.edr_feed.specs.declared.refusals.FeedRefusal.TheVariants as refusals
 use Rattle.edr_feed.specs.Forms.{HasForm, HasOutline, TreesHaveOneForm}
 use Rattle.edr_feed.specs.Lines.{read_lines}
 use Rattle.edr_feed.specs.Steps.{Progress, at_start, published, published_if_bare, EntryMakes, UnlessBlank, LineRows, EachLineRows}
-use Rattle.edr_edition.specs.Shelves.{AreNumberedFrom}
+use Rattle.edr_edition.specs.Shelves.{AreNumberedFrom, IsLog}
 use Rattle.edr_feed.specs.Feeds.{FeedStands, FeedsHaveOneAnswer}
 
 -- ---- bytes have one answer
@@ -113,7 +113,7 @@ lines_number [] number old new n made =
 lines_number (line ∷ lines) number old new n (inl made) = lines_number lines (number + 1) made.0 new (line_numbers number line old made.0 n made.1) made.2
 lines_number (line ∷ lines) number old new n (inr none) = let e = none.2 in cc
 
-pub stands_numbered : (bytes : List ℕ) (editions : List EditionValue) → FeedStands bytes (Ok editions) → AreNumberedFrom 1 editions
+stands_numbered : (bytes : List ℕ) (editions : List EditionValue) → FeedStands bytes (Ok editions) → AreNumberedFrom 1 editions
 stands_numbered bytes editions stands = elim stands [
   | inl made ↦ elim made.2 [
     | inl within ↦ elim within.1 [
@@ -126,3 +126,19 @@ stands_numbered bytes editions stands = elim stands [
   ]
   | inr none ↦ let e = none.2 in cc
 ]
+
+stands_some : (bytes : List ℕ) (editions : List EditionValue) → FeedStands bytes (Ok editions) → editions ≢ []
+stands_some bytes editions stands = elim stands [
+  | inl made ↦ elim made.2 [
+    | inl within ↦ elim within.1 [
+      | inl some ↦ (λ none. some.0 (let e = some.1 in cc))
+      | inr none ↦ let e = none.1 in cc
+    ]
+    | inr over ↦ let e = over.1 in cc
+  ]
+  | inr none ↦ let e = none.2 in cc
+]
+
+-- a feed's editions are a log
+pub stands_log : (bytes : List ℕ) (editions : List EditionValue) → FeedStands bytes (Ok editions) → IsLog editions
+stands_log bytes editions stands = record { some = stands_some bytes editions stands; numbered = stands_numbered bytes editions stands }

@@ -2,15 +2,15 @@
 use Rattle.std.proofs.Common.{◌≡◌, ℕ, suc, ◌==◌, if◌then◌else◌, Bool, true, false, List, [], ◌∷◌, ◌++◌, take, drop, Contains, All, inl, inr, ap, subst, ◌∙◌, refl, append_assoc, arith, ne_eqb}
 use Rattle.std.proofs.lemmas.List.{take-append-drop}
 use Rattle.std.proofs.lemmas.List.Elements.{Contains-append_cases, Contains-append_left}
-use Rattle.edr_feed.specs.Lines.{onto_first, lines_of, ended_lines}
-use Rattle.edr_feed.specs.Readings.{joined, IsPlain}
+use Rattle.edr_feed.specs.Lines.{onto_first, lines_of, ended_lines, joined}
+use Rattle.edr_feed.specs.Readings.{IsPlain}
 
 -- ---- no line feed
 
-plain_head : (x : ℕ) (xs : List ℕ) → IsPlain (x ∷ xs) → (x == 10) ≡ false
+pub plain_head : (x : ℕ) (xs : List ℕ) → IsPlain (x ∷ xs) → (x == 10) ≡ false
 plain_head x xs p = ne_eqb x 10 (λ e. p (0, omega arith, e))
 
-plain_tail : (x : ℕ) (xs : List ℕ) → IsPlain (x ∷ xs) → IsPlain xs
+pub plain_tail : (x : ℕ) (xs : List ℕ) → IsPlain (x ∷ xs) → IsPlain xs
 plain_tail x xs p h = p (suc h.0, omega (arith, h.1), h.2)
 
 pub plain_none : IsPlain []
@@ -62,7 +62,7 @@ either_some true lines others p q = p
 either_some false lines others p q = q
 
 -- there is always a line
-some_line : (bytes : List ℕ) → IsSome (lines_of bytes)
+pub some_line : (bytes : List ℕ) → IsSome (lines_of bytes)
 some_line [] = ([], [], refl)
 some_line (byte ∷ bytes) = either_some (byte == 10) ([] ∷ lines_of bytes) (onto_first byte (lines_of bytes)) ([], lines_of bytes, refl) (onto_some byte (lines_of bytes))
 

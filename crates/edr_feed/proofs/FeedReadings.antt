@@ -12,10 +12,10 @@ use Rattle.edr_feed.specs.declared.faults.FeedFault.TheVariants as feed
 use Rattle.edr_feed.specs.declared.reading.Reading.{Reading}
 use Rattle.edr_feed.specs.declared.refusals.FeedRefusal.{FeedRefusal}
 use Rattle.edr_feed.specs.Refusals.{refusal_of}
-use Rattle.edr_feed.specs.Lines.{lines_of, ended_lines, read_lines}
+use Rattle.edr_feed.specs.Lines.{lines_of, ended_lines, read_lines, joined}
 use Rattle.edr_feed.specs.Steps.{Progress, at_start, LineRows, EachLineRows}
 use Rattle.edr_feed.specs.Feeds.{FeedStands, IsReached, InnerStands}
-use Rattle.edr_feed.specs.Readings.{progress_of, joined, IsPlain, HasRead, InnerAt, IsAtFault, HasFault, IsFaultOf}
+use Rattle.edr_feed.specs.Readings.{progress_of, IsPlain, HasRead, InnerAt, IsAtFault, HasFault, IsFaultOf}
 use Rattle.edr_feed.proofs.FeedLines.{plain_none, plain_append, plain_take, plain_line, first_line, first_lines, ended_none, ended_first, ended_firsts}
 use Rattle.edr_feed.proofs.StepLemmas.{if_some, rows_front, fault_front, lines_done, lines_refused}
 

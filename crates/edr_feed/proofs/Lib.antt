@@ -11,3 +11,4 @@ pub mod FeedAnswers
 pub mod FeedLaws
 pub mod SummaryLemmas
 pub mod ReadFaults
+pub mod FeedBounds

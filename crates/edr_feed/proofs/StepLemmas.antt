@@ -1,5 +1,5 @@
 -- What a line makes, row by row.
-use Rattle.std.proofs.Common.{◌≡◌, ◌⊎◌, ℕ, ◌+◌, ◌<◌, min, List, [], ◌∷◌, ◌++◌, length, take, Option, None, Some, Result, Ok, Err, inl, inr, refl, sym, ap, ◌∙◌, subst, arith, length-take}
+use Rattle.std.proofs.Common.{◌≡◌, ◌⊎◌, ℕ, ◌+◌, ◌<◌, ◌≤◌, min, List, [], ◌∷◌, ◌++◌, length, take, Option, None, Some, Result, Ok, Err, inl, inr, refl, sym, ap, ◌∙◌, subst, arith, length-take}
 use Rattle.std.specs.Prelude.{IfSome}
 use Rattle.std.proofs.lemmas.Bool.Decides.{leb_tells}
 use Rattle.std.proofs.lemmas.List.{take_all}
@@ -16,11 +16,11 @@ use Rattle.edr_feed.specs.declared.faults.FeedFault.{FeedFault}
 use Rattle.edr_feed.specs.declared.faults.FeedFault.TheVariants as feed
 use Rattle.edr_feed.specs.declared.refusals.FeedRefusal.{FeedRefusal}
 use Rattle.edr_feed.specs.Faults.{at_line}
-use Rattle.edr_feed.specs.Refusals.{refusal_of}
+use Rattle.edr_feed.specs.Refusals.{refusal_of, line_of}
 use Rattle.edr_feed.specs.Forms.{HasForm}
 use Rattle.edr_feed.specs.FormParts.{FailsIn}
 use Rattle.edr_feed.specs.Steps.{Progress, at_start, EntryMakes, LineRows, EachLineRows}
-use Rattle.edr_feed.specs.Readings.{SaysNothing, Says, IsNotDone, DoesEntry, InnerAt, IsAtFault, DoesLine}
+use Rattle.edr_feed.specs.Readings.{SaysNothing, Says, IsNotDone, DoesEntry, InnerAt, IsAtFault, DoesLine, GoesOn}
 use Rattle.edr_feed.proofs.FormLaws.{one_coverage}
 
 -- ---- a line
@@ -84,6 +84,29 @@ pub entry_done : {T : Type 0} (line : List ℕ) (old new : Progress) (entry : En
 entry_done line old new entry (Ok u) says done =
     λ number. inl (says.0.0, inr (says.0.1, inl (says.1, says.2, inl (inl (entry, says.3), inl (entry, says.3, inl (new, done, refl))))))
 entry_done line old new entry (Err fault) says none = not_done line old entry fault says none
+
+-- ---- the line that a fault names
+
+named_at : (number : ℕ) (fault : LineFault) → IfSome (line_of (at_line number fault)) (λ line. number ≤ line)
+named_at number LineTooLong = omega arith
+named_at number NotJson = omega arith
+named_at number NotFeedLine = omega arith
+named_at number (Cov fault) = omega arith
+named_at number (Change fault) = omega arith
+named_at number OutOfMemory = tt
+
+pub line_named : (number : ℕ) (fault : LineFault) (named : FeedFault) → named ≡ at_line number fault → IfSome (line_of named) (λ line. number ≤ line)
+line_named number fault named is = subst (λ (f : FeedFault). IfSome (line_of f) (λ line. number ≤ line)) (sym is) (named_at number fault)
+
+-- a line that isn't before a later one
+pub from_some : (number later : ℕ) (line : Option ℕ) → number ≤ later → IfSome line (λ l. later ≤ l) → IfSome line (λ l. number ≤ l)
+from_some number later None up on = tt
+from_some number later (Some line) up on = omega (arith, up, on)
+
+-- what goes on from a later line goes on from one before it
+pub goes_from : {T : Type 0} (number later : ℕ) (result : Result T FeedFault) (next : ℕ) → number ≤ later → GoesOn later result next → GoesOn number result next
+goes_from number later (Ok u) next up on = omega (arith, up, on)
+goes_from number later (Err fault) next up on = from_some number later (line_of fault) up on
 
 -- ---- a line that is kept in part
 

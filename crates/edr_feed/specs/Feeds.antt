@@ -1,8 +1,10 @@
 -- The editions of a feed, or why bytes are none.
-use Rattle.std.specs.Prelude.{◌≡◌, ◌≢◌, ℕ, ◌+◌, ◌≤◌, List, [], ◌∷◌, ◌++◌, length, ⊤, Result, Ok, Err, Option, None, Some}
+use Rattle.std.specs.Prelude.{◌≡◌, ◌≢◌, ℕ, ◌+◌, ◌≤◌, List, [], ◌∷◌, ◌++◌, length, take, ⊤, Result, Ok, Err, Option, None, Some}
+use Rattle.std.specs.Io.KnownBytes.{prepend_known}
 use Rattle.serde_json.specs.Data.{Data, null}
 use Rattle.covjson_checks.specs.declared.faults.CovFault.{CovFault}
 use Rattle.covjson_read.specs.Rows.{CoverageRows}
+use Rattle.edr_base.specs.Calls.{buffer_size}
 use Rattle.edr_base.specs.FirstThatApplies.{Check, Then, Gives}
 use Rattle.edr_base.specs.Limits.{feed_limit}
 use Rattle.edr_json.specs.Json.{IsJson}
@@ -16,7 +18,7 @@ use Rattle.edr_feed.specs.declared.faults.FeedFault.TheVariants.{Cov, Change}
 use Rattle.edr_feed.specs.declared.refusals.FeedRefusal.{FeedRefusal}
 use Rattle.edr_feed.specs.declared.refusals.FeedRefusal.TheVariants.{TooLong, NothingPublished}
 use Rattle.edr_feed.specs.Forms.{HasForm, HoldsCoverage}
-use Rattle.edr_feed.specs.Lines.{read_lines}
+use Rattle.edr_feed.specs.Lines.{lines_of, read_lines, joined}
 use Rattle.edr_feed.specs.Steps.{Progress, at_start, EachLineRows}
 
 -- the bytes are a feed of these editions, or the first refusal applies to them
@@ -67,6 +69,14 @@ InnerStands bytes other = ⊤
 abbrev pub InnerStandsIn : Option (List ℕ) → FeedFault → Type 0
 InnerStandsIn None fault = (bytes : List ℕ) × InnerStands bytes fault
 InnerStandsIn (Some bytes) fault = InnerStands bytes fault
+
+-- ---- how far a source is read
+
+-- some bytes were taken: at most the lines up to the one of that number, with their line feeds, and what is taken at once
+pub record ReadsToLine (old new : Option (List ℕ)) (number : ℕ) : Type 0 where
+  pub bytes : List ℕ
+  pub read : old ≡ prepend_known bytes new
+  pub within : length bytes ≤ length (joined (take number (lines_of bytes))) + buffer_size
 
 -- ---- laws
 

@@ -1,6 +1,6 @@
 -- The lines of a feed.
-use Rattle.std.specs.Prelude.{◌==◌, ℕ, nat_le, if◌then◌else◌, IsTrue, List, [], ◌∷◌, length, take}
-use Rattle.std.specs.List.{list_all}
+use Rattle.std.specs.Prelude.{◌==◌, ℕ, nat_le, if◌then◌else◌, IsTrue, List, [], ◌∷◌, ◌++◌, length, take}
+use Rattle.std.specs.List.{list_all, flat_map}
 use Rattle.edr_base.specs.Limits.{feed_limit}
 use Rattle.edr_base.specs.Names.{is_blank}
 
@@ -26,6 +26,10 @@ ended_lines bytes = all_but_last (lines_of bytes)
 -- the lines of a feed that are read: all of them, or of a feed beyond the limit those that end within it
 abbrev pub read_lines : List ℕ → List (List ℕ)
 read_lines bytes = if nat_le (length bytes) feed_limit then lines_of bytes else ended_lines (take feed_limit bytes)
+
+-- lines, each with its line feed
+abbrev pub joined : List (List ℕ) → List ℕ
+joined lines = flat_map (λ line. line ++ 10 ∷ []) lines
 
 -- a line of blanks only
 abbrev pub IsBlank : List ℕ → Type 0

@@ -1,8 +1,7 @@
 -- What the steps of a reader of feeds make; for private clauses.
-use Rattle.std.specs.Prelude.{◌≡◌, ℕ, ◌+◌, ◌≤◌, ◌<◌, Bool, true, false, List, [], ◌∷◌, ◌++◌, length, take, Contains, All, ⊤, Option, None, Some, IfSome, Result, Ok, Err, Vec}
+use Rattle.std.specs.Prelude.{◌≡◌, ℕ, ◌+◌, ◌≤◌, ◌<◌, Bool, true, false, List, ◌++◌, length, take, Contains, All, ⊤, Option, None, Some, IfSome, Result, Ok, Err, Vec}
 use Rattle.std.specs.declared.alloc.Global.{Global}
 use Rattle.std.specs.Io.KnownBytes.{prepend_known, IsAtEnd}
-use Rattle.std.specs.List.{flat_map}
 use Rattle.serde_json.specs.Data.{Data}
 use Rattle.edr_base.specs.Limits.{line_limit, feed_limit}
 use Rattle.edr_json.specs.Json.{IsJson, IsNoJson}
@@ -19,10 +18,10 @@ use Rattle.edr_feed.specs.declared.faults.FeedFault.TheVariants.{ReadFault, Cov,
 use Rattle.edr_feed.specs.declared.steps.Drafting.{Drafting}
 use Rattle.edr_feed.specs.declared.reading.Reading.{Reading}
 use Rattle.edr_feed.specs.Faults.{at_line}
-use Rattle.edr_feed.specs.Refusals.{refusal_of}
+use Rattle.edr_feed.specs.Refusals.{refusal_of, line_of}
 use Rattle.edr_feed.specs.Forms.{HasForm}
 use Rattle.edr_feed.specs.FormParts.{IsNoEntry}
-use Rattle.edr_feed.specs.Lines.{IsBlank}
+use Rattle.edr_feed.specs.Lines.{joined, IsBlank}
 use Rattle.edr_feed.specs.Steps.{Progress, at_start, EntryMakes, LineRows, EachLineRows}
 use Rattle.edr_feed.specs.Feeds.{FeedStands, FailsCheck, RefusesChange, InnerStands}
 
@@ -89,10 +88,6 @@ DoesLine line old (Err fault) new = (number : ℕ) → IsAtFault number line old
 
 -- ---- a feed
 
--- lines, each with its line feed
-abbrev pub joined : List (List ℕ) → List ℕ
-joined lines = flat_map (λ line. line ++ 10 ∷ []) lines
-
 -- no line feed
 abbrev pub IsPlain : List ℕ → Type 0
 IsPlain line = ¬ (Contains line 10)
@@ -136,6 +131,11 @@ IsFaultOf bytes fault = (rest : List ℕ) → HasFault (bytes ++ rest) fault
 abbrev pub ReadsOn : {T : Type 0} → Result T FeedFault → List ℕ → Reading → Type 0
 ReadsOn (Ok u) bytes now = HasRead bytes now
 ReadsOn (Err fault) bytes now = IsFaultOf bytes fault
+
+-- no line before the one of that number is at fault, and the next number isn't below it
+abbrev pub GoesOn : {T : Type 0} → ℕ → Result T FeedFault → ℕ → Type 0
+GoesOn number (Ok u) next = number ≤ next
+GoesOn number (Err fault) next = IfSome (line_of fault) (λ line. number ≤ line)
 
 -- all that was left was read
 pub record ReadsWhole (old new : Option (List ℕ)) (now : Reading) : Type 0 where

@@ -1,5 +1,5 @@
 -- Why bytes are no feed, by the fault that is answered.
-use Rattle.std.specs.Prelude.{Option, None, Some}
+use Rattle.std.specs.Prelude.{ℕ, Option, None, Some}
 use Rattle.edr_feed.specs.declared.faults.FeedFault.{FeedFault}
 use Rattle.edr_feed.specs.declared.faults.FeedFault.TheVariants as faults
 use Rattle.edr_feed.specs.declared.refusals.FeedRefusal.{FeedRefusal}
@@ -16,3 +16,12 @@ refusal_of (faults.Cov line fault) = Some (Cov line)
 refusal_of (faults.Change line fault) = Some (Change line)
 refusal_of faults.NothingPublished = Some NothingPublished
 refusal_of faults.OutOfMemory = None
+
+-- the number of the line that a fault names
+abbrev pub line_of : FeedFault → Option ℕ
+line_of (faults.LineTooLong line) = Some line
+line_of (faults.NotJson line) = Some line
+line_of (faults.NotFeedLine line) = Some line
+line_of (faults.Cov line fault) = Some line
+line_of (faults.Change line fault) = Some line
+line_of other = None

@@ -97,7 +97,9 @@ impl<T: Drop> From<AllocFailed<T>> for LineFault {
 pub enum FeedFault {
     /// The source failed, and counted it.
     ReadFault,
-    /// The feed has more than `edr_base::FEED_LIMIT` bytes.
+    /// The feed has more than `edr_base::FEED_LIMIT` bytes, and no line that ends within them, with its line feed, is at fault:
+    /// what goes on beyond them isn't looked at, also where it is longer than a line may be. It comes as soon as one byte more
+    /// was read; a feed of exactly so many bytes is none.
     TooLong,
     /// The line has more than `edr_base::LINE_LIMIT` bytes.
     LineTooLong(usize),

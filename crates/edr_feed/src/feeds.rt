@@ -1,13 +1,13 @@
 //! Feeds.
-ghost use Rattle.std.specs.Prelude.{◌≡◌, ◌<◌, ◌+◌, IfOk, IfErr, IfSome, OnOk, IsErrOf, Ok, Err, length};
+ghost use Rattle.std.specs.Prelude.{◌≡◌, ◌+◌, IfOk, IfErr, IfSome, OnOk, IsErrOf, Ok, Err};
 ghost use Rattle.std.specs.Io.KnownBytes.{IsAtEnd};
 ghost use Rattle.edr_base.specs.Calls.{SourceLent, ReadsAtMost, buffer_size};
 ghost use Rattle.edr_base.specs.Limits.{feed_limit};
 ghost use Rattle.edr_base.specs.Outside.{Rose};
-ghost use Rattle.edr_edition.specs.Shelves.{AreNumberedFrom};
-ghost use Rattle.edr_feed.specs.Feeds.{FeedStandsIn, InnerStandsIn, FeedsHaveOneAnswer};
+ghost use Rattle.edr_edition.specs.Shelves.{IsLog};
+ghost use Rattle.edr_feed.specs.Feeds.{FeedStandsIn, InnerStandsIn, ReadsToLine, FeedsHaveOneAnswer};
 ghost use Rattle.edr_feed.specs.Readings.{ReadsWhole};
-ghost use Rattle.edr_feed.specs.Refusals.{refusal_of};
+ghost use Rattle.edr_feed.specs.Refusals.{refusal_of, line_of};
 
 use crate::faults::FeedFault;
 use crate::forms::trees_have_one_form;
@@ -30,6 +30,7 @@ fn read_whole<S: Source>(alloc: Global, source: &mut S) -> Result<Reading, FeedF
     ensures fault { IfErr result (λ fault. IfSome (refusal_of fault) (λ refusal. FeedStandsIn (S.left source.old) (Err refusal))) }
     ensures inner { IfErr result (λ fault. InnerStandsIn (S.left source.old) fault) }
     ensures bounded { ReadsAtMost (feed_limit + buffer_size) (S.left source.old) (S.left source.new) }
+    ensures behind { IfErr result (λ fault. IfSome (line_of fault) (λ line. ReadsToLine (S.left source.old) (S.left source.new) line)) }
     ensures lent { SourceLent (S.aside source.old) (S.aside source.new) (S.faults source.old) (S.faults source.new) }
     ensures cause { IsErrOf result FeedFault.ReadFault → Rose (S.faults source.old) (S.faults source.new) }
 {
@@ -49,15 +50,16 @@ fn read_whole<S: Source>(alloc: Global, source: &mut S) -> Result<Reading, FeedF
 ///
 /// A line's fault counts only if its line feed, or the end of the feed, lies within the first `edr_base::FEED_LIMIT` bytes; a
 /// longer feed is else TooLong. Lines are read as they come, one at a time. Whatever is answered, at most
-/// `edr_base::FEED_LIMIT` and 16,384 bytes were taken from the source, and the others are left.
+/// `edr_base::FEED_LIMIT` and 16,384 bytes were taken from the source, and the others are left; where a line is at fault, at
+/// most the lines up to it and 16,384 bytes more.
 pub fn read_feed<S: Source>(alloc: Global, source: &mut S) -> Result<Feed, FeedFault>
     ensures editions { IfOk result (λ feed. FeedStandsIn (S.left source.old) (Ok feed.editions)) }
     ensures fault { IfErr result (λ fault. IfSome (refusal_of fault) (λ refusal. FeedStandsIn (S.left source.old) (Err refusal))) }
     ensures inner { IfErr result (λ fault. InnerStandsIn (S.left source.old) fault) }
-    ensures some { IfOk result (λ feed. 0 < length feed.editions) }
-    ensures numbered { IfOk result (λ feed. AreNumberedFrom 1 feed.editions) }
+    ensures log { IfOk result (λ feed. IsLog feed.editions) }
     ensures ended { OnOk result (IsAtEnd (S.left source.new)) }
     ensures bounded { ReadsAtMost (feed_limit + buffer_size) (S.left source.old) (S.left source.new) }
+    ensures behind { IfErr result (λ fault. IfSome (line_of fault) (λ line. ReadsToLine (S.left source.old) (S.left source.new) line)) }
     ensures lent { SourceLent (S.aside source.old) (S.aside source.new) (S.faults source.old) (S.faults source.new) }
     ensures cause { IsErrOf result FeedFault.ReadFault → Rose (S.faults source.old) (S.faults source.new) }
 {

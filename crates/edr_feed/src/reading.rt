@@ -1,6 +1,6 @@
 //! The reader of a feed, piece by piece.
-ghost use Rattle.std.specs.Prelude.{◌<◌, ℕ, length, List, [], ◌∷◌, ◌++◌, IfOk};
-ghost use Rattle.edr_feed.specs.Readings.{IsPlain, HasRead, IsReading, TakesLine, ReadsOn, Ends};
+ghost use Rattle.std.specs.Prelude.{ℕ, List, [], ◌∷◌, ◌++◌};
+ghost use Rattle.edr_feed.specs.Readings.{IsPlain, HasRead, IsReading, TakesLine, ReadsOn, GoesOn, Ends};
 
 use crate::faults::FeedFault;
 use crate::steps::{Drafting, do_line};
@@ -43,7 +43,8 @@ pub fn begin(alloc: Global) -> Reading
 fn go_on(now: &mut Reading, part: &[u8]) -> Result<(), FeedFault>
     requires reading { IsReading now.old }
     requires plain { IsPlain part.now }
-    ensures { (bytes : List ℕ) → HasRead bytes now.old → ReadsOn result (bytes ++ part.now) now.new }
+    ensures read { (bytes : List ℕ) → HasRead bytes now.old → ReadsOn result (bytes ++ part.now) now.new }
+    ensures on { GoesOn now.old.number result now.new.number }
 {
     if part.len() > FEED_LIMIT - now.ended - now.length {
         return Err(FeedFault::TooLong);
@@ -57,7 +58,8 @@ fn go_on(now: &mut Reading, part: &[u8]) -> Result<(), FeedFault>
 
 // Does the line that goes on, as it stands.
 fn take_line(alloc: Global, now: &mut Reading) -> Result<(), FeedFault>
-    ensures { TakesLine now.old result now.new }
+    ensures takes { TakesLine now.old result now.new }
+    ensures on { GoesOn now.old.number result now.new.number }
 {
     match do_line(alloc, &mut now.made, &now.line) {
         Ok(()) => Ok(()),
@@ -68,7 +70,8 @@ fn take_line(alloc: Global, now: &mut Reading) -> Result<(), FeedFault>
 // The line ends with a line feed.
 fn end_line(alloc: Global, now: &mut Reading) -> Result<(), FeedFault>
     requires { IsReading now.old }
-    ensures { (bytes : List ℕ) → HasRead bytes now.old → ReadsOn result (bytes ++ 10 ∷ []) now.new }
+    ensures read { (bytes : List ℕ) → HasRead bytes now.old → ReadsOn result (bytes ++ 10 ∷ []) now.new }
+    ensures on { GoesOn now.old.number result now.new.number }
 {
     if now.ended + now.length == FEED_LIMIT {
         return Err(FeedFault::TooLong);
@@ -84,7 +87,8 @@ fn end_line(alloc: Global, now: &mut Reading) -> Result<(), FeedFault>
 /// Some more bytes.
 pub fn read_on(alloc: Global, now: &mut Reading, piece: &[u8]) -> Result<(), FeedFault>
     requires { IsReading now.old }
-    ensures { (bytes : List ℕ) → HasRead bytes now.old → ReadsOn result (bytes ++ piece.now) now.new }
+    ensures read { (bytes : List ℕ) → HasRead bytes now.old → ReadsOn result (bytes ++ piece.now) now.new }
+    ensures on { GoesOn now.old.number result now.new.number }
 {
     let mut rest = piece;
     while let Some((part, behind)) = cut_at(rest, b'\n') {
@@ -98,7 +102,7 @@ pub fn read_on(alloc: Global, now: &mut Reading, piece: &[u8]) -> Result<(), Fee
 /// The feed ends: the editions that it published.
 pub fn end(alloc: Global, mut now: Reading) -> Result<Vec<Edition>, FeedFault>
     ensures stands { (bytes : List ℕ) → HasRead bytes now → Ends bytes result }
-    ensures some { IfOk result (λ editions. 0 < length editions.items) }
+    ensures on { GoesOn now.number result now.number }
 {
     take_line(alloc, &mut now)?;
     if now.made.editions.is_empty() {

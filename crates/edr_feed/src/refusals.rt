@@ -7,7 +7,7 @@ use crate::faults::FeedFault;
 /// Why bytes are no feed, as a program tells it: the fault of the feed without the fault inside the line.
 #[derive(Clone, Copy, Debug, PartialEq, Eq)]
 pub enum FeedRefusal {
-    /// The feed has more than `edr_base::FEED_LIMIT` bytes.
+    /// The feed has more than `edr_base::FEED_LIMIT` bytes, and no line that ends within them is at fault.
     TooLong,
     /// The line has more than `edr_base::LINE_LIMIT` bytes.
     LineTooLong(usize),

@@ -1,9 +1,10 @@
 use Rattle.std.proofs.Common.{Ok, List, sym, subst}
 use Rattle.std.proofs.lemmas.Result.{err_from_is_err_and}
 use Rattle.edr_edition.specs.Values.{EditionValue}
-use Rattle.edr_edition.specs.Shelves.{AreNumberedFrom}
+use Rattle.edr_edition.specs.Shelves.{IsLog}
 use Rattle.edr_feed.specs.Feeds.{FeedStandsIn}
-use Rattle.edr_feed.proofs.FeedLaws.{stands_numbered}
+use Rattle.edr_feed.proofs.FeedBounds.{stops_at_end}
+use Rattle.edr_feed.proofs.FeedLaws.{stands_log}
 use Rattle.edr_feed.proofs.FeedAnswers.{whole_stands, whole_fault, not_read}
 use Rattle.edr_feed.proofs.feeds.read_feed.Goals as goal
 
@@ -32,7 +33,13 @@ returns-clause-editions g c =
     let f = whole_stands (g.S.Source.left c.args.source.now) _ r.bytes (Ok c.in_ok-editions.editions.items) r.told r.ended (c.in_ok-editions.ensures.stands r.bytes r.read) in
     subst (λ (es : List EditionValue). FeedStandsIn (g.S.Source.left c.args.source.now) (Ok es)) (sym c.of.ensures) f
 
-pub returns-clause-numbered : goal.returns-clause-numbered
-returns-clause-numbered g c =
+pub returns-clause-log : goal.returns-clause-log
+returns-clause-log g c =
     let r = c.in_ok-now.ensures.read in
-    subst (AreNumberedFrom 1) (sym c.of.ensures) (stands_numbered r.bytes c.in_ok-editions.editions.items (c.in_ok-editions.ensures.stands r.bytes r.read))
+    subst IsLog (sym c.of.ensures) (stands_log r.bytes c.in_ok-editions.editions.items (c.in_ok-editions.ensures.stands r.bytes r.read))
+
+pub returns-in_err-editions-clause-behind : goal.returns-in_err-editions-clause-behind
+returns-in_err-editions-clause-behind g c =
+    let p = err_from_is_err_and c.from_residual-in_err-editions.result c.from_residual-in_err-editions.ensures.1 in
+    let r = c.in_ok-now.ensures.read in
+    rw (p.1, p.2) (stops_at_end _ _ r.bytes c.in_ok-now.now _ r.told r.read c.in_err-editions.ensures.on)

@@ -4,8 +4,8 @@ use Rattle.edr_feed.proofs.FeedLines.{plain_append}
 use Rattle.edr_feed.proofs.FeedReadings.{kept_more, too_long, read_length}
 use Rattle.edr_feed.proofs.reading.go_on.Goals as goal
 
-pub returns-then-part-now : goal.returns-then-part-now
-returns-then-part-now c = λ bytes h rest.
+pub returns-then-part-now-clause-read : goal.returns-then-part-now-clause-read
+returns-then-part-now-clause-read c = λ bytes h rest.
     let n = read_length bytes c.args.now.now h in
     let part = c.args.part.now in
     let beyond : feed_limit < length bytes + length part = omega arith in
@@ -16,8 +16,8 @@ overflow_sub-room c =
     let h = c.requires.reading.read in
     omega (arith, ap length h.kept, length-take (line_limit + 1) h.line, c.len.ensures)
 
-pub returns : goal.returns
-returns c = λ bytes h.
+pub returns-clause-read : goal.returns-clause-read
+returns-clause-read c = λ bytes h.
     let n = read_length bytes c.args.now.now h in
     let part = c.args.part.now in
     let line = c.args.now.now.line.items in

@@ -1,4 +1,4 @@
-use Rattle.std.proofs.Common.{◌≡◌, ℕ, List, ◌++◌, length}
+use Rattle.std.proofs.Common.{◌≡◌, ◌≤◌, ℕ, List, ◌++◌, length}
 use Rattle.edr_feed.specs.Readings.{HasRead}
 use Rattle.edr_feed.proofs.reading.read_on.Given as goal
 
@@ -6,6 +6,7 @@ abbrev pub invariant-loop-part : goal.invariant-loop-part
 invariant-loop-part l = record {
   front : List ℕ;
   cut : l.piece ≡ front ++ l.rest;
+  number : l.fn.now.number ≤ l.now.number;
   read : (bytes : List ℕ) → HasRead bytes l.fn.now → HasRead (bytes ++ front) l.now;
 }
 

@@ -1,0 +1,5 @@
+use Rattle.edr_edition.proofs.InstanceGrids.{instance_has}
+use Rattle.edr_edition.proofs.laws.instances_have_grids.Goals as goal
+
+pub returns : goal.returns
+returns c = instance_has
