@@ -4,6 +4,7 @@ pub mod PathLemmas
 pub mod PairLemmas
 pub mod CoordsLemmas
 pub mod NameLemmas
+pub mod SeenLemmas
 pub mod DistanceLemmas
 pub mod SaidLemmas
 pub mod BoxLemmas
@@ -19,3 +20,5 @@ pub mod SpelledValues
 pub mod SpelledNames
 pub mod SpelledTexts
 pub mod SpelledQueries
+pub mod SpelledAddresses
+pub mod WrittenParts

@@ -11,7 +11,7 @@ use Rattle.percent_encoding.proofs.PercentLemmas.{round_trip, IsByte}
 use Rattle.form_urlencoded.proofs.FormLemmas as form
 use Rattle.edr_query.specs.declared.addresses.TheConstants.{ID_SET}
 use Rattle.edr_query.specs.declared.addresses.Address.{Address}
-use Rattle.edr_query.specs.Paths.{parts_of, IsPart, HasParts, IsPath, path_text, without_empty_last, path_in, query_in}
+use Rattle.edr_query.specs.Paths.{parts_of, IsPart, HasParts, IsPath, part_text, parts_text, path_text, without_empty_last, path_in, query_in}
 use Rattle.edr_query.specs.PathReads.{raw_in}
 use Rattle.edr_query.proofs.PathLemmas.{behind}
 use Rattle.edr_query.proofs.ByteLemmas.{bytes_from_utf8}
@@ -82,7 +82,7 @@ escaped_some part h e = h.0 (sym (part_back part h.1) ∙ ap percent_decode e �
 -- ---- the parts of a written path
 
 abbrev path_of : List (List ℕ) → List ℕ
-path_of parts = flat_map (λ part. 47 ∷ percent_encode ID_SET part) parts
+path_of parts = flat_map part_text parts
 
 split_parts : (p : List ℕ) (ps : List (List ℕ)) → All IsPart (p ∷ ps) → slice_split (λ byte. byte == 47) (escaped p ++ path_of ps) ≡ escaped p ∷ map escaped ps
 split_parts p [] all =
@@ -125,17 +125,22 @@ Parts parts = (p : List ℕ) × (ps : List (List ℕ)) × (parts ≡ p ∷ ps)
 pub written_path : (a : Address) → Parts (parts_of a) → All IsPart (parts_of a) → IsPath (path_text a) a
 written_path a some all =
     let P : List (List ℕ) → Type 0 = λ l. All IsPart l in
-    let Q : List (List ℕ) → Type 0 = λ l. HasParts (path_of l) l in
+    let Q : List (List ℕ) → Type 0 = λ l. HasParts (parts_text l) l in
     subst Q (sym some.2) (written_parts some.0 some.1 (subst P some.2 all))
 
+text_lacks : (ps : List (List ℕ)) → All IsPart ps → lacks 63 (parts_text ps) ≡ true
+unfolding lacks
+text_lacks [] all = refl
+text_lacks (p ∷ ps) all = path_lacks (p ∷ ps) all
+
 pub path_before : (a : Address) (query : List ℕ) → All IsPart (parts_of a) → path_in (path_text a ++ 63 ∷ query) ≡ path_text a
-path_before a query all = form.split_once_before_at 63 (path_text a) query (lacks_ne 63 (path_text a) (path_lacks (parts_of a) all))
+path_before a query all = form.split_once_before_at 63 (path_text a) query (lacks_ne 63 (path_text a) (text_lacks (parts_of a) all))
 
 pub query_after : (a : Address) (query : List ℕ) → All IsPart (parts_of a) → query_in (path_text a ++ 63 ∷ query) ≡ query
-query_after a query all = form.split_once_after_at 63 (path_text a) query (lacks_ne 63 (path_text a) (path_lacks (parts_of a) all))
+query_after a query all = form.split_once_after_at 63 (path_text a) query (lacks_ne 63 (path_text a) (text_lacks (parts_of a) all))
 
 pub path_alone : (a : Address) → All IsPart (parts_of a) → path_in (path_text a) ≡ path_text a
-path_alone a all = form.split_once_before_none 63 (path_text a) (lacks_ne 63 (path_text a) (path_lacks (parts_of a) all))
+path_alone a all = form.split_once_before_none 63 (path_text a) (lacks_ne 63 (path_text a) (text_lacks (parts_of a) all))
 
 pub query_none : (a : Address) → All IsPart (parts_of a) → query_in (path_text a) ≡ []
-query_none a all = form.split_once_after_none 63 (path_text a) (lacks_ne 63 (path_text a) (path_lacks (parts_of a) all))
+query_none a all = form.split_once_after_none 63 (path_text a) (lacks_ne 63 (path_text a) (text_lacks (parts_of a) all))

@@ -213,6 +213,10 @@ names_utf8 names are = joined_utf8 plain names are.utf8
 cons_some : (b : ℕ) (bs : List ℕ) → b ∷ bs ≡ [] → ⊥
 cons_some b bs e = cc
 
+pub conformance_part : IsPart (codes "conformance")
+unfolding small
+conformance_part = ((λ e. cons_some _ _ e), text_utf8 (codes "conformance") refl)
+
 pub collections_part : IsPart (codes "collections")
 unfolding small
 collections_part = ((λ e. cons_some _ _ e), text_utf8 (codes "collections") refl)

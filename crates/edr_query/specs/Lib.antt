@@ -9,3 +9,4 @@ pub mod Spelling
 pub mod Metres
 pub mod PathReads
 pub mod Reads
+pub mod Seen

@@ -1,12 +1,12 @@
 -- For private clauses: what the calls that read a path answer.
-use Rattle.std.specs.Prelude.{◌≡◌, ℕ, ◌==◌, bytes_eq, if◌then◌else◌, List, [], ◌∷◌, codes, All, map, Option, None, Some}
+use Rattle.std.specs.Prelude.{◌≡◌, ℕ, ◌==◌, bytes_eq, if◌then◌else◌, List, [], ◌∷◌, ◌++◌, codes, All, map, Option, None, Some}
 use Rattle.std.specs.List.{slice_split}
 use Rattle.percent_encoding.specs.Percent.{percent_decode}
 use Rattle.edr_query.specs.declared.addresses.QueryKind.{QueryKind}
 use Rattle.edr_query.specs.declared.addresses.QueryKind.TheVariants.{Position, Radius, Area, Cube, Trajectory, Corridor}
 use Rattle.edr_query.specs.declared.addresses.Address.{Address}
 use Rattle.edr_query.specs.declared.addresses.Address.TheVariants.{Landing, Conformance, Collections, Collection, Instances, Instance, Locations, Location, Query}
-use Rattle.edr_query.specs.Paths.{without_empty_last, IsPart, HasParts, IsPath}
+use Rattle.edr_query.specs.Paths.{without_empty_last, IsPart, HasParts, IsPath, parts_of, part_text}
 
 -- the parts of what stands behind the first slash, as they are written
 abbrev pub raw_in : List ℕ → List (List ℕ)
@@ -66,6 +66,20 @@ collection_page c (name ∷ id ∷ last ∷ more ∷ parts) = None
 
 abbrev pub below_collections : List ℕ → List ℕ → List (List ℕ) → Option Address
 below_collections name c parts = if bytes_eq name (codes "collections") then collection_page c parts else None
+
+-- a path with one more part
+unfoldable pub with_part : List ℕ → List ℕ → List ℕ
+with_part path part = path ++ part_text part
+
+-- a path with more parts
+abbrev pub with_parts : List ℕ → List (List ℕ) → List ℕ
+with_parts path [] = path
+with_parts path (part ∷ parts) = with_parts (with_part path part) parts
+
+-- a text with the path of an address behind it
+abbrev pub with_address : List ℕ → Address → List ℕ
+with_address path Landing = path ++ 47 ∷ []
+with_address path address = with_parts path (parts_of address)
 
 -- the address of parts
 abbrev pub address_in : List (List ℕ) → Option Address

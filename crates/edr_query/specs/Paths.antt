@@ -1,6 +1,8 @@
 -- What the path of a target names (OGC 19-086r6, section 7), by its parts between slashes.
-use Rattle.std.specs.Prelude.{◌≡◌, ◌≢◌, ℕ, ◌==◌, List, [], ◌∷◌, map, codes, All, Option, None, Some, IsUtf8}
+use Rattle.std.specs.Prelude.{◌≡◌, ◌≢◌, ℕ, ◌<◌, ◌==◌, Bool, not, ◌||◌, List, [], ◌∷◌, map, codes, All, Option, None, Some, IsUtf8}
 use Rattle.std.specs.List.{slice_split, flat_map}
+use Rattle.std.specs.Char.{is_ascii_alphanumeric}
+use Rattle.percent_encoding.specs.AsciiSet.{should_percent_encode}
 use Rattle.percent_encoding.specs.Percent.{percent_encode, percent_decode}
 use Rattle.form_urlencoded.specs.Form.{split_once}
 use Rattle.edr_query.specs.declared.addresses.TheConstants.{ID_SET}
@@ -72,6 +74,40 @@ pub record HasParts (path : List ℕ) (parts : List (List ℕ)) : Type 0 where
 abbrev pub IsPath : List ℕ → Address → Type 0
 IsPath path address = HasParts path (parts_of address)
 
--- the path of an address as it is written: a slash before each part, whose bytes are escaped but letters, digits and `-._~`
+-- a slash, and a part with its bytes escaped but letters, digits and `-._~`
+abbrev pub part_text : List ℕ → List ℕ
+part_text part = 47 ∷ percent_encode ID_SET part
+
+-- each part behind a slash; one slash where there is no part
+abbrev pub parts_text : List (List ℕ) → List ℕ
+parts_text [] = 47 ∷ []
+parts_text (part ∷ parts) = flat_map part_text (part ∷ parts)
+
+-- the path of an address as it is written
 abbrev pub path_text : Address → List ℕ
-path_text address = flat_map (λ part. 47 ∷ percent_encode ID_SET part) (parts_of address)
+path_text address = parts_text (parts_of address)
+
+-- the ids in the path of an address
+abbrev pub ids_of : Address → List (List ℕ)
+ids_of Landing = []
+ids_of Conformance = []
+ids_of Collections = []
+ids_of (Collection c) = c ∷ []
+ids_of (Instances c) = c ∷ []
+ids_of (Instance c i) = c ∷ i ∷ []
+ids_of (Locations c) = c ∷ []
+ids_of (Location c s) = c ∷ s ∷ []
+ids_of (Query kind c None) = c ∷ []
+ids_of (Query kind c (Some i)) = c ∷ i ∷ []
+
+-- the written path of an address names it, where its ids are some UTF-8
+abbrev pub WrittenPathsReadBack : Type 0
+WrittenPathsReadBack = (address : Address) → All IsPart (ids_of address) → IsPath (path_text address) address
+
+-- a letter, a digit, `-`, `.`, `_` or `~`
+abbrev pub is_unreserved : ℕ → Bool
+is_unreserved byte = is_ascii_alphanumeric byte || (byte == 45 || (byte == 46 || (byte == 95 || byte == 126)))
+
+-- the bytes that are escaped in a path are all others
+abbrev pub EscapesAllOthers : Type 0
+EscapesAllOthers = (byte : ℕ) → byte < 256 → should_percent_encode ID_SET byte ≡ not (is_unreserved byte)

@@ -1,6 +1,6 @@
 //! What the path of a target names.
 ghost use Rattle.std.specs.Prelude.{◌≡◌};
-ghost use Rattle.edr_query.specs.Paths.{page_kind};
+ghost use Rattle.edr_query.specs.Paths.{kind_text, page_kind};
 
 use edr_base::Text;
 use percent_encoding::{AsciiSet, NON_ALPHANUMERIC, ascii_set};
@@ -23,6 +23,22 @@ pub enum QueryKind {
     Cube,
     Trajectory,
     Corridor,
+}
+
+impl QueryKind {
+    /// Its name, the last part of the path of a query.
+    pub fn name(self) -> &'static [u8]
+        ensures { result.now ≡ kind_text self }
+    {
+        match self {
+            QueryKind::Position => b"position",
+            QueryKind::Radius => b"radius",
+            QueryKind::Area => b"area",
+            QueryKind::Cube => b"cube",
+            QueryKind::Trajectory => b"trajectory",
+            QueryKind::Corridor => b"corridor",
+        }
+    }
 }
 
 /// The kinds of page, each with parameters of its own.

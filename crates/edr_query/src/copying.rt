@@ -1,5 +1,6 @@
 //! Copies of queries.
 ghost use Rattle.std.specs.Prelude.{◌≡◌, IfOk};
+ghost use Rattle.edr_query.specs.Queries.{IsQuery};
 
 use crate::queries::Query;
 use crate::shapes::Shape;
@@ -180,7 +181,8 @@ fn copy_levels_where_given(
 impl Query {
     /// An equal query, or want of memory.
     pub fn copy(&self, alloc: Global) -> Result<Query, OutOfMemory>
-        ensures { IfOk result (λ copy. copy ≡ self.now) }
+        ensures same { IfOk result (λ copy. copy ≡ self.now) }
+        ensures query { IsQuery self.now }
     {
         let collection = Text::of(alloc, self.collection.bytes())?;
         let instance = copy_text(alloc, &self.instance)?;

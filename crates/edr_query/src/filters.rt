@@ -1,6 +1,5 @@
 //! Reading times, levels, names of parameters and reference systems.
-ghost use Rattle.std.specs.Prelude.{◌≡◌, bytes_eq, IfOk, IfSome, OnOk, IsUtf8, option_map};
-ghost use Rattle.std.specs.List.{list_any};
+ghost use Rattle.std.specs.Prelude.{◌≡◌, IfOk, IfSome, OnOk, IsUtf8, option_map};
 ghost use Rattle.edr_base.specs.declared.refusals.Refusal.TheVariants.{BadDatetime, BadLevel};
 ghost use Rattle.edr_axes.specs.Times.{IsTimesText};
 ghost use Rattle.edr_axes.specs.Levels.{IsLevelsText};
@@ -9,6 +8,7 @@ ghost use Rattle.edr_query.specs.Parameters.{value_of, MaySay};
 ghost use Rattle.edr_query.specs.Queries.{with_name, names_in, AreNames};
 ghost use Rattle.edr_query.specs.Targets.{HasBadTimes, HasBadLevels};
 ghost use Rattle.edr_query.specs.Reads.{Checks};
+ghost use Rattle.edr_query.specs.Seen.{AreSeen};
 
 use crate::pairs::Parameters;
 use crate::parameters::Parameter;
@@ -16,6 +16,7 @@ use crate::reading::TargetFault;
 use edr_axes::{LevelFault, Levels, Times, read_levels, read_times};
 use edr_base::{Items, OutOfMemory, Refusal, Text, cut_at};
 use std::alloc::Global;
+use std::collections::BTreeSet;
 
 /// The times of `datetime`, where it is given.
 pub fn read_datetime(parameters: &Parameters) -> Result<Option<Times>, TargetFault>
@@ -44,21 +45,20 @@ pub fn read_z(alloc: Global, parameters: &Parameters) -> Result<Option<Levels>, 
     }
 }
 
-// Whether a list has a name.
-fn has_name(names: &[Text], name: &[u8]) -> bool
-    ensures { result ≡ list_any (bytes_eq name.now) names.now }
+// One more name, unless it was seen before: the names that were seen are those of the list.
+fn add_name<'a>(
+    alloc: Global,
+    names: &mut Vec<Text>,
+    seen: &mut BTreeSet<&'a [u8]>,
+    name: &'a [u8],
+) -> Result<(), OutOfMemory>
+    requires { AreSeen seen.old names.old.items }
+    ensures names { OnOk result (names.new.items ≡ with_name names.old.items name.now) }
+    ensures seen { OnOk result (AreSeen seen.new names.new.items) }
 {
-    names.iter().any(|other| name == other.bytes())
-}
-
-// One more name, unless the list has it.
-fn add_name(alloc: Global, names: &mut Vec<Text>, name: &[u8]) -> Result<(), OutOfMemory>
-    ensures { OnOk result (names.new.items ≡ with_name names.old.items name.now) }
-{
-    if has_name(names, name) {
-        return Ok(());
+    if seen.insert(name)? {
+        names.push(Text::of(alloc, name)?)?;
     }
-    names.push(Text::of(alloc, name)?)?;
     Ok(())
 }
 
@@ -68,12 +68,13 @@ fn names_of(alloc: Global, text: &[u8]) -> Result<Items<Text>, OutOfMemory>
     ensures { IfOk result (λ names. (names ≡ names_in text.now) × AreNames names) }
 {
     let mut names = Vec::new(alloc);
+    let mut seen = BTreeSet::new(alloc);
     let mut rest = text;
     while let Some((front, back)) = cut_at(rest, b',') {
-        add_name(alloc, &mut names, front)?;
+        add_name(alloc, &mut names, &mut seen, front)?;
         rest = back;
     }
-    add_name(alloc, &mut names, rest)?;
+    add_name(alloc, &mut names, &mut seen, rest)?;
     Ok(Items::of(names))
 }
 

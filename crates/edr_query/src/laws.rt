@@ -1,4 +1,5 @@
 //! Laws of targets.
+ghost use Rattle.edr_query.specs.Paths.{EscapesAllOthers, WrittenPathsReadBack};
 ghost use Rattle.edr_query.specs.Targets.{TargetIsOne};
 ghost use Rattle.edr_query.specs.Spelling.{WrittenQueriesReadBack};
 
@@ -27,3 +28,13 @@ pub fn written_queries_read_back()
     written_times_are_instants();
     times_are_written();
 }
+
+/// The written path of an address names that address, where its ids are some UTF-8.
+pub fn written_paths_read_back()
+    ensures { WrittenPathsReadBack }
+{}
+
+/// In the parts of a written path all bytes are escaped but letters, digits, `-`, `.`, `_` and `~` (RFC 3986, section 2.3).
+pub fn paths_escape_all_others()
+    ensures { EscapesAllOthers }
+{}

@@ -1,6 +1,9 @@
-//! Rows of targets and of distances.
-use super::{Page, Query, Shape, TargetFault, read_target};
+//! Rows of targets, of paths and of distances.
+use super::{Page, Query, Shape, TargetFault, path_of, read_target};
 use crate::distances::read_distance;
+use crate::paths::read_address;
+use edr_base::Text;
+use std::alloc::Global;
 use std::rt::HostRuntime;
 use std::test::Fail;
 
@@ -321,6 +324,105 @@ fn targets(rt: HostRuntime) -> Result<(), Fail> {
             }
             Err(TargetFault::OutOfMemory) => assert!(rt; false, "{line}"),
         }
+    }
+    Ok(())
+}
+
+// A line for each target: the target, and its page with all ids, names and numbers.
+const PAGES: &str = "\
+/collections/c%20d => collection c d
+/collections/a%2Fb/instances/ => instances a/b
+/collections/%3D%26%3F/instances/7 => instance =&? 7
+/collections/%C3%A9/locations => locations é
+/collections/grid/locations/AB => data grid Location(Text { bytes: [65, 66] }) None None
+/collections/grid/locations/A?datetime=2024-01-01T00:00Z&z=-10 => data grid Location(Text { bytes: [65] }) Some(At(1704067200)) Some(At(-10))
+/collections/grid/position?coords=POINT(50 -7)&parameter-name=temp,wind,temp,,sea+ice, => data grid Position(Points { multi: false, has_z: false, has_m: false, positions: Items { items: [Position { x: 50, y: -7, z: 0, m: 0 }] } }) None None [temp] [wind] [] [sea ice]
+/collections/grid/instances/2/position?coords=MULTIPOINT((1 2),(3 4))&crs=a%2Bb+c => data grid/2 Position(Points { multi: true, has_z: false, has_m: false, positions: Items { items: [Position { x: 1, y: 2, z: 0, m: 0 }, Position { x: 3, y: 4, z: 0, m: 0 }] } }) None None crs a+b c
+/collections/grid/radius?coords=POINT Z(1 2 3)&within=1.5&within-units=km&datetime=../1970-01-01T00:00:01Z => data grid Radius { geometry: Points { multi: false, has_z: true, has_m: false, positions: Items { items: [Position { x: 1, y: 2, z: 3, m: 0 }] } }, within: 1500 } Some(Between(None, Some(1))) None
+/collections/grid/area?coords=POLYGON((0 0,9 0,0 9,0 0))&z=10/20 => data grid Area(Polygons { multi: false, has_z: false, has_m: false, polygons: Items { items: [Polygon { rings: Items { items: [Items { items: [Position { x: 0, y: 0, z: 0, m: 0 }, Position { x: 9, y: 0, z: 0, m: 0 }, Position { x: 0, y: 9, z: 0, m: 0 }, Position { x: 0, y: 0, z: 0, m: 0 }] }] } }] } }) None Some(Between(10, 20))
+/collections/grid/cube?bbox=0,-1,5,2,3,6&datetime=../.. => data grid Cube { lo: Spot { x: 0, y: -1 }, hi: Spot { x: 2, y: 3 }, levels: Some((5, 6)) } Some(All) None
+/collections/grid/cube?bbox=0,1,2,3&z=1,5,7 => data grid Cube { lo: Spot { x: 0, y: 1 }, hi: Spot { x: 2, y: 3 }, levels: None } None Some(List(Items { items: [1, 5, 7] }))
+/collections/grid/trajectory?coords=LINESTRING M(0 1 2,3 4 5) => data grid Trajectory(Line { has_z: false, has_m: true, positions: Items { items: [Position { x: 0, y: 1, z: 0, m: 2 }, Position { x: 3, y: 4, z: 0, m: 5 }] } }) None None
+/collections/grid/corridor?coords=LINESTRING(0 0,1 1)&corridor-width=3&width-units=km&corridor-height=20&height-units=m => data grid Corridor { geometry: Line { has_z: false, has_m: false, positions: Items { items: [Position { x: 0, y: 0, z: 0, m: 0 }, Position { x: 1, y: 1, z: 0, m: 0 }] } }, width: 3000, height: Some(20) } None None
+";
+
+fn text_of(text: &Text) -> &str {
+    std::str::from_utf8(text.bytes()).unwrap_or("no UTF-8")
+}
+
+fn written_query(alloc: Global, query: &Query) -> Result<String, Fail> {
+    let mut written = format!(in alloc; "data {}", text_of(&query.collection))?;
+    if let Some(instance) = &query.instance {
+        written.push_str(&format!(in alloc; "/{}", text_of(instance))?)?;
+    }
+    let parts = format!(in alloc; " {:?} {:?} {:?}", query.shape, query.times, query.levels)?;
+    written.push_str(&parts)?;
+    if let Some(names) = &query.parameters {
+        for name in names.items() {
+            written.push_str(&format!(in alloc; " [{}]", text_of(name))?)?;
+        }
+    }
+    if let Some(crs) = &query.crs {
+        written.push_str(&format!(in alloc; " crs {}", text_of(crs))?)?;
+    }
+    Ok(written)
+}
+
+fn written_page(alloc: Global, page: &Page) -> Result<String, Fail> {
+    let kind = page_of(page);
+    match page {
+        Page::Collection(id) | Page::Instances(id) | Page::Locations(id) => {
+            Ok(format!(in alloc; "{kind} {}", text_of(id))?)
+        }
+        Page::Instance(collection, id) => {
+            Ok(format!(in alloc; "{kind} {} {}", text_of(collection), text_of(id))?)
+        }
+        Page::Ask(query) => written_query(alloc, query),
+        _ => Ok(format!(in alloc; "{kind}")?),
+    }
+}
+
+#[test]
+fn pages(rt: HostRuntime) -> Result<(), Fail> {
+    for line in PAGES.lines() {
+        let (target, answer) = line.split_once(" => ").ok_or("a line without an answer")?;
+        match read_target(rt.alloc(), target.as_bytes()) {
+            Ok(page) => {
+                let written = written_page(rt.alloc(), &page)?;
+                assert_eq!(rt; written.as_str(), answer, "{line}");
+            }
+            Err(_) => assert!(rt; false, "{line}"),
+        }
+    }
+    Ok(())
+}
+
+// A line for each path that names an address: the path, and how it is written.
+const PATHS: &str = "\
+/ => /
+/conformance/ => /conformance
+/%63ollections => /collections
+/collections/c%20d/ => /collections/c%20d
+/collections/a+b/instances => /collections/a%2Bb/instances
+/collections/a%2fb/instances/%7e7-._~ => /collections/a%2Fb/instances/~7-._~
+/collections/é/locations => /collections/%C3%A9/locations
+/collections/g/locations/A:!*'() => /collections/g/locations/A%3A%21%2A%27%28%29
+/collections/c d/position => /collections/c%20d/position
+/collections/c/radius/ => /collections/c/radius
+/collections/c/area => /collections/c/area
+/collections/c/instances/1 2/cube => /collections/c/instances/1%202/cube
+/collections/c/instances/1/trajectory => /collections/c/instances/1/trajectory
+/collections/c/instances/%25/corridor => /collections/c/instances/%25/corridor
+";
+
+#[test]
+fn paths(rt: HostRuntime) -> Result<(), Fail> {
+    for line in PATHS.lines() {
+        let (path, answer) = line.split_once(" => ").ok_or("a line without an answer")?;
+        let found = read_address(rt.alloc(), path.as_bytes())?;
+        let address = found.ok_or("a path that names no page")?;
+        let written = path_of(rt.alloc(), &address)?;
+        assert!(rt; written.bytes() == answer.as_bytes(), "{line}");
     }
     Ok(())
 }

@@ -11,6 +11,7 @@ loop-front-preserved c =
     record {
       left = ap (λ l. with_names l (pieces back)) e ∙ sym (names_cut names rest front back cut) ∙ inv.left;
       kept = subst AreKept (sym e) (kept_more names front inv.kept (front_utf8 rest front back cut inv.utf8) cut.first);
+      seen = search rules;
       utf8 = back_utf8 rest front back cut inv.utf8;
     }
 
