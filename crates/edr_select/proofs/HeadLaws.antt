@@ -1,0 +1,131 @@
+-- The heads of a position's coverages are valid, and their cells are as many as their values.
+use Rattle.std.proofs.Common.{◌≡◌, ℕ, zero, suc, ◌+◌, ◌<◌, ◌<ℤ◌, Bool, true, false, cond, List, [], ◌∷◌, length, refl, subst, arith, None, IfSome, IsSome, ℤ, All, replicate}
+use Rattle.std.specs.declared.option.Option.{Option}
+use Rattle.std.specs.Prelude.{map, if◌then◌else◌}
+use Rattle.std.specs.List.{filter}
+use Rattle.std.specs.List.Sorted.{IsStrictlySortedBy}
+use Rattle.std.specs.Cmp.Lexicographic.{slice_cmp}
+use Rattle.std.specs.Ordering.{nat_cmp}
+use Rattle.std.proofs.lemmas.Bool.{false≢true}
+use Rattle.std.proofs.lemmas.List.{length-map, length-replicate}
+use Rattle.std.proofs.lemmas.List.Elements.{All-filter, All-map, All-replicate}
+use Rattle.std.proofs.lemmas.List.Kept.{IsStrictlySortedBy-filter}
+use Rattle.edr_axes.specs.Axes.{value_at, IsAscending, IsAxis}
+use Rattle.edr_axes.specs.AxisLaws.{ascending_far}
+use Rattle.covjson_value.specs.declared.domains.CoordinateName.{CoordinateName}
+use Rattle.covjson_value.specs.declared.domains.CoordinateName.TheVariants.{Z}
+use Rattle.covjson_value.specs.declared.domains.Domain.{Domain}
+use Rattle.covjson_value.specs.declared.coverages.Parameter.{Parameter}
+use Rattle.covjson_value.specs.declared.coverages.NdArray.{NdArray}
+use Rattle.covjson_value.specs.declared.coverages.Referencing.{Referencing}
+use Rattle.covjson_value.specs.Domains.{has_coordinate, count_of}
+use Rattle.covjson_value.specs.Coverages.{IsAxisValue, IsNamedAxis, HasAxes, HasTuples, IsParameter, IsReferencing, IsSample, IsRange, AscendById, ids_of}
+use Rattle.covjson_write.specs.Writers.{IsHead}
+use Rattle.edr_edition.specs.Stores.{Subject}
+use Rattle.edr_select.specs.Selections.{is_asked}
+use Rattle.edr_select.specs.Choices.{parameter_places}
+use Rattle.edr_select.proofs.Lists.{Each, each-filter, filter-map}
+use Rattle.edr_select.proofs.Parameters.{parameter_at, asked_by_places}
+use Rattle.edr_select.proofs.Coverages.{coverage_with}
+
+-- ---- some values of an axis are an axis
+
+abbrev Sorted : List ℤ → Type 0
+Sorted [] = Unit {0}
+Sorted (x ∷ xs) = Each (λ y. x <ℤ y) xs × Sorted xs
+
+each_from : (P : ℤ → Type 0) (xs : List ℤ) → ((k : ℕ) → k < length xs → P (value_at xs k)) → Each P xs
+each_from P [] h = tt
+each_from P (x ∷ xs) h = (h 0 (omega arith), each_from P xs (λ k l. h (suc k) (omega arith)))
+
+each_at : (P : ℤ → Type 0) (xs : List ℤ) → Each P xs → (k : ℕ) → k < length xs → P (value_at xs k)
+each_at P [] h k l = absurd (omega arith)
+each_at P (x ∷ xs) h zero l = h.0
+each_at P (x ∷ xs) h (suc k) l = each_at P xs h.1 k (omega arith)
+
+tail_ascends : (x : ℤ) (xs : List ℤ) → IsAscending (x ∷ xs) → IsAscending xs
+tail_ascends x xs h k l = subst (λ j. value_at (x ∷ xs) (suc k) <ℤ value_at (x ∷ xs) j) (next k) (h (suc k) (omega arith))
+  where
+    next : (k : ℕ) → suc k + 1 ≡ suc (k + 1)
+    next k = omega arith
+
+sorted_from : (xs : List ℤ) → IsAscending xs → Sorted xs
+sorted_from [] h = tt
+sorted_from (x ∷ xs) h = (each_from (λ y. x <ℤ y) xs (λ k l. ascending_far (x ∷ xs) h 0 (suc k) (omega arith) (omega arith)), sorted_from xs (tail_ascends x xs h))
+
+ascending_from : (xs : List ℤ) → Sorted xs → IsAscending xs
+ascending_from [] h k l = absurd (omega arith)
+ascending_from (x ∷ xs) h zero l = each_at (λ y. x <ℤ y) xs h.0 0 (omega arith)
+ascending_from (x ∷ xs) h (suc k) l = subst (λ j. value_at (x ∷ xs) (suc k) <ℤ value_at (x ∷ xs) j) (next k) (ascending_from xs h.1 k (omega arith))
+  where
+    next : (k : ℕ) → suc (k + 1) ≡ suc k + 1
+    next k = omega arith
+
+sorted_filter : (t : ℤ → Bool) (xs : List ℤ) → Sorted xs → Sorted (filter t xs)
+sorted_filter t [] h = tt
+sorted_filter t (x ∷ xs) h =
+    elim (t x) as (λ b. Sorted (cond b (x ∷ filter t xs) (filter t xs))) [ true ↦ (each-filter (λ y. x <ℤ y) t xs h.0, sorted_filter t xs h.1) | false ↦ sorted_filter t xs h.1 ]
+
+-- what passes a test, where some value does
+pub axis_filter : (t : ℤ → Bool) (values : List ℤ) → IsAxis values → 0 < length (filter t values) → IsAxis (filter t values)
+axis_filter t values axis some = record { some = some; ascending = ascending_from (filter t values) (sorted_filter t values (sorted_from values axis.ascending)) }
+
+pub named_axis_filter : (name : CoordinateName) (t : ℤ → Bool) (values : List ℤ) → IsNamedAxis name values → 0 < length (filter t values)
+    → IsNamedAxis name (filter t values)
+named_axis_filter name t values axis some = record {
+  ascending = axis_filter t values axis.ascending some;
+  within = All-filter t (IsAxisValue name) values axis.within;
+}
+
+-- ---- parameters
+
+-- the parameters that are asked are parameters, in the order of their ids
+pub asked_are : (names : Option (List (List ℕ))) (ps : List Parameter) → All IsParameter ps → All IsParameter (map (parameter_at ps) (parameter_places names ps))
+asked_are names ps h =
+    subst (All IsParameter) (asked_by_places names ps) (All-filter (λ (p : Parameter). is_asked names p.id) IsParameter ps h)
+
+pub asked_ascend : (names : Option (List (List ℕ))) (ps : List Parameter) → AscendById ps → AscendById (map (parameter_at ps) (parameter_places names ps))
+asked_ascend names ps h =
+    subst AscendById (asked_by_places names ps)
+    (subst (λ ids. IsStrictlySortedBy (slice_cmp nat_cmp) ids) (filter-map (is_asked names) (λ (p : Parameter). p.id) ps)
+    (IsStrictlySortedBy-filter (slice_cmp nat_cmp) (is_asked names) (ids_of ps) h))
+
+-- ---- heads
+
+-- a range of missing samples
+abbrev missing : ℕ → NdArray
+missing n = record { values = replicate n None }
+
+missing_is : (domain : Domain) → IsRange domain (missing (count_of domain))
+missing_is domain = record {
+  count = length-replicate (count_of domain) None;
+  samples = All-replicate (λ (v : Option ℤ). IfSome v IsSample) (count_of domain) None tt;
+}
+
+vertical_is : (b : Bool) (vertical : Option (List ℕ)) → IsSome (if b then vertical else None) → b ≡ true
+vertical_is true vertical h = refl
+vertical_is false vertical h = absurd (false≢true h)
+
+referencing_is : (b : Bool) (r : Referencing) → IsReferencing r → IsReferencing (record { crs = r.crs; vertical = if b then r.vertical else None })
+referencing_is true r h = record { crs = h.crs; vertical = h.vertical }
+referencing_is false r h = record { crs = h.crs; vertical = tt }
+
+-- over a domain that is valid there is a valid head
+pub head_is : (s : Subject) (domain : Domain) (ps : List Parameter) → IsReferencing s.collection.referencing → HasAxes domain → HasTuples domain
+    → 0 < length ps → All IsParameter ps → AscendById ps
+    → IsHead (coverage_with s domain ps [])
+head_is s domain ps referencing axes tuples some parameters ascending = record {
+  ranges = map (λ (p : Parameter). missing (count_of domain)) ps;
+  valid = record {
+    id = tt;
+    axes = axes;
+    tuples = tuples;
+    referencing = referencing_is (has_coordinate domain Z) s.collection.referencing referencing;
+    vertical = vertical_is (has_coordinate domain Z) s.collection.referencing.vertical;
+    some = some;
+    parameters = parameters;
+    ascending = ascending;
+    as_many = length-map ps (λ (p : Parameter). missing (count_of domain));
+    ranges = All-map (IsRange domain) (λ (p : Parameter). missing (count_of domain)) ps (λ k d l. missing_is domain);
+  };
+}

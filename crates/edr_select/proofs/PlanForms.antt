@@ -1,0 +1,312 @@
+-- What is planned for a position, by the form of its reply.
+use Rattle.std.proofs.Common.{◌≡◌, ◌≢◌, ℕ, zero, suc, ◌*◌, ◌^◌, ◌<◌, ◌≤◌, Bool, true, false, List, [], ◌∷◌, length, Option, Some, None, refl, ap, ap₂, sym, ◌∙◌, subst, arith, All, Contains, IfSome, ℤ, pos, mul-le-mul_right, mul-pos, mul_comm, one-mul}
+use Rattle.std.specs.Prelude.{map, ◌||◌, nat_lt}
+use Rattle.std.specs.List.{slice_index_or}
+use Rattle.std.proofs.lemmas.Bool.{false≢true}
+use Rattle.std.proofs.lemmas.List.{length-map, get_or_default}
+use Rattle.edr_base.specs.declared.places.Position.{Position}
+use Rattle.edr_base.specs.Limits.{node_limit}
+use Rattle.edr_base.specs.declared.refusals.Refusal.TheVariants.{TooLarge}
+use Rattle.edr_axes.specs.Axes.{IsAxis, value_at}
+use Rattle.edr_wkt.specs.declared.geometry.Geometry.{Geometry}
+use Rattle.edr_wkt.specs.declared.geometry.Geometry.TheVariants.{Points, Line, Polygons}
+use Rattle.edr_wkt.specs.Geometries.{positions_of}
+use Rattle.covjson_value.specs.declared.domains.Domain.{Domain}
+use Rattle.covjson_value.specs.declared.domains.CoordinateName.TheVariants.{Z}
+use Rattle.covjson_value.specs.Coverages.{IsNamedAxis}
+use Rattle.covjson_value.specs.Domains.{axis_length}
+use Rattle.edr_chunk.specs.declared.shapes.GridShape.{GridShape}
+use Rattle.edr_chunk.specs.Places.{IsShape, nodes}
+use Rattle.edr_edition.specs.Values.{InstanceValue, CollectionValue}
+use Rattle.edr_edition.specs.Instances.{HasGrid}
+use Rattle.edr_edition.specs.Editions.{IsCollection}
+use Rattle.edr_edition.specs.Stores.{Subject, instance_named}
+use Rattle.edr_edition.specs.declared.kinds.Kind.TheVariants.{Grid}
+use Rattle.edr_query.specs.declared.addresses.QueryKind.TheVariants as kind
+use Rattle.edr_query.specs.declared.shapes.Shape.TheVariants as at
+use Rattle.edr_query.specs.Queries.{IsTaken, IsQuery, IsShape as IsShapeOf}
+use Rattle.edr_query.specs.Values.{QueryValue}
+use Rattle.edr_select.specs.declared.plans.GridNode.{GridNode}
+use Rattle.edr_select.specs.declared.forms.Form.{Form}
+use Rattle.edr_select.specs.declared.forms.Form.TheVariants.{AtPoint, Along, Apart}
+use Rattle.edr_select.specs.Limits.{value_limit, coverage_limit}
+use Rattle.edr_select.specs.Heads.{Spot}
+use Rattle.edr_select.specs.Wanted.{levels_asked}
+use Rattle.edr_select.specs.Documents.{document, coverages_in, values_in}
+use Rattle.edr_select.specs.Checks.{refused_query, grid_of}
+use Rattle.edr_select.specs.Choices.{IsPoints, Chosen, chosen, IsSome, level_at, cells_along, levels_of, spot_of}
+use Rattle.edr_select.specs.Planned as planned
+use Rattle.edr_select.specs.Planned.{IsInside, IsSmall, AreAxes}
+use Rattle.edr_select.specs.Plans.{PlannedValue, PlanValue, IsPlanned, IsPlan, StandsFor}
+use Rattle.edr_select.specs.Steps.{IsAsked, IsChoice, IsForm, IsPlanIn, are_several, is_many, value_count, coverage_count, planned_in, refused_large}
+use Rattle.edr_select.proofs.Lists.{Each, all_member, member_here}
+use Rattle.edr_select.proofs.Grids.{IsGrid}
+use Rattle.edr_select.proofs.Instances.{grid_from}
+use Rattle.edr_select.proofs.ChosenLaws as laws
+use Rattle.edr_select.proofs.Nearest.{one_spot}
+use Rattle.edr_select.proofs.Nodes as nodes_of_spots
+use Rattle.edr_select.proofs.Coverages as coverages
+use Rattle.edr_select.proofs.Counts as counts
+use Rattle.edr_select.proofs.PlanLaws as plans
+use Rattle.edr_select.proofs.PlannedLaws as valid
+use Rattle.edr_select.proofs.Positions.{ArePoints, one, several, position_points}
+use Rattle.edr_select.proofs.PlanSteps.{known_size, refused_size}
+
+-- ---- points
+
+pub are_points : (geometry : Geometry) → IsTaken kind.Position geometry → IsPoints geometry
+are_points (Points multi has_z has_m positions) h = tt
+are_points (Line has_z has_m positions) h = absurd (false≢true h.1)
+are_points (Polygons multi has_z has_m polygons) h = absurd (false≢true h.1)
+
+-- a query whose shape is a position has points
+pub is_asked : (c : CollectionValue) (q : QueryValue) (i : InstanceValue) (geometry : Geometry) → IsCollection c → c.kind ≡ Grid → instance_named q.instance c.instances ≡ Some i
+    → HasGrid i → q.shape ≡ at.Position geometry → IsQuery q → IsAsked c q i geometry
+is_asked c q i geometry collection kind named grid shape query = record {
+  is_collection = collection;
+  kind = kind;
+  instance_is = named;
+  shape = shape;
+  points = subst IsShapeOf shape query.shape;
+  grid = grid;
+}
+
+record PointsAre (geometry : Geometry) (multi : Bool) : Type 0 where
+  has_z : Bool
+  has_m : Bool
+  positions : List Position
+  is : geometry ≡ Points multi has_z has_m positions
+
+points_as : (geometry : Geometry) → IsTaken kind.Position geometry → (multi : Bool) → are_several geometry ≡ multi → PointsAre geometry multi
+points_as (Points multi has_z has_m positions) h other e = record { has_z = has_z; has_m = has_m; positions = positions; is = ap (λ b. Points b has_z has_m positions) e }
+points_as (Line has_z has_m positions) h other e = absurd (false≢true h.1)
+points_as (Polygons multi has_z has_m polygons) h other e = absurd (false≢true h.1)
+
+record OnePoint (geometry : Geometry) : Type 0 where
+  point : Position
+  alone : positions_of geometry ≡ point ∷ []
+
+one_of : (geometry : Geometry) → ArePoints geometry → are_several geometry ≡ false → OnePoint geometry
+one_of _ (one has_z point) e = record { point = point; alone = refl }
+one_of _ (several positions some) e = absurd (false≢true (sym e))
+
+-- ---- lists
+
+all_from_members : {X : Type 0} (P : X → Type 0) (xs : List X) → ((x : X) → Contains xs x → P x) → All P xs
+all_from_members P xs h k d l =
+    h (slice_index_or xs k d) (k, l, get_or_default xs k (slice_index_or xs k d) d l)
+
+pub first_in : (P : ℕ → Type 0) (xs : List ℕ) (x : ℕ) → All P xs → xs ≡ x ∷ [] → P x
+first_in P xs x all e = all_member P xs x all (subst (λ (ys : List ℕ). Contains ys x) (sym e) (member_here x []))
+
+-- ---- what is taken lies in the grid
+
+more : (a b : ℕ) → 1 ≤ b → a ≤ a * b
+more a b h =
+    let wide : 1 * a ≤ b * a = mul-le-mul_right a h in
+    omega (arith, wide, one-mul a, mul_comm b a)
+
+times_few : (shape : GridShape) → IsShape shape → shape.times ≤ node_limit
+times_few shape h =
+    let a = more shape.times shape.levels h.levels in
+    let b = more (shape.times * shape.levels) shape.rows h.rows in
+    let c = more (shape.times * shape.levels * shape.rows) shape.columns h.columns in
+    omega (arith, a, b, c, h.few)
+
+levels_few : (shape : GridShape) → IsShape shape → shape.levels ≤ node_limit
+levels_few shape h =
+    let a = more shape.levels shape.times h.times in
+    let b = more (shape.times * shape.levels) shape.rows h.rows in
+    let c = more (shape.times * shape.levels * shape.rows) shape.columns h.columns in
+    omega (arith, a, mul_comm shape.levels shape.times, b, c, h.few)
+
+pub small : (i : InstanceValue) → HasGrid i → IsSmall i
+small i h =
+    let g = grid_from i h in
+    let plane : i.grid.shape.rows * i.grid.shape.columns ≡ length i.ys * length i.xs = ap₂ (λ a b. a * b) g.rows g.columns in
+    record {
+      times = omega (arith, g.times, times_few i.grid.shape h.is_shape);
+      levels = omega (arith, g.levels, levels_few i.grid.shape h.is_shape);
+      spots = omega (arith, plane, valid.plane_few i.grid.shape h.is_shape);
+    }
+
+axis_if : (zs : Option (List ℤ)) → IfSome zs (IsNamedAxis Z) → IfSome zs IsAxis
+axis_if None h = tt
+axis_if (Some values) h = h.ascending
+
+same_domain : (t : ℤ) (z : Option ℤ) (spots : List Spot) → planned.points_domain t z spots ≡ nodes_of_spots.points_domain t z spots
+same_domain t None spots = refl
+same_domain t (Some z) spots = refl
+
+module _ (c : CollectionValue) (q : QueryValue) (i : InstanceValue) (geometry : Geometry) (asked : IsAsked c q i geometry) where
+  abbrev s : Subject
+  s = grid_of c i
+
+  g : IsGrid i
+  g = grid_from i asked.grid
+
+  abbrev choice : Chosen
+  choice = chosen i q geometry
+
+  pub inside : IsInside i choice
+  inside = record {
+    parameters = all_from_members (λ p. p < length i.parameters) choice.parameters (laws.parameter_below i q geometry g);
+    times = all_from_members (λ t. t < length i.ts) choice.times (laws.time_below i q geometry g);
+    levels = all_from_members (λ z. z < axis_length i.zs) choice.levels (laws.level_below i q geometry g);
+    spots = all_from_members (λ spot. spot < length i.ys * length i.xs) choice.spots (laws.spot_below i q geometry g);
+  }
+
+  -- one spot is the nearest to one point
+  pub spot_alone : IsSome choice → are_several geometry ≡ false → length choice.spots ≡ 1
+  spot_alone some e =
+      let p = one_of geometry (position_points geometry asked.points) e in
+      ap (λ (spots : List ℕ). length spots) (one_spot i q geometry g p.point p.alone some.spots).1
+
+  module _ (some : IsSome choice) where
+    pub axes : AreAxes i choice
+    axes = record {
+      times = (valid.time_axis s q i geometry asked.grid asked.is_collection.referencing some).ascending;
+      levels = axis_if (levels_of i choice) (valid.level_axis (levels_asked q) i.zs asked.grid.zs some.levels);
+    }
+
+    -- ---- sizes
+
+    record Sizes (form : Form) : Type 0 where
+      values : values_in (document s q) ≡ value_count choice
+      coverages : length (coverages_in (document s q)) ≡ coverage_count choice form
+
+    sizes : (form : Form) → IsForm geometry choice form → Sizes form
+    sizes (AtPoint spot) h =
+        let p = points_as geometry asked.points false h.0 in
+        record {
+          values = counts.values_at_point s q i geometry refl asked.shape g some p.has_z p.has_m p.positions p.is spot h.1;
+          coverages = counts.coverages_at_point s q i geometry refl asked.shape g some p.has_z p.has_m p.positions p.is spot h.1;
+        }
+    sizes (Along t z) h =
+        let p = points_as geometry asked.points true h.0 in
+        record {
+          values = counts.values_along s q i geometry refl asked.shape g some p.has_z p.has_m p.positions p.is t z h.1.0 h.1.1;
+          coverages = counts.coverages_along s q i geometry refl asked.shape g some p.has_z p.has_m p.positions p.is t z h.1.0 h.1.1;
+        }
+    sizes Apart h =
+        let p = points_as geometry asked.points true h.0 in
+        record {
+          values = counts.values_apart s q i geometry refl asked.shape g some p.has_z p.has_m p.positions p.is h.1;
+          coverages = counts.coverages_apart s q i geometry refl asked.shape g some p.has_z p.has_m p.positions p.is h.1;
+        }
+
+    pub size_is : (form : Form) → IsForm geometry choice form
+        → (nat_lt value_limit (values_in (document s q)) || nat_lt coverage_limit (length (coverages_in (document s q))))
+        ≡ (nat_lt value_limit (value_count choice) || nat_lt coverage_limit (coverage_count choice form))
+    size_is form h = let n = sizes form h in ap₂ (λ values covs. nat_lt value_limit values || nat_lt coverage_limit covs) n.values n.coverages
+
+    -- ---- what is planned
+
+    abbrev over : List GridNode → Domain → PlannedValue
+    over cells domain = record { head = coverages.head_over s i choice domain; cells = cells }
+
+    same_along : (t z : ℕ) → planned.planned_along c.referencing i choice t z ≡ coverages.planned_along s i choice t z
+    same_along t z = ap (over (cells_along i.xs choice t z)) (same_domain (value_at i.ts t) (level_at i.zs z) (map (spot_of i) choice.spots))
+
+    -- every plan is valid
+    pub is_plan : (form : Form) → IsForm geometry choice form → (plan : PlanValue) → plan.shape ≡ i.grid.shape → plan.parameters ≡ choice.parameters
+        → plan.many ≡ is_many form → plan.coverages ≡ planned_in c.referencing i choice form → IsPlan plan
+    is_plan (AtPoint spot) h plan shape parameters many are =
+        valid.is_plan s q i geometry asked.grid asked.is_collection.referencing some plan (map (coverages.planned_at s i choice) choice.spots) shape parameters are
+        (valid.planned_at_are s q i geometry asked.grid asked.is_collection.referencing some)
+        (λ _. length-map choice.spots (coverages.planned_at s i choice) ∙ ap (λ (spots : List ℕ). length spots) h.1)
+    is_plan (Along t z) h plan shape parameters many are =
+        valid.is_plan s q i geometry asked.grid asked.is_collection.referencing some plan (coverages.planned_along s i choice t z ∷ []) shape parameters
+        (are ∙ ap (λ (p : PlannedValue). p ∷ []) (same_along t z)) (
+          valid.planned_along_is s q i geometry asked.grid asked.is_collection.referencing some t z
+              (subst (λ (ts : List ℕ). Contains ts t) (sym h.1.0) (member_here t [])) (subst (λ (zs : List ℕ). Contains zs z) (sym h.1.1) (member_here z [])),
+          tt,
+        )
+        (λ _. refl)
+    is_plan Apart h plan shape parameters many are =
+        valid.is_plan s q i geometry asked.grid asked.is_collection.referencing some plan (map (coverages.planned_at s i choice) choice.spots) shape parameters are
+        (valid.planned_at_are s q i geometry asked.grid asked.is_collection.referencing some)
+        (λ one. absurd (false≢true (sym one ∙ many)))
+
+-- a plan of the query that it keeps
+stands_at : (c : CollectionValue) (i : InstanceValue) (geometry : Geometry) (plan : PlanValue) (asked : IsAsked c plan.query i geometry)
+    → (some : IsSome (chosen i plan.query geometry)) (form : Form) → IsForm geometry (chosen i plan.query geometry) form → plan.shape ≡ i.grid.shape
+    → plan.parameters ≡ (chosen i plan.query geometry).parameters → plan.many ≡ is_many form
+    → plan.coverages ≡ planned_in c.referencing i (chosen i plan.query geometry) form → StandsFor plan (grid_of c i)
+stands_at c i geometry plan asked some (AtPoint spot) h shape parameters many are =
+    let p = points_as geometry asked.points false h.0 in
+    plans.stands_at_point plan (grid_of c i) i geometry refl asked.shape (grid_from i asked.grid) some shape parameters p.has_z p.has_m p.positions p.is spot h.1 many
+    (are ∙ ap (map (planned.planned_at c.referencing i (chosen i plan.query geometry))) h.1)
+stands_at c i geometry plan asked some (Along t z) h shape parameters many are =
+    let p = points_as geometry asked.points true h.0 in
+    plans.stands_along plan (grid_of c i) i geometry refl asked.shape (grid_from i asked.grid) some shape parameters p.has_z p.has_m p.positions p.is t z h.1.0 h.1.1 many
+    (are ∙ ap (λ (p : PlannedValue). p ∷ []) (same_along c plan.query i geometry asked some t z))
+stands_at c i geometry plan asked some Apart h shape parameters many are =
+    let p = points_as geometry asked.points true h.0 in
+    plans.stands_apart plan (grid_of c i) i geometry refl asked.shape (grid_from i asked.grid) some shape parameters p.has_z p.has_m p.positions p.is h.1 many are
+
+-- a plan of an equal one
+pub plan_stands : (c : CollectionValue) (q : QueryValue) (i : InstanceValue) (geometry : Geometry) → IsAsked c q i geometry → IsSome (chosen i q geometry)
+    → (form : Form) → IsForm geometry (chosen i q geometry) form → (plan : PlanValue) → plan.query ≡ q → plan.shape ≡ i.grid.shape
+    → plan.parameters ≡ (chosen i q geometry).parameters → plan.many ≡ is_many form
+    → plan.coverages ≡ planned_in c.referencing i (chosen i q geometry) form → StandsFor plan (grid_of c i)
+plan_stands c q i geometry asked some form is plan query shape parameters many are =
+    subst (λ (q : QueryValue). IsAsked c q i geometry → IsSome (chosen i q geometry) → IsForm geometry (chosen i q geometry) form
+    → plan.parameters ≡ (chosen i q geometry).parameters → plan.coverages ≡ planned_in c.referencing i (chosen i q geometry) form → StandsFor plan (grid_of c i))
+    query (λ asked some is parameters are. stands_at c i geometry plan asked some form is shape parameters many are) asked some is parameters are
+
+-- no refusal is left where the plan isn't too large
+pub is_plan_in : (c : CollectionValue) (q : QueryValue) (i : InstanceValue) (geometry : Geometry) → IsAsked c q i geometry → IsSome (chosen i q geometry)
+    → (form : Form) → IsForm geometry (chosen i q geometry) form → (plan : PlanValue) → plan.query ≡ q → plan.shape ≡ i.grid.shape
+    → plan.parameters ≡ (chosen i q geometry).parameters → plan.many ≡ is_many form
+    → plan.coverages ≡ planned_in c.referencing i (chosen i q geometry) form → refused_query c q ≡ refused_large q (grid_of c i)
+    → (nat_lt value_limit (value_count (chosen i q geometry)) || nat_lt coverage_limit (coverage_count (chosen i q geometry) form)) ≡ false → IsPlanIn c q i plan
+is_plan_in c q i geometry asked some form is plan query shape parameters many are left fits = record {
+  none = left ∙ known_size c q i geometry asked (size_is c q i geometry asked some form is ∙ fits);
+  query_is = query;
+  stands = plan_stands c q i geometry asked some form is plan query shape parameters many are;
+}
+
+pub is_refused_in : (c : CollectionValue) (q : QueryValue) (i : InstanceValue) (geometry : Geometry) (asked : IsAsked c q i geometry) → IsSome (chosen i q geometry)
+    → (form : Form) → IsForm geometry (chosen i q geometry) form → refused_query c q ≡ refused_large q (grid_of c i)
+    → (nat_lt value_limit (value_count (chosen i q geometry)) || nat_lt coverage_limit (coverage_count (chosen i q geometry) form)) ≡ true
+    → refused_query c q ≡ Some TooLarge
+is_refused_in c q i geometry asked some form is left large = left ∙ refused_size c q i geometry asked (size_is c q i geometry asked some form is ∙ large)
+
+-- ---- by the choice that was made
+
+module _ (c : CollectionValue) (q : QueryValue) (i : InstanceValue) (geometry : Geometry) (asked : IsAsked c q i geometry) (choice : Chosen)
+    (made : IsChoice c q i geometry choice) where
+  some_chosen : IsSome (chosen i q geometry)
+  some_chosen = subst IsSome made.is made.some
+
+  pub choice_alone : are_several geometry ≡ false → length choice.spots ≡ 1
+  choice_alone e = ap (λ (ch : Chosen). length ch.spots) made.is ∙ spot_alone c q i geometry asked some_chosen e
+
+  pub choice_inside : IsInside i choice
+  choice_inside = subst (IsInside i) (sym made.is) (inside c q i geometry asked)
+
+  pub choice_axes : AreAxes i choice
+  choice_axes = subst (AreAxes i) (sym made.is) (axes c q i geometry asked some_chosen)
+
+  pub too_large : (form : Form) → IsForm geometry choice form
+      → (nat_lt value_limit (value_count choice) || nat_lt coverage_limit (coverage_count choice form)) ≡ true → refused_query c q ≡ Some TooLarge
+  too_large form =
+      subst (λ (ch : Chosen). IsForm geometry ch form → (nat_lt value_limit (value_count ch) || nat_lt coverage_limit (coverage_count ch form)) ≡ true
+      → refused_query c q ≡ Some TooLarge) (sym made.is)
+      (λ is large. is_refused_in c q i geometry asked some_chosen form is made.refused_is large)
+
+  pub plan_valid : (form : Form) → IsForm geometry choice form → (plan : PlanValue) → plan.shape ≡ i.grid.shape → plan.parameters ≡ choice.parameters
+      → plan.many ≡ is_many form → plan.coverages ≡ planned_in c.referencing i choice form → IsPlan plan
+  plan_valid form h plan shape parameters many are =
+      subst (λ (ch : Chosen). IsForm geometry ch form → plan.parameters ≡ ch.parameters → plan.coverages ≡ planned_in c.referencing i ch form → IsPlan plan) (sym made.is)
+      (λ is parameters are. is_plan c q i geometry asked some_chosen form is plan shape parameters many are) h parameters are
+
+  pub plan_made : (form : Form) → IsForm geometry choice form
+      → (nat_lt value_limit (value_count choice) || nat_lt coverage_limit (coverage_count choice form)) ≡ false
+      → (plan : PlanValue) → plan.query ≡ q → plan.shape ≡ i.grid.shape → plan.parameters ≡ choice.parameters → plan.many ≡ is_many form
+      → plan.coverages ≡ planned_in c.referencing i choice form → IsPlanIn c q i plan
+  plan_made form h fits plan query shape parameters many are =
+      subst (λ (ch : Chosen). IsForm geometry ch form → (nat_lt value_limit (value_count ch) || nat_lt coverage_limit (coverage_count ch form)) ≡ false
+      → plan.parameters ≡ ch.parameters → plan.coverages ≡ planned_in c.referencing i ch form → IsPlanIn c q i plan) (sym made.is)
+      (λ is fits parameters are. is_plan_in c q i geometry asked some_chosen form is plan query shape parameters many are made.refused_is fits) h fits parameters are

@@ -1,0 +1,157 @@
+-- The refusals of a position from step to step, from those of names on.
+use Rattle.std.proofs.Common.{◌≡◌, ◌≢◌, ℕ, zero, suc, ◌<◌, Bool, true, false, cond, List, [], ◌∷◌, length, Option, Some, None, refl, ap, sym, ◌∙◌, subst, arith, All, Contains, inl, inr}
+use Rattle.std.specs.Prelude.{◌↔◌, IsTrue, not, ◌&&◌, ◌||◌, is_some, nat_lt}
+use Rattle.std.specs.List.{find, slice_index_or}
+use Rattle.std.specs.Ordering.{is_lt}
+use Rattle.std.proofs.lemmas.Bool.{false≢true, false_from_ne_true, cases_Bool}
+use Rattle.std.proofs.lemmas.List.{get_or_default}
+use Rattle.edr_base.specs.declared.refusals.Refusal.{Refusal}
+use Rattle.edr_base.specs.declared.refusals.Refusal.TheVariants.{UnknownParameterName, BadCrs, NoLevels, NoSamples, TooLarge}
+use Rattle.edr_wkt.specs.declared.geometry.Geometry.{Geometry}
+use Rattle.covjson_value.specs.declared.coverages.Parameter.{Parameter}
+use Rattle.covjson_value.specs.Coverages.{ids_of}
+use Rattle.edr_ids.specs.Ids.{order, has_id, item_of}
+use Rattle.edr_edition.specs.declared.kinds.Kind.{Kind}
+use Rattle.edr_edition.specs.declared.kinds.Kind.TheVariants.{Grid}
+use Rattle.edr_edition.specs.Values.{InstanceValue, CollectionValue, instance_id, parameters_of}
+use Rattle.edr_edition.specs.Stores.{Subject, instance_named, newest, greater, subject_in}
+use Rattle.edr_query.specs.Values.{QueryValue}
+use Rattle.edr_select.specs.Limits.{value_limit, coverage_limit}
+use Rattle.edr_select.specs.Refusals.{applies_if, applies_to_query, applies_to_subject, names_other, crs_is_other, ids_in}
+use Rattle.edr_select.specs.Selections.{picked}
+use Rattle.edr_select.specs.Heads.{is_some_stored}
+use Rattle.edr_select.specs.Documents.{document, coverages_in, values_in}
+use Rattle.edr_select.specs.Checks.{of_data, refused_data, refused_query, grid_of}
+use Rattle.edr_select.specs.Choices.{Chosen, chosen, IsSome}
+use Rattle.edr_select.specs.Steps.{IsAsked, refused_known, refused_sizes, refused_large, lacks_levels}
+use Rattle.edr_select.proofs.Lists.{all_member, member_here, member_later, no_member}
+use Rattle.edr_select.proofs.Instances.{grid_from}
+use Rattle.edr_select.proofs.PositionLaws as position
+
+-- ---- the instance is one of its collection's
+
+found_member : (id : List ℕ) (is : List InstanceValue) (i : InstanceValue) → item_of instance_id id is ≡ Some i → Contains is i
+found_member id [] i h = cc
+found_member id (x ∷ is) i h = here (has_id instance_id id x) refl (found_member id is i)
+  where
+    here : (b : Bool) → has_id instance_id id x ≡ b → (item_of instance_id id is ≡ Some i → Contains is i) → Contains (x ∷ is) i
+    here true e later = member_at (sym (ap (λ b. cond b (Some x) (item_of instance_id id is)) e) ∙ h)
+      where
+        member_at : Some x ≡ Some i → Contains (x ∷ is) i
+        member_at same = subst (λ (o : Option InstanceValue). holds o) same (member_here x is)
+          where
+            holds : Option InstanceValue → Type 0
+            holds None = Unit {0}
+            holds (Some o) = Contains (x ∷ is) o
+    here false e later = member_later x i is (later (sym (ap (λ b. cond b (Some x) (item_of instance_id id is)) e) ∙ h))
+
+newest_member : (is : List InstanceValue) (i : InstanceValue) → newest is ≡ Some i → Contains is i
+newest_member [] i h = cc
+newest_member (x ∷ is) i h = here (newest is) refl (newest_member is)
+  where
+    ends : (o : InstanceValue) → Contains (x ∷ is) o → Some o ≡ Some i → Contains (x ∷ is) i
+    ends o m same = subst (λ (found : Option InstanceValue). holds found) same m
+      where
+        holds : Option InstanceValue → Type 0
+        holds None = Unit {0}
+        holds (Some o) = Contains (x ∷ is) o
+
+    either : (other : InstanceValue) (b : Bool) → Contains is other → Contains (x ∷ is) (cond b other x)
+    either other true m = member_later x other is m
+    either other false m = member_here x is
+
+    here : (found : Option InstanceValue) → newest is ≡ found → ((o : InstanceValue) → newest is ≡ Some o → Contains is o) → Contains (x ∷ is) i
+    here None e later = ends x (member_here x is) (sym (ap (λ found. Some (greater x found)) e) ∙ h)
+    here (Some other) e later =
+        ends (greater x (Some other)) (either other (is_lt (order x.id other.id)) (later other e)) (sym (ap (λ found. Some (greater x found)) e) ∙ h)
+
+named_member : (name : Option (List ℕ)) (is : List InstanceValue) (i : InstanceValue) → instance_named name is ≡ Some i → Contains is i
+named_member None is i h = newest_member is i h
+named_member (Some id) is i h = found_member id is i h
+
+subject_found : (c : CollectionValue) (q : QueryValue) (i : InstanceValue) → c.kind ≡ Grid → instance_named q.instance c.instances ≡ Some i
+    → subject_in q.instance c ≡ Some (grid_of c i)
+subject_found c q i kind named = rw (kind, named) refl
+
+-- ---- a refusal that applies, and one that doesn't
+
+stops : (b : Bool) (refusal : Refusal) (rest : Option Refusal) → b ≡ true → cond b (Some refusal) rest ≡ Some refusal
+stops b refusal rest e = ap (λ b. cond b (Some refusal) rest) e
+
+passes : (b : Bool) (refusal : Refusal) (rest : Option Refusal) → b ≡ false → cond b (Some refusal) rest ≡ rest
+passes b refusal rest e = ap (λ b. cond b (Some refusal) rest) e
+
+module _ (c : CollectionValue) (q : QueryValue) (i : InstanceValue) (geometry : Geometry) (asked : IsAsked c q i geometry) where
+  abbrev s : Subject
+  s = grid_of c i
+
+  -- ---- names
+
+  same_parameters : i.parameters ≡ parameters_of c.instances
+  same_parameters =
+      all_member (λ (o : InstanceValue). o.parameters ≡ parameters_of c.instances) c.instances i asked.is_collection.instances.same
+      (named_member q.instance c.instances i asked.instance_is)
+
+  names_are : applies_to_query c q UnknownParameterName ≡ names_other q.parameters (ids_of i.parameters)
+  names_are =
+      ap (λ (kind : Kind). names_other q.parameters (ids_in c kind)) asked.kind
+      ∙ ap (λ (ps : List Parameter). names_other q.parameters (ids_of ps)) (sym same_parameters)
+
+  pub refused_names : names_other q.parameters (ids_of i.parameters) ≡ true → refused_query c q ≡ Some UnknownParameterName
+  refused_names h = stops (applies_to_query c q UnknownParameterName) UnknownParameterName (refused_known c q) (names_are ∙ h)
+
+  pub known_names : names_other q.parameters (ids_of i.parameters) ≡ false → refused_query c q ≡ refused_known c q
+  known_names h = passes (applies_to_query c q UnknownParameterName) UnknownParameterName (refused_known c q) (names_are ∙ h)
+
+  -- ---- the reference system, and levels
+
+  data_is : find (applies_to_query c q) of_data ≡ refused_data q s
+  data_is = ap (λ (found : Option Subject). find (λ refusal. applies_if (applies_to_subject q refusal) found) of_data) (subject_found c q i asked.kind asked.instance_is)
+
+  pub refused_crs : crs_is_other q.crs c.referencing.crs ≡ true → refused_known c q ≡ Some BadCrs
+  refused_crs h = stops (crs_is_other q.crs c.referencing.crs) BadCrs (find (applies_to_query c q) of_data) h
+
+  known_crs : crs_is_other q.crs c.referencing.crs ≡ false → refused_known c q ≡ refused_data q s
+  known_crs h = passes (crs_is_other q.crs c.referencing.crs) BadCrs (find (applies_to_query c q) of_data) h ∙ data_is
+
+  pub refused_levels : crs_is_other q.crs c.referencing.crs ≡ false → lacks_levels q i ≡ true → refused_known c q ≡ Some NoLevels
+  refused_levels crs h = known_crs crs ∙ stops (lacks_levels q i) NoLevels (refused_sizes q s) h
+
+  pub known_levels : crs_is_other q.crs c.referencing.crs ≡ false → lacks_levels q i ≡ false → refused_known c q ≡ refused_sizes q s
+  known_levels crs h = known_crs crs ∙ passes (lacks_levels q i) NoLevels (refused_sizes q s) h
+
+  -- ---- samples
+
+  none_picked : (¬ (IsSome (chosen i q geometry))) → is_some_stored (picked s q) ≡ false
+  none_picked none =
+      let g = grid_from i asked.grid in
+      false_from_ne_true (is_some_stored (picked s q)) (λ h. none (record {
+        parameters = λ e. false≢true (sym (position.none_without_parameters s q i geometry refl asked.shape g e) ∙ h);
+        times = λ e. false≢true (sym (position.none_without_times s q i geometry refl asked.shape g e) ∙ h);
+        levels = λ e. false≢true (sym (position.none_without_levels s q i geometry refl asked.shape g e) ∙ h);
+        spots = λ e. false≢true (sym (position.none_without_spots s q i geometry refl asked.shape g e) ∙ h);
+      }))
+
+  pub refused_samples : (¬ (IsSome (chosen i q geometry))) → refused_sizes q s ≡ Some NoSamples
+  refused_samples none = stops (not (is_some_stored (picked s q))) NoSamples (refused_large q s) (ap not (none_picked none))
+
+  pub known_samples : IsSome (chosen i q geometry) → refused_sizes q s ≡ refused_large q s
+  known_samples some =
+      passes (not (is_some_stored (picked s q))) NoSamples (refused_large q s)
+      (ap not (position.some_picked s q i geometry refl asked.shape (grid_from i asked.grid) some))
+
+  -- ---- sizes
+
+  pub refused_size : (nat_lt value_limit (values_in (document s q)) || nat_lt coverage_limit (length (coverages_in (document s q)))) ≡ true → refused_large q s ≡ Some TooLarge
+  refused_size h = stops (applies_to_subject q TooLarge s) TooLarge None h
+
+  pub known_size : (nat_lt value_limit (values_in (document s q)) || nat_lt coverage_limit (length (coverages_in (document s q)))) ≡ false → refused_large q s ≡ None
+  known_size h = passes (applies_to_subject q TooLarge s) TooLarge None h
+
+-- ---- what was tested
+
+pub none_chosen : (b : Bool) (choice wanted : Chosen) → b ≡ false → (IsTrue b ↔ IsSome choice) → choice ≡ wanted → ¬ (IsSome wanted)
+none_chosen b choice wanted e test is some = false≢true (sym e ∙ test.1 (subst IsSome (sym is) some))
+
+pub some_chosen : (b : Bool) (choice : Chosen) → b ≡ true → (IsTrue b ↔ IsSome choice) → IsSome choice
+some_chosen b choice e test = test.0 e

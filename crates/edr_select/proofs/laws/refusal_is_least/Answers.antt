@@ -1,0 +1,5 @@
+use Rattle.edr_select.proofs.RefusalLaws.{refusal_is_least}
+use Rattle.edr_select.proofs.laws.refusal_is_least.Goals as goal
+
+pub returns : goal.returns
+returns c = refusal_is_least

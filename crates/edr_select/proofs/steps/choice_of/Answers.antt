@@ -1,0 +1,26 @@
+use Rattle.std.proofs.Common.{◌∙◌, subst}
+use Rattle.edr_select.specs.Choices.{IsSome, chosen}
+use Rattle.edr_select.proofs.PlanSteps.{refused_samples, known_samples, none_chosen, some_chosen}
+use Rattle.edr_select.proofs.steps.choice_of.Goals as goal
+
+pub returns-then-not-is_some-clause-refused : goal.returns-then-not-is_some-clause-refused
+returns-then-not-is_some-clause-refused c =
+    let collection = c.args.collection.now in
+    let query = c.args.query.now in
+    let instance = c.args.instance.now in
+    let geometry = c.args.geometry.now in
+    let none = none_chosen c.is_some.result c.in_ok-choice.choice (chosen instance query geometry) c.if-not-is_some.true c.is_some.ensures c.in_ok-choice.ensures in
+    c.in_ok-parameters.ensures.known ∙ (c.in_default.ensures ∙ refused_samples collection query instance geometry c.requires none)
+
+pub returns-clause-choice : goal.returns-clause-choice
+returns-clause-choice c =
+    let collection = c.args.collection.now in
+    let query = c.args.query.now in
+    let instance = c.args.instance.now in
+    let geometry = c.args.geometry.now in
+    let some = some_chosen c.is_some.result c.in_ok-choice.choice c.if-not-is_some.false c.is_some.ensures in
+    record {
+      is = c.in_ok-choice.ensures;
+      some = some;
+      refused_is = c.in_ok-parameters.ensures.known ∙ (c.in_default.ensures ∙ known_samples collection query instance geometry c.requires (subst IsSome c.in_ok-choice.ensures some));
+    }

@@ -1,0 +1,15 @@
+pub mod Limits
+pub mod Samples
+pub mod Wanted
+pub mod Lines
+pub mod Selections
+pub mod Heads
+pub mod Documents
+pub mod Refusals
+pub mod Choices
+pub mod Plans
+pub mod Planned
+pub mod Planning
+pub mod Checks
+pub mod Steps
+pub mod PlacesOfIds

@@ -1,0 +1,104 @@
+-- What is known of a query from step to step of its planning; for private clauses.
+use Rattle.std.specs.Prelude.{⊤, ◌≡◌, ℕ, ◌*◌, Bool, true, false, not, ◌&&◌, List, [], ◌∷◌, length, map, Option, None, Some, is_some}
+use Rattle.std.specs.List.{find}
+use Rattle.edr_base.specs.declared.refusals.Refusal.{Refusal}
+use Rattle.edr_base.specs.declared.refusals.Refusal.TheVariants.{BadCrs, NoSamples, TooLarge}
+use Rattle.edr_wkt.specs.declared.geometry.Geometry.{Geometry}
+use Rattle.edr_wkt.specs.declared.geometry.Geometry.TheVariants.{Points, Line, Polygons}
+use Rattle.covjson_value.specs.declared.coverages.Referencing.{Referencing}
+use Rattle.edr_edition.specs.declared.kinds.Kind.TheVariants.{Grid}
+use Rattle.edr_edition.specs.Values.{InstanceValue, CollectionValue}
+use Rattle.edr_edition.specs.Instances.{HasGrid}
+use Rattle.edr_edition.specs.Editions.{IsCollection}
+use Rattle.edr_edition.specs.Stores.{Subject, instance_named}
+use Rattle.edr_query.specs.declared.addresses.QueryKind.TheVariants.{Position}
+use Rattle.edr_query.specs.declared.shapes.Shape.TheVariants as at
+use Rattle.edr_query.specs.Queries.{IsTaken}
+use Rattle.edr_query.specs.Values.{QueryValue}
+use Rattle.edr_select.specs.declared.forms.Form.{Form}
+use Rattle.edr_select.specs.declared.forms.Form.TheVariants.{AtPoint, Along, Apart}
+use Rattle.edr_select.specs.declared.planning.PlanFault.{PlanFault}
+use Rattle.edr_select.specs.declared.planning.PlanFault.TheVariants.{Refused, OutOfMemory}
+use Rattle.edr_select.specs.Refusals.{applies_to_query, applies_to_subject, asks_levels}
+use Rattle.edr_select.specs.Checks.{of_data, refused_query, grid_of}
+use Rattle.edr_select.specs.Choices.{Chosen, chosen, IsSome}
+use Rattle.edr_select.specs.Planned.{planned_at, planned_along}
+use Rattle.edr_select.specs.Plans.{PlannedValue, PlanValue, StandsFor}
+
+-- a position is asked of an instance of a collection of grids
+pub record IsAsked (collection : CollectionValue) (q : QueryValue) (instance : InstanceValue) (geometry : Geometry) : Type 0 where
+  pub is_collection : IsCollection collection
+  pub kind : collection.kind ≡ Grid
+  pub instance_is : instance_named q.instance collection.instances ≡ Some instance
+  pub shape : q.shape ≡ at.Position geometry
+  pub points : IsTaken Position geometry
+  pub grid : HasGrid instance
+
+-- ---- the refusals that are left
+
+-- once names are known
+abbrev pub refused_known : CollectionValue → QueryValue → Option Refusal
+refused_known collection q = find (applies_to_query collection q) (BadCrs ∷ of_data)
+
+-- once levels are there
+abbrev pub refused_sizes : QueryValue → Subject → Option Refusal
+refused_sizes q subject = find (λ refusal. applies_to_subject q refusal subject) (NoSamples ∷ (TooLarge ∷ []))
+
+-- once something is selected
+abbrev pub refused_large : QueryValue → Subject → Option Refusal
+refused_large q subject = find (λ refusal. applies_to_subject q refusal subject) (TooLarge ∷ [])
+
+-- a fault is the refusal; want of memory is free
+abbrev pub IsFaultOf : Option Refusal → PlanFault → Type 0
+IsFaultOf refused (Refused refusal) = refused ≡ Some refusal
+IsFaultOf refused OutOfMemory = ⊤
+
+-- levels are asked of an instance without any
+abbrev pub lacks_levels : QueryValue → InstanceValue → Bool
+lacks_levels q instance = asks_levels q && not (is_some instance.zs)
+
+-- what a position takes, where something is taken, and the refusals that are left
+pub record IsChoice (collection : CollectionValue) (q : QueryValue) (instance : InstanceValue) (geometry : Geometry) (choice : Chosen) : Type 0 where
+  pub is : choice ≡ chosen instance q geometry
+  pub some : IsSome choice
+  pub refused_is : refused_query collection q ≡ refused_large q (grid_of collection instance)
+
+-- ---- the coverages of a reply
+
+-- points of a MULTIPOINT
+abbrev pub are_several : Geometry → Bool
+are_several (Points multi has_z has_m positions) = multi
+are_several (Line has_z has_m positions) = false
+are_several (Polygons multi has_z has_m polygons) = false
+
+-- one spot; several at one time and place of levels; several at several times or levels
+abbrev pub IsForm : Geometry → Chosen → Form → Type 0
+IsForm geometry c (AtPoint spot) = (are_several geometry ≡ false) × (c.spots ≡ spot ∷ [])
+IsForm geometry c (Along t z) = (are_several geometry ≡ true) × ((c.times ≡ t ∷ []) × (c.levels ≡ z ∷ []))
+IsForm geometry c Apart = (are_several geometry ≡ true) × (¬ ((length c.times ≡ 1) × (length c.levels ≡ 1)))
+
+abbrev pub is_many : Form → Bool
+is_many (AtPoint spot) = false
+is_many (Along t z) = false
+is_many Apart = true
+
+-- how many values, and how many coverages
+abbrev pub value_count : Chosen → ℕ
+value_count c = length c.parameters * (length c.times * (length c.levels * length c.spots))
+
+abbrev pub coverage_count : Chosen → Form → ℕ
+coverage_count c (AtPoint spot) = 1
+coverage_count c (Along t z) = 1
+coverage_count c Apart = length c.spots
+
+-- a coverage for each spot, or one along all of them
+abbrev pub planned_in : Referencing → InstanceValue → Chosen → Form → List PlannedValue
+planned_in referencing i c (AtPoint spot) = map (planned_at referencing i c) c.spots
+planned_in referencing i c (Along t z) = planned_along referencing i c t z ∷ []
+planned_in referencing i c Apart = map (planned_at referencing i c) c.spots
+
+-- no refusal applies to the query, and the plan stands for it
+pub record IsPlanIn (collection : CollectionValue) (q : QueryValue) (instance : InstanceValue) (plan : PlanValue) : Type 0 where
+  pub none : refused_query collection q ≡ None
+  pub query_is : plan.query ≡ q
+  pub stands : StandsFor plan (grid_of collection instance)

@@ -1,0 +1,99 @@
+//! The heads of a reply's coverages: all of them but their ranges.
+ghost use Rattle.std.specs.Prelude.{◌≡◌, ◌<◌, All, length, map, IfOk};
+ghost use Rattle.edr_axes.specs.Axes.{value_at};
+ghost use Rattle.edr_select.specs.Documents as documents;
+ghost use Rattle.edr_select.specs.Planned as planned;
+
+use covjson_value::{CoordinateName, Coverage, Domain, Parameter, Referencing};
+use edr_axes::Axis;
+use edr_base::{Items, OutOfMemory, Text};
+use std::alloc::Global;
+
+// The values of an axis at some places.
+pub(crate) fn values_at(alloc: Global, axis: &Axis, places: &[u64]) -> Result<Vec<i64>, OutOfMemory>
+    requires { All (λ place. place < length axis.now) places.now }
+    ensures { IfOk result (λ values. values.items ≡ map (value_at axis.now) places.now) }
+{
+    let mut values = Vec::new(alloc);
+    for place in places {
+        values.push(axis.value(*place as usize))?;
+    }
+    Ok(values)
+}
+
+fn copy_text_where_given(alloc: Global, text: &Option<Text>) -> Result<Option<Text>, OutOfMemory>
+    ensures { IfOk result (λ copy. copy ≡ text.now) }
+{
+    match text {
+        Some(text) => Ok(Some(Text::of(alloc, text.bytes())?)),
+        None => Ok(None),
+    }
+}
+
+fn copy_parameter(alloc: Global, parameter: &Parameter) -> Result<Parameter, OutOfMemory>
+    ensures { IfOk result (λ copy. copy ≡ parameter.now) }
+{
+    Ok(Parameter {
+        id: Text::of(alloc, parameter.id.bytes())?,
+        lang: Text::of(alloc, parameter.lang.bytes())?,
+        label: Text::of(alloc, parameter.label.bytes())?,
+        unit: copy_text_where_given(alloc, &parameter.unit)?,
+    })
+}
+
+// Copies of the parameters at some places.
+fn parameters_at(
+    alloc: Global,
+    parameters: &[Parameter],
+    places: &[u64],
+) -> Result<Vec<Parameter>, OutOfMemory>
+    requires { All (λ place. place < length parameters.now) places.now }
+    ensures { IfOk result (λ copies. copies.items ≡ planned.parameters_at parameters.now places.now) }
+{
+    let mut copies = Vec::new(alloc);
+    for place in places {
+        copies.push(copy_parameter(alloc, &parameters[*place as usize])?)?;
+    }
+    Ok(copies)
+}
+
+// The systems of a domain's coordinates: that of z only where the domain has z.
+fn referencing_over(
+    alloc: Global,
+    domain: &Domain,
+    referencing: &Referencing,
+) -> Result<Referencing, OutOfMemory>
+    ensures { IfOk result (λ copy. copy ≡ documents.referencing_over domain.now referencing.now) }
+{
+    let crs = Text::of(alloc, referencing.crs.bytes())?;
+    if !domain.has(CoordinateName::Z) {
+        return Ok(Referencing {
+            crs,
+            vertical: None,
+        });
+    }
+    let vertical = copy_text_where_given(alloc, &referencing.vertical)?;
+    Ok(Referencing { crs, vertical })
+}
+
+// The head of a coverage over a domain, with the parameters at some places.
+pub(crate) fn head_of(
+    alloc: Global,
+    referencing: &Referencing,
+    parameters: &[Parameter],
+    places: &[u64],
+    domain: Domain,
+) -> Result<Coverage, OutOfMemory>
+    requires { All (λ place. place < length parameters.now) places.now }
+    ensures { IfOk result (λ head. head ≡ planned.head_of referencing.now (planned.parameters_at parameters.now places.now) domain) }
+{
+    let referencing = referencing_over(alloc, &domain, referencing)?;
+    let parameters = parameters_at(alloc, parameters, places)?;
+    Ok(Coverage {
+        id: None,
+        domain,
+        referencing,
+        parameters: Items::of(parameters),
+        ranges: Items::of(Vec::new(alloc)),
+    })
+}

@@ -1,0 +1,26 @@
+//! Plans of replies to queries, and the replies that are sent.
+#![tactic(auto)]
+
+mod axis_places;
+mod cells;
+mod checks;
+mod choices;
+mod chosen_levels;
+mod chosen_parameters;
+mod chosen_spots;
+mod chosen_times;
+mod forms;
+mod heads;
+mod laws;
+mod numbers;
+mod planned;
+mod planning;
+mod plans;
+mod point_domains;
+mod reply_coverages;
+mod sizes;
+mod steps;
+
+pub use laws::refusal_is_least;
+pub use planning::{PlanFault, plan};
+pub use plans::{GridNode, Plan};
