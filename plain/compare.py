@@ -9,6 +9,7 @@ difference is printed with what reproduces it; the last line is `N agreed, M dif
 """
 
 import argparse
+import os
 import re
 import sys
 from collections import Counter
@@ -18,9 +19,10 @@ from functools import partial
 from typing import Callable
 
 import answers
+import built
 from edr import Ending, run
 from inputs import large
-from inputs.asks import Ask, ask_input
+from inputs.asks import Ask, ask_input, large_ask_input
 from inputs.documents import document_text
 from inputs.draws import Draw
 from inputs.feed_lines import feed_text
@@ -44,8 +46,11 @@ def check_input(draw: Draw) -> Ask:
     return Ask(draw.pick((b"check",), (b"check", b"--summary")), feed_text(draw))
 
 
+GROUP = 10  # so many inputs of `ask` have one feed
+
 # What the program is started with.
 ASKS = {"ask": ask_input, "check": check_input}
+LARGE_ASKS = {"large-ask": large_ask_input}
 
 READERS = {
     "number": Kind(number_text, answers.number_answer, "n"),
@@ -84,7 +89,7 @@ class Place:
 
     def draw(self, seed: str) -> Draw:
         """The draw that the input is made with."""
-        return Draw(f"{seed} {self.kind} {self.number}")
+        return Draw(f"{seed} {self.kind} {self.number}", group=f"{seed} {self.kind} group {self.number // GROUP}")
 
 
 @dataclass(frozen=True)
@@ -108,23 +113,31 @@ class Result:
 
 def compare(settings: Settings, places: list[Place]) -> list[Result]:
     """Compares some inputs."""
-    asks = [place for place in places if place.kind in ASKS]
-    reads = [place for place in places if place.kind not in ASKS]
+    asks = [place for place in places if place.kind in ASKS | LARGE_ASKS]
+    reads = [place for place in places if place.kind not in ASKS | LARGE_ASKS]
     results = _compare_asks(settings, asks) if asks else []
     results += _compare_reads(settings, reads) if reads else []
     return [result.shortened() for result in results]
 
 
 def _compare_asks(settings: Settings, places: list[Place]) -> list[Result]:
-    asks = [ASKS[place.kind](place.draw(settings.seed)) for place in places]
+    asks = [(ASKS | LARGE_ASKS)[place.kind](place.draw(settings.seed)) for place in places]
     found = endings(settings.edr, asks)
     return [_ask_result(place, ask, ending) for place, ask, ending in zip(places, asks, found)]
 
 
 def _ask_result(place: Place, ask: Ask, ending: Ending | None) -> Result:
     plain = run(list(ask.words), lambda: ask.input)
-    word = f"{plain.status} {plain.errors[:30].decode(errors='replace').strip()}"
+    word = f"{plain.status} {plain.errors[:40].decode(errors='replace').strip()}" if plain.status else "0 " + _kind_of_output(plain)
     return Result(place, repr(ask), repr(plain), ending and repr(ending), word)
+
+
+def _kind_of_output(ending: Ending) -> str:
+    """The type of a document and its domains, or `text`."""
+    domain = re.search(rb'"domainType":"([A-Za-z]+)"', ending.output)
+    if domain is None:
+        return "text"
+    return ("several " if ending.output.endswith(b'"type":"CoverageCollection"}') else "") + domain[1].decode()
 
 
 def _compare_reads(settings: Settings, places: list[Place]) -> list[Result]:
@@ -163,9 +176,10 @@ def parsed_words() -> argparse.Namespace:
     parser.add_argument("--tried", action="store_true", help="run the crate edr by rt try, in one process")
     parser.add_argument("--seed", required=True)
     parser.add_argument("--count", type=int, default=1000, help="how many inputs of each kind")
-    parser.add_argument("--kind", action="append", choices=[*ASKS, *READERS, *LARGE_READERS], help="may be given several times")
+    parser.add_argument("--kind", action="append", choices=[*ASKS, *READERS, *LARGE_ASKS, *LARGE_READERS], help="may be given several times")
     parser.add_argument("--only", type=int, help="compare the input of this number alone, and print it whole")
     parser.add_argument("--at-once", type=int, default=500, help="how many inputs a process takes at a time")
+    parser.add_argument("--built", default="", help="what else is built: names as in built.py, with commas between, or whole")
     parser.add_argument("--processes", type=int, default=2)
     return parser.parse_args()
 
@@ -184,11 +198,11 @@ def jobs_of(words: argparse.Namespace, kinds: list[str]) -> list[list[Place]]:
     jobs = []
     for kind in kinds:
         places = [Place(kind, number) for number in numbers]
-        step = 1 if kind in LARGE_READERS else words.at_once
+        step = 1 if kind in LARGE_READERS | LARGE_ASKS else words.at_once
         jobs += [places[first : first + step] for first in range(0, len(places), step)]
     if words.tried:
         places = [place for job in jobs for place in job]
-        jobs = [[place for place in places if (place.kind in ASKS) == is_ask] for is_ask in (False, True)]
+        jobs = [[place for place in places if (place.kind in ASKS | LARGE_ASKS) == is_ask] for is_ask in (False, True)]
     return [job for job in jobs if job]
 
 
@@ -205,6 +219,9 @@ def print_counts(results: list[Result]) -> None:
 
 def main() -> int:
     words = parsed_words()
+    built.build(words.built)
+    if words.built:
+        os.environ["PLAIN_BUILT"] = words.built  # for a plain program that is compared
     settings = Settings(words.seed, words.edr, words.answers)
     results = []
     with ProcessPoolExecutor(1 if words.tried else words.processes) as pool:

@@ -4,9 +4,9 @@ import os
 import sys
 from dataclasses import dataclass
 
-from ask import NotFeedLine, ask
+from ask import answer
+from editions import Collections
 from feeds import FeedFault, read_feed
-from refusals import Refused
 from summaries import count_line, summary_lines
 
 USAGE = "usage: edr ask TARGET | replay FEED [--advance] | check [--summary] | make NUMBER | show | fetch URL"
@@ -28,24 +28,25 @@ def _ended(status: int, line: str) -> Ending:
 def run(words: list[bytes], read_input) -> Ending:
     """What the program does for its words. The input is read where the words ask for it."""
     if words == [b"check"]:
-        return _told(read_input(), count_line)
+        return _of_feed(read_input(), lambda editions: Ending(0, count_line(editions).encode("utf-8")))
     if words == [b"check", b"--summary"]:
-        return _told(read_input(), summary_lines)
-    if len(words) != 2 or words[0] != b"ask":
-        return _ended(1, USAGE)
-    try:
-        return Ending(0, ask(read_input(), words[1]).encode("utf-8"))
-    except NotFeedLine:
-        return _ended(2, "feed: NotFeedLine line 1")
-    except Refused as refused:
-        return _ended(6, refused.body())
+        return _of_feed(read_input(), lambda editions: Ending(0, summary_lines(editions).encode("utf-8")))
+    if len(words) == 2 and words[0] == b"ask":
+        return _of_feed(read_input(), lambda editions: _answered(words[1], editions[-1]))
+    return _ended(1, USAGE)
 
 
-def _told(feed: bytes, text_of) -> Ending:
+def _of_feed(feed: bytes, ending_of) -> Ending:
+    """How it ends with the editions of a feed, or with the feed's fault."""
     try:
-        return Ending(0, text_of(read_feed(feed)).encode("utf-8"))
+        return ending_of(read_feed(feed))
     except FeedFault as fault:
         return _ended(2, f"feed: {fault.name}" + (f" line {fault.line}" if fault.line else ""))
+
+
+def _answered(target: bytes, edition: Collections) -> Ending:
+    found = answer(target, edition)
+    return Ending(0, found.text.encode("utf-8")) if found.status == 200 else _ended(6, found.text)
 
 
 def main() -> int:

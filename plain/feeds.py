@@ -1,5 +1,8 @@
 """Feeds: lines of JSON that change collections and publish editions."""
 
+from functools import lru_cache
+
+import built
 import limits
 from coverage_json_read import CoverageFault, read_coverage
 from editions import (
@@ -10,8 +13,10 @@ from editions import (
     Collections,
     DropCollection,
     DropInstance,
+    DropStation,
     SetBare,
     SetGrid,
+    SetStation,
 )
 from json_text import NotJson, read_json
 from names import is_name
@@ -29,6 +34,7 @@ class FeedFault(Exception):
         self.inner = inner
 
 
+@lru_cache(maxsize=2)  # many targets are asked of one feed
 def read_feed(feed: bytes) -> list[Collections]:
     """The editions of a feed; the first has the number 1. Raises FeedFault."""
     lines = feed.split(b"\n")
@@ -111,11 +117,12 @@ def _text(tree) -> str:
 
 def _collection(inner: dict) -> AddCollection:
     _has_members(inner, "id kind title crs", "vertical")
-    if inner["kind"] != "grid":
+    kinds = ("grid", "station") if built.STATIONS_ARE_READ else ("grid",)
+    if inner["kind"] not in kinds:
         raise NotFeedLine
     vertical = _text(inner["vertical"]) if "vertical" in inner else None
-    collection = Collection(_name(inner["id"]), "grid", _text(inner["title"]), _text(inner["crs"]), vertical, {})
-    return AddCollection(collection)
+    id_, title, crs = _name(inner["id"]), _text(inner["title"]), _text(inner["crs"])
+    return AddCollection(Collection(id_, inner["kind"], title, crs, vertical, {}, {}))
 
 
 def _grid(inner: dict) -> SetGrid:
@@ -124,7 +131,18 @@ def _grid(inner: dict) -> SetGrid:
     return SetGrid(collection, instance, read_coverage(inner["coverage"]))
 
 
-def _drop(inner: dict) -> DropCollection | DropInstance:
+def _station(inner: dict) -> SetStation:
+    if not built.STATIONS_ARE_READ:
+        raise NotFeedLine
+    _has_members(inner, "collection id label coverage")
+    collection, id_, label = _name(inner["collection"]), _name(inner["id"]), _text(inner["label"])
+    return SetStation(collection, id_, label, read_coverage(inner["coverage"]))
+
+
+def _drop(inner: dict) -> DropCollection | DropInstance | DropStation:
+    if "station" in inner and built.STATIONS_ARE_READ:
+        _has_members(inner, "collection station")
+        return DropStation(_name(inner["collection"]), _name(inner["station"]))
     _has_members(inner, "collection", "instance")
     if "instance" in inner:
         return DropInstance(_name(inner["collection"]), _name(inner["instance"]))
@@ -136,4 +154,4 @@ def _publish(inner: dict) -> str:
     return PUBLISH
 
 
-_FORMS = {"collection": _collection, "grid": _grid, "drop": _drop, "publish": _publish}
+_FORMS = {"collection": _collection, "grid": _grid, "station": _station, "drop": _drop, "publish": _publish}

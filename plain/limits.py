@@ -10,6 +10,8 @@ SPANNED_VALUES = 4_000_000  # of an axis that is given by start, stop and num
 POSITIONS = 10_000  # of a geometry
 LINE_BYTES = 16_777_216  # the line feed isn't counted
 FEED_BYTES = 1_073_741_824
+REPLY_VALUES = 2_000_000  # of all ranges of a reply, missing and unselected ones too
+REPLY_COVERAGES = 5_000
 
 
 def is_coordinate(number: int) -> bool:

@@ -10,11 +10,13 @@ def count_line(editions: list[Collections]) -> str:
 
 def summary_line(number: int, collections: Collections) -> str:
     """What the edition of a number has."""
-    instances = [instance for collection in collections.values() for instance in collection.instances.values()]
-    samples = [value for instance in instances for values in instance.ranges for value in values]
+    coverages = [coverage for collection in collections.values() for coverage in collection.coverages()]
+    samples = [value for coverage in coverages for values in coverage.ranges for value in values]
     present = [value for value in samples if value is not None]
+    instances = sum(len(collection.instances) for collection in collections.values())
+    stations = sum(len(collection.stations) for collection in collections.values())
     return (
-        f"edition {number}: collections {len(collections)}, instances {len(instances)}, stations 0, "
+        f"edition {number}: collections {len(collections)}, instances {instances}, stations {stations}, "
         f"samples {len(samples)}, present {len(present)}, sum {sum(present)}\n"
     )
 

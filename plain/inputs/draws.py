@@ -4,7 +4,14 @@ from random import Random
 
 
 class Draw(Random):
-    """Random numbers, with a few more ways to draw."""
+    """Random numbers, with a few more ways to draw. `group` is the seed that some inputs have in common."""
+
+    def __init__(self, seed: str, group: str = ""):
+        super().__init__(seed)
+        self.group = group
+
+    def __new__(cls, seed: str, group: str = ""):
+        return super().__new__(cls, seed)
 
     def chance(self, part: float) -> bool:
         """True in so many of all cases, 0 to 1."""

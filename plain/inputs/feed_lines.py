@@ -1,11 +1,14 @@
 """Feeds: lines that change few collections, so that they meet each other."""
 
+import built
 from inputs.documents import coverage
 from inputs.draws import Draw
+from inputs.edition_feeds import EditionMaker
 from inputs.trees import any_tree, damaged_text, damaged_tree, spelled_tree
 
 _COLLECTIONS = ("grid", "a", "b", "é")
 _INSTANCES = ("1", "2", "10", "z")
+_STATIONS = ("A", "B", "é")
 _NO_NAMES = ("", "a,b", "\x7f", "a\x1f", "x" * 129, "é" * 65, ",")
 _CRS = ("local", "", "http://www.opengis.net/def/crs/EPSG/0/32633")
 
@@ -37,12 +40,16 @@ class _FeedMaker:
         self.faults = draw.pick(0, 0, 0.05, 0.2)
         self.made: dict[str, str] = {}  # the CRS of each collection
         self.instances: list[tuple[str, str]] = []
+        self.kinds: dict[str, str] = {}  # of the collections
+        self.stations: list[tuple[str, str]] = []
         self.parameters = {"temp": _parameter("Temperature", "Cel")}
 
     def line(self) -> bytes:
         forms = [self.collection, self.bare]
         if self.made or self.is_fault():
             forms += [self.grid] * 5 + [self.drop, self.publish]
+        if built.STATIONS_ARE_READ and self.ids_of("station"):
+            forms += [self.station] * 5 + [self.drop_station]
         tree = self.draw.choice(forms)()
         if self.is_fault():
             tree = damaged_tree(self.draw, tree)
@@ -62,12 +69,41 @@ class _FeedMaker:
         crs = self.draw.choice(_CRS)
         self.made.setdefault(id_, crs)
         inner = {"id": id_, "kind": "grid", "title": self.draw.pick("Grid", "", "é\n"), "crs": crs}
+        if built.STATIONS_ARE_READ:
+            inner["kind"] = self.draw.pick("grid", "station")
+        self.kinds.setdefault(id_, inner["kind"])
         if self.draw.chance(0.3):
             inner["vertical"] = self.draw.pick("height", "")
         if self.is_fault():
             inner["kind"] = self.draw.pick("station", "Grid", any_tree(self.draw))
         self.slip(inner, "id", "title", "crs", "vertical", "more")
         return {"collection": inner}
+
+    def ids_of(self, kind: str) -> list[str]:
+        return [id_ for id_ in self.made if self.kinds.get(id_, "grid") == kind]
+
+    def station(self) -> dict:
+        """A station of few ids, a series or a column, with or without levels."""
+        draw = self.draw
+        ids = list(self.made) if self.is_fault() else self.ids_of("station")
+        id_, station = draw.choice(ids), draw.choice(_STATIONS)
+        self.stations.append((id_, station))
+        maker = EditionMaker(draw)
+        type_, axes = maker.station_axes((draw.randint(0, 3), draw.randint(0, 3)), draw.chance(0.2))
+        if self.is_fault():
+            type_, axes = draw.pick((type_, maker.grid_axes()), ("Grid", {"y": [0], "x": [0]}), ("Grid", maker.grid_axes()))
+        if self.is_fault() or draw.chance(0.08):
+            self.change_parameters()
+        tree = maker.coverage(type_, axes, self.parameters, draw.choice(_CRS) if self.is_fault() else self.made[id_])
+        inner = {"collection": id_, "id": station, "label": draw.pick("", "Label"), "coverage": tree}
+        self.slip(inner, "collection", "id", "label", "coverage", "more")
+        return {"station": inner}
+
+    def drop_station(self) -> dict:
+        id_, station = self.draw.choice(self.stations) if self.stations else (self.collection_id(), "A")
+        inner = {"collection": id_, "station": self.draw.choice(_STATIONS) if self.is_fault() else station}
+        self.slip(inner, "collection", "station", "instance", "more")
+        return {"drop": inner}
 
     def grid(self) -> dict:
         id_, instance = self.collection_id(), self.draw.choice(_INSTANCES)
@@ -105,9 +141,9 @@ class _FeedMaker:
         return {"publish": any_tree(self.draw) if self.is_fault() else {}}
 
     def collection_id(self) -> str:
-        if self.is_fault() or not self.made:
+        if self.is_fault() or not self.ids_of("grid"):
             return self.draw.choice(_COLLECTIONS)
-        return self.draw.choice(list(self.made))
+        return self.draw.choice(self.ids_of("grid"))
 
     def coverage(self, crs: str) -> dict:
         """A grid with times that fits a collection of this CRS, mostly."""

@@ -154,10 +154,13 @@ _WAYS += [_break, _nest]
 # Spellings
 
 
-def spelled_tree(draw: Draw, tree) -> str:
+def spelled_tree(draw: Draw, tree, has_repeats: bool = True) -> str:
     """A text of a tree: its blanks, its escapes and the order of its members vary, and members may be repeated."""
     style = draw.pick("compact", "compact", "wide", "loose")
-    return _Speller(draw, style).text(tree)
+    speller = _Speller(draw, style)
+    if not has_repeats:
+        speller.repeats = 0
+    return speller.text(tree)
 
 
 class _Speller:
