@@ -39,4 +39,13 @@ mod PointDomains
 mod CheckLaws
 mod PlanSteps
 mod PlanForms
+mod PlanChoices
 mod SearchedIds
+mod Additions
+mod Ascending
+mod Cuts
+mod Puts
+mod ReplyTexts
+mod SlotLists
+mod TextSteps
+mod TileSteps

@@ -38,7 +38,7 @@ use Rattle.edr_select.specs.Choices.{IsPoints, Chosen, chosen, IsSome, level_at,
 use Rattle.edr_select.specs.Planned as planned
 use Rattle.edr_select.specs.Planned.{IsInside, IsSmall, AreAxes}
 use Rattle.edr_select.specs.Plans.{PlannedValue, PlanValue, IsPlanned, IsPlan, StandsFor}
-use Rattle.edr_select.specs.Steps.{IsAsked, IsChoice, IsForm, IsPlanIn, are_several, is_many, value_count, coverage_count, planned_in, refused_large}
+use Rattle.edr_select.specs.Steps.{IsAsked, IsForm, IsPlanIn, are_several, is_many, value_count, coverage_count, planned_in, refused_large}
 use Rattle.edr_select.proofs.Lists.{Each, all_member, member_here}
 use Rattle.edr_select.proofs.Grids.{IsGrid}
 use Rattle.edr_select.proofs.Instances.{grid_from}
@@ -272,41 +272,3 @@ pub is_refused_in : (c : CollectionValue) (q : QueryValue) (i : InstanceValue) (
     → (nat_lt value_limit (value_count (chosen i q geometry)) || nat_lt coverage_limit (coverage_count (chosen i q geometry) form)) ≡ true
     → refused_query c q ≡ Some TooLarge
 is_refused_in c q i geometry asked some form is left large = left ∙ refused_size c q i geometry asked (size_is c q i geometry asked some form is ∙ large)
-
--- ---- by the choice that was made
-
-module _ (c : CollectionValue) (q : QueryValue) (i : InstanceValue) (geometry : Geometry) (asked : IsAsked c q i geometry) (choice : Chosen)
-    (made : IsChoice c q i geometry choice) where
-  some_chosen : IsSome (chosen i q geometry)
-  some_chosen = subst IsSome made.is made.some
-
-  pub choice_alone : are_several geometry ≡ false → length choice.spots ≡ 1
-  choice_alone e = ap (λ (ch : Chosen). length ch.spots) made.is ∙ spot_alone c q i geometry asked some_chosen e
-
-  pub choice_inside : IsInside i choice
-  choice_inside = subst (IsInside i) (sym made.is) (inside c q i geometry asked)
-
-  pub choice_axes : AreAxes i choice
-  choice_axes = subst (AreAxes i) (sym made.is) (axes c q i geometry asked some_chosen)
-
-  pub too_large : (form : Form) → IsForm geometry choice form
-      → (nat_lt value_limit (value_count choice) || nat_lt coverage_limit (coverage_count choice form)) ≡ true → refused_query c q ≡ Some TooLarge
-  too_large form =
-      subst (λ (ch : Chosen). IsForm geometry ch form → (nat_lt value_limit (value_count ch) || nat_lt coverage_limit (coverage_count ch form)) ≡ true
-      → refused_query c q ≡ Some TooLarge) (sym made.is)
-      (λ is large. is_refused_in c q i geometry asked some_chosen form is made.refused_is large)
-
-  pub plan_valid : (form : Form) → IsForm geometry choice form → (plan : PlanValue) → plan.shape ≡ i.grid.shape → plan.parameters ≡ choice.parameters
-      → plan.many ≡ is_many form → plan.coverages ≡ planned_in c.referencing i choice form → IsPlan plan
-  plan_valid form h plan shape parameters many are =
-      subst (λ (ch : Chosen). IsForm geometry ch form → plan.parameters ≡ ch.parameters → plan.coverages ≡ planned_in c.referencing i ch form → IsPlan plan) (sym made.is)
-      (λ is parameters are. is_plan c q i geometry asked some_chosen form is plan shape parameters many are) h parameters are
-
-  pub plan_made : (form : Form) → IsForm geometry choice form
-      → (nat_lt value_limit (value_count choice) || nat_lt coverage_limit (coverage_count choice form)) ≡ false
-      → (plan : PlanValue) → plan.query ≡ q → plan.shape ≡ i.grid.shape → plan.parameters ≡ choice.parameters → plan.many ≡ is_many form
-      → plan.coverages ≡ planned_in c.referencing i choice form → IsPlanIn c q i plan
-  plan_made form h fits plan query shape parameters many are =
-      subst (λ (ch : Chosen). IsForm geometry ch form → (nat_lt value_limit (value_count ch) || nat_lt coverage_limit (coverage_count ch form)) ≡ false
-      → plan.parameters ≡ ch.parameters → plan.coverages ≡ planned_in c.referencing i ch form → IsPlanIn c q i plan) (sym made.is)
-      (λ is fits parameters are. is_plan_in c q i geometry asked some_chosen form is plan query shape parameters many are made.refused_is fits) h fits parameters are

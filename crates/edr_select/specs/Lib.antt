@@ -10,6 +10,9 @@ pub mod Choices
 pub mod Plans
 pub mod Planned
 pub mod Planning
+pub mod Sending
 pub mod Checks
 pub mod Steps
 pub mod PlacesOfIds
+pub mod Filling
+pub mod Gathered

@@ -1,6 +1,5 @@
 //! How many coverages a reply has, and of what.
-ghost use Rattle.std.specs.Prelude.{◌≡◌, ◌≢◌, ◌∷◌, [], false, length};
-ghost use Rattle.edr_select.specs.Choices.{IsPoints, IsSome};
+ghost use Rattle.std.specs.Prelude.{◌≡◌, ◌∷◌, [], false, length};
 ghost use Rattle.edr_select.specs.Steps as steps;
 ghost use Rattle.edr_select.specs.Steps.{IsForm};
 

@@ -49,6 +49,8 @@ pub struct Plan {
 }
 
 impl Model for Plan {
+    ghost use Rattle.std.specs.Prelude.{◌<◌, ◌^◌};
+    ghost use Rattle.edr_chunk.specs.Places.{count};
     ghost use Rattle.edr_select.specs.Plans.{PlanValue, IsPlan};
 
     ghost Value = { PlanValue };
@@ -67,7 +69,7 @@ impl Model for Plan {
       parameters = p.parameters;
       many = p.many;
       coverages = p.coverages;
-    }) };
+    }) × (count p.shape < 2 ^ 64) };
 }
 
 impl Plan {

@@ -1,10 +1,9 @@
 use Rattle.std.proofs.Common.{◌≡◌, ◌∙◌, ap, sym, rules}
 use Rattle.covjson_value.specs.declared.coverages.Referencing.{Referencing}
 use Rattle.edr_chunk.specs.Grids as chunk
-use Rattle.edr_chunk.specs.declared.shapes.GridShape.{GridShape}
-use Rattle.edr_select.specs.Plans.{PlannedValue, PlanValue}
 use Rattle.edr_select.specs.Steps.{planned_in}
-use Rattle.edr_select.proofs.PlanForms.{is_asked, small, choice_alone, choice_inside, choice_axes, too_large, plan_valid, plan_made}
+use Rattle.edr_select.proofs.PlanForms.{is_asked, small}
+use Rattle.edr_select.proofs.PlanChoices.{choice_alone, choice_inside, choice_axes, too_large, plan_valid, plan_made}
 use Rattle.edr_select.proofs.planning.plan_in.Goals as goal
 
 pub form_of-form-requires : goal.form_of-form-requires
@@ -39,11 +38,13 @@ invariant_of-result c =
     let coverages : c.of-2.result ≡ planned_in c.args.collection.now.referencing c.args.instance.now c.in_ok-choice.choice c.form_of-form.result =
     c.of-2.ensures
     ∙ (c.in_ok-coverages.ensures
-    ∙ ap (λ (r : Referencing). planned_in r c.args.instance.now c.in_ok-choice.choice c.form_of-form.result) c.referencing-referencing.ensures.referencing) in
-    plan_valid c.args.collection.now c.args.query.now c.args.instance.now c.args.geometry.now asked c.in_ok-choice.choice c.in_ok-choice.ensures.choice
-    c.form_of-form.result c.form_of-form.ensures
-    (record { query = c.in_ok-copy.copy; shape = c.shape.result; parameters = c.of.result; many = c.is_many.result; coverages = c.of-2.result })
-    shape parameters c.is_many.ensures coverages
+    ∙ ap (λ (r : Referencing). planned_in r c.args.instance.now c.in_ok-choice.choice c.form_of-form.result) c.referencing-referencing.ensures.referencing) in (
+      plan_valid c.args.collection.now c.args.query.now c.args.instance.now c.args.geometry.now asked c.in_ok-choice.choice c.in_ok-choice.ensures.choice
+          c.form_of-form.result c.form_of-form.ensures
+          (record { query = c.in_ok-copy.copy; shape = c.shape.result; parameters = c.of.result; many = c.is_many.result; coverages = c.of-2.result })
+          shape parameters c.is_many.ensures coverages,
+      c.shape.ensures.fits,
+    )
 
 pub returns-clause-planned : goal.returns-clause-planned
 returns-clause-planned c =

@@ -1,6 +1,5 @@
 use Rattle.std.proofs.Common.{◌∙◌, sym}
 use Rattle.edr_select.proofs.PlanSteps.{known_levels}
-use Rattle.edr_select.proofs.PlanForms.{is_plan_in}
 use Rattle.edr_select.proofs.steps.refused_asking.Goals as goal
 
 pub returns : goal.returns

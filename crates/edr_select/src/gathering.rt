@@ -1,0 +1,32 @@
+//! All values of a reply, gathered before any of them is written.
+ghost use Rattle.std.specs.Prelude.{◌≡◌, IfOk, map};
+ghost use Rattle.edr_chunk.specs.Grids.{value};
+ghost use Rattle.edr_chunk.specs.Tiles.{tiles, tile_of};
+ghost use Rattle.edr_select.specs.Samples.{ascending_once};
+ghost use Rattle.edr_select.specs.Filling.{grid_of, Adds};
+ghost use Rattle.edr_select.specs.Gathered.{places_of_coverages};
+
+use crate::filling::fill;
+use crate::plans::Plan;
+use crate::slots::push_plan;
+use edr_base::OutOfMemory;
+use edr_edition::Store;
+use std::alloc::Global;
+
+// The values of all ranges of a plan, in the order of the text.
+pub(crate) fn gather(
+    alloc: Global,
+    plan: &Plan,
+    store: &mut Store<'_>,
+) -> Result<Vec<Option<i64>>, OutOfMemory>
+    requires { plan.now.shape ≡ (grid_of store.old.subject.held).shape }
+    ensures values { IfOk result (λ values. values.items ≡ map (value (grid_of store.old.subject.held)) (places_of_coverages plan.now.parameters plan.now.coverages)) }
+    ensures reads { Adds result (ascending_once (tiles plan.now.shape) (map (tile_of plan.now.shape) (places_of_coverages plan.now.parameters plan.now.coverages))) store.old.numbers store.new.numbers }
+    ensures subject { store.new.subject ≡ store.old.subject }
+{
+    let mut slots = Vec::new(alloc);
+    push_plan(&mut slots, plan)?;
+    let mut values = Vec::new(alloc);
+    fill(alloc, store, &mut slots, &mut values)?;
+    Ok(values)
+}
