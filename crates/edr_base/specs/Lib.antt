@@ -17,3 +17,7 @@ pub mod SplitLaws
 pub mod CutLaws
 pub mod NumberLaws
 pub mod TestLaws
+pub mod LentParts
+pub mod Quiet
+pub mod QuietParts
+pub mod RealFilesParts

@@ -13,7 +13,7 @@ use crate::outside::{Failed, Faults, Sink, Source, Stop};
 use std::io::{ErrorKind, Read, Write};
 
 // A count of faults after one more.
-fn one_more(faults: u64) -> u64
+pub(crate) fn one_more(faults: u64) -> u64
     ensures { result ≡ min (faults + 1) (2 ^ 64 - 1) }
 {
     faults.saturating_add(1)
@@ -40,7 +40,7 @@ impl<T: Read> RealSource<T> {
 }
 
 // Reads, again where a signal interrupts it.
-fn read_from<T: Read>(reader: &mut T, buf: &mut [u8]) -> Result<usize, Failed>
+pub(crate) fn read_from<T: Read>(reader: &mut T, buf: &mut [u8]) -> Result<usize, Failed>
     ensures bound { IfOk result (λ n. n ≤ length buf.new) }
     ensures passes { ReadConsumes (T.remaining reader.old) (T.remaining reader.new) result buf.new }
 {

@@ -4,6 +4,7 @@
 mod adapters;
 mod cuts;
 mod fault_plan;
+mod lent;
 mod limits;
 mod memory_files;
 mod memory_link;
@@ -13,7 +14,10 @@ mod names;
 mod numbers;
 mod outside;
 mod places;
+mod quiet_sink;
+mod quiet_source;
 mod reading;
+mod real_files;
 mod refusals;
 mod sending;
 mod texts;
@@ -21,6 +25,7 @@ mod texts;
 pub use adapters::{RealSink, RealSource};
 pub use cuts::{cut_at, without_front};
 pub use fault_plan::FaultPlan;
+pub use lent::Lent;
 pub use limits::{
     COORDINATE_LIMIT, EARLIEST_TIME, FEED_LIMIT, LATEST_TIME, LINE_LIMIT, NAME_LIMIT, NODE_LIMIT,
     POSITION_LIMIT, SAMPLE_LIMIT,
@@ -33,7 +38,10 @@ pub use names::{is_blank, is_name, is_utf8, is_utf8_where_given};
 pub use numbers::{Whole, numeral, whole_number, whole_number_is_one, written_number_is_numeral};
 pub use outside::{Failed, Faults, Files, Link, Sink, Source, Stop};
 pub use places::{Position, Spot};
+pub use quiet_sink::QuietSink;
+pub use quiet_source::QuietSource;
 pub use reading::{ReadStop, read_all};
+pub use real_files::RealFiles;
 pub use refusals::Refusal;
 pub use sending::{SendFault, send, settle};
 pub use texts::{Items, OutOfMemory, Text};

@@ -1,9 +1,11 @@
-ghost use Rattle.std.specs.Prelude.{◌≡◌, IfOk, IsUtf8};
+ghost use Rattle.std.specs.Prelude.{◌≡◌, ◌≢◌, IfOk, IsErrOf, IsUtf8, Err};
+ghost use Rattle.edr_base.specs.Outside.{Rose};
+ghost use Rattle.edr_base.specs.Calls.{SinkLent, Writes};
 
 use crate::{
-    Failed, Files, Items, Link, MemoryFiles, MemoryLink, MemorySink, MemorySource, ReadStop,
-    RealSink, RealSource, Refusal, SendFault, Sink, Source, Stop, Text, is_blank, is_name, is_utf8,
-    is_utf8_where_given, read_all, send, settle,
+    Failed, Files, Items, Lent, Link, MemoryFiles, MemoryLink, MemorySink, MemorySource, QuietSink,
+    QuietSource, ReadStop, RealFiles, RealSink, RealSource, Refusal, SendFault, Sink, Source, Stop,
+    Text, is_blank, is_name, is_utf8, is_utf8_where_given, read_all, send, settle,
 };
 use std::alloc::{AllocError, Global};
 use std::io::{self, ErrorKind, Read, Write};
@@ -242,6 +244,66 @@ fn flushes_are_passed_on(rt: HostRuntime) {
     drop(sink);
     assert!(rt; shaky.calls == 4);
     assert!(rt; shaky.flushes == 2);
+}
+
+// Sends a text and flushes through a sink that is lent: what the lender's sink holds afterwards is known.
+#[tactic(auto, using(crate::specs::LentParts::held_name, crate::specs::LentParts::held_below))]
+fn send_through<K: Sink>(sink: &mut K, text: &[u8]) -> Result<(), SendFault>
+    ensures bytes { Writes result text.now (K.written sink.old) (K.written sink.new) }
+    ensures flushed { K.flushed sink.new ≡ K.flushed sink.old }
+    ensures lent { SinkLent (K.beside sink.old) (K.beside sink.new) (K.faults sink.old) (K.faults sink.new) }
+    ensures cause { IsErrOf result SendFault.WriteFault → Rose (K.faults sink.old) (K.faults sink.new) }
+{
+    let mut layer = Lent::of(sink);
+    send(&mut layer, text)
+}
+
+#[test]
+fn a_lent_sink_takes_what_its_sink_takes(rt: HostRuntime) -> Result<(), Fail> {
+    let alloc = rt.alloc();
+    let mut sink = MemorySink::of(alloc, 2, numbers_of(alloc, &[3])?);
+    assert!(rt; Lent::of(&mut sink).write(b"abc") == Ok(2));
+    assert!(rt; Lent::of(&mut sink).flush() == Ok(()));
+    assert!(rt; send_through(&mut sink, b"c") == Err(SendFault::WriteFault));
+    assert!(rt; send_through(&mut sink, b"cde") == Ok(()));
+    assert!(rt; sink.written() == b"abcde".as_slice());
+    Ok(())
+}
+
+// A sink that never fails: only memory can be wanting.
+fn send_quietly(sink: &mut QuietSink, text: &[u8]) -> Result<(), SendFault>
+    ensures { result ≢ Err SendFault.WriteFault }
+{
+    send(sink, text)
+}
+
+#[test]
+fn quiet_objects_cut_and_never_fail(rt: HostRuntime) -> Result<(), Fail> {
+    let alloc = rt.alloc();
+    for cut in [1usize, 2, 9] {
+        let mut source = QuietSource::of(bytes_of(alloc, b"abcde")?, cut);
+        let mut buffer = [0u8; 4];
+        assert!(rt; source.read(&mut []) == Ok(0));
+        assert!(rt; source.read(&mut buffer) == Ok(cut.min(4)));
+        let rest = read_all(alloc, &mut source, 5).ok().ok_or("not read")?;
+        assert!(rt; rest.as_slice() == &b"abcde"[cut.min(4)..]);
+        let mut sink = QuietSink::of(alloc, cut);
+        assert!(rt; sink.write(b"abcde") == Ok(cut.min(5)));
+        assert!(rt; send_quietly(&mut sink, &b"abcde"[cut.min(5)..]) == Ok(()));
+        assert!(rt; settle(&mut sink) == Ok(()));
+        assert!(rt; sink.written() == b"abcde".as_slice());
+    }
+    Ok(())
+}
+
+// A file that isn't there is a fault, and nothing is open after it.
+#[test]
+fn a_file_that_is_missing_is_a_fault(rt: HostRuntime) {
+    let mut files = RealFiles::new(rt);
+    let mut buffer = [0u8; 4];
+    assert!(rt; files.read(&mut buffer) == Ok(0));
+    assert!(rt; files.open(str_bytes("no-such-folder/no-such-file")) == Err(Stop::Failed));
+    assert!(rt; files.read(&mut buffer) == Ok(0));
 }
 
 #[test]
