@@ -1,22 +1,25 @@
 -- All places against the places within a shape.
-use Rattle.std.proofs.Common.{◌≡◌, ℕ, zero, suc, ◌+◌, ◌*◌, ◌<◌, ◌≤◌, Bool, true, false, List, [], ◌∷◌, All, length, get_or, refl, ap, sym, ◌∙◌, inl, inr, arith}
-use Rattle.std.specs.Prelude.{map, ◌||◌, ◌⊎◌}
+use Rattle.std.proofs.Common.{◌≡◌, ℕ, zero, suc, ◌+◌, ◌*◌, ◌<◌, ◌≤◌, Bool, true, false, List, [], ◌∷◌, All, length, get_or, refl, ap, sym, ◌∙◌, inl, inr, arith, zero-add}
+use Rattle.std.specs.Prelude.{map, ℤ, Option, ◌||◌, ◌⊎◌}
 use Rattle.std.specs.List.{range_with_len, flat_map, list_any}
 use Rattle.std.proofs.Math.Nat.{le-mul_of_pos_right}
 use Rattle.std.proofs.lemmas.Bool.{or_cases}
-use Rattle.std.proofs.lemmas.List.{length-map, map-id}
-use Rattle.std.proofs.lemmas.List.FromFn.{length-range_with_len}
+use Rattle.std.proofs.lemmas.List.{length-map, map-id, get_or-map}
+use Rattle.std.proofs.lemmas.List.FromFn.{length-range_with_len, get_or-range_with_len}
 use Rattle.std.proofs.lemmas.List.Folds.{list_any-append}
-use Rattle.std.proofs.lemmas.List.Elements.{All-nil, All-append, All-cons}
+use Rattle.std.proofs.lemmas.List.Elements.{All-nil, All-append, All-cons, All-map}
 use Rattle.edr_base.specs.Limits.{node_limit}
 use Rattle.edr_chunk.specs.declared.shapes.GridShape.{GridShape}
 use Rattle.edr_chunk.specs.declared.shapes.GridPlace.{GridPlace}
 use Rattle.edr_chunk.specs.Places.{Within, IsShape, count, number}
 use Rattle.edr_chunk.specs.AllPlaces.{at, places}
 use Rattle.edr_chunk.specs.PlaceLaws.{number-below, number-once}
-use Rattle.edr_chunk.specs.Tiles.{tile_shape, tile_place}
-use Rattle.edr_chunk.specs.LawsOfPlaces.{Found, PlacesAreListed, TilesAreNumbered, SidesAreSmall}
+use Rattle.edr_chunk.specs.Tiles.{tile_shape, tile_place, node_at}
+use Rattle.edr_chunk.specs.LawsOfPlaces.{Found, PlacesAreListed, TilesAreNumbered, TilesHavePlaces, SidesAreSmall}
 use Rattle.edr_chunk.proofs.PlaceNumbers.{numbered, read_place, tile_within, tiles_le, along_le, nodes_le}
+use Rattle.edr_chunk.proofs.TileLaws.{node_within, node_corner, some_row, some_column}
+use Rattle.edr_chunk.specs.KeptTiles.{stored, IsPacked}
+use Rattle.edr_chunk.specs.Samples.{HasSample, AreSamples}
 
 any-map : {X Y : Type 0} (t : Y → Bool) (f : X → Y) (xs : List X) → list_any t (map f xs) ≡ list_any (λ x. t (f x)) xs
 any-map t f [] = refl
@@ -112,7 +115,7 @@ all_row P f a zero each = All-nil P
 all_row P f a (suc n) each =
     All-cons P (f a) (map f (range_with_len (a + 1) n)) (each a (omega arith) (omega arith)) (all_row P f (a + 1) n (λ k l h. each k (omega arith) (omega arith)))
 
-all_within : (s : GridShape) → All (Within s) (places s)
+pub all_within : (s : GridShape) → All (Within s) (places s)
 unfolding places
 all_within s =
     all_run (Within s) _ 0 s.parameters (λ p lp hp. all_run (Within s) _ 0 s.times (λ t lt ht. all_run (Within s) _ 0 s.levels (λ z lz hz.
@@ -123,10 +126,22 @@ listed_at : (s : GridShape) (place other : GridPlace) → Within s place → get
 listed_at s place other w =
     ap (λ (l : List GridPlace). get_or l (number s place) other) (sym (map-id (places s))) ∙ read_place (λ a. a) s place other w
 
+places_long : (s : GridShape) → length (places s) ≡ count s
+places_long s = sym (length-map (places s) (number s)) ∙ (ap length (numbered s) ∙ length-range_with_len 0 (count s))
+
+-- ---- what a packed grid holds
+pub grid_long : (s : GridShape) (kept : List (List (Option ℤ))) → length (map (stored s kept) (places s)) ≡ count s
+grid_long s kept = length-map (places s) (stored s kept) ∙ places_long s
+
+pub grid_samples : (s : GridShape) (kept : List (List (Option ℤ))) → IsPacked s kept → AreSamples (map (stored s kept) (places s))
+grid_samples s kept h =
+    All-map HasSample (stored s kept) (places s) (λ k d l. h.stand.samples (get_or (places s) k d) (all_within s k d l))
+
+-- ---- the laws
 pub places_are_listed : (s : GridShape) → PlacesAreListed s
 places_are_listed s = record {
   numbers = numbered s;
-  long = sym (length-map (places s) (number s)) ∙ (ap length (numbered s) ∙ length-range_with_len 0 (count s));
+  long = places_long s;
   within = all_within s;
   listed = listed_at s;
   found = λ t h. found_place t s h;
@@ -147,6 +162,27 @@ tiles_are_numbered s = record {
   coarse = coarse_shape s;
   few = tiles_le s;
 }
+
+-- the place of a number
+placed : (s : GridShape) (k : ℕ) (d : GridPlace) → k < count s → (Within s (get_or (places s) k d)) × (number s (get_or (places s) k d) ≡ k)
+placed s k d l =
+    let inside : k < length (places s) = omega (arith, places_long s) in (
+      all_within s k d inside,
+      sym (get_or-map (number s) (places s) k d 0 inside)
+          ∙ (ap (λ (ns : List ℕ). get_or ns k 0) (numbered s) ∙ (get_or-range_with_len 0 (count s) k 0 l ∙ zero-add k)),
+    )
+
+pub tiles_have_places : (s : GridShape) → TilesHavePlaces s
+tiles_have_places s tile below =
+    let corner : GridPlace = get_or (places (tile_shape s)) tile (at 0 0 0 0 0) in
+    let h = placed (tile_shape s) tile (at 0 0 0 0 0) below in
+    let row = some_row s corner h.0 in
+    let column = some_column s corner h.0 in
+    record {
+      place = node_at corner 0 0;
+      within = node_within s corner 0 0 h.0 row column;
+      numbered = ap (number (tile_shape s)) (node_corner s corner 0 0 row column) ∙ h.1;
+    }
 
 pub sides_are_small : (s : GridShape) → IsShape s → SidesAreSmall s
 sides_are_small s h =

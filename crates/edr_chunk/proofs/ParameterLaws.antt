@@ -10,12 +10,13 @@ use Rattle.edr_chunk.specs.declared.shapes.GridShape.{GridShape}
 use Rattle.edr_chunk.specs.declared.shapes.GridPlace.{GridPlace}
 use Rattle.edr_chunk.specs.Places.{nodes, node_number, count, Within, IsShape}
 use Rattle.edr_chunk.specs.AllPlaces.{at, places}
+use Rattle.edr_chunk.specs.Samples.{HasSample, AreSamples}
 use Rattle.edr_chunk.specs.PlaceLaws.{number-below, number-by_node}
-use Rattle.edr_chunk.specs.Tiles.{with_parameters, tile_shape, tile_place, tiles, tile_of}
+use Rattle.edr_chunk.specs.Tiles.{with_parameters, tile_shape, tile_place, tile_height, tile_width, tiles, tile_of}
 use Rattle.edr_chunk.specs.KeptTiles.{one_of, one_more, inner, stored, AreTiles, Filled}
 use Rattle.edr_chunk.proofs.Lists.{flat_map_range_agree, map_range_agree, flat_map_range_more}
 use Rattle.edr_chunk.proofs.PlaceNumbers.{columns_of, rows_of, levels_of, times_of, map_places, places_agree, tile_within}
-use Rattle.edr_chunk.proofs.TileLaws.{filled_inside, filled_values}
+use Rattle.edr_chunk.proofs.TileLaws.{filled_long, filled_samples, filled_values}
 
 -- the place of the first parameter at a node
 abbrev first_at : GridPlace → GridPlace
@@ -44,22 +45,36 @@ module _ (s : GridShape) (kept more : List (List (Option ℤ))) (part : List (Op
       ap (λ k. get_or (kept ++ more) k []) (next_tile s a here ∙ ap (λ k. k + tile_of (one_of s) (first_at a)) (sym h.many))
       ∙ get_or-append-add kept more (tile_of (one_of s) (first_at a)) []
 
-  more_inside : (a : GridPlace) → Within (one_more s) a → inner s a < length (get_or (kept ++ more) (tile_of s a) [])
-  more_inside a w = elim (cases_lt a.parameter s.parameters) [
+  -- what holds of the tiles that were kept and of the next ones holds of all
+  more_hold : (P : GridPlace → List (Option ℤ) → Type 0) → ((a : GridPlace) → Within s a → P a (get_or kept (tile_of s a) []))
+      → ((a : GridPlace) → Within (one_more s) a → P a (get_or more (tile_of (one_of s) (first_at a)) []))
+      → (a : GridPlace) → Within (one_more s) a → P a (get_or (kept ++ more) (tile_of s a) [])
+  more_hold P old new a w = elim (cases_lt a.parameter s.parameters) [
     | inl low ↦
         let v : Within s a = record { parameter = low; t = w.t; z = w.z; y = w.y; x = w.x } in
-        subst (λ (l : List (Option ℤ)). inner s a < length l) (sym (old_tile a v)) (h.inside a v)
+        subst (P a) (sym (old_tile a v)) (old a v)
     | inr high ↦
         let here : a.parameter ≡ s.parameters = omega (arith, w.parameter) in
-        subst (λ (l : List (Option ℤ)). inner s a < length l) (sym (new_tile a here)) (filled_inside (one_of s) part more f (first_at a) (first_within s (s.parameters + 1) a w))
+        subst (P a) (sym (new_tile a here)) (new a w)
   ]
 
-  pub more_tiles : count (one_more s) < 2 ^ 64 → AreTiles (one_more s) (kept ++ more)
-  more_tiles fits = record {
+  more_long : (a : GridPlace) → Within (one_more s) a → length (get_or (kept ++ more) (tile_of s a) []) ≡ tile_height s (tile_place a) * tile_width s (tile_place a)
+  more_long =
+      more_hold (λ a l. length l ≡ tile_height s (tile_place a) * tile_width s (tile_place a)) h.long
+      (λ a w. filled_long (one_of s) part more f (first_at a) (first_within s (s.parameters + 1) a w))
+
+  more_samples : AreSamples part → (a : GridPlace) → Within (one_more s) a → HasSample (stored (one_more s) (kept ++ more) a)
+  more_samples all =
+      more_hold (λ a l. HasSample (get_or l (inner s a) None)) h.samples
+      (λ a w. filled_samples (one_of s) part more all f (first_at a) (first_within s (s.parameters + 1) a w))
+
+  pub more_tiles : AreSamples part → count (one_more s) < 2 ^ 64 → AreTiles (one_more s) (kept ++ more)
+  more_tiles all fits = record {
     one = h.one;
     fits = fits;
     many = length-append kept more ∙ (ap (λ n. n + length more) h.many ∙ (ap (λ n. tiles s + n) f.many ∙ joined s.parameters (nodes (tile_shape s))));
-    inside = more_inside;
+    long = more_long;
+    samples = more_samples all;
   }
     where
       joined : (p n : ℕ) → p * n + 1 * n ≡ (p + 1) * n
@@ -99,7 +114,8 @@ no_tiles s h = record {
   one = h;
   fits = omega arith;
   many = sym (none (nodes (tile_shape s)));
-  inside = λ a w. absurd (omega (arith, w.parameter));
+  long = λ a w. absurd (omega (arith, w.parameter));
+  samples = λ a w. absurd (omega (arith, w.parameter));
 }
   where
     none : (n : ℕ) → 0 * n ≡ 0

@@ -1,5 +1,5 @@
 -- Laws of places and of tiles, for the proofs of callers.
-use Rattle.std.specs.Prelude.{◌≡◌, ◌<◌, ◌≤◌, Bool, true, List, All, map, length}
+use Rattle.std.specs.Prelude.{◌≡◌, ℕ, ◌<◌, ◌≤◌, Bool, true, List, All, map, length}
 use Rattle.std.specs.List.{slice_index_or, range_with_len, list_any}
 use Rattle.edr_base.specs.Limits.{node_limit}
 use Rattle.edr_chunk.specs.declared.shapes.GridShape.{GridShape}
@@ -49,6 +49,16 @@ pub record TilesAreNumbered (shape : GridShape) : Type 0 where
       → tile_place place ≡ tile_place other
   pub coarse : IsShape shape → IsShape (tile_shape shape)
   pub few : IsShape shape → tiles shape ≤ count shape
+
+-- a place whose tile has a number
+pub record PlaceInTile (shape : GridShape) (tile : ℕ) : Type 0 where
+  pub place : GridPlace
+  pub within : Within shape place
+  pub numbered : tile_of shape place ≡ tile
+
+-- no tile is empty: each number below how many tiles there are is that of some place's tile
+abbrev pub TilesHavePlaces : GridShape → Type 0
+TilesHavePlaces shape = (tile : ℕ) → tile < tiles shape → PlaceInTile shape tile
 
 -- no side is longer than a parameter may have nodes
 pub record SidesAreSmall (shape : GridShape) : Type 0 where

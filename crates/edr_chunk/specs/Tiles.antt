@@ -1,5 +1,5 @@
 -- The tiles of a grid: 64 by 64 nodes of one parameter, time and level, fewer at the last row and the last column of tiles.
-use Rattle.std.specs.Prelude.{◌≡◌, ℕ, ℤ, ◌+◌, ◌*◌, ◌-◌, ◌/◌, ◌<◌, ◌≤◌, List, length, Option, None}
+use Rattle.std.specs.Prelude.{◌≡◌, ℕ, ℤ, ◌+◌, ◌*◌, ◌-◌, ◌/◌, ◌<◌, ◌≤◌, min, List, length, Option, None}
 use Rattle.std.specs.List.{slice_index_or}
 use Rattle.edr_chunk.specs.declared.shapes.GridShape.{GridShape}
 use Rattle.edr_chunk.specs.declared.shapes.GridPlace.{GridPlace}
@@ -41,24 +41,47 @@ tiles shape = count (tile_shape shape)
 abbrev pub tile_of : GridShape → GridPlace → ℕ
 tile_of shape place = number (tile_shape shape) (tile_place place)
 
--- an opened tile: its first row and column, its width, and its values row by row
+-- how many rows and columns of the grid the tile at a place among the tiles has: 64, or what is left at the last row and
+-- the last column of tiles
+abbrev pub tile_height : GridShape → GridPlace → ℕ
+tile_height shape corner = min (shape.rows - corner.y * 64) 64
+
+abbrev pub tile_width : GridShape → GridPlace → ℕ
+tile_width shape corner = min (shape.columns - corner.x * 64) 64
+
+-- the place of a node of that tile, so many rows and columns behind the tile's first node
+abbrev pub node_at : GridPlace → ℕ → ℕ → GridPlace
+node_at corner down right = record { parameter = corner.parameter; t = corner.t; z = corner.z; y = corner.y * 64 + down; x = corner.x * 64 + right }
+
+-- an opened tile: the grid's row and column of its first value, how many columns it has, and its values row by row
 pub record TileValue : Type 0 where
   pub row : ℕ
   pub column : ℕ
   pub width : ℕ
   pub values : List (Option ℤ)
 
--- a row and a column of the grid lie in a tile
-abbrev pub lies_in : TileValue → ℕ → ℕ → Type 0
-lies_in tile row column =
+-- a node, told by its row and its column of the grid, lies in a tile
+abbrev pub LiesIn : TileValue → ℕ → ℕ → Type 0
+LiesIn tile row column =
     (tile.row ≤ row) × (tile.column ≤ column) × (column < tile.column + tile.width)
     × ((row - tile.row) * tile.width + (column - tile.column) < length tile.values)
 
--- its value there
+-- the tile's value at that node
 abbrev pub value_in : TileValue → ℕ → ℕ → Option ℤ
 value_in tile row column = slice_index_or tile.values ((row - tile.row) * tile.width + (column - tile.column)) None
 
--- the tile of a number has the grid's value at each place of that tile
+-- what the tile of a number is: it stands at the place of that number among the tiles, begins at the row and the column of
+-- the first node there, is as wide as the grid has columns there, has one value for each of its nodes and no more, and each
+-- is the grid's value at that node; so all places whose tile it is lie in it, with the grid's values
 pub record IsTile (grid : Values) (tile : ℕ) (opened : TileValue) : Type 0 where
-  pub lies : (place : GridPlace) → Within grid.shape place → tile_of grid.shape place ≡ tile → lies_in opened place.y place.x
+  pub corner : GridPlace
+  pub within : Within (tile_shape grid.shape) corner
+  pub numbered : number (tile_shape grid.shape) corner ≡ tile
+  pub row : opened.row ≡ corner.y * 64
+  pub column : opened.column ≡ corner.x * 64
+  pub width : opened.width ≡ tile_width grid.shape corner
+  pub long : length opened.values ≡ tile_height grid.shape corner * opened.width
+  pub each : (down right : ℕ) → down < tile_height grid.shape corner → right < tile_width grid.shape corner
+      → slice_index_or opened.values (down * opened.width + right) None ≡ value grid (node_at corner down right)
+  pub lies : (place : GridPlace) → Within grid.shape place → tile_of grid.shape place ≡ tile → LiesIn opened place.y place.x
   pub same : (place : GridPlace) → Within grid.shape place → tile_of grid.shape place ≡ tile → value_in opened place.y place.x ≡ value grid place

@@ -36,7 +36,7 @@ impl Model for PackedGrid {
 }
 
 impl PackedGrid {
-    #[tactic(auto, using(crate::proofs::ParameterLaws::part_inside))]
+    #[tactic(auto, using(crate::proofs::ParameterLaws::part_inside, crate::proofs::PlaceNumbers::one_shape))]
     /// A grid of these values, in the order parameter, t, z, y, x, or want of memory.
     pub fn pack(
         alloc: Global,
@@ -65,11 +65,15 @@ impl PackedGrid {
         PackedGrid { shape, kept }
     }
 
-    /// How many parameters, times, levels, rows and columns it has. It takes no memory.
+    #[tactic(auto, using(crate::proofs::AllPlaceLaws::grid_long, crate::proofs::AllPlaceLaws::grid_samples))]
+    /// How many parameters, times, levels, rows and columns it has. It has a value for each place of that shape, and each is
+    /// missing or a sample within the limits. It takes no memory.
     pub fn shape(&self) -> GridShape
         ensures same { result ≡ self.now.shape }
         ensures shape { IsShape result }
         ensures fits { count result < 2 ^ 64 }
+        ensures whole { length self.now.values ≡ count result }
+        ensures samples { AreSamples self.now.values }
     {
         self.shape
     }

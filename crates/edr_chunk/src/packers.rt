@@ -1,4 +1,4 @@
-//! Grids that are packed parameter by parameter.
+//! Grids that are made parameter by parameter, each packed as it comes.
 ghost use Rattle.std.specs.Prelude.{◌≡◌, ◌≤◌, ◌<◌, ◌+◌, ◌^◌, ◌++◌, [], length, IfOk, OnOk, OnErr};
 ghost use Rattle.edr_chunk.specs.Samples.{AreSamples};
 ghost use Rattle.edr_chunk.specs.Places.{nodes, count, IsShape};
@@ -12,8 +12,9 @@ use edr_base::OutOfMemory;
 use std::alloc::Global;
 use std::marker::Model;
 
-/// A grid on its way: what was packed of it, parameter by parameter. Contracts see the grid of the parameters so far, which
-/// are none at first.
+/// A grid that is being made: its parameters are added one after another, and the values of each are packed when it is added.
+/// Contracts see the grid of the parameters that were added so far. At first there are none, so its shape has 0 parameters and
+/// it has no values.
 #[derive(Drop)]
 pub struct GridPacker {
     shape: GridShape,
@@ -34,9 +35,10 @@ impl Model for GridPacker {
 }
 
 impl GridPacker {
-    /// A grid of no parameter yet, of the times, levels, rows and columns of a shape. It takes no memory.
+    /// A grid with no parameter yet, and with the times, levels, rows and columns of a shape. How many parameters the shape
+    /// has is of no account: there will be as many as are added. It takes no memory.
     pub fn new(alloc: Global, shape: GridShape) -> GridPacker
-        requires { IsShape shape }
+        requires { IsShape (with_parameters shape 1) }
         ensures { result ≡ record { shape = with_parameters shape 0; values = [] } }
     {
         GridPacker {
@@ -48,8 +50,8 @@ impl GridPacker {
         }
     }
 
-    /// Adds the next parameter: its values, in the order t, z, y, x, one for each node. Want of memory leaves the grid as it
-    /// was; it is also the answer where the grid would have 2 to the 64 values or more.
+    /// Adds the next parameter with its values: one for each node, in the order t, z, y, x. The only error is want of memory,
+    /// which is also the answer where the grid would then have 2 to the 64 values or more; it leaves the grid as it was.
     pub fn add(&mut self, alloc: Global, values: &[Option<i64>]) -> Result<(), OutOfMemory>
         requires whole { length values.now ≡ nodes self.old.shape }
         requires samples { AreSamples values.now }
@@ -68,7 +70,7 @@ impl GridPacker {
         Ok(())
     }
 
-    /// The grid of the parameters that were added; at least one was. It takes no memory.
+    /// The grid of the parameters that were added, which are at least one. It takes no memory.
     pub fn finish(self) -> PackedGrid
         requires { 1 ≤ self.shape.parameters }
         ensures { result ≡ self }
@@ -77,7 +79,7 @@ impl GridPacker {
     }
 }
 
-// A shape with a parameter more; where its values are too many to be counted, want of memory.
+// The shape with one parameter more, or want of memory where it would have 2 to the 64 values or more.
 fn with_one_more(shape: GridShape) -> Result<GridShape, OutOfMemory>
     requires { IsShape (one_of shape) }
     ensures more { IfOk result (λ more. more ≡ one_more shape) }
@@ -95,7 +97,7 @@ fn with_one_more(shape: GridShape) -> Result<GridShape, OutOfMemory>
     }
 }
 
-// The tiles of a grid, each packed, or want of memory.
+// All tiles of a list of values of a shape, each packed, in the order of their numbers, or want of memory.
 fn packed_tiles(
     alloc: Global,
     shape: GridShape,

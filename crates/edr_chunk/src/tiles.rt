@@ -1,7 +1,7 @@
 //! A tile that was opened.
-ghost use Rattle.std.specs.Prelude.{◌≡◌, ◌-◌, ◌*◌, min};
+ghost use Rattle.std.specs.Prelude.{◌≡◌, ◌*◌};
 ghost use Rattle.edr_chunk.specs.Places.{Within};
-ghost use Rattle.edr_chunk.specs.Tiles.{tile_shape, value_in, lies_in};
+ghost use Rattle.edr_chunk.specs.Tiles.{tile_shape, tile_width, value_in, LiesIn};
 
 use crate::{GridPlace, GridShape, Packed};
 use std::marker::Model;
@@ -27,7 +27,7 @@ impl Model for Tile {
 impl Tile {
     /// The sample at a row and a column of the grid, and None where it is missing. It takes no memory.
     pub fn get(&self, row: u32, column: u32) -> Option<i64>
-        requires { lies_in self.now row column }
+        requires { LiesIn self.now row column }
         ensures { result ≡ value_in self.now row column }
     {
         let place = (row - self.row) as u64 * self.width as u64 + (column - self.column) as u64;
@@ -38,7 +38,7 @@ impl Tile {
 /// The tile at a place among the tiles of a shape. It takes no memory.
 pub fn tile_from(shape: GridShape, corner: GridPlace, samples: Packed) -> Tile
     requires { Within (tile_shape shape) corner }
-    ensures { result ≡ record { row = corner.y * 64; column = corner.x * 64; width = min (shape.columns - corner.x * 64) 64; values = samples } }
+    ensures { result ≡ record { row = corner.y * 64; column = corner.x * 64; width = tile_width shape corner; values = samples } }
 {
     let column = corner.x * 64;
     Tile {

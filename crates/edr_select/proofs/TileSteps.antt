@@ -7,7 +7,7 @@ use Rattle.std.proofs.lemmas.Bool.{cases_lt}
 use Rattle.std.proofs.lemmas.List.{take_more, length-map, map-append, get_or-map, take-append-drop, get_or_default}
 use Rattle.std.proofs.lemmas.List.Elements.{All-from_get_or, All-get_or, All-weaker}
 use Rattle.edr_chunk.specs.declared.shapes.GridShape.{GridShape}
-use Rattle.edr_chunk.specs.Tiles.{tiles, TileValue, IsTile, lies_in}
+use Rattle.edr_chunk.specs.Tiles.{tiles, TileValue, IsTile, LiesIn}
 use Rattle.edr_chunk.specs.Grids as chunk
 use Rattle.edr_chunk.specs.LawsOfPlaces.{TilesAreNumbered}
 use Rattle.edr_edition.specs.Stores.{Held, of_grid, of_stations, HasTile, IsTileOf}
@@ -143,7 +143,7 @@ seen_same grid opened slots at next d vs all is l m same =
 
 -- the slots of the tile lie in it
 pub lies_same : (grid : chunk.Values) (opened : TileValue) (slots : List Slot) (at : ℕ) (d : Slot) → All (IsSlot grid.shape) slots → IsTile grid (slot_tile (get_or slots at d)) opened → at < length slots
-    → (place : ℕ) (other : Slot) → place < length slots → (get_or slots place other).tile ≡ (get_or slots at other).tile → lies_in opened (get_or slots place other).place.y (get_or slots place other).place.x
+    → (place : ℕ) (other : Slot) → place < length slots → (get_or slots place other).tile ≡ (get_or slots at other).tile → LiesIn opened (get_or slots place other).place.y (get_or slots place other).place.x
 lies_same grid opened slots at d all is inside place other l e =
     let slot : IsSlot grid.shape (get_or slots place other) = All-get_or (IsSlot grid.shape) slots place other l all in
     is.lies (get_or slots place other).place slot.within (sym slot.tile ∙ e ∙ ap slot_tile (get_or_default slots at other d inside))

@@ -2,7 +2,7 @@
 ghost use Rattle.std.specs.Prelude.{◌≡◌, ◌≢◌, ◌<◌, ◌≤◌, ℕ, All, OnOk, length, map, slice_index_or};
 ghost use Rattle.std.specs.List.{range_with_len, slice_range};
 ghost use Rattle.std.specs.List.Sorted.{IsNonDecreasingBy};
-ghost use Rattle.edr_chunk.specs.Tiles.{lies_in, tiles};
+ghost use Rattle.edr_chunk.specs.Tiles.{LiesIn, tiles};
 ghost use Rattle.edr_select.specs.declared.slots.Slot.{Slot as SlotValue};
 ghost use Rattle.edr_select.specs.Samples.{ascending_once};
 ghost use Rattle.edr_select.specs.Filling.{grid_of, slot_tile, slot_number, IsSlot, value_of, seen_in, put_all, Adds};
@@ -18,7 +18,7 @@ use std::alloc::Global;
 fn fill_tile(tile: Tile, slots: &[Slot], from: usize, values: &mut [Option<i64>]) -> usize
     requires from { from < length slots.now }
     requires inside { All (λ slot. slot_number slot < length values.old) slots.now }
-    requires lies { (place : ℕ) (other : SlotValue) → place < length slots.now → (slice_index_or slots.now place other).tile ≡ (slice_index_or slots.now from other).tile → lies_in tile (slice_index_or slots.now place other).place.y (slice_index_or slots.now place other).place.x }
+    requires lies { (place : ℕ) (other : SlotValue) → place < length slots.now → (slice_index_or slots.now place other).tile ≡ (slice_index_or slots.now from other).tile → LiesIn tile (slice_index_or slots.now place other).place.y (slice_index_or slots.now place other).place.x }
     ensures after { from < result }
     ensures end { result ≤ length slots.now }
     ensures same { (place : ℕ) (other : SlotValue) → from ≤ place → place < result → (slice_index_or slots.now place other).tile ≡ (slice_index_or slots.now from other).tile }

@@ -16,7 +16,7 @@ invariant_of-self-2 c =
     let items : c.append.new.self.items ≡ kept ++ more = search rules in
     let fits = subst (λ (t : GridShape). count t < 2 ^ 64) c.in_ok-shape.ensures.more c.in_ok-shape.ensures.fits in
     subst (λ (t : GridShape). AreTiles t c.append.new.self.items) (sym c.in_ok-shape.ensures.more)
-    (subst (λ (k : List (List (Option ℤ))). AreTiles (one_more s) k) (sym items) (more_tiles s kept more c.args.values.now c.self.invariant c.in_ok-tiles.ensures fits))
+    (subst (λ (k : List (List (Option ℤ))). AreTiles (one_more s) k) (sym items) (more_tiles s kept more c.args.values.now c.self.invariant c.in_ok-tiles.ensures c.requires.samples fits))
 
 pub returns-clause-values : goal.returns-clause-values
 returns-clause-values c =
