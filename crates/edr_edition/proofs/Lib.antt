@@ -12,3 +12,4 @@ pub mod PackedGrids
 pub mod NewestLaws
 pub mod HeldLaws
 pub mod InstanceGrids
+pub mod ShelfLaws

@@ -10,6 +10,7 @@ mod editions;
 mod instances;
 mod kinds;
 mod laws;
+mod shelves;
 mod steps;
 mod stores;
 mod tallies;
@@ -24,6 +25,7 @@ pub use laws::{
     changes_have_one_outcome, changes_keep_others, editions_cross_threads, instances_have_grids,
     newest_is_newest, newest_is_one,
 };
+pub use shelves::{Editions, LocalShelf, SteppedShelf};
 pub use stores::Store;
 pub use tallies::{Tally, tallies_add_up};
 
