@@ -1,7 +1,10 @@
 //! A draft from its first change to its second edition. The faults of changes are tested by the lines of feeds.
 ghost use Rattle.edr_edition.specs.Changes.{IsChange};
 
-use crate::{Change, Draft, Edition, GridInstance, Kind, Store, editions_cross_threads};
+use crate::{
+    Change, Draft, Edition, Editions, GridInstance, Kind, LocalShelf, SteppedShelf, Store,
+    editions_cross_threads,
+};
 use covjson_value::{Coverage, Domain, NdArray, Parameter, Referencing};
 use edr_axes::Axis;
 use edr_base::{Items, OutOfMemory, Text};
@@ -153,4 +156,35 @@ fn editions_and_drafts_can_be_shared(rt: HostRuntime) {
     let draft = Draft::empty(rt.alloc());
     drafts_are_shared_by_threads(&draft);
     editions_are_shared_by_threads(&draft.finish(1));
+}
+
+// The numbers of the editions that a shelf answers, before and after it gets two more.
+fn local_numbers(alloc: Global) -> Result<[u64; 3], OutOfMemory> {
+    let mut shelf = LocalShelf::of(alloc, Draft::empty(alloc).finish(1))?;
+    let first = shelf.take()?.number();
+    shelf.advance(alloc, Draft::empty(alloc).finish(2))?;
+    shelf.advance(alloc, Draft::empty(alloc).finish(3))?;
+    Ok([first, shelf.take()?.number(), shelf.take()?.number()])
+}
+
+// The numbers of the editions that a shelf of two answers.
+fn stepped_numbers(alloc: Global) -> Result<[u64; 3], OutOfMemory> {
+    let mut editions = Vec::new(alloc);
+    editions.push(Draft::empty(alloc).finish(1))?;
+    editions.push(Draft::empty(alloc).finish(2))?;
+    let mut shelf = SteppedShelf::of(alloc, editions)?;
+    Ok([
+        shelf.take()?.number(),
+        shelf.take()?.number(),
+        shelf.take()?.number(),
+    ])
+}
+
+#[test]
+fn shelves_answer_editions(rt: HostRuntime) {
+    let alloc = rt.alloc();
+    let local = local_numbers(alloc).expect(&rt, "a shelf");
+    assert_eq!(rt; local, [1u64, 3, 3]);
+    let stepped = stepped_numbers(alloc).expect(&rt, "a shelf");
+    assert_eq!(rt; stepped, [1u64, 2, 2]);
 }
