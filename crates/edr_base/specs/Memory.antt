@@ -46,4 +46,4 @@ link_aside ready asked incoming written flushed =
 
 abbrev pub link_beside : Bool → List Asked → List ℕ → List ℕ → Beside
 link_beside ready asked incoming left =
-    record { idle = not ready; asked = Some asked; incoming = Some incoming; left = Some left; bottom = Some []; held = 0 }
+    record { idle = not ready; asked = Some asked; incoming = Some incoming; left = Some left; bottom = Some []; held = [] }

@@ -14,8 +14,8 @@
 //!   aside and beside as they were, and a count of faults that isn't less.
 //! - **bottom** of a layer over a sink: what stood in the sink below before the layer's own first byte. Of a sink that
 //!   is no layer it is empty.
-//! - **held** of a layer over a lent sink: which reference it holds, and what that sink tells beside, as one number; 0
-//!   of a sink that holds none.
+//! - **held** of a layer over lent sinks: which references they are and what they tell beside, from the uppermost down;
+//!   none of a sink that is over none.
 ghost use Rattle.std.specs.Prelude.{◌≡◌, ◌≤◌, ◌<◌, ℕ, List, [], Bool, true, length, IfOk, OnErr, IsErrOf, IsOk, is_err, Some, Option, Ok, Err, IsUtf8};
 ghost use Rattle.edr_base.specs.Outside.{Aside, Beside, Rose, Ties, TellsBottom, KeptByOpen};
 ghost use Rattle.edr_base.specs.Calls.{SourceLent, SinkLent, Reads, Appended, Flushed, Opened, asked_after, Cause};

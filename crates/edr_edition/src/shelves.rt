@@ -18,6 +18,9 @@ pub trait Editions {
     /// The numbers of the editions that the takes answered, in that order, where they are told.
     ghost taken: { Self → Option (List ℕ) };
 
+    /// All its editions, where nobody puts editions on it while they are taken; None where others may.
+    ghost stock: { Self → Option (List EditionValue) } = { λ _. None };
+
     /// The newest edition, which is the last that was seen then. What was seen before stays seen.
     ///
     /// After want of memory, its only error, what was taken is as it was, and what was seen is as it was or has grown.
@@ -27,7 +30,8 @@ pub trait Editions {
         ensures ascending { IsShelfList (seen self.new) }
         ensures taken { MatchResult result
             (λ edition. TakenGrew (taken self.old) (taken self.new) ((arc_value edition).number ∷ []))
-            (λ _. TakenGrew (taken self.old) (taken self.new) []) };
+            (λ _. TakenGrew (taken self.old) (taken self.new) []) }
+        ensures stock { stock self.new ≡ stock self.old };
 }
 
 // An edition that is handed out as often as it is asked for. Contracts see the edition.
@@ -122,6 +126,8 @@ impl Editions for LocalShelf {
 
     ghost taken = { λ _. None };
 
+    ghost stock = { λ shelf. Some shelf };
+
     /// The last edition that was put on it. It takes no memory; its only error is that the edition was handed out too often
     /// to be counted.
     fn take(&mut self) -> Result<Arc<Edition>, OutOfMemory>
@@ -131,6 +137,7 @@ impl Editions for LocalShelf {
         ensures taken { MatchResult result
             (λ edition. TakenGrew None None ((arc_value edition).number ∷ []))
             (λ _. TakenGrew None None []) }
+        ensures stock { Some self.new ≡ Some self.old }
         ensures kept { self.new ≡ self.old }
     {
         self.editions[self.editions.len() - 1].edition()
@@ -188,6 +195,8 @@ impl Editions for SteppedShelf {
 
     ghost taken = { taken_of };
 
+    ghost stock = { λ shelf. Some shelf.editions };
+
     /// The next edition, or the last again where none is left. It takes no memory; its only error is that the edition was
     /// handed out too often to be counted.
     #[tactic(auto, using(crate::proofs::ShelfLaws::first_ascend))]
@@ -198,6 +207,7 @@ impl Editions for SteppedShelf {
         ensures taken { MatchResult result
             (λ edition. TakenGrew (taken_of self.old) (taken_of self.new) ((arc_value edition).number ∷ []))
             (λ _. TakenGrew (taken_of self.old) (taken_of self.new) []) }
+        ensures stock { Some self.new.editions ≡ Some self.old.editions }
         ensures answer { IfOk result (λ edition. arc_value edition ≡ edition_after self.old.answered self.old.editions) }
         ensures step { OnOk result (self.new ≡ stepped self.old) }
         ensures kept { OnErr result (self.new ≡ self.old) }
