@@ -7,7 +7,7 @@ from coverage_json_written import write_document
 from descriptions import description
 from editions import Collections
 from refusals import STATUSES, Refused
-from targets import Description, read_target
+from targets import Description, Query, read_target
 
 
 @dataclass(frozen=True)
@@ -21,13 +21,26 @@ class Answer:
 def answer(target: bytes, edition: Collections) -> Answer:
     """The text that the target asks for, or the body of the first refusal that applies."""
     try:
-        return Answer(200, _text(target, edition))
+        page = read_target(target)
     except Refused as refused:
-        return Answer(STATUSES[refused.name], refused.body())
+        return refusal_answer(refused)
+    return page_answer(page, edition)
 
 
-def _text(target: bytes, edition: Collections) -> str:
-    page = read_target(target)
+def page_answer(page: Description | Query, edition: Collections) -> Answer:
+    """The text of a page, or the body of the first refusal of the edition that applies."""
+    try:
+        return Answer(200, _text(page, edition))
+    except Refused as refused:
+        return refusal_answer(refused)
+
+
+def refusal_answer(refused: Refused) -> Answer:
+    """The body of a refusal."""
+    return Answer(STATUSES[refused.name], refused.body())
+
+
+def _text(page: Description | Query, edition: Collections) -> str:
     if isinstance(page, Description):
         checked_page(page, edition)
         return description(page, edition)

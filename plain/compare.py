@@ -2,7 +2,7 @@
 
     python3 plain/compare.py --edr crates/edr/out/edr --answers crates/edr_answers/out/edr_answers --seed 1 --count 1000
 
-`--edr` names the program, which is asked by its words and its input (the kinds `ask` and `check`); `--answers` names `edr_answers`,
+`--edr` names the program, which is asked by its words and its input (the kinds `ask`, `check` and `replay`); `--answers` names `edr_answers`,
 which gives what the readers answer (all other kinds). With `--tried` in place of `--edr`, `rt try` runs
 the crate `edr` without proof. Each kind gets `--count` inputs, which the seed, the kind and their number decide. Every
 difference is printed with what reproduces it; the last line is `N agreed, M differ`, and the status is 1 where any differ.
@@ -20,13 +20,14 @@ from typing import Callable
 
 import answers
 import built
-from edr import Ending, run
+from edr import Ending, held_files, run
 from inputs import large
 from inputs.asks import Ask, ask_input, large_ask_input
 from inputs.documents import document_text
 from inputs.draws import Draw
 from inputs.feed_lines import feed_text
 from inputs.geometries import geometry_text
+from inputs.sessions import replay_input
 from inputs.targets import target_text
 from inputs.texts import instant_text, levels_text, number_text, times_text
 from programs import endings, reader_answers
@@ -46,11 +47,13 @@ def check_input(draw: Draw) -> Ask:
     return Ask(draw.pick((b"check",), (b"check", b"--summary")), feed_text(draw))
 
 
-GROUP = 10  # so many inputs of `ask` have one feed
+GROUP = 10  # so many inputs of `ask` and of `replay` have one feed
 
 # What the program is started with.
 ASKS = {"ask": ask_input, "check": check_input}
 LARGE_ASKS = {"large-ask": large_ask_input}
+UNBUILT_ASKS = {"replay": replay_input}  # compared where it is asked for by name, as long as the program doesn't have it
+ALL_ASKS = ASKS | LARGE_ASKS | UNBUILT_ASKS
 
 READERS = {
     "number": Kind(number_text, answers.number_answer, "n"),
@@ -113,27 +116,31 @@ class Result:
 
 def compare(settings: Settings, places: list[Place]) -> list[Result]:
     """Compares some inputs."""
-    asks = [place for place in places if place.kind in ASKS | LARGE_ASKS]
-    reads = [place for place in places if place.kind not in ASKS | LARGE_ASKS]
+    asks = [place for place in places if place.kind in ALL_ASKS]
+    reads = [place for place in places if place.kind not in ALL_ASKS]
     results = _compare_asks(settings, asks) if asks else []
     results += _compare_reads(settings, reads) if reads else []
     return [result.shortened() for result in results]
 
 
 def _compare_asks(settings: Settings, places: list[Place]) -> list[Result]:
-    asks = [(ASKS | LARGE_ASKS)[place.kind](place.draw(settings.seed)) for place in places]
+    asks = [ALL_ASKS[place.kind](place.draw(settings.seed)) for place in places]
     found = endings(settings.edr, asks)
     return [_ask_result(place, ask, ending) for place, ask, ending in zip(places, asks, found)]
 
 
 def _ask_result(place: Place, ask: Ask, ending: Ending | None) -> Result:
-    plain = run(list(ask.words), lambda: ask.input)
+    plain = run(list(ask.words), lambda: ask.input, held_files(dict(ask.files)))
     word = f"{plain.status} {plain.errors[:40].decode(errors='replace').strip()}" if plain.status else "0 " + _kind_of_output(plain)
     return Result(place, repr(ask), repr(plain), ending and repr(ending), word)
 
 
 def _kind_of_output(ending: Ending) -> str:
-    """The type of a document and its domains, or `text`."""
+    """The type of a document and its domains, or the statuses of replies and whether the last one closes, or `text`."""
+    statuses = sorted(set(re.findall(rb"^HTTP/1\.1 ([0-9]{3}) ", ending.output, flags=re.MULTILINE)))
+    if statuses or not ending.output:
+        closes = b"\r\nConnection: close\r\n" in ending.output
+        return b" ".join(statuses).decode() + (" closed" if closes else "")
     domain = re.search(rb'"domainType":"([A-Za-z]+)"', ending.output)
     if domain is None:
         return "text"
@@ -176,7 +183,7 @@ def parsed_words() -> argparse.Namespace:
     parser.add_argument("--tried", action="store_true", help="run the crate edr by rt try, in one process")
     parser.add_argument("--seed", required=True)
     parser.add_argument("--count", type=int, default=1000, help="how many inputs of each kind")
-    parser.add_argument("--kind", action="append", choices=[*ASKS, *READERS, *LARGE_ASKS, *LARGE_READERS], help="may be given several times")
+    parser.add_argument("--kind", action="append", choices=[*ALL_ASKS, *READERS, *LARGE_READERS], help="may be given several times")
     parser.add_argument("--only", type=int, help="compare the input of this number alone, and print it whole")
     parser.add_argument("--at-once", type=int, default=500, help="how many inputs a process takes at a time")
     parser.add_argument("--built", default="", help="what else is built: names as in built.py, with commas between, or whole")
@@ -202,7 +209,7 @@ def jobs_of(words: argparse.Namespace, kinds: list[str]) -> list[list[Place]]:
         jobs += [places[first : first + step] for first in range(0, len(places), step)]
     if words.tried:
         places = [place for job in jobs for place in job]
-        jobs = [[place for place in places if (place.kind in ASKS | LARGE_ASKS) == is_ask] for is_ask in (False, True)]
+        jobs = [[place for place in places if (place.kind in ALL_ASKS) == is_ask] for is_ask in (False, True)]
     return [job for job in jobs if job]
 
 

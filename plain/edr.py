@@ -1,15 +1,20 @@
-"""The commands of the program: python3 plain/edr.py ask TARGET < input, or check [--summary]"""
+"""The commands of the program: python3 plain/edr.py ask TARGET < input, check [--summary], or replay FEED [--advance]"""
 
 import os
 import sys
 from dataclasses import dataclass
+from typing import Callable
 
 from ask import answer
 from editions import Collections
 from feeds import FeedFault, read_feed
+from names import is_utf8
+from sessions import serve
 from summaries import count_line, summary_lines
 
 USAGE = "usage: edr ask TARGET | replay FEED [--advance] | check [--summary] | make NUMBER | show | fetch URL"
+
+Read = Callable[[], bytes]  # gives all that there is; raises OSError
 
 
 @dataclass(frozen=True)
@@ -25,15 +30,35 @@ def _ended(status: int, line: str) -> Ending:
     return Ending(status, errors=line.encode("utf-8") + b"\n")
 
 
-def run(words: list[bytes], read_input) -> Ending:
-    """What the program does for its words. The input is read where the words ask for it."""
+def run(words: list[bytes], read_input: Read, open_file: Callable[[bytes], Read]) -> Ending:
+    """What the program does for its words. The input is read, and a file opened, where the words ask for it."""
     if words == [b"check"]:
         return _of_feed(read_input(), lambda editions: Ending(0, count_line(editions).encode("utf-8")))
     if words == [b"check", b"--summary"]:
         return _of_feed(read_input(), lambda editions: Ending(0, summary_lines(editions).encode("utf-8")))
     if len(words) == 2 and words[0] == b"ask":
         return _of_feed(read_input(), lambda editions: _answered(words[1], editions[-1]))
+    if words[:1] == [b"replay"] and len(words) > 1 and words[2:] in ([], [b"--advance"]) and is_utf8(words[1]):
+        return _of_file(words[1], open_file, lambda feed: _replayed(feed, len(words) > 2, read_input))
     return _ended(1, USAGE)
+
+
+def _of_file(name: bytes, open_file: Callable[[bytes], Read], ending_of: Callable[[bytes], Ending]) -> Ending:
+    """How it ends with what a file holds, or without it."""
+    try:
+        read = open_file(name)
+    except OSError:
+        return _ended(9, "open fault")
+    try:
+        content = read()
+    except OSError:
+        return _ended(3, "read fault")
+    return ending_of(content)
+
+
+def _replayed(feed: bytes, advances: bool, read_input: Read) -> Ending:
+    """The replies to the input; each request finds the first edition, or with `advances` the next one."""
+    return _of_feed(feed, lambda editions: Ending(0, serve(read_input(), editions if advances else editions[:1]).output()))
 
 
 def _of_feed(feed: bytes, ending_of) -> Ending:
@@ -49,8 +74,25 @@ def _answered(target: bytes, edition: Collections) -> Ending:
     return Ending(0, found.text.encode("utf-8")) if found.status == 200 else _ended(6, found.text)
 
 
+def real_file(name: bytes) -> Read:
+    """Opens a file. Raises OSError."""
+    number = os.open(name, os.O_RDONLY)
+    return lambda: os.fdopen(number, "rb").read()
+
+
+def held_files(files: dict[bytes, bytes]) -> Callable[[bytes], Read]:
+    """Opens files that are held in memory."""
+
+    def open_file(name: bytes) -> Read:
+        if name not in files:
+            raise FileNotFoundError(name)
+        return lambda: files[name]
+
+    return open_file
+
+
 def main() -> int:
-    ending = run([os.fsencode(word) for word in sys.argv[1:]], sys.stdin.buffer.read)
+    ending = run([os.fsencode(word) for word in sys.argv[1:]], sys.stdin.buffer.read, real_file)
     sys.stdout.buffer.write(ending.output)
     sys.stderr.buffer.write(ending.errors)
     return ending.status

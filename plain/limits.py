@@ -12,6 +12,9 @@ LINE_BYTES = 16_777_216  # the line feed isn't counted
 FEED_BYTES = 1_073_741_824
 REPLY_VALUES = 2_000_000  # of all ranges of a reply, missing and unselected ones too
 REPLY_COVERAGES = 5_000
+HEAD_BYTES = 16_384  # of a request, the empty lines before it and the one at its end too
+HEAD_FIELDS = 64
+REQUESTS = 1_000  # of a connection
 
 
 def is_coordinate(number: int) -> bool:

@@ -1,4 +1,4 @@
-"""Names: the ids of collections, instances and parameters."""
+"""Names: the ids of collections, instances and parameters; bytes that are text."""
 
 import limits
 
@@ -9,3 +9,12 @@ def is_name(text: str) -> bool:
     if not 1 <= len(written) <= limits.NAME_BYTES:
         return False
     return all(byte >= 32 and byte != 127 and byte != ord(",") for byte in written)
+
+
+def is_utf8(text: bytes) -> bool:
+    """Whether some bytes are UTF-8."""
+    try:
+        text.decode("utf-8")
+    except UnicodeDecodeError:
+        return False
+    return True

@@ -2,6 +2,7 @@
 
 import os
 import re
+import shutil
 import subprocess
 import tempfile
 from pathlib import Path
@@ -59,11 +60,15 @@ def endings(program: str | None, asks: list[Ask]) -> list[Ending | None]:
     """How `edr` ends for some words and inputs; by `rt try` where there is no built program, and then None where it can't tell."""
     if program is None:
         return _tried_endings(asks)
-    return [_ending(program, ask) for ask in asks]
+    path = os.path.abspath(shutil.which(program) or program)
+    return [_ending(path, ask) for ask in asks]
 
 
-def _ending(program: str, ask: Ask) -> Ending:
-    done = subprocess.run([os.fsencode(program), *ask.words], input=ask.input, capture_output=True)
+def _ending(path: str, ask: Ask) -> Ending:
+    with tempfile.TemporaryDirectory() as folder:
+        for name, content in ask.files:
+            Path(folder, os.fsdecode(name)).write_bytes(content)
+        done = subprocess.run([os.fsencode(path), *ask.words], input=ask.input, capture_output=True, cwd=folder)
     return Ending(done.returncode, done.stdout, done.stderr)
 
 
@@ -86,4 +91,4 @@ def _tried_endings(asks: list[Ask]) -> list[Ending | None]:
 
 
 def _is_triable(ask: Ask) -> bool:
-    return all(b"\n" not in word and b"\r" not in word and b"{" not in word and word for word in ask.words) and bool(ask.words)
+    return not ask.files and all(b"\n" not in word and b"\r" not in word and b"{" not in word and word for word in ask.words) and bool(ask.words)

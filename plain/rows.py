@@ -1,9 +1,9 @@
-"""Runs the plain program on worked rows of `ask` and `check`.
+"""Runs the plain program on worked rows of `ask`, `check` and `replay`.
 
     python3 plain/rows.py ROWS [--request N] [--show]
 
-Each line of ROWS is an object with `words`, `input` and `answers`, a list of [first, last, status, output, errors]: what is
-answered from one request of the work to another. Without `--request`, all queries and stations are switched on and the last
+Each line of ROWS is an object with `words`, `input`, `files` by their names, and `answers`, a list of [first, last, status, output,
+errors]: what is answered from one request of the work to another. Without `--request`, all queries and stations are switched on and the last
 answers are wanted; with it, the switches stay as they are, and the answers are those at that request. The last line is
 `N agree, M differ`.
 """
@@ -13,7 +13,7 @@ import json
 import sys
 
 import built
-from edr import Ending, run
+from edr import Ending, held_files, run
 
 
 def wanted(row: dict, request: int | None) -> Ending | None:
@@ -23,6 +23,13 @@ def wanted(row: dict, request: int | None) -> Ending | None:
         return None
     _, _, status, output, errors = answers[-1]
     return Ending(status, output.encode("latin-1"), errors.encode("latin-1"))
+
+
+def ending(row: dict) -> Ending:
+    """How the row's run ends."""
+    words = [word.encode("latin-1") for word in row["words"]]
+    files = {name.encode("latin-1"): content.encode("latin-1") for name, content in row["files"].items()}
+    return run(words, lambda: row["input"].encode("latin-1"), held_files(files))
 
 
 def main() -> int:
@@ -38,9 +45,9 @@ def main() -> int:
         for number, line in enumerate(rows, 1):
             row = json.loads(line)
             want = wanted(row, given.request)
-            if want is None or row["words"][:1] not in (["ask"], ["check"]):
+            if want is None or row["words"][:1] not in (["ask"], ["check"], ["replay"]):
                 continue
-            got = run([word.encode("latin-1") for word in row["words"]], lambda: row["input"].encode("latin-1"))
+            got = ending(row)
             agree, differ = agree + (got == want), differ + (got != want)
             if got != want:
                 print(f"differs: row {number}: {' '.join(row['words'])[:200]}")

@@ -19,6 +19,7 @@ class Ask:
 
     words: tuple[bytes, ...]
     input: bytes
+    files: tuple[tuple[bytes, bytes], ...] = ()  # the names and contents of the files beside it
 
 
 def ask_input(draw: Draw) -> Ask:
