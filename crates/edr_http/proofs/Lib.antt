@@ -1,0 +1,5 @@
+pub mod HeadLemmas
+pub mod RestLemmas
+pub mod CheckLemmas
+pub mod ReplyLemmas
+pub mod RefusingLemmas

@@ -1,0 +1,13 @@
+use Rattle.std.proofs.Common.{rules}
+use Rattle.edr_http.proofs.RestLemmas.{got_short, grew_none}
+use Rattle.edr_http.proofs.filling.fill.Goals as goal
+
+pub returns-in-Got-clause-short : goal.returns-in-Got-clause-short
+returns-in-Got-clause-short g c n e =
+    let here = rw c.deref.ensures.value at c.in-Got.ensures in
+    got_short _ _ _ c.loop.held.items c.in-Got.n n c.loop.invariant.fresh here (cc)
+
+pub returns-else-is_empty-clause-front : goal.returns-else-is_empty-clause-front
+returns-else-is_empty-clause-front g c =
+    let none = rw c.deref.ensures.value at c.in-NeedMore.ensures in
+    (search rules, grew_none _ _ c.in-Ok-eq0.field-0 _ c.in-Ok-eq0.ensures.grew.1 (search rules) none.0)

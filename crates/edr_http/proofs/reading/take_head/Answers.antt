@@ -1,0 +1,13 @@
+use Rattle.std.proofs.Common.{ℕ, List, subst, sym}
+use Rattle.edr_http.specs.Heads.{BeginsWith}
+use Rattle.edr_http.proofs.RestLemmas.{finds_got, rest_after}
+use Rattle.edr_http.proofs.reading.take_head.Goals as goal
+
+pub returns-in-Ok-clause-done : goal.returns-in-Ok-clause-done
+returns-in-Ok-clause-done g c =
+    let f = rw c.in-Ok-Got.field-0-is at c.in-Ok-Got.ensures.front in
+    let P : List ℕ → Type 0 = λ w. BeginsWith w f.0 f.1 in
+    finds_got _ _ _ _ _ c.in-Ok-Got.n c.in-Ok.head f.0 f.1 c.fill.ensures.rest f.2 f.3 (c.in-Ok.ensures f.0 f.1 (subst P (sym c.deref.ensures.value) f.2)) c.remove_front.ensures
+
+pub returns-in-Ok-clause-behind : goal.returns-in-Ok-clause-behind
+returns-in-Ok-clause-behind g c = rest_after _ _ _ _ _ c.in-Ok-Got.n c.fill.ensures.rest c.remove_front.ensures

@@ -1,0 +1,5 @@
+pub mod Heads
+pub mod Finding
+pub mod Checks
+pub mod Chunks
+pub mod Replies

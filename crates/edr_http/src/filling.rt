@@ -1,0 +1,73 @@
+//! Reading until it is known what is at the front of the rest.
+ghost use Rattle.std.specs.Prelude.{◌≡◌, ◌≤◌, ◌<◌, ◌-◌, ◌⊎◌, ℕ, length, IfOk, Ok, IsErrOf};
+ghost use Rattle.std.specs.Io.KnownBytes.{prepend_known};
+ghost use Rattle.edr_base.specs.Outside.{Rose};
+ghost use Rattle.edr_base.specs.Calls.{SourceLent};
+ghost use Rattle.edr_http.specs.Finding.{Grew, IsFront, HasTree};
+
+use crate::finding::{Found, HEAD_LIMIT, look};
+use crate::heads::HeadFault;
+use edr_base::{Failed, Source};
+
+/// What is at the front of the rest.
+#[derive(Clone, Copy)]
+pub(crate) enum Front {
+    /// A head of so many bytes.
+    Got(usize),
+    /// Nothing.
+    EndOfInput,
+    /// Some bytes that begin with no head.
+    BadHead,
+}
+
+// Reads one block behind what is held.
+#[tactic(auto, using(crate::proofs::RestLemmas::rest_grew))]
+fn read_more<S: Source>(source: &mut S, held: &mut Vec<u8>) -> Result<usize, HeadFault>
+    ensures rest { prepend_known held.new.items (S.left source.new) ≡ prepend_known held.old.items (S.left source.old) }
+    ensures grew { IfOk result (λ n. (n ≤ 4096) × Grew held.old.items held.new.items n (S.left source.new)) }
+    ensures lent { SourceLent (S.aside source.old) (S.aside source.new) (S.faults source.old) (S.faults source.new) }
+    ensures cause { IsErrOf result HeadFault.ReadFault → Rose (S.faults source.old) (S.faults source.new) }
+{
+    let mut block = [0u8; 4096];
+    if held.try_reserve(4096).is_err() {
+        return Err(HeadFault::OutOfMemory);
+    }
+    match source.read(&mut block) {
+        Ok(n) => match held.extend_from_slice(&block[..n]) {
+            Ok(()) => Ok(n),
+            Err(_) => unreachable!(),
+        },
+        Err(Failed) => Err(HeadFault::ReadFault),
+    }
+}
+
+/// Reads until it is known what is at the front of the rest, which stays as it is.
+#[tactic(auto, using(crate::proofs::RestLemmas::no_head_ever, crate::proofs::RestLemmas::no_head_end))]
+pub(crate) fn fill<S: Source>(source: &mut S, held: &mut Vec<u8>) -> Result<Front, HeadFault>
+    ensures rest { prepend_known held.new.items (S.left source.new) ≡ prepend_known held.old.items (S.left source.old) }
+    ensures front { IfOk result (λ front. IsFront front held.new.items (S.left source.new)) }
+    ensures kept { (n : ℕ) → HasTree held.old.items n → source.new ≡ source.old }
+    ensures short { (n : ℕ) → result ≡ Ok (Front.Got n) → (source.new ≡ source.old) ⊎ (length held.new.items - n < 4096) }
+    ensures lent { SourceLent (S.aside source.old) (S.aside source.new) (S.faults source.old) (S.faults source.new) }
+    ensures cause { IsErrOf result HeadFault.ReadFault → Rose (S.faults source.old) (S.faults source.new) }
+{
+    for _ in 0..HEAD_LIMIT + 1 {
+        match look(held) {
+            Found::Got(n) => return Ok(Front::Got(n)),
+            Found::Bad => return Ok(Front::BadHead),
+            Found::NeedMore => {}
+        }
+        match read_more(source, held) {
+            Ok(0) => {
+                return Ok(if held.is_empty() {
+                    Front::EndOfInput
+                } else {
+                    Front::BadHead
+                });
+            }
+            Ok(_) => {}
+            Err(fault) => return Err(fault),
+        }
+    }
+    unreachable!()
+}

@@ -1,0 +1,37 @@
+//! Bytes that were read and not used.
+ghost use Rattle.std.specs.Prelude.{◌≡◌, []};
+
+use std::alloc::Global;
+use std::marker::Model;
+
+/// The bytes of a connection that were read and not used yet, seen as a list.
+#[derive(Debug, Drop)]
+pub struct Inbox {
+    pub(crate) bytes: Vec<u8>,
+}
+
+impl Model for Inbox {
+    ghost use Rattle.std.specs.Prelude.{ℕ, List};
+
+    ghost Value = { List ℕ };
+
+    ghost view = { λ inbox. inbox.bytes.items };
+}
+
+impl Inbox {
+    /// An inbox that holds nothing. It takes no memory.
+    pub fn new(alloc: Global) -> Inbox
+        ensures { result ≡ [] }
+    {
+        Inbox {
+            bytes: Vec::new(alloc),
+        }
+    }
+
+    /// The bytes that it holds.
+    pub fn held(&self) -> &[u8]
+        ensures { result.now ≡ self.now }
+    {
+        &self.bytes
+    }
+}

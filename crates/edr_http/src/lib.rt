@@ -1,0 +1,24 @@
+//! HTTP/1.1 as the server speaks it: heads of requests, what they are refused for, and replies (RFC 9112).
+#![tactic(auto)]
+
+mod checks;
+mod copying;
+mod filling;
+mod finding;
+mod heads;
+mod inbox;
+mod laws;
+mod reading;
+mod refusing;
+mod replies;
+
+pub use checks::{Ask, check_head};
+pub use heads::{Head, HeadFault, HeadOutcome};
+pub use inbox::Inbox;
+pub use laws::{head_is_one, heads_are_decided, heads_are_decided_early, refusal_is_one};
+pub use reading::read_head;
+pub use refusing::write_refusal;
+pub use replies::write_head;
+
+#[cfg(test)]
+mod tests;

@@ -1,0 +1,72 @@
+//! The head at the front of the rest of a connection.
+ghost use Rattle.std.specs.Prelude.{◌≡◌, ◌≤◌, ◌<◌, ◌⊎◌, ℕ, length, drop, vec_len, IfOk, OnErr, IsErrOf};
+ghost use Rattle.std.specs.Io.KnownBytes.{prepend_known};
+ghost use Rattle.edr_base.specs.Outside.{Rose};
+ghost use Rattle.edr_base.specs.Calls.{SourceLent};
+ghost use Rattle.edr_http.specs.Heads.{Finds, HasHead, IsGot, IsBehind};
+ghost use Rattle.edr_http.specs.Finding.{HasTree};
+
+use crate::copying::copy_head;
+use crate::filling::{Front, fill};
+use crate::heads::{HeadFault, HeadOutcome};
+use crate::inbox::Inbox;
+use edr_base::{Refusal, Source};
+use std::alloc::Global;
+
+// Takes the first bytes away.
+fn remove_front(held: &mut Vec<u8>, n: usize)
+    requires { n ≤ vec_len held.old }
+    ensures { held.new.items ≡ drop n held.old.items }
+{
+    held.drain(..n);
+}
+
+// Takes the head at the front of what is held and what is left of the source.
+#[tactic(auto, using(crate::proofs::RestLemmas::finds_end, crate::proofs::RestLemmas::finds_bad, crate::proofs::RestLemmas::rest_after, crate::proofs::RestLemmas::rest_same))]
+fn take_head<S: Source>(
+    alloc: Global,
+    source: &mut S,
+    held: &mut Vec<u8>,
+) -> Result<HeadOutcome, HeadFault>
+    ensures done { IfOk result (λ outcome. Finds outcome (prepend_known held.old.items (S.left source.old)) (prepend_known held.new.items (S.left source.new))) }
+    ensures fault { OnErr result (prepend_known held.new.items (S.left source.new) ≡ prepend_known held.old.items (S.left source.old)) }
+    ensures behind { IsBehind (prepend_known held.old.items (S.left source.old)) (prepend_known held.new.items (S.left source.new)) }
+    ensures short { IsGot result → (source.new ≡ source.old) ⊎ (vec_len held.new < 4096) }
+    ensures kept { (n : ℕ) → HasTree held.old.items n → source.new ≡ source.old }
+    ensures lent { SourceLent (S.aside source.old) (S.aside source.new) (S.faults source.old) (S.faults source.new) }
+    ensures cause { IsErrOf result HeadFault.ReadFault → Rose (S.faults source.old) (S.faults source.new) }
+{
+    match fill(source, held) {
+        Ok(Front::Got(n)) => match copy_head(alloc, held) {
+            Ok(head) => {
+                remove_front(held, n);
+                Ok(HeadOutcome::Got(head))
+            }
+            Err(_) => Err(HeadFault::OutOfMemory),
+        },
+        Ok(Front::EndOfInput) => Ok(HeadOutcome::EndOfInput),
+        Ok(Front::BadHead) => Ok(HeadOutcome::Refused(Refusal::BadHead)),
+        Err(fault) => Err(fault),
+    }
+}
+
+/// Reads the head of a request: the rest of a connection, which is what `inbox` holds and then what is left of `source`,
+/// is left without it. A head is answered as soon as it has come.
+///
+/// Where the rest isn't empty and begins with no head of at most 64 fields and 16,384 bytes, `Refused(BadHead)` is
+/// answered, and the rest stays as it was, as it does after a fault. Nothing is read where `inbox` holds a head already.
+pub fn read_head<S: Source>(
+    alloc: Global,
+    source: &mut S,
+    inbox: &mut Inbox,
+) -> Result<HeadOutcome, HeadFault>
+    ensures done { IfOk result (λ outcome. Finds outcome (prepend_known inbox.old (S.left source.old)) (prepend_known inbox.new (S.left source.new))) }
+    ensures fault { OnErr result (prepend_known inbox.new (S.left source.new) ≡ prepend_known inbox.old (S.left source.old)) }
+    ensures behind { IsBehind (prepend_known inbox.old (S.left source.old)) (prepend_known inbox.new (S.left source.new)) }
+    ensures short { IsGot result → (source.new ≡ source.old) ⊎ (length inbox.new < 4096) }
+    ensures kept { HasHead inbox.old → source.new ≡ source.old }
+    ensures lent { SourceLent (S.aside source.old) (S.aside source.new) (S.faults source.old) (S.faults source.new) }
+    ensures cause { IsErrOf result HeadFault.ReadFault → Rose (S.faults source.old) (S.faults source.new) }
+{
+    take_head(alloc, source, &mut inbox.bytes)
+}
