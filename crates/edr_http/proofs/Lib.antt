@@ -2,4 +2,6 @@ pub mod HeadLemmas
 pub mod RestLemmas
 pub mod CheckLemmas
 pub mod ReplyLemmas
-pub mod RefusingLemmas
+pub mod ChunkFrames
+pub mod ChunkSteps
+pub mod ChunkEnds

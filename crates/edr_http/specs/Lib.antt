@@ -2,4 +2,8 @@ pub mod Heads
 pub mod Finding
 pub mod Checks
 pub mod Chunks
+pub mod ChunkLaws
+pub mod ChunkedSinkParts
+pub mod ChunkedSinks
+pub mod ChunkedSinkLaws
 pub mod Replies

@@ -2,6 +2,8 @@
 #![tactic(auto)]
 
 mod checks;
+mod chunked_sink;
+mod chunks;
 mod copying;
 mod filling;
 mod finding;
@@ -13,6 +15,7 @@ mod refusing;
 mod replies;
 
 pub use checks::{Ask, check_head};
+pub use chunked_sink::{ChunkedSink, send_body};
 pub use heads::{Head, HeadFault, HeadOutcome};
 pub use inbox::Inbox;
 pub use laws::{head_is_one, heads_are_decided, heads_are_decided_early, refusal_is_one};
@@ -20,5 +23,7 @@ pub use reading::read_head;
 pub use refusing::write_refusal;
 pub use replies::write_head;
 
+#[cfg(test)]
+mod chunk_tests;
 #[cfg(test)]
 mod tests;
