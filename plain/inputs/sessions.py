@@ -31,7 +31,8 @@ _VALUES = (b"*/*", b"curl/8.5.0", b"", b"a:b", b"close", b"0", b"a\tb", b"\xff\x
 _NO_FIELDS = (b"A : b", b" A: b", b"\tb", b": b", b"A", b"A b", b"A(: b", b"\xc3\xa9: b", b"A: \0", b"A: \x7f", b"A: b\x1f", b"A: b\r", b"A: b\rc", b"A\t: b", b"A: \x0b")
 
 _CLOSES = (b"close", b"Close", b"CLOSE", b"close,", b",close", b"keep-alive, close", b"close ,\tTE", b"\tclose\t", b"a,,close", b"cLoSe , cLoSe")
-_NO_CLOSES = (b"keep-alive", b"", b"closed", b"clo se", b"close;a", b"\"close\"", b"close\x80", b"a close", b",", b"close close", b"no-close", b"closE-")
+_CLOSES += (b"TE,\tclose", b"close\t,TE", b"TE, \t close \t ,TE")
+_NO_CLOSES = (b"keep-alive", b"", b"closed", b"clo se", b"close;a", b"\"close\"", b"close\x80", b"a close", b",", b"close close", b"no-close", b"closE-", b"close\xa0", "\u00a0close".encode(), b"TE;close")
 
 _LENGTHS = (b"0", b"00", b"000000000000000000000000000000", b" 0 ", b"\t0")
 _NO_LENGTHS = (b"1", b"5", b"", b"+0", b"-0", b"0,0", b"0 0", b"0x0", b"01", b"0.0", b"O", b"18446744073709551616", b"0;a", b"00000000000000000001")
