@@ -1,11 +1,3 @@
-pub mod PointLemmas
-pub mod TargetLemmas
 pub mod AnswerLemmas
-pub mod ReplyLemmas
-pub mod OnePlace
-pub mod NodeNumbers
-pub mod NodePasses
-pub mod PointLaws
-pub mod PointValid
-pub mod LineLemmas
-pub mod NoGridLemmas
+pub mod AnswerLaws
+pub mod AnswerExists

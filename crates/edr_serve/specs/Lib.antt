@@ -1,6 +1,1 @@
-pub mod Line
-pub mod Target
-pub mod NodePlaces
-pub mod Grids
-pub mod Answer
-pub mod FirstReply
+pub mod Answers

@@ -1,17 +1,8 @@
-//! Requests answered from coverages.
+//! What an edition answers to targets.
 #![tactic(auto)]
 
-mod ask;
-mod coords;
-mod grid;
-mod line;
-mod point;
-mod select;
-mod target;
+mod answering;
+mod laws;
 
-pub use ask::{FirstFault, ask_first};
-pub use coords::{PointFault, first_point, point_is_one};
-pub use line::{line_is_one, the_line};
-pub use point::{NodePlace, point_of};
-pub use select::nearest_place;
-pub use target::{first_target, parts_of, target_is_one, targets_are_written};
+pub use answering::{AnswerFault, answer};
+pub use laws::{answer_is_one, pages_have_answers, refusal_is_the_first};

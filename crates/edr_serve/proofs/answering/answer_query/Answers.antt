@@ -1,0 +1,28 @@
+use Rattle.std.proofs.Common.{◌≡◌, inr, rules}
+use Rattle.edr_serve.proofs.AnswerLemmas.{text_planned}
+use Rattle.edr_serve.proofs.answering.answer_query.Goals as goal
+
+pub returns-in-Ok-send-clause-written : goal.returns-in-Ok-send-clause-written
+returns-in-Ok-send-clause-written g c =
+    let id : c.bytes.result.now ≡ c.args.query.now.collection = search rules in (
+      _,
+      text_planned c.args.edition.now c.args.query.now c.in-Ok.plan c.of-store.result.subject _ _ c.in-Ok.ensures id c.instance_named.ensures c.of-store.ensures.subject,
+      c.in-Ok-send.ensures.text.whole,
+    )
+
+pub returns-in-Err-WriteFault-clause-written : goal.returns-in-Err-WriteFault-clause-written
+returns-in-Err-WriteFault-clause-written g c =
+    let id : c.bytes.result.now ≡ c.args.query.now.collection = search rules in record {
+      text = _;
+      is = text_planned c.args.edition.now c.args.query.now c.in-Ok.plan c.of-store.result.subject _ _ c.in-Ok.ensures id c.instance_named.ensures c.of-store.ensures.subject;
+      front = c.send.ensures.text.front;
+    }
+
+pub returns-clause-written : goal.returns-clause-written
+returns-clause-written g c =
+    let id : c.bytes.result.now ≡ c.args.query.now.collection = search rules in
+    inr (record {
+      text = _;
+      is = text_planned c.args.edition.now c.args.query.now c.in-Ok.plan c.of-store.result.subject _ _ c.in-Ok.ensures id c.instance_named.ensures c.of-store.ensures.subject;
+      front = c.send.ensures.text.front;
+    })
