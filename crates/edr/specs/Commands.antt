@@ -1,20 +1,18 @@
 -- The commands of the program: what the words ask for, and what each command uses, gives and refuses. One more command is
 -- one more row in each table.
-use Rattle.std.specs.Prelude.{◌≡◌, ◌+◌, ℕ, bytes_eq, codes, if◌then◌else◌, ◌&&◌, List, [], ◌∷◌, ◌++◌, length, Ok, Err, None, Some}
+use Rattle.std.specs.Prelude.{◌≡◌, ◌+◌, ℕ, bytes_eq, codes, if◌then◌else◌, ◌&&◌, List, [], ◌∷◌, ◌++◌, length, Result, Ok, Err, None, Some}
 use Rattle.std.specs.declared.option.Option.{Option}
 use Rattle.std.specs.Fmt.{decimal}
-use Rattle.std.specs.List.{flat_map}
+use Rattle.std.specs.List.{flat_map, slice_index_or}
 use Rattle.edr_base.specs.Outside.{Asked as AskedOf}
-use Rattle.edr_base.specs.Limits.{line_limit, feed_limit}
+use Rattle.edr_base.specs.Limits.{feed_limit}
 use Rattle.edr_base.specs.Calls.{buffer_size}
 use Rattle.edr_base.specs.declared.refusals.Refusal.{Refusal}
 use Rattle.edr_edition.specs.Values.{EditionValue}
 use Rattle.edr_feed.specs.Feeds.{FeedStandsIn}
 use Rattle.edr_feed.specs.Summaries.{summary_line}
 use Rattle.edr_feed.specs.declared.refusals.FeedRefusal.{FeedRefusal}
-use Rattle.edr_feed.specs.declared.refusals.FeedRefusal.TheVariants.{NotFeedLine}
-use Rattle.edr_serve.specs.Grids.{HoldsNoGridIn}
-use Rattle.edr_serve.specs.Answer.{IsReplyTo, IsRefusalOf}
+use Rattle.edr_serve.specs.Answers.{IsAnswerTo}
 use Rattle.edr.specs.declared.commands.Command.{Command}
 use Rattle.edr.specs.declared.commands.Command.TheVariants.{Ask, Check, CheckSummary}
 
@@ -51,7 +49,7 @@ link_asked CheckSummary argument = None
 -- ---- how many bytes each command takes from the input at most: what it reads, and what a read may have taken beside
 
 abbrev pub read_at_most : Command → ℕ
-read_at_most Ask = line_limit + 1 + buffer_size
+read_at_most Ask = feed_limit + buffer_size
 read_at_most Check = feed_limit + buffer_size
 read_at_most CheckSummary = feed_limit + buffer_size
 
@@ -69,21 +67,35 @@ summary_lines editions = flat_map summary_line editions
 abbrev pub IsTextOfFeed : (List EditionValue → List ℕ) → Option (List ℕ) → List ℕ → Type 0
 IsTextOfFeed text_of input text = (editions : List EditionValue) × FeedStandsIn input (Ok editions) × (text ≡ text_of editions)
 
--- the text that is asked for: the reply to the target, or what is told of the feed
+-- the last of some editions
+pub record IsLastOf (editions : List EditionValue) (edition : EditionValue) : Type 0 where
+  pub place : ℕ
+  pub last : length editions ≡ place + 1
+  pub is : (other : EditionValue) → edition ≡ slice_index_or editions place other
+
+-- the input is a feed, and this the answer of its last edition to the target
+pub record IsAnswerFrom (input : Option (List ℕ)) (target : List ℕ) (answer : Result (List ℕ) Refusal) : Type 0 where
+  pub editions : List EditionValue
+  pub feed : FeedStandsIn input (Ok editions)
+  pub edition : EditionValue
+  pub last : IsLastOf editions edition
+  pub answered : IsAnswerTo edition target answer
+
+-- the text that is asked for: the answer to the target, or what is told of the feed
 abbrev pub IsOutputOf : Command → List ℕ → Option (List ℕ) → List ℕ → Type 0
-IsOutputOf Ask target input text = IsReplyTo input target text
+IsOutputOf Ask target input text = IsAnswerFrom input target (Ok text)
 IsOutputOf Check argument input text = IsTextOfFeed count_line input text
 IsOutputOf CheckSummary argument input text = IsTextOfFeed summary_lines input text
 
--- the input holds nothing that the command reads: no grid, or no feed, for that reason
+-- the input is no feed, for that reason
 abbrev pub IsNoInputOf : Command → Option (List ℕ) → FeedRefusal → Type 0
-IsNoInputOf Ask input refusal = HoldsNoGridIn input × (refusal ≡ NotFeedLine 1)
+IsNoInputOf Ask input refusal = FeedStandsIn input (Err refusal)
 IsNoInputOf Check input refusal = FeedStandsIn input (Err refusal)
 IsNoInputOf CheckSummary input refusal = FeedStandsIn input (Err refusal)
 
--- what is asked for is refused
+-- what is asked for is refused: the answer to the target is a refusal
 abbrev pub IsRefusedBy : Command → List ℕ → Option (List ℕ) → Refusal → Type 0
-IsRefusedBy Ask target input refusal = IsRefusalOf input target refusal
+IsRefusedBy Ask target input refusal = IsAnswerFrom input target (Err refusal)
 IsRefusedBy Check argument input refusal = ⊥
 IsRefusedBy CheckSummary argument input refusal = ⊥
 

@@ -1,3 +1,4 @@
 pub mod Commands
 pub mod Ends
 pub mod Checking
+pub mod Asking

@@ -14,7 +14,7 @@ use edr_feed::{FeedFault, read_feed, summary};
 use std::alloc::Global;
 
 // How a run ends where the feed isn't read.
-fn ending_of(fault: &FeedFault) -> Ending
+pub fn ending_of(fault: &FeedFault) -> Ending
     ensures { result ≡ fault_ends fault.now }
 {
     match fault.refusal() {

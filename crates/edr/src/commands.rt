@@ -7,7 +7,7 @@ use edr_base::Text;
 /// What the program can be asked to do.
 #[derive(Clone, Copy, Debug, PartialEq, Eq)]
 pub enum Command {
-    /// `ask TARGET`: answers a target from the grid on the input.
+    /// `ask TARGET`: answers a target from the last edition of the feed on the input.
     Ask,
     /// `check`: tells how many editions the feed on the input has.
     Check,

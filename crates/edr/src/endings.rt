@@ -18,7 +18,7 @@ pub enum Ending {
     Done,
     /// The words are none of the commands'.
     Usage,
-    /// The input is no feed, or not one line that is a grid.
+    /// The input is no feed.
     NotFeed(FeedRefusal),
     /// A read failed.
     ReadFault,

@@ -1,6 +1,7 @@
-//! `edr`: asks a grid of CoverageJSON for its samples. This file makes the real objects; `run` does all else.
+//! `edr`: asks the coverages of a feed for their samples. This file makes the real objects; `run` does all else.
 #![tactic(auto)]
 
+mod asking;
 mod checking;
 mod commands;
 mod endings;

@@ -1,38 +1,15 @@
 //! The program over its objects.
-ghost use Rattle.std.specs.Prelude.{◌≡◌, ℕ, IsNone, Some};
+ghost use Rattle.std.specs.Prelude.{◌≡◌, IsNone};
 ghost use Rattle.edr_base.specs.Calls.{SourceLent, SinkLent};
 ghost use Rattle.edr.specs.Commands.{asked_by, IsOutput};
 ghost use Rattle.edr.specs.Ends.{Ends, EndsByWords, OutputEnds, HasCause, IsReadByEnd, ReadsBy, AskedBeside, of_files, of_link};
 
+use crate::asking::ask;
 use crate::checking::check;
 use crate::commands::{Command, asked_by};
 use crate::endings::{Ending, tell};
 use edr_base::{Files, Link, Sink, Source, Text};
-use edr_feed::FeedRefusal;
-use edr_serve::{FirstFault, ask_first};
 use std::alloc::Global;
-
-// Answers a target from the input.
-fn ask<S: Source, K: Sink>(alloc: Global, target: &[u8], input: &mut S, output: &mut K) -> Ending
-    ensures output { OutputEnds result (IsOutput (Some (record { command = Command.Ask; argument = target.now })) (S.left input.old))
-        (K.written output.old) (K.written output.new) (K.flushed output.new) }
-    ensures cause { (files link : ℕ) → HasCause result (Some (record { command = Command.Ask; argument = target.now })) (S.left input.old)
-        (record { input = S.faults input.old; output = K.faults output.old; files = files; link = link })
-        (record { input = S.faults input.new; output = K.faults output.new; files = files; link = link }) }
-    ensures ended { IsReadByEnd result (S.left input.new) }
-    ensures read { ReadsBy (Some (record { command = Command.Ask; argument = target.now })) (S.left input.old) (S.left input.new) }
-    ensures input { SourceLent (S.aside input.old) (S.aside input.new) (S.faults input.old) (S.faults input.new) }
-    ensures lent { SinkLent (K.beside output.old) (K.beside output.new) (K.faults output.old) (K.faults output.new) }
-{
-    match ask_first(alloc, input, target, output) {
-        Ok(()) => Ending::Done,
-        Err(FirstFault::NotFeedLine) => Ending::NotFeed(FeedRefusal::NotFeedLine(1)),
-        Err(FirstFault::Refused(refusal)) => Ending::Refused(refusal),
-        Err(FirstFault::ReadFault) => Ending::ReadFault,
-        Err(FirstFault::WriteFault) => Ending::WriteFault,
-        Err(FirstFault::OutOfMemory) => Ending::OutOfMemory,
-    }
-}
 
 // Does what the words ask for.
 fn carry_out<S: Source, K: Sink, F: Files, L: Link>(
@@ -68,7 +45,7 @@ fn carry_out<S: Source, K: Sink, F: Files, L: Link>(
 
 /// All that the program does, over the objects that it is lent: `words` are those after the program's name.
 ///
-/// `ask TARGET` reads one grid from `input`, answers the target from it, and writes the body to `output`. `check` reads a feed
+/// `ask TARGET` reads a feed from `input`, and writes to `output` what its last edition answers to the target. `check` reads a feed
 /// from `input` and writes how many editions it has; `check --summary` writes what each of them has. The answer is the status of the program; with each but 0 one line says why on `errors`. Of files and of the link nothing is asked that
 /// the words don't ask for, and where they ask for nothing there neither is touched.
 pub fn run<S: Source, K: Sink, D: Sink, F: Files, L: Link>(

@@ -17,6 +17,16 @@ const SECOND: &[u8] =
 const MISSING: &[u8] =
     b"{\"domain\":{\"axes\":{\"t\":{\"values\":[\"2024-01-01T00:00:00Z\"]},\"x\":{\"values\":[100]},\"y\":{\"values\":[100]}},\"domainType\":\"Point\",\"referencing\":[{\"coordinates\":[\"x\",\"y\"],\"system\":{\"id\":\"http://www.opengis.net/def/crs/EPSG/0/32633\",\"type\":\"ProjectedCRS\"}},{\"coordinates\":[\"t\"],\"system\":{\"calendar\":\"Gregorian\",\"type\":\"TemporalRS\"}}],\"type\":\"Domain\"},\"parameters\":{\"temp\":{\"observedProperty\":{\"label\":{\"en\":\"Temperature\"}},\"type\":\"Parameter\",\"unit\":{\"symbol\":\"Cel\"}}},\"ranges\":{\"temp\":{\"dataType\":\"integer\",\"type\":\"NdArray\",\"values\":[null]}},\"type\":\"Coverage\"}";
 
+// Two editions: the second has another instance.
+const FEED: &[u8] =
+    b"{\"collection\":{\"id\":\"c\",\"kind\":\"grid\",\"title\":\"C\",\"crs\":\"plane\"}}\n{\"grid\":{\"collection\":\"c\",\"instance\":\"1\",\"coverage\":{\"type\":\"Coverage\",\"domain\":{\"type\":\"Domain\",\"domainType\":\"Grid\",\"axes\":{\"x\":{\"values\":[0,10]},\"y\":{\"values\":[0]},\"t\":{\"values\":[\"2024-01-01T00:00:00Z\"]}},\"referencing\":[{\"coordinates\":[\"x\",\"y\"],\"system\":{\"type\":\"ProjectedCRS\",\"id\":\"plane\"}},{\"coordinates\":[\"t\"],\"system\":{\"type\":\"TemporalRS\",\"calendar\":\"Gregorian\"}}]},\"parameters\":{\"temp\":{\"type\":\"Parameter\",\"observedProperty\":{\"label\":{\"en\":\"Temperature\"}}}},\"ranges\":{\"temp\":{\"type\":\"NdArray\",\"dataType\":\"integer\",\"axisNames\":[\"t\",\"y\",\"x\"],\"shape\":[1,1,2],\"values\":[1,2]}}}}}\n{\"publish\":{}}\n{\"grid\":{\"collection\":\"c\",\"instance\":\"2\",\"coverage\":{\"type\":\"Coverage\",\"domain\":{\"type\":\"Domain\",\"domainType\":\"Grid\",\"axes\":{\"x\":{\"values\":[0,10]},\"y\":{\"values\":[0]},\"t\":{\"values\":[\"2024-01-01T00:00:00Z\"]}},\"referencing\":[{\"coordinates\":[\"x\",\"y\"],\"system\":{\"type\":\"ProjectedCRS\",\"id\":\"plane\"}},{\"coordinates\":[\"t\"],\"system\":{\"type\":\"TemporalRS\",\"calendar\":\"Gregorian\"}}]},\"parameters\":{\"temp\":{\"type\":\"Parameter\",\"observedProperty\":{\"label\":{\"en\":\"Temperature\"}}}},\"ranges\":{\"temp\":{\"type\":\"NdArray\",\"dataType\":\"integer\",\"axisNames\":[\"t\",\"y\",\"x\"],\"shape\":[1,1,2],\"values\":[3,4]}}}}}\n{\"drop\":{\"collection\":\"c\",\"instance\":\"1\"}}\n{\"publish\":{}}\n";
+
+const SEVERAL: &[u8] =
+    b"{\"domain\":{\"axes\":{\"composite\":{\"coordinates\":[\"x\",\"y\"],\"dataType\":\"tuple\",\"values\":[[0,0],[10,0]]},\"t\":{\"values\":[\"2024-01-01T00:00:00Z\"]}},\"domainType\":\"MultiPoint\",\"referencing\":[{\"coordinates\":[\"x\",\"y\"],\"system\":{\"id\":\"plane\",\"type\":\"ProjectedCRS\"}},{\"coordinates\":[\"t\"],\"system\":{\"calendar\":\"Gregorian\",\"type\":\"TemporalRS\"}}],\"type\":\"Domain\"},\"parameters\":{\"temp\":{\"observedProperty\":{\"label\":{\"en\":\"Temperature\"}},\"type\":\"Parameter\"}},\"ranges\":{\"temp\":{\"axisNames\":[\"composite\"],\"dataType\":\"integer\",\"shape\":[2],\"type\":\"NdArray\",\"values\":[3,4]}},\"type\":\"Coverage\"}";
+
+const INSTANCE: &[u8] =
+    b"{\"crs\":[\"plane\"],\"data_queries\":{\"area\":{\"link\":{\"href\":\"/collections/c/instances/2/area\",\"rel\":\"data\"}},\"corridor\":{\"link\":{\"href\":\"/collections/c/instances/2/corridor\",\"rel\":\"data\"}},\"cube\":{\"link\":{\"href\":\"/collections/c/instances/2/cube\",\"rel\":\"data\"}},\"position\":{\"link\":{\"href\":\"/collections/c/instances/2/position\",\"rel\":\"data\"}},\"radius\":{\"link\":{\"href\":\"/collections/c/instances/2/radius\",\"rel\":\"data\"}},\"trajectory\":{\"link\":{\"href\":\"/collections/c/instances/2/trajectory\",\"rel\":\"data\"}}},\"extent\":{\"spatial\":{\"bbox\":[[0,0,10,0]],\"crs\":\"plane\"},\"temporal\":{\"interval\":[[\"2024-01-01T00:00:00Z\",\"2024-01-01T00:00:00Z\"]]}},\"id\":\"2\",\"links\":[],\"output_formats\":[\"CoverageJSON\"],\"parameter_names\":{\"temp\":{\"observedProperty\":{\"label\":{\"en\":\"Temperature\"}},\"type\":\"Parameter\"}},\"title\":\"C\"}";
+
 const USAGE: &[u8] =
     b"usage: edr ask TARGET | replay FEED [--advance] | check [--summary] | make NUMBER | show | fetch URL\n";
 
@@ -154,6 +164,47 @@ fn runs_end_as_they_have_to(rt: HostRuntime) -> Result<(), Fail> {
             errors: b"{\"code\":\"BadCoords\",\"number\":11}\n",
         },
         Case {
+            words: &[
+                b"ask",
+                b"/collections/c/position?coords=MULTIPOINT((0 0),(10 0))",
+            ],
+            input: FEED,
+            status: 0,
+            output: SEVERAL,
+            errors: b"",
+        },
+        Case {
+            words: &[b"ask", b"/collections/c/instances/2"],
+            input: FEED,
+            status: 0,
+            output: INSTANCE,
+            errors: b"",
+        },
+        Case {
+            words: &[b"ask", b"/collections/c/instances/1"],
+            input: FEED,
+            status: 6,
+            output: b"",
+            errors: b"{\"code\":\"UnknownInstance\",\"number\":19}\n",
+        },
+        Case {
+            words: &[b"ask", b"/collections/x/position?coords=POINT(0 0)"],
+            input: FEED,
+            status: 6,
+            output: b"",
+            errors: b"{\"code\":\"UnknownCollection\",\"number\":18}\n",
+        },
+        Case {
+            words: &[
+                b"ask",
+                b"/collections/c/area?coords=POLYGON((0 0,1 0,1 1,0 0))",
+            ],
+            input: FEED,
+            status: 6,
+            output: b"",
+            errors: b"{\"code\":\"QueryNotOffered\",\"number\":21}\n",
+        },
+        Case {
             words: &[b"ask", b"/"],
             input: b"{}",
             status: 2,
@@ -230,68 +281,5 @@ fn a_read_that_fails_gives_nothing(rt: HostRuntime) -> Result<(), Fail> {
     assert_eq!(rt; status, case.status);
     assert!(rt; output.written() == case.output);
     assert!(rt; errors.written() == case.errors);
-    Ok(())
-}
-
-// The grid with its first `old` in place of which stands `new`.
-fn grid_with(alloc: Global, old: &[u8], new: &[u8]) -> Result<Vec<u8>, OutOfMemory> {
-    let mut text = Vec::new(alloc);
-    let mut rest = GRID;
-    for place in 0..GRID.len() {
-        let (front, back) = GRID.split_at(place);
-        if let Some(after) = back.strip_prefix(old) {
-            text.extend_from_slice(front)?;
-            text.extend_from_slice(new)?;
-            rest = after;
-            break;
-        }
-    }
-    text.extend_from_slice(rest)?;
-    Ok(text)
-}
-
-// Each is answered as an input that is no grid, and nothing is written.
-#[test]
-fn inputs_that_are_no_grids_are_refused(rt: HostRuntime) -> Result<(), Fail> {
-    let alloc = rt.alloc();
-    let table: [(&[u8], &[u8]); 17] = [
-        (b"}}}", b"}}}\n\n"),
-        (b"}}}", b"}}}\n{}"),
-        (b"{\"type\":\"Coverage\"", b"\n{\"type\":\"Coverage\""),
-        (b"}}}", b"}}"),
-        (b"Temperature", b"\xff"),
-        (b"Temperature", b"\xed\xa0\x80"),
-        (b"\"t\":{", b"\"z\":{\"values\":[0]},\"t\":{"),
-        (
-            b",\"t\":{\"values\":[\"2024-01-01T00:00:00Z\",\"2024-01-01T01:00:00Z\"]}",
-            b"",
-        ),
-        (b"[0,100,200]", b"[0,200,100]"),
-        (b"[0,100,200]", b"[0,100,100]"),
-        (b"[0,100,200]", b"[0,100,100000001]"),
-        (b"[0,100,200]", b"[]"),
-        (b",24,25]", b",24]"),
-        (b",24,25]", b",24,9007199254740992]"),
-        (b",24,25]", b",24,-9007199254740992]"),
-        (b",24,25]", b",24,2.5]"),
-        (b",24,25]", b",24,\"25\"]"),
-    ];
-    for (old, new) in table.iter() {
-        let input = grid_with(alloc, old, new)?;
-        let case = Case {
-            words: &[
-                b"ask",
-                b"/collections/grid/position?coords=POINT(50 0)&datetime=2024-01-01T00:00:00Z",
-            ],
-            input: &input,
-            status: 2,
-            output: b"",
-            errors: b"feed: NotFeedLine line 1\n",
-        };
-        let (status, output, errors) = run_cut(alloc, &case, 4096, &[])?;
-        assert_eq!(rt; status, case.status);
-        assert!(rt; output.written() == case.output);
-        assert!(rt; errors.written() == case.errors);
-    }
     Ok(())
 }

@@ -1,0 +1,62 @@
+//! Answers targets.
+ghost use Rattle.std.specs.Prelude.{◌+◌, ◌<◌, length, Ok};
+ghost use Rattle.edr_base.specs.Calls.{SourceLent, SinkLent, ReadsAtMost, buffer_size};
+ghost use Rattle.edr_base.specs.Limits.{feed_limit};
+ghost use Rattle.edr_serve.specs.Answers.{IsAnswerTo};
+ghost use Rattle.edr.specs.Commands.{IsLastOf, IsAnswerFrom};
+ghost use Rattle.edr.specs.Ends.{OutputEnds, IsReadByEnd};
+ghost use Rattle.edr.specs.Asking.{AnswerCause, AskCause};
+
+use crate::checking::ending_of;
+use crate::endings::Ending;
+use edr_base::{SendFault, Sink, Source, settle};
+use edr_edition::Edition;
+use edr_feed::read_feed;
+use edr_serve::{AnswerFault, answer};
+use std::alloc::Global;
+
+// The last of some editions.
+fn last_of(editions: &[Edition]) -> &Edition
+    requires { 0 < length editions.now }
+    ensures { IsLastOf editions.now result.now }
+{
+    &editions[editions.len() - 1]
+}
+
+// Writes what an edition answers to a target, and flushes.
+fn answered<K: Sink>(alloc: Global, target: &[u8], edition: &Edition, output: &mut K) -> Ending
+    ensures output { OutputEnds result (λ text. IsAnswerTo edition.now target.now (Ok text)) (K.written output.old) (K.written output.new) (K.flushed output.new) }
+    ensures cause { AnswerCause result (IsAnswerTo edition.now target.now) (K.faults output.old) (K.faults output.new) }
+    ensures lent { SinkLent (K.beside output.old) (K.beside output.new) (K.faults output.old) (K.faults output.new) }
+{
+    match answer(alloc, target, edition, output) {
+        Ok(()) => match settle(output) {
+            Ok(()) => Ending::Done,
+            Err(SendFault::WriteFault) => Ending::WriteFault,
+            Err(SendFault::OutOfMemory) => Ending::OutOfMemory,
+        },
+        Err(AnswerFault::Refused(refusal)) => Ending::Refused(refusal),
+        Err(AnswerFault::WriteFault) => Ending::WriteFault,
+        Err(AnswerFault::OutOfMemory) => Ending::OutOfMemory,
+    }
+}
+
+/// Reads the feed on the input, and writes what its last edition answers to the target.
+pub fn ask<S: Source, K: Sink>(
+    alloc: Global,
+    target: &[u8],
+    input: &mut S,
+    output: &mut K,
+) -> Ending
+    ensures output { OutputEnds result (λ text. IsAnswerFrom (S.left input.old) target.now (Ok text)) (K.written output.old) (K.written output.new) (K.flushed output.new) }
+    ensures cause { AskCause result target.now (S.left input.old) (S.faults input.old) (S.faults input.new) (K.faults output.old) (K.faults output.new) }
+    ensures ended { IsReadByEnd result (S.left input.new) }
+    ensures read { ReadsAtMost (feed_limit + buffer_size) (S.left input.old) (S.left input.new) }
+    ensures input { SourceLent (S.aside input.old) (S.aside input.new) (S.faults input.old) (S.faults input.new) }
+    ensures lent { SinkLent (K.beside output.old) (K.beside output.new) (K.faults output.old) (K.faults output.new) }
+{
+    match read_feed(alloc, input) {
+        Ok(feed) => answered(alloc, target, last_of(feed.editions.items()), output),
+        Err(fault) => ending_of(&fault),
+    }
+}
