@@ -1,6 +1,6 @@
 -- Each page has an answer.
-use Rattle.std.proofs.Common.{◌≡◌, ◌∙◌, ℕ, Bool, true, false, List, refl, ap, sym, subst, Some, None, Ok, Err}
-use Rattle.std.specs.Prelude.{Result, option_map, option_and_then, is_none, not, ◌&&◌}
+use Rattle.std.proofs.Common.{◌≡◌, ◌∙◌, ℕ, true, List, refl, ap, subst, Some, None, Ok, Err}
+use Rattle.std.specs.Prelude.{Result, option_map, option_and_then, is_none, ◌&&◌}
 use Rattle.std.specs.declared.option.Option.{Option}
 use Rattle.serde_json.specs.Written.{compact_text}
 use Rattle.edr_base.specs.FirstThatApplies.{NoneApplies}
@@ -15,7 +15,7 @@ use Rattle.edr_edition.specs.Stores.{Held, of_grid, of_stations, Subject, instan
 use Rattle.edr_query.specs.Values.{QueryValue}
 use Rattle.edr_query.specs.declared.pages.Page.{Page}
 use Rattle.edr_query.specs.declared.pages.Page.TheVariants.{Landing, Conformance, Collections, Collection, Instances, Instance, Locations, Ask}
-use Rattle.edr_select.specs.Refusals.{Applies, applies, applies_if_found, applies_in, is_of_grids, refused, IsRefusedLeast, RefusalIsLeast}
+use Rattle.edr_select.specs.Refusals.{Applies, applies_if_found, applies_in, is_of_grids, refused, IsRefusedLeast, RefusalIsLeast}
 use Rattle.edr_select.specs.Documents.{document}
 use Rattle.edr_describe.specs.Descriptions.{landing_page, conformance_page, collections_page, collection_page, instances_page, instance_page, locations_page, page_of_instance}
 use Rattle.edr_serve.specs.Answers.{page_text, IsAnswer, PageHasAnswer}

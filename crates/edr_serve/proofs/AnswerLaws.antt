@@ -1,5 +1,5 @@
 -- A target has one answer, and its refusal is the first.
-use Rattle.std.proofs.Common.{◌≡◌, ◌⊎◌, inl, inr, ◌∙◌, ℕ, ◌<◌, List, refl, ap, sym, subst, Some, None, Ok, Err}
+use Rattle.std.proofs.Common.{◌≡◌, inl, inr, ◌∙◌, ℕ, List, refl, ap, sym, subst, Some, None, Ok, Err}
 use Rattle.std.specs.Prelude.{Result}
 use Rattle.std.specs.declared.option.Option.{Option}
 use Rattle.edr_base.specs.FirstThatApplies.{IsLeast, NoneApplies}
@@ -8,7 +8,7 @@ use Rattle.edr_edition.specs.Values.{EditionValue}
 use Rattle.edr_query.specs.declared.pages.Page.{Page}
 use Rattle.edr_query.specs.Targets.{IsTarget, Refuses, TargetIsOne, rank}
 use Rattle.edr_select.specs.Refusals.{Applies, refused, IsRefusedLeast, RefusalIsLeast}
-use Rattle.edr_serve.specs.Answers.{IsAnswer, IsAnswerTo, AnswerIsOne, AppliesTo, IsTheFirst, RefusalIsTheFirst}
+use Rattle.edr_serve.specs.Answers.{IsAnswer, AnswerIsOne, AppliesTo, IsTheFirst, RefusalIsTheFirst}
 
 some_same : {V : Type 0} (a b : V) (o : Option V) → o ≡ Some a → o ≡ Some b → a ≡ b
 some_same a b o e f = cc
