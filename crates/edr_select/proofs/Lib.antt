@@ -49,3 +49,6 @@ mod ReplyTexts
 mod SlotLists
 mod TextSteps
 mod TileSteps
+mod BandLaws
+mod RunSteps
+mod PlansOfOne

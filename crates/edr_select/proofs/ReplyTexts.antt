@@ -26,6 +26,7 @@ use Rattle.edr_edition.specs.Values.{InstanceValue}
 use Rattle.edr_edition.specs.Instances.{IsInstance, values_of}
 use Rattle.edr_select.specs.declared.plans.GridNode.{GridNode}
 use Rattle.edr_select.specs.Plans.{PlannedValue, PlanValue, IsPlanned, IsPlan, place_at, range_over, coverage_of, document_of, plan_document, tiles_of_range, tiles_of_coverage, plan_tiles}
+use Rattle.edr_select.specs.Bands.{plan_text}
 use Rattle.edr_select.specs.Gathered.{places_of_range, places_of_coverage, places_of_coverages, ranges_cut, coverages_cut, size_of, sizes_of}
 
 -- ---- the tiles of all values
@@ -226,14 +227,21 @@ told_by false (coverage ∷ []) d one e = subst (λ (d : Document). Told false (
     some_is e = grind (arith, e)
 told_by false (coverage ∷ (other ∷ coverages)) d one e = absurd (omega (arith, one refl))
 
--- the text of the plan's document is written from its values
+-- the text of the plan's document is that of its pieces
+pub plan_text_is : DocumentOfPieces → (grid : chunk.Values) (plan : PlanValue) (d : Document) → IsPlan plan → All (λ v. IfSome v IsSample) grid.values → plan_document grid plan ≡ Some d
+    → plan_text grid plan ≡ document_text d
+plan_text_is law grid plan d is samples f =
+    let told : Told plan.many (map (coverage_of grid plan.parameters) plan.coverages) d =
+    told_by plan.many (map (coverage_of grid plan.parameters) plan.coverages) d (λ one. length-map plan.coverages (coverage_of grid plan.parameters) ∙ is.alone one) f in
+    let valid : IsValidDocument d = told.valid (coverages_valid grid plan.shape plan.parameters plan.coverages samples is.coverages) in
+    ap (λ (cs : List Coverage). document_begin plan.many ++ (coverages_from 0 cs ++ document_end plan.many)) (sym told.coverages_is)
+    ∙ ap (λ (m : Bool). document_begin m ++ (coverages_from 0 (coverages_of d) ++ document_end m)) (sym told.many_is)
+    ∙ sym (law d valid)
+
+-- it is written from all its values
 pub text_is : DocumentOfPieces → (grid : chunk.Values) (plan : PlanValue) (values : List (Option ℤ)) (d : Document) → IsPlan plan → All (λ v. IfSome v IsSample) grid.values
     → values ≡ map (value grid) (places_of_coverages plan.parameters plan.coverages) → plan_document grid plan ≡ Some d
     → document_begin plan.many ++ (coverages_from 0 (coverages_cut (length plan.parameters) plan.coverages values) ++ document_end plan.many) ≡ document_text d
 text_is law grid plan values d is samples e f =
-    let told : Told plan.many (map (coverage_of grid plan.parameters) plan.coverages) d =
-    told_by plan.many (map (coverage_of grid plan.parameters) plan.coverages) d (λ one. length-map plan.coverages (coverage_of grid plan.parameters) ∙ is.alone one) f in
-    let valid : IsValidDocument d = told.valid (coverages_valid grid plan.shape plan.parameters plan.coverages samples is.coverages) in
-    ap (λ (cs : List Coverage). document_begin plan.many ++ (coverages_from 0 cs ++ document_end plan.many)) (coverages_are grid plan.parameters plan.coverages values e ∙ sym told.coverages_is)
-    ∙ ap (λ (m : Bool). document_begin m ++ (coverages_from 0 (coverages_of d) ++ document_end m)) (sym told.many_is)
-    ∙ sym (law d valid)
+    ap (λ (cs : List Coverage). document_begin plan.many ++ (coverages_from 0 cs ++ document_end plan.many)) (coverages_are grid plan.parameters plan.coverages values e)
+    ∙ plan_text_is law grid plan d is samples f

@@ -7,6 +7,17 @@ use Rattle.edr_base.specs.Calls.{Front, Writes}
 use Rattle.edr_base.specs.KnownBytes.{append_nothing, grew_on, front_whole, front_on, front_more, writes_on, writes_stop}
 use Rattle.edr_select.specs.Gathered.{AllBut}
 
+-- nothing of it was written yet, or all of it
+pub all_but_all : (whole : List ℕ) (a : Option (List ℕ)) → AllBut whole whole a a
+all_but_all whole a = record { front = []; whole_is = refl; grew = append_nothing a }
+
+pub all_but_none : {T E : Type 0} (r : Result T E) (whole : List ℕ) (a b : Option (List ℕ)) → AllBut [] whole a b → Writes r whole a b
+all_but_none r whole a b f = done r (f.grew ∙ ap (append_known a) (sym (f.whole_is ∙ append-nil f.front)))
+  where
+    done : {T E : Type 0} (r : Result T E) → b ≡ append_known a whole → Writes r whole a b
+    done (Ok x) e = record { whole = e; front = front_whole a b whole e }
+    done (Err f) e = record { whole = tt; front = front_whole a b whole e }
+
 pub all_but_on : (xs ys whole : List ℕ) (a b c : Option (List ℕ)) → AllBut (xs ++ ys) whole a b → c ≡ append_known b xs → AllBut ys whole a c
 all_but_on xs ys whole a b c f e = record {
   front = f.front ++ xs;

@@ -16,3 +16,4 @@ pub mod Steps
 pub mod PlacesOfIds
 pub mod Filling
 pub mod Gathered
+pub mod Bands

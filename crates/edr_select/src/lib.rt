@@ -2,6 +2,7 @@
 #![tactic(auto)]
 
 mod axis_places;
+mod bands;
 mod cells;
 mod checks;
 mod choices;
@@ -24,6 +25,8 @@ mod sending;
 mod sizes;
 mod slots;
 mod steps;
+mod streaming;
+mod value_runs;
 mod writing;
 
 pub use laws::refusal_is_least;

@@ -7,21 +7,21 @@ ghost use Rattle.edr_select.specs.Selections.{needed};
 ghost use Rattle.edr_select.specs.Documents.{document};
 ghost use Rattle.edr_select.specs.Plans.{StandsFor};
 ghost use Rattle.edr_select.specs.Sending.{Opens};
+ghost use Rattle.edr_select.specs.Bands.{Rises};
 
+use crate::bands::rising_coverage;
 use crate::gathering::gather;
-use crate::plans::Plan;
+use crate::plans::{Plan, Planned};
 use crate::slots::plan_stands;
+use crate::streaming::stream_document;
 use crate::writing::write_document;
 use covjson_write::document_of_pieces;
 use edr_base::{SendFault, Sink};
 use edr_edition::Store;
 use std::alloc::Global;
 
-/// Writes the reply that is planned: the text of its CoverageJSON document (OGC 21-069r2), with the values of the store.
-///
-/// It opens exactly the chunks that hold a selected sample, in ascending order of their numbers, each once. After a fault a
-/// beginning of the text was written, and the first of those chunks were opened.
-pub fn send<K: Sink>(
+// Writes a reply from all its values.
+fn send_gathered<K: Sink>(
     alloc: Global,
     plan: &Plan,
     store: &mut Store<'_>,
@@ -41,5 +41,55 @@ pub fn send<K: Sink>(
     match gather(alloc, plan, store) {
         Ok(values) => write_document(alloc, plan, sink, &values),
         Err(_) => Err(SendFault::OutOfMemory),
+    }
+}
+
+// Writes a reply of one coverage, run by run.
+fn send_streamed<K: Sink>(
+    alloc: Global,
+    plan: &Plan,
+    planned: &Planned,
+    store: &mut Store<'_>,
+    sink: &mut K,
+) -> Result<(), SendFault>
+    requires rises { Rises plan.now planned.now }
+    requires stands { StandsFor plan.now store.old.subject }
+    requires unread { store.old.numbers ≡ [] }
+    ensures text { Writes result (document_text (document store.old.subject plan.now.query)) (K.written sink.old) (K.written sink.new) }
+    ensures reads { Opens result (needed store.old.subject plan.now.query) store.new.numbers }
+    ensures subject { store.new.subject ≡ store.old.subject }
+    ensures lent { SinkLent (K.beside sink.old) (K.beside sink.new) (K.faults sink.old) (K.faults sink.new) }
+    ensures cause { IsErrOf result SendFault.WriteFault → Rose (K.faults sink.old) (K.faults sink.new) }
+{
+    plan_stands(plan);
+    store.subject_stands();
+    document_of_pieces();
+    stream_document(alloc, plan, planned, store, sink)
+}
+
+/// Writes the reply that is planned: the text of its CoverageJSON document (OGC 21-069r2), with the values of the store.
+///
+/// It opens exactly the chunks that hold a selected sample, in ascending order of their numbers, each once. After a fault a
+/// beginning of the text was written, and the first of those chunks were opened.
+///
+/// Where the reply is one coverage and the chunks of its values rise along the text, it keeps about a thousand values at a
+/// time, and those of one row of tiles at most beside; else all values of the reply.
+pub fn send<K: Sink>(
+    alloc: Global,
+    plan: &Plan,
+    store: &mut Store<'_>,
+    sink: &mut K,
+) -> Result<(), SendFault>
+    requires stands { StandsFor plan.now store.old.subject }
+    requires unread { store.old.numbers ≡ [] }
+    ensures text { Writes result (document_text (document store.old.subject plan.now.query)) (K.written sink.old) (K.written sink.new) }
+    ensures reads { Opens result (needed store.old.subject plan.now.query) store.new.numbers }
+    ensures subject { store.new.subject ≡ store.old.subject }
+    ensures lent { SinkLent (K.beside sink.old) (K.beside sink.new) (K.faults sink.old) (K.faults sink.new) }
+    ensures cause { IsErrOf result SendFault.WriteFault → Rose (K.faults sink.old) (K.faults sink.new) }
+{
+    match rising_coverage(plan) {
+        Some(planned) => send_streamed(alloc, plan, planned, store, sink),
+        None => send_gathered(alloc, plan, store, sink),
     }
 }

@@ -17,7 +17,7 @@ use Rattle.edr_select.specs.Filling.{grid_of}
 use Rattle.edr_select.specs.Gathered.{places_of_coverages}
 use Rattle.edr_select.proofs.Additions.{opens_all, opens_begun}
 use Rattle.edr_select.proofs.ReplyTexts.{tiles_are, values_size, instance_samples, text_is}
-use Rattle.edr_select.proofs.sending.send.Goals as goal
+use Rattle.edr_select.proofs.sending.send_gathered.Goals as goal
 
 pub write_document-requires : goal.write_document-requires
 write_document-requires g c =

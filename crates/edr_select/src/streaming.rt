@@ -1,0 +1,220 @@
+//! A reply of one coverage whose values are written as they are read.
+ghost use Rattle.std.specs.Prelude.{◌≡◌, ◌<◌, ◌++◌, true, false, length, map, slice_index_or, OnOk, IsErrOf};
+ghost use Rattle.edr_base.specs.Outside.{Rose};
+ghost use Rattle.edr_base.specs.Calls.{SinkLent, Writes};
+ghost use Rattle.serde_json.specs.Written.{comma_if};
+ghost use Rattle.covjson_write.specs.declared.stages.Stage.TheVariants.{Ready, Within, Open};
+ghost use Rattle.covjson_write.specs.Pieces.{values_from, range_end, range_piece, ranges_from, coverage_begin, head_of, coverages_from, document_end};
+ghost use Rattle.covjson_write.specs.Writers.{without_range};
+ghost use Rattle.edr_chunk.specs.Tiles.{tiles};
+ghost use Rattle.edr_select.specs.Samples.{ascending_once};
+ghost use Rattle.edr_select.specs.Plans.{range_over, coverage_of, tiles_of_range, tiles_of_coverage, plan_tiles, IsPlanned};
+ghost use Rattle.edr_select.specs.Filling.{grid_of, Adds};
+ghost use Rattle.edr_select.specs.Bands.{BandsRise, NumbersRise, Rises, plan_text};
+
+use crate::plans::{Plan, Planned};
+use crate::slots::plan_stands;
+use crate::value_runs::{Run, write_runs};
+use covjson_write::Writer;
+use edr_base::{SendFault, Sink};
+use edr_chunk::{numbers_tell_places, tiles_are_numbered};
+use edr_edition::Store;
+use std::alloc::Global;
+
+// Writes the values of the open range of a parameter, and the end of it.
+#[tactic(auto, using(edr_base::specs::KnownBytes::writes_stop))]
+fn write_filled<K: Sink>(
+    alloc: Global,
+    store: &mut Store<'_>,
+    writer: &mut Writer,
+    sink: &mut K,
+    plan: &Plan,
+    parameter: u64,
+    planned: &Planned,
+    run: &mut Run,
+) -> Result<(), SendFault>
+    requires grid { plan.now.shape ≡ (grid_of store.old.subject.held).shape }
+    requires parameter { parameter < plan.now.shape.parameters }
+    requires planned { IsPlanned plan.now.shape plan.now.parameters planned.now }
+    requires rise { BandsRise plan.now.shape planned.now.cells }
+    requires open { writer.old.stage ≡ Open }
+    requires none { writer.old.values ≡ 0 }
+    requires one { writer.old.ranges < length writer.old.head.keys }
+    requires whole { length planned.now.cells ≡ writer.old.head.count }
+    ensures bytes { Writes result (values_from 0 (range_over (grid_of store.old.subject.held) planned.now.cells parameter).values ++ range_end writer.old.head writer.old.ranges) (K.written sink.old) (K.written sink.new) }
+    ensures writer { OnOk result (writer.new ≡ without_range writer.old) }
+    ensures reads { Adds result (ascending_once (tiles plan.now.shape) (tiles_of_range plan.now.shape planned.now.cells parameter)) store.old.numbers store.new.numbers }
+    ensures subject { store.new.subject ≡ store.old.subject }
+    ensures lent { SinkLent (K.beside sink.old) (K.beside sink.new) (K.faults sink.old) (K.faults sink.new) }
+    ensures cause { IsErrOf result SendFault.WriteFault → Rose (K.faults sink.old) (K.faults sink.new) }
+{
+    plan_stands(plan);
+    let cells = planned.cells.items();
+    match write_runs(
+        alloc, store, writer, sink, plan.shape, parameter, cells, run,
+    ) {
+        Ok(()) => writer.range_end(sink),
+        Err(fault) => Err(fault),
+    }
+}
+
+// Writes the range of a parameter, which has this number among the ranges.
+#[tactic(auto, using(edr_base::specs::KnownBytes::writes_stop))]
+fn write_range<K: Sink>(
+    alloc: Global,
+    store: &mut Store<'_>,
+    writer: &mut Writer,
+    sink: &mut K,
+    plan: &Plan,
+    number: usize,
+    planned: &Planned,
+    run: &mut Run,
+) -> Result<(), SendFault>
+    requires grid { plan.now.shape ≡ (grid_of store.old.subject.held).shape }
+    requires number { number < length plan.now.parameters }
+    requires planned { IsPlanned plan.now.shape plan.now.parameters planned.now }
+    requires rise { BandsRise plan.now.shape planned.now.cells }
+    requires within { writer.old.stage ≡ Within }
+    requires next { number ≡ writer.old.ranges }
+    requires one { number < length writer.old.head.keys }
+    requires whole { length planned.now.cells ≡ writer.old.head.count }
+    ensures bytes { Writes result (range_piece writer.old.head number (range_over (grid_of store.old.subject.held) planned.now.cells (slice_index_or plan.now.parameters number 0)).values) (K.written sink.old) (K.written sink.new) }
+    ensures writer { OnOk result (writer.new ≡ without_range writer.old) }
+    ensures reads { Adds result (ascending_once (tiles plan.now.shape) (tiles_of_range plan.now.shape planned.now.cells (slice_index_or plan.now.parameters number 0))) store.old.numbers store.new.numbers }
+    ensures subject { store.new.subject ≡ store.old.subject }
+    ensures lent { SinkLent (K.beside sink.old) (K.beside sink.new) (K.faults sink.old) (K.faults sink.new) }
+    ensures cause { IsErrOf result SendFault.WriteFault → Rose (K.faults sink.old) (K.faults sink.new) }
+{
+    plan_stands(plan);
+    let parameter = plan.parameters.items()[number];
+    match writer.range_begin(alloc, sink, number) {
+        Ok(()) => write_filled(alloc, store, writer, sink, plan, parameter, planned, run),
+        Err(fault) => Err(fault),
+    }
+}
+
+// Writes the ranges of all parameters.
+fn write_ranges<K: Sink>(
+    alloc: Global,
+    store: &mut Store<'_>,
+    writer: &mut Writer,
+    sink: &mut K,
+    plan: &Plan,
+    planned: &Planned,
+) -> Result<(), SendFault>
+    requires grid { plan.now.shape ≡ (grid_of store.old.subject.held).shape }
+    requires planned { IsPlanned plan.now.shape plan.now.parameters planned.now }
+    requires parameters { NumbersRise plan.now.parameters }
+    requires rise { BandsRise plan.now.shape planned.now.cells }
+    requires within { writer.old.stage ≡ Within }
+    requires none { writer.old.ranges ≡ 0 }
+    requires some { 0 < length plan.now.parameters }
+    requires each { length writer.old.head.keys ≡ length plan.now.parameters }
+    requires whole { length planned.now.cells ≡ writer.old.head.count }
+    ensures bytes { Writes result (ranges_from writer.old.head 0 (map (range_over (grid_of store.old.subject.held) planned.now.cells) plan.now.parameters)) (K.written sink.old) (K.written sink.new) }
+    ensures stage { OnOk result (writer.new.stage ≡ Ready) }
+    ensures many { OnOk result (writer.new.many ≡ writer.old.many) }
+    ensures begun { OnOk result (writer.new.begun ≡ writer.old.begun) }
+    ensures reads { Adds result (ascending_once (tiles plan.now.shape) (tiles_of_coverage plan.now.shape plan.now.parameters planned.now)) store.old.numbers store.new.numbers }
+    ensures subject { store.new.subject ≡ store.old.subject }
+    ensures lent { SinkLent (K.beside sink.old) (K.beside sink.new) (K.faults sink.old) (K.faults sink.new) }
+    ensures cause { IsErrOf result SendFault.WriteFault → Rose (K.faults sink.old) (K.faults sink.new) }
+{
+    plan_stands(plan);
+    tiles_are_numbered();
+    numbers_tell_places();
+    let mut run = Run {
+        slots: Vec::new(alloc),
+        values: Vec::new(alloc),
+    };
+    for number in 0..plan.parameters.items().len() {
+        match write_range(alloc, store, writer, sink, plan, number, planned, &mut run) {
+            Ok(()) => {}
+            Err(fault) => return Err(fault),
+        }
+    }
+    Ok(())
+}
+
+// Writes the one coverage of a plan.
+#[tactic(auto, using(edr_base::specs::KnownBytes::writes_stop))]
+fn write_coverage<K: Sink>(
+    alloc: Global,
+    store: &mut Store<'_>,
+    writer: &mut Writer,
+    sink: &mut K,
+    plan: &Plan,
+    planned: &Planned,
+) -> Result<(), SendFault>
+    requires grid { plan.now.shape ≡ (grid_of store.old.subject.held).shape }
+    requires planned { IsPlanned plan.now.shape plan.now.parameters planned.now }
+    requires parameters { NumbersRise plan.now.parameters }
+    requires rise { BandsRise plan.now.shape planned.now.cells }
+    requires ready { writer.old.stage ≡ Ready }
+    requires none { writer.old.begun ≡ false }
+    ensures bytes { Writes result (comma_if false ++ (coverage_begin planned.now.head ++ ranges_from (head_of planned.now.head) 0 (map (range_over (grid_of store.old.subject.held) planned.now.cells) plan.now.parameters))) (K.written sink.old) (K.written sink.new) }
+    ensures stage { OnOk result (writer.new.stage ≡ Ready) }
+    ensures many { OnOk result (writer.new.many ≡ writer.old.many) }
+    ensures begun { OnOk result (writer.new.begun ≡ true) }
+    ensures reads { Adds result (ascending_once (tiles plan.now.shape) (tiles_of_coverage plan.now.shape plan.now.parameters planned.now)) store.old.numbers store.new.numbers }
+    ensures subject { store.new.subject ≡ store.old.subject }
+    ensures lent { SinkLent (K.beside sink.old) (K.beside sink.new) (K.faults sink.old) (K.faults sink.new) }
+    ensures cause { IsErrOf result SendFault.WriteFault → Rose (K.faults sink.old) (K.faults sink.new) }
+{
+    match writer.coverage(alloc, sink, &planned.head) {
+        Ok(()) => write_ranges(alloc, store, writer, sink, plan, planned),
+        Err(fault) => Err(fault),
+    }
+}
+
+// Writes the one coverage of a plan and the end of the document.
+#[tactic(auto, using(edr_base::specs::KnownBytes::writes_stop))]
+fn write_rest<K: Sink>(
+    alloc: Global,
+    store: &mut Store<'_>,
+    writer: Writer,
+    sink: &mut K,
+    plan: &Plan,
+    planned: &Planned,
+) -> Result<(), SendFault>
+    requires grid { plan.now.shape ≡ (grid_of store.old.subject.held).shape }
+    requires rises { Rises plan.now planned.now }
+    requires ready { writer.stage ≡ Ready }
+    requires none { writer.begun ≡ false }
+    requires many { writer.many ≡ plan.now.many }
+    ensures bytes { Writes result (coverages_from 0 (map (coverage_of (grid_of store.old.subject.held) plan.now.parameters) plan.now.coverages) ++ document_end plan.now.many) (K.written sink.old) (K.written sink.new) }
+    ensures reads { Adds result (ascending_once (tiles plan.now.shape) (plan_tiles plan.now)) store.old.numbers store.new.numbers }
+    ensures subject { store.new.subject ≡ store.old.subject }
+    ensures lent { SinkLent (K.beside sink.old) (K.beside sink.new) (K.faults sink.old) (K.faults sink.new) }
+    ensures cause { IsErrOf result SendFault.WriteFault → Rose (K.faults sink.old) (K.faults sink.new) }
+{
+    plan_stands(plan);
+    let mut writer = writer;
+    match write_coverage(alloc, store, &mut writer, sink, plan, planned) {
+        Ok(()) => writer.finish(sink),
+        Err(fault) => Err(fault),
+    }
+}
+
+// Writes the document of a plan whose tiles rise band by band: each run of values is read and written before the next.
+#[tactic(auto, using(edr_base::specs::KnownBytes::writes_stop))]
+pub(crate) fn stream_document<K: Sink>(
+    alloc: Global,
+    plan: &Plan,
+    planned: &Planned,
+    store: &mut Store<'_>,
+    sink: &mut K,
+) -> Result<(), SendFault>
+    requires grid { plan.now.shape ≡ (grid_of store.old.subject.held).shape }
+    requires rises { Rises plan.now planned.now }
+    ensures bytes { Writes result (plan_text (grid_of store.old.subject.held) plan.now) (K.written sink.old) (K.written sink.new) }
+    ensures reads { Adds result (ascending_once (tiles plan.now.shape) (plan_tiles plan.now)) store.old.numbers store.new.numbers }
+    ensures subject { store.new.subject ≡ store.old.subject }
+    ensures lent { SinkLent (K.beside sink.old) (K.beside sink.new) (K.faults sink.old) (K.faults sink.new) }
+    ensures cause { IsErrOf result SendFault.WriteFault → Rose (K.faults sink.old) (K.faults sink.new) }
+{
+    match Writer::begin(alloc, sink, plan.many) {
+        Ok(writer) => write_rest(alloc, store, writer, sink, plan, planned),
+        Err(fault) => Err(fault),
+    }
+}
