@@ -52,3 +52,4 @@ mod TileSteps
 mod BandLaws
 mod RunSteps
 mod PlansOfOne
+mod BandTests

@@ -1,7 +1,7 @@
 //! Bands of tiles: the tiles of one parameter, time, level and row of tiles.
-ghost use Rattle.std.specs.Prelude.{◌≡◌, ◌<◌, ◌^◌, true, All, IfSome};
+ghost use Rattle.std.specs.Prelude.{◌≡◌, ◌<◌, ◌^◌, ◌↔◌, All, IsTrue, MatchOption};
 ghost use Rattle.edr_chunk.specs.Places.{Within, IsShape, count};
-ghost use Rattle.edr_select.specs.Plans.{place_at};
+ghost use Rattle.edr_select.specs.Plans.{PlannedValue, place_at};
 ghost use Rattle.edr_select.specs.Bands.{band_of, BandsRise, NumbersRise, Rises};
 
 use crate::plans::{GridNode, Plan, Planned};
@@ -30,7 +30,7 @@ pub(crate) fn band_number(shape: GridShape, cell: GridNode) -> u64
 // Whether each parameter stands above those before it.
 fn parameters_rise(shape: GridShape, parameters: &[u64]) -> bool
     requires { All (λ parameter. parameter < shape.parameters) parameters.now }
-    ensures { result ≡ true → NumbersRise parameters.now }
+    ensures { IsTrue result ↔ NumbersRise parameters.now }
 {
     let mut least = 0;
     for parameter in parameters {
@@ -47,7 +47,7 @@ fn bands_rise(shape: GridShape, cells: &[GridNode]) -> bool
     requires shape { IsShape shape }
     requires fits { count shape < 2 ^ 64 }
     requires cells { All (λ cell. Within shape (place_at 0 cell)) cells.now }
-    ensures { result ≡ true → BandsRise shape cells.now }
+    ensures { IsTrue result ↔ BandsRise shape cells.now }
 {
     let mut greatest = 0;
     for cell in cells {
@@ -60,9 +60,9 @@ fn bands_rise(shape: GridShape, cells: &[GridNode]) -> bool
     true
 }
 
-// The one coverage of a plan, if the tiles of its values rise band by band in the order of the text.
+// The one coverage of a plan, exactly where the tiles of its values rise band by band in the order of the text.
 pub(crate) fn rising_coverage(plan: &Plan) -> Option<&Planned>
-    ensures { IfSome result (λ planned. Rises plan.now planned.now) }
+    ensures { MatchOption result ((planned : PlannedValue) → ¬ (Rises plan.now planned)) (λ planned. Rises plan.now planned.now) }
 {
     plan_stands(plan);
     let coverages = plan.coverages.items();

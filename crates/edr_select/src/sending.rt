@@ -72,8 +72,8 @@ fn send_streamed<K: Sink>(
 /// It opens exactly the chunks that hold a selected sample, in ascending order of their numbers, each once. After a fault a
 /// beginning of the text was written, and the first of those chunks were opened.
 ///
-/// Where the reply is one coverage and the chunks of its values rise along the text, it keeps about a thousand values at a
-/// time, and those of one row of tiles at most beside; else all values of the reply.
+/// Where the reply is one coverage, and the rows of tiles that its values stand in rise along the text, it keeps 1,024 values
+/// at a time and those up to the end of the last one's row; else all values of the reply.
 pub fn send<K: Sink>(
     alloc: Global,
     plan: &Plan,

@@ -1,5 +1,5 @@
 //! Runs of values: each is filled and written before the next.
-ghost use Rattle.std.specs.Prelude.{◌≡◌, ◌≢◌, ◌<◌, ◌≤◌, ◌+◌, ◌-◌, ◌^◌, All, length, OnOk, IsErrOf, slice_index_or};
+ghost use Rattle.std.specs.Prelude.{◌≡◌, ◌≢◌, ◌<◌, ◌≤◌, ◌+◌, ◌-◌, ◌^◌, ℕ, All, length, OnOk, IsErrOf, slice_index_or};
 ghost use Rattle.edr_base.specs.Outside.{Rose};
 ghost use Rattle.edr_base.specs.Calls.{SinkLent, Writes};
 ghost use Rattle.covjson_write.specs.declared.stages.Stage.TheVariants.{Open};
@@ -32,7 +32,8 @@ pub(crate) struct Run {
     pub(crate) values: Vec<Option<i64>>,
 }
 
-// The place behind the run that starts at a place: it has the least number of values and ends with a band, or with all.
+// The place behind the run that starts at a place: it ends with the first band that gives it the least number of values, or
+// with all.
 fn run_end(shape: GridShape, cells: &[GridNode], from: usize) -> usize
     requires shape { IsShape shape }
     requires fits { count shape < 2 ^ 64 }
@@ -40,6 +41,7 @@ fn run_end(shape: GridShape, cells: &[GridNode], from: usize) -> usize
     requires from { from < length cells.now }
     ensures more { from < result }
     ensures end { result ≤ length cells.now }
+    ensures first { (k : ℕ) (d : GridNode) → from + 1_024 ≤ k → k < result → band_of shape (slice_index_or cells.now (k - 1) d) ≡ band_of shape (slice_index_or cells.now k d) }
     ensures other { (d : GridNode) → result < length cells.now → band_of shape (slice_index_or cells.now (result - 1) d) ≢ band_of shape (slice_index_or cells.now result d) }
 {
     if cells.len() - from <= LEAST_VALUES {
