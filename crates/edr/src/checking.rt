@@ -13,7 +13,7 @@ use edr_edition::Edition;
 use edr_feed::{FeedFault, read_feed, summary};
 use std::alloc::Global;
 
-// How a run ends where the feed isn't read.
+/// How a run ends where the feed isn't read.
 pub fn ending_of(fault: &FeedFault) -> Ending
     ensures { result ≡ fault_ends fault.now }
 {
