@@ -1,7 +1,7 @@
 -- Shelf lists, and what a stepped shelf has given.
-use Rattle.std.proofs.Common.{◌≡◌, ℕ, zero, suc, ◌+◌, ◌-◌, ◌≤◌, ◌<◌, Bool, true, false, List, [], ◌∷◌, ◌++◌, take, drop, Option, Some, None, nat_lt, refl, sym, ap, ◌∙◌, subst, arith, add-one}
+use Rattle.std.proofs.Common.{◌≡◌, ℕ, zero, suc, ◌+◌, ◌-◌, ◌≤◌, ◌<◌, Bool, true, false, List, [], ◌∷◌, ◌++◌, take, drop, Option, Some, None, nat_lt, refl, sym, ap, ◌∙◌, subst, arith, add-one, append-nil}
 use Rattle.std.proofs.lemmas.Bool.Decides.{nat_tests}
-use Rattle.std.proofs.lemmas.List.{length-append}
+use Rattle.std.proofs.lemmas.List.{length-append, take-append-drop}
 use Rattle.std.proofs.Math.Seq.{take-add}
 use Rattle.edr_edition.specs.Values.{EditionValue}
 use Rattle.edr_edition.specs.Shelves.{AreNumberedFrom, IsShelfList, IsStocked, BeginsSeen, TakenGrew, IsNext, SteppedValue, given, edition_after, first_numbers, taken_of, stepped}
@@ -45,6 +45,14 @@ first_grow before after editions least =
 pub given_grows : (before after : SteppedValue) → after.editions ≡ before.editions → before.answered ≤ after.answered → BeginsSeen (given before) (given after)
 given_grows before after same least =
     subst (λ (editions : List EditionValue). BeginsSeen (given before) (take after.answered editions)) (sym same) (first_grow before.answered after.answered before.editions least)
+
+-- all editions begin with themselves
+pub all_within : (editions : List EditionValue) → BeginsSeen editions editions
+all_within editions = ([], sym (append-nil editions))
+
+-- what was given is the first of all
+pub given_within : (shelf : SteppedValue) → BeginsSeen (given shelf) shelf.editions
+given_within shelf = (drop shelf.answered shelf.editions, sym (take-append-drop shelf.answered shelf.editions))
 
 -- ---- what was taken
 

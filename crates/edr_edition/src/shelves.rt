@@ -1,5 +1,5 @@
 //! Shelves, which answer the newest edition.
-ghost use Rattle.std.specs.Prelude.{◌≡◌, ◌<◌, ℕ, List, [], ◌++◌, ◌∷◌, Option, Some, None, vec_len, IfOk, OnOk, OnErr, MatchResult};
+ghost use Rattle.std.specs.Prelude.{◌≡◌, ◌<◌, ℕ, List, [], ◌++◌, ◌∷◌, Option, Some, None, vec_len, IfOk, OnOk, OnErr, IfSome, MatchResult};
 ghost use Rattle.std.specs.Arc.{arc_value};
 ghost use Rattle.edr_edition.specs.Values.{EditionValue};
 ghost use Rattle.edr_edition.specs.Shelves.{IsShelfList, BeginsSeen, EndsWith, TakenGrew, IsNext, given, edition_after, taken_of, stepped};
@@ -18,7 +18,8 @@ pub trait Editions {
     /// The numbers of the editions that the takes answered, in that order, where they are told.
     ghost taken: { Self → Option (List ℕ) };
 
-    /// All its editions, where nobody puts editions on it while they are taken; None where others may.
+    /// All its editions, where nobody puts editions on it while they are taken; None where others may. What was seen is the
+    /// first of them.
     ghost stock: { Self → Option (List EditionValue) } = { λ _. None };
 
     /// The newest edition, which is the last that was seen then. What was seen before stays seen.
@@ -31,7 +32,9 @@ pub trait Editions {
         ensures taken { MatchResult result
             (λ edition. TakenGrew (taken self.old) (taken self.new) ((arc_value edition).number ∷ []))
             (λ _. TakenGrew (taken self.old) (taken self.new) []) }
-        ensures stock { stock self.new ≡ stock self.old };
+        ensures untaken { OnErr result (taken self.new ≡ taken self.old) }
+        ensures stock { stock self.new ≡ stock self.old }
+        ensures within { IfSome (stock self.new) (λ all. BeginsSeen (seen self.new) all) };
 }
 
 // An edition that is handed out as often as it is asked for. Contracts see the edition.
@@ -137,7 +140,9 @@ impl Editions for LocalShelf {
         ensures taken { MatchResult result
             (λ edition. TakenGrew None None ((arc_value edition).number ∷ []))
             (λ _. TakenGrew None None []) }
+        ensures untaken { OnErr result (⟦<LocalShelf as Editions>⟧.taken self.new ≡ ⟦<LocalShelf as Editions>⟧.taken self.old) }
         ensures stock { Some self.new ≡ Some self.old }
+        ensures within { IfSome (Some self.new) (λ all. BeginsSeen self.new all) }
         ensures kept { self.new ≡ self.old }
     {
         self.editions[self.editions.len() - 1].edition()
@@ -199,7 +204,7 @@ impl Editions for SteppedShelf {
 
     /// The next edition, or the last again where none is left. It takes no memory; its only error is that the edition was
     /// handed out too often to be counted.
-    #[tactic(auto, using(crate::proofs::ShelfLaws::first_ascend))]
+    #[tactic(auto, using(crate::proofs::ShelfLaws::first_ascend, crate::proofs::ShelfLaws::given_within))]
     fn take(&mut self) -> Result<Arc<Edition>, OutOfMemory>
         ensures grows { BeginsSeen (given self.old) (given self.new) }
         ensures last { IfOk result (λ edition. EndsWith (given self.new) (arc_value edition)) }
@@ -207,7 +212,9 @@ impl Editions for SteppedShelf {
         ensures taken { MatchResult result
             (λ edition. TakenGrew (taken_of self.old) (taken_of self.new) ((arc_value edition).number ∷ []))
             (λ _. TakenGrew (taken_of self.old) (taken_of self.new) []) }
+        ensures untaken { OnErr result (taken_of self.new ≡ taken_of self.old) }
         ensures stock { Some self.new.editions ≡ Some self.old.editions }
+        ensures within { IfSome (Some self.new.editions) (λ all. BeginsSeen (given self.new) all) }
         ensures answer { IfOk result (λ edition. arc_value edition ≡ edition_after self.old.answered self.old.editions) }
         ensures step { OnOk result (self.new ≡ stepped self.old) }
         ensures kept { OnErr result (self.new ≡ self.old) }
