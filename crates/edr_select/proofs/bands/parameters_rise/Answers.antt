@@ -1,4 +1,4 @@
-use Rattle.std.proofs.Common.{rules, ◌≡◌, ◌<◌, ℕ, get_or}
+use Rattle.std.proofs.Common.{rules, ◌<◌, get_or}
 use Rattle.std.proofs.lemmas.Bool.{false≢true}
 use Rattle.edr_select.proofs.BandTests.{numbers_fall}
 use Rattle.edr_select.proofs.bands.parameters_rise.Goals as goal
