@@ -1,3 +1,11 @@
 pub mod AnswerLemmas
 pub mod AnswerLaws
 pub mod AnswerExists
+pub mod ReplyLaws
+pub mod RequestLaws
+pub mod ReplyTexts
+pub mod Shelves
+pub mod OneReply
+pub mod OneRequest
+pub mod Going
+pub mod OpenedChunks

@@ -1,1 +1,6 @@
 pub mod Answers
+pub mod Requests
+pub mod Replies
+pub mod Sessions
+pub mod SessionLaws
+pub mod Serving

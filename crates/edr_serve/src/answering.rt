@@ -25,7 +25,7 @@ pub enum AnswerFault {
 }
 
 // The id of the instance that a query names.
-fn instance_named(query: &Query) -> Option<&[u8]>
+pub(crate) fn instance_named(query: &Query) -> Option<&[u8]>
     ensures { option_map (λ id. id.now) result ≡ query.now.instance }
 {
     match &query.instance {

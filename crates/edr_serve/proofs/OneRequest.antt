@@ -1,0 +1,88 @@
+-- One request of a connection, by what was found at the front of the rest.
+use Rattle.std.proofs.Common.{◌≡◌, ◌≢◌, inl, inr, ℕ, false, List, [], ◌∷◌, sym, subst, refl, Some, None}
+use Rattle.std.specs.declared.option.Option.{Option}
+use Rattle.std.specs.Prelude.{is_some}
+use Rattle.std.specs.Io.KnownBytes.{append_known}
+use Rattle.edr_base.specs.Calls.{Front}
+use Rattle.edr_base.specs.declared.refusals.Refusal.{Refusal}
+use Rattle.edr_base.specs.declared.refusals.Refusal.TheVariants.{BadHead}
+use Rattle.edr_edition.specs.Values.{EditionValue}
+use Rattle.edr_http.specs.declared.heads.Head.{Head}
+use Rattle.edr_http.specs.Heads.{Told, HeadOf, HasNoHead}
+use Rattle.edr_http.specs.Replies.{reply_text, refusal_body}
+use Rattle.edr_serve.specs.declared.ends.End.{End}
+use Rattle.edr_serve.specs.declared.ends.End.TheVariants.{EndOfInput, ClosedByRefusal}
+use Rattle.edr_serve.specs.declared.reports.OneReport.{OneReport}
+use Rattle.edr_serve.specs.Requests.{Request, IsOf, IsFirst, Begun, no_head}
+use Rattle.edr_serve.specs.Sessions.{State, state, IfTold, Broken, Served}
+use Rattle.edr_serve.specs.Serving.{HeadReplied, HeadBroken}
+use Rattle.edr_serve.proofs.OneReply.{refused_replied, refused_broke, none_broke}
+
+-- ---- the first request of the rest
+
+of_head : (n : ℕ) (head : Head) (r : Request) (b c : Option (List ℕ)) → IsOf n head r → Told (λ bytes rest. HeadOf bytes head rest) b c → Told (λ bytes others. IsFirst n bytes r others) b c
+of_head n head r None c x t = tt
+of_head n head r (Some b) None x t = t
+of_head n head r (Some b) (Some c) x t = inl (record { head = head; begins = t; is_of = x })
+
+of_none : (n : ℕ) (b c : Option (List ℕ)) → Told (λ bytes rest. (bytes ≢ []) × HasNoHead bytes × (rest ≡ bytes)) b c → Told (λ bytes others. IsFirst n bytes no_head others) b c
+of_none n None c t = tt
+of_none n (Some b) None t = t
+of_none n (Some b) (Some c) t = inr (record { some = t.0; none = t.1; request_is = refl; rest_is = t.2 })
+
+begun_one : (n : ℕ) (r : Request) (b c : Option (List ℕ)) → Told (λ bytes others. IsFirst n bytes r others) b c → IfTold (λ bytes. Begun n bytes (r ∷ [])) b
+begun_one n r None c t = tt
+begun_one n r (Some b) None t = absurd t
+begun_one n r (Some b) (Some c) t = (c, t, λ _. refl, λ _. tt)
+
+pub begun_none : (n : ℕ) (b : Option (List ℕ)) → IfTold (λ bytes. Begun n bytes []) b
+begun_none n None = tt
+begun_none n (Some b) = tt
+
+-- ---- it was answered
+
+pub served_head : (n : ℕ) (head : Head) (b c : Option (List ℕ)) (before after : State) (report : OneReport)
+    → HeadReplied n head before after report → report.end ≢ Some EndOfInput → Told (λ bytes rest. HeadOf bytes head rest) b c → Served n b c before after report
+served_head n head b c before after report x going t =
+    inr (record { request = x.request; first = of_head n head x.request b c x.is_of t; replied = x.replied; ends = going })
+
+-- how a session ends with bytes that have no head
+abbrev bad_end : Option End
+bad_end = Some (ClosedByRefusal 1)
+
+pub served_bad : (n : ℕ) (refusal : Refusal) (b c w w' : Option (List ℕ)) (s : List EditionValue) (t : Option (List ℕ))
+    → refusal ≡ BadHead → Told (λ bytes rest. (bytes ≢ []) × HasNoHead bytes × (rest ≡ bytes)) b c
+    → w' ≡ append_known w (reply_text (refusal_body refusal) None false (is_some bad_end))
+    → Served n b c (state w s t) (state w' s t) (record { edition = None; reads = []; end = bad_end })
+served_bad n refusal b c w w' s t is told bytes =
+    let text = subst (λ (r : Refusal). w' ≡ append_known w (reply_text (refusal_body r) None false (is_some bad_end))) is bytes in
+    inr (record { request = no_head; first = of_none n b c told; replied = refused_replied false BadHead bad_end w w' s t text; ends = λ e. absurd (cc e) })
+
+pub served_end : (n : ℕ) (b c : Option (List ℕ)) (s : State) → Told (λ bytes rest. (bytes ≡ []) × (rest ≡ [])) b c
+    → Served n b c s s (record { edition = None; reads = []; end = Some EndOfInput })
+served_end n b c s t = inl (record { at_end = t; same = refl; report_is = refl })
+
+-- ---- it wasn't
+
+pub broken_head : (n : ℕ) (head : Head) (b c : Option (List ℕ)) (before after : State) → HeadBroken n head before after → Told (λ bytes rest. HeadOf bytes head rest) b c → Broken n b before after
+broken_head n head b c before after (inl x) t =
+    record { requests = x.request ∷ []; begun = begun_one n x.request b c (of_head n head x.request b c x.is_of t); broke_off = x.broke_off }
+broken_head n head b c before after (inr x) t = record { requests = []; begun = begun_none n b; broke_off = x }
+
+pub broken_bad : (n : ℕ) (refusal : Refusal) (b c w w' : Option (List ℕ)) (s : List EditionValue) (t : Option (List ℕ))
+    → refusal ≡ BadHead → Told (λ bytes rest. (bytes ≢ []) × HasNoHead bytes × (rest ≡ bytes)) b c
+    → Front (reply_text (refusal_body refusal) None false (is_some bad_end)) w w' → Broken n b (state w s t) (state w' s t)
+broken_bad n refusal b c w w' s t is told front =
+    let text = subst (λ (r : Refusal). Front (reply_text (refusal_body r) None false (is_some bad_end)) w w') is front in
+    record { requests = no_head ∷ []; begun = begun_one n no_head b c (of_none n b c told); broke_off = refused_broke false BadHead bad_end w w' s t text }
+
+pub broken_read : (n : ℕ) (b w : Option (List ℕ)) (s : List EditionValue) (t : Option (List ℕ)) → Broken n b (state w s t) (state w s t)
+broken_read n b w s t = record { requests = []; begun = begun_none n b; broke_off = none_broke w s t }
+
+-- bytes that have no head were refused, as is reported
+pub served_refused : (n : ℕ) (refusal : Refusal) (b c w w' : Option (List ℕ)) (s : List EditionValue) (t : Option (List ℕ)) (report : OneReport)
+    → refusal ≡ BadHead → Told (λ bytes rest. (bytes ≢ []) × HasNoHead bytes × (rest ≡ bytes)) b c
+    → w' ≡ append_known w (reply_text (refusal_body refusal) None false (is_some bad_end)) → report ≡ record { edition = None; reads = []; end = bad_end }
+    → Served n b c (state w s t) (state w' s t) report
+served_refused n refusal b c w w' s t report is told bytes report_is =
+    subst (λ (x : OneReport). Served n b c (state w s t) (state w' s t) x) (sym report_is) (served_bad n refusal b c w w' s t is told bytes)

@@ -1,0 +1,13 @@
+use Rattle.std.proofs.Common.{◌-◌}
+use Rattle.edr_serve.proofs.OneRequest.{served_refused, broken_bad}
+use Rattle.edr_serve.proofs.sessions.serve_one.Goals as goal
+
+pub returns-in-Ok-refuse-clause-done : goal.returns-in-Ok-refuse-clause-done
+returns-in-Ok-refuse-clause-done g c =
+    let found = rw c.in-Ok-Refused.field-0-is at c.in-Ok-Refused.ensures.done in
+    served_refused (1001 - c.args.turn) c.in-Ok-Refused.refusal _ _ _ _ _ _ c.in-Ok-refuse.report found.0 found.1 c.in-Ok-refuse.ensures.bytes.whole c.in-Ok-refuse.ensures.report
+
+pub returns-in-Ok-Refused-clause-fault : goal.returns-in-Ok-Refused-clause-fault
+returns-in-Ok-Refused-clause-fault g c =
+    let found = rw c.in-Ok-Refused.field-0-is at c.in-Ok-Refused.ensures.done in
+    broken_bad (1001 - c.args.turn) c.in-Ok-Refused.refusal _ _ _ _ _ _ found.0 found.1 c.in-Err-refuse.ensures.bytes.front

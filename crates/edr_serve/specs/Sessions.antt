@@ -1,0 +1,112 @@
+-- What serving the requests of a connection does.
+use Rattle.std.specs.Prelude.{◌≡◌, ◌≢◌, ◌⊎◌, ℕ, ◌≤◌, List, [], ◌∷◌, length, map, All, Option, None, Some, option_map, option_to_list, ⊤}
+use Rattle.std.specs.Io.KnownBytes.{append_known}
+use Rattle.edr_base.specs.Calls.{Front}
+use Rattle.edr_edition.specs.Values.{EditionValue}
+use Rattle.edr_http.specs.Heads.{Told}
+use Rattle.edr_edition.specs.Shelves.{BeginsSeen, EndsWith, TakenGrew}
+use Rattle.edr_serve.specs.declared.ends.End.TheVariants.{EndOfInput}
+use Rattle.edr_serve.specs.declared.reports.OneReport.{OneReport}
+use Rattle.edr_serve.specs.declared.reports.SessionReport.{SessionReport}
+use Rattle.edr_serve.specs.Requests.{Request, IsFirst, Requests, Begun, session_end, request_limit}
+use Rattle.edr_serve.specs.Replies.{readers, number_of, output, opened}
+
+-- what answering changes: the bytes that are written, the editions seen, and the numbers of those taken
+pub record State : Type 0 where
+  pub written : Option (List ℕ)
+  pub seen : List EditionValue
+  pub taken : Option (List ℕ)
+
+abbrev pub state : Option (List ℕ) → List EditionValue → Option (List ℕ) → State
+state written seen taken = record { written = written; seen = seen; taken = taken }
+
+-- a fact of bytes, where they are told
+abbrev pub IfTold : (List ℕ → Type 0) → Option (List ℕ) → Type 0
+IfTold P None = ⊤
+IfTold P (Some bytes) = P bytes
+
+-- ---- editions
+
+-- editions were taken one after another, each the last that was seen then
+abbrev pub Uses : List EditionValue → List EditionValue → List EditionValue → Type 0
+Uses before [] after = BeginsSeen before after
+Uses before (edition ∷ editions) after =
+    (between : List EditionValue) × BeginsSeen before between × EndsWith between edition × Uses between editions after
+
+-- the number of the last edition; 0 where there is none
+abbrev pub last_number : List EditionValue → ℕ
+last_number [] = 0
+last_number (edition ∷ []) = edition.number
+last_number (edition ∷ editions) = last_number editions
+
+-- numbers that don't fall, from one to another
+abbrev pub NeverFall : ℕ → List ℕ → ℕ → Type 0
+NeverFall least [] greatest = least ≤ greatest
+NeverFall least (number ∷ numbers) greatest = (least ≤ number) × NeverFall number numbers greatest
+
+-- ---- answering some requests
+
+-- they were answered, from these editions
+pub record Answered (requests : List Request) (before after : State) (editions : List EditionValue) (numbers : List ℕ) (chunks : List (List ℕ)) : Type 0 where
+  pub full : length editions ≡ readers requests
+  pub bytes : after.written ≡ append_known before.written (output requests editions)
+  pub chunks_are : chunks ≡ opened requests editions
+  pub numbers_are : numbers ≡ map number_of editions
+  pub uses : Uses before.seen editions after.seen
+  pub order : NeverFall (last_number before.seen) numbers (last_number after.seen)
+  pub taken : TakenGrew before.taken after.taken numbers
+
+-- a beginning of their replies was written
+pub record BrokeOff (requests : List Request) (before after : State) : Type 0 where
+  pub editions : List EditionValue
+  pub bytes : Front (output requests editions) before.written after.written
+  pub uses : Uses before.seen editions after.seen
+  pub order : NeverFall (last_number before.seen) (map number_of editions) (last_number after.seen)
+  pub taken : TakenGrew before.taken after.taken (map number_of editions)
+
+-- ---- a session; `rest` is what is still to come
+
+-- all requests of the rest were answered
+pub record Session (rest : Option (List ℕ)) (before after : State) (report : SessionReport) : Type 0 where
+  pub requests : List Request
+  pub all : IfTold (λ bytes. Requests request_limit bytes requests) rest
+  pub editions : List EditionValue
+  pub answered : Answered requests before after editions report.editions report.reads
+  pub count : report.requests ≡ length requests
+  pub end : report.end ≡ session_end requests
+
+-- a fault came after some of them were begun
+pub record Broken (turns : ℕ) (rest : Option (List ℕ)) (before after : State) : Type 0 where
+  pub requests : List Request
+  pub begun : IfTold (λ bytes. Begun turns bytes requests) rest
+  pub broke_off : BrokeOff requests before after
+
+-- ---- one request, which has so many turns left
+
+-- the chunks that a report of one request tells, as those of a session: a list where an edition was taken
+abbrev pub chunks_in : OneReport → List (List ℕ)
+chunks_in report = option_to_list (option_map (λ (number : ℕ). report.reads) report.edition)
+
+-- it was answered, from the edition that is seen last now, where it reads one
+pub record IsReplied (request : Request) (before after : State) (report : OneReport) : Type 0 where
+  pub editions : List EditionValue
+  pub answered : Answered (request ∷ []) before after editions (option_to_list report.edition) (chunks_in report)
+  pub newest : All (EndsWith after.seen) editions
+  pub unread : report.edition ≡ None → report.reads ≡ []
+  pub end : report.end ≡ request.end
+
+-- it was the first of the rest, and what is behind it is still to come
+pub record Exchanged (turns : ℕ) (rest behind : Option (List ℕ)) (before after : State) (report : OneReport) : Type 0 where
+  pub request : Request
+  pub first : Told (λ bytes others. IsFirst turns bytes request others) rest behind
+  pub replied : IsReplied request before after report
+  pub ends : report.end ≢ Some EndOfInput
+
+-- the rest was empty, and nothing was done
+pub record Nothing (rest behind : Option (List ℕ)) (before after : State) (report : OneReport) : Type 0 where
+  pub at_end : Told (λ bytes others. (bytes ≡ []) × (others ≡ [])) rest behind
+  pub same : after ≡ before
+  pub report_is : report ≡ record { edition = None; reads = []; end = Some EndOfInput }
+
+abbrev pub Served : ℕ → Option (List ℕ) → Option (List ℕ) → State → State → OneReport → Type 0
+Served turns rest behind before after report = Nothing rest behind before after report ⊎ Exchanged turns rest behind before after report

@@ -1,0 +1,166 @@
+//! Sessions: the requests of a connection, one after another (RFC 9112, section 9.3).
+ghost use Rattle.std.specs.Prelude.{◌≡◌, ◌≢◌, ◌⊎◌, ◌-◌, ◌≤◌, ◌++◌, [], ◌∷◌, None, Some, ℕ, option_map, option_to_list, IfOk, OnOk, OnErr, IsErrOf, IsTrue};
+ghost use Rattle.std.specs.Io.KnownBytes.{prepend_known};
+ghost use Rattle.edr_base.specs.Outside.{Rose};
+ghost use Rattle.edr_base.specs.Calls.{SourceLent, SinkLent, IsFlushed};
+ghost use Rattle.edr_http.specs.Heads.{Told, IsBehind};
+ghost use Rattle.edr_serve.specs.Sessions.{state, chunks_in, Served, Broken, Session};
+
+use crate::ends::End;
+use crate::heads::{answer_head, refuse};
+use crate::reports::{OneReport, SessionFault, SessionReport};
+use edr_base::{Items, SendFault, Sink, Source};
+use edr_chunk::Reads;
+use edr_http::{HeadFault, HeadOutcome, Inbox, read_head};
+use edr_edition::Editions;
+use std::alloc::Global;
+
+// The fault of a session whose sink couldn't take a reply.
+fn of_sending(fault: SendFault) -> SessionFault
+    ensures other { result ≢ SessionFault.ReadFault }
+    ensures write { result ≡ SessionFault.WriteFault → fault ≡ SendFault.WriteFault }
+{
+    match fault {
+        SendFault::WriteFault => SessionFault::WriteFault,
+        SendFault::OutOfMemory => SessionFault::OutOfMemory,
+    }
+}
+
+/// Serves one request of a connection: reads its head, and writes the reply and flushes it. `turn` is its number in the
+/// session, from 1; a reply to the 1,000th closes the connection.
+///
+/// A request for a page is answered from the newest edition of the shelf, which it takes once, and any other request from
+/// none. Where the input is at its end, nothing is written or taken. `ReadFault` and `WriteFault` come only where the source
+/// or the sink counted a fault in this call, and a beginning of the reply may have been written after any fault.
+#[tactic(auto, using(crate::proofs::OneRequest::served_head, crate::proofs::OneRequest::served_bad, crate::proofs::OneRequest::served_end, crate::proofs::OneRequest::broken_head, crate::proofs::OneRequest::broken_bad, crate::proofs::OneRequest::broken_read))]
+pub fn serve_one<S: Source, K: Sink, E: Editions>(
+    alloc: Global,
+    source: &mut S,
+    sink: &mut K,
+    shelf: &mut E,
+    inbox: &mut Inbox,
+    turn: u32,
+) -> Result<OneReport, SessionFault>
+    requires { (1 ≤ turn) × (turn ≤ 1000) }
+    ensures done { IfOk result (λ report. Served (1001 - turn)
+        (prepend_known inbox.old (S.left source.old)) (prepend_known inbox.new (S.left source.new))
+        (state (K.written sink.old) (E.seen shelf.old) (E.taken shelf.old)) (state (K.written sink.new) (E.seen shelf.new) (E.taken shelf.new)) report) }
+    ensures fault { OnErr result (Broken (1001 - turn) (prepend_known inbox.old (S.left source.old))
+        (state (K.written sink.old) (E.seen shelf.old) (E.taken shelf.old)) (state (K.written sink.new) (E.seen shelf.new) (E.taken shelf.new))) }
+    ensures behind { IsBehind (prepend_known inbox.old (S.left source.old)) (prepend_known inbox.new (S.left source.new)) }
+    ensures flushed { IfOk result (λ report. report.end ≢ Some End.EndOfInput → IsFlushed (K.written sink.new) (K.flushed sink.new)) }
+    ensures untouched { IfOk result (λ report. report.end ≡ Some End.EndOfInput → (sink.new ≡ sink.old) × (shelf.new ≡ shelf.old)) }
+    ensures source { SourceLent (S.aside source.old) (S.aside source.new) (S.faults source.old) (S.faults source.new) }
+    ensures sink { SinkLent (K.beside sink.old) (K.beside sink.new) (K.faults sink.old) (K.faults sink.new) }
+    ensures read { IsErrOf result SessionFault.ReadFault → Rose (S.faults source.old) (S.faults source.new) }
+    ensures write { IsErrOf result SessionFault.WriteFault → Rose (K.faults sink.old) (K.faults sink.new) }
+{
+    match read_head(alloc, source, inbox) {
+        Ok(HeadOutcome::Got(head)) => match answer_head(alloc, sink, shelf, &head, turn) {
+            Ok(report) => Ok(report),
+            Err(fault) => Err(of_sending(fault)),
+        },
+        Ok(HeadOutcome::EndOfInput) => Ok(OneReport {
+            edition: None,
+            reads: Reads::new(alloc),
+            end: Some(End::EndOfInput),
+        }),
+        Ok(HeadOutcome::Refused(refusal)) => {
+            let end = Some(End::ClosedByRefusal(1));
+            match refuse(alloc, sink, refusal, false, end) {
+                Ok(report) => Ok(report),
+                Err(fault) => Err(of_sending(fault)),
+            }
+        }
+        Err(HeadFault::ReadFault) => Err(SessionFault::ReadFault),
+        Err(HeadFault::OutOfMemory) => Err(SessionFault::OutOfMemory),
+    }
+}
+
+// Keeps the edition of a report and the chunks that were opened, where an edition was taken; false where memory was wanting.
+fn keep(
+    editions: &mut Vec<u64>,
+    reads: &mut Vec<Reads>,
+    edition: Option<u64>,
+    opened: Reads,
+) -> bool
+    ensures editions { IsTrue result → editions.new.items ≡ editions.old.items ++ option_to_list edition }
+    ensures reads { IsTrue result → reads.new.items ≡ reads.old.items ++ option_to_list (option_map (λ (number : ℕ). opened) edition) }
+{
+    match edition {
+        Some(number) => editions.push(number).is_ok() && reads.push(opened).is_ok(),
+        None => true,
+    }
+}
+
+// How many replies were written, where the session ended at a turn.
+fn replies(turn: u32, end: End) -> u32
+    requires { 1 ≤ turn }
+    ensures at_end { end ≡ End.EndOfInput → result ≡ turn - 1 }
+    ensures closed { end ≢ End.EndOfInput → result ≡ turn }
+{
+    match end {
+        End::EndOfInput => turn - 1,
+        End::ClosedByPeer => turn,
+        End::ClosedByRefusal(_) => turn,
+        End::RequestLimit => turn,
+    }
+}
+
+/// Serves the requests of a connection, in their order, until one ends the session or the input is at its end.
+///
+/// Each request for a page is answered from one edition, the newest when its turn comes, and every reply is flushed.
+/// `ReadFault` and `WriteFault` come only where the source or the sink counted a fault in this call; a beginning of the
+/// replies was written then.
+#[tactic(auto, using(crate::proofs::Going::going_begins, crate::proofs::Going::behind_begins))]
+pub fn serve_session<S: Source, K: Sink, E: Editions>(
+    alloc: Global,
+    source: &mut S,
+    sink: &mut K,
+    shelf: &mut E,
+) -> Result<SessionReport, SessionFault>
+    ensures done { IfOk result (λ report. Session (S.left source.old)
+        (state (K.written sink.old) (E.seen shelf.old) (E.taken shelf.old)) (state (K.written sink.new) (E.seen shelf.new) (E.taken shelf.new)) report) }
+    ensures fault { OnErr result (Broken 1000 (S.left source.old)
+        (state (K.written sink.old) (E.seen shelf.old) (E.taken shelf.old)) (state (K.written sink.new) (E.seen shelf.new) (E.taken shelf.new))) }
+    ensures behind { IsBehind (S.left source.old) (S.left source.new) }
+    ensures ended { IfOk result (λ report. report.end ≡ End.EndOfInput → Told (λ bytes rest. rest ≡ []) (S.left source.old) (S.left source.new)) }
+    ensures flushed { OnOk result ((sink.new ≡ sink.old) ⊎ IsFlushed (K.written sink.new) (K.flushed sink.new)) }
+    ensures source { SourceLent (S.aside source.old) (S.aside source.new) (S.faults source.old) (S.faults source.new) }
+    ensures sink { SinkLent (K.beside sink.old) (K.beside sink.new) (K.faults sink.old) (K.faults sink.new) }
+    ensures read { IsErrOf result SessionFault.ReadFault → Rose (S.faults source.old) (S.faults source.new) }
+    ensures write { IsErrOf result SessionFault.WriteFault → Rose (K.faults sink.old) (K.faults sink.new) }
+{
+    let mut inbox = Inbox::new(alloc);
+    let mut editions = Vec::new(alloc);
+    let mut reads = Vec::new(alloc);
+    let mut turn: u32 = 1;
+    'requests: while turn <= 1000 {
+        match serve_one(alloc, source, sink, shelf, &mut inbox, turn) {
+            Ok(report) => {
+                let OneReport {
+                    edition,
+                    reads: opened,
+                    end,
+                } = report;
+                if !keep(&mut editions, &mut reads, edition, opened) {
+                    return Err(SessionFault::OutOfMemory);
+                }
+                match end {
+                    Some(end) => {
+                        return Ok(SessionReport {
+                            requests: replies(turn, end),
+                            editions: Items::of(editions),
+                            reads: Items::of(reads),
+                            end,
+                        });
+                    }
+                    None => {}
+                }
+            }
+            Err(fault) => return Err(fault),
+        }
+        turn += 1;
+    }
+    Err(SessionFault::OutOfMemory)
+}
