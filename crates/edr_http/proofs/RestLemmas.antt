@@ -1,5 +1,5 @@
 -- The rest of a connection: what is held, and what is left of the source.
-use Rattle.std.proofs.Common.{◌≡◌, ◌≢◌, ℕ, ◌+◌, ◌-◌, ◌≤◌, ◌<◌, length, length-append, List, [], ◌++◌, take, drop, sym, ap, subst, ◌∙◌, refl, Some, None, append-nil, arith, Bool, true, false, ◌∷◌, ◌⊎◌, inl, inr, ⊎_elim}
+use Rattle.std.proofs.Common.{◌≡◌, ◌≢◌, ℕ, ◌+◌, ◌-◌, ◌≤◌, ◌<◌, length, length-append, length-drop, List, [], ◌++◌, take, drop, sym, ap, subst, ◌∙◌, refl, Some, None, append-nil, arith, Bool, true, false, ◌∷◌, ◌⊎◌, inl, inr, ⊎_elim}
 use Rattle.std.specs.Prelude.{nat_le}
 use Rattle.std.proofs.lemmas.Bool.Decides.{nat_tests}
 use Rattle.std.specs.declared.option.Option.{Option}
@@ -10,9 +10,9 @@ use mathlib.Core.List.{append_assoc}
 use Rattle.httparse.specs.Grammar.{RequestHead, print_request, ReadsRequest}
 use Rattle.edr_base.specs.KnownBytes.{prepend_more, prepend_nothing}
 use Rattle.edr_http.specs.declared.heads.Head.{Head}
-use Rattle.edr_http.specs.Heads.{BeginsWith, HeadOf, HasNoHead, Told, IsBehind, head_of}
+use Rattle.edr_http.specs.Heads.{BeginsWith, HeadOf, HasHead, HasNoHead, Told, IsBehind, head_of}
 use Rattle.edr_http.specs.Finding.{HasTree, HasNoTree, NeverHasTree, Grew, NoHeadIn, LastBlock}
-use Rattle.edr_http.proofs.HeadLemmas.{reads_window, no_head}
+use Rattle.edr_http.proofs.HeadLemmas.{reads_window, no_head, some_head}
 
 pub rest_grew : (old new block : List ℕ) (left left' : Option (List ℕ)) → new ≡ old ++ block → left ≡ prepend_known block left' → prepend_known new left' ≡ prepend_known old left
 rest_grew old new block left left' e f = ap (λ w. prepend_known w left') e ∙ (sym (prepend_more left' old block) ∙ ap (prepend_known old) (sym f))
@@ -49,10 +49,17 @@ ends_in_block held h rest x b = by_size (nat_le (length (print_request h)) (leng
           omega (arith, size, gt, x.short)
     ]
 
-pub got_short : (A B C : Type 0) (held : List ℕ) (m n : ℕ) → (A × B) ⊎ (C × LastBlock held) → HasTree held m → m ≡ n → A ⊎ (length held - n < 4096)
-got_short A B C held m n f x e = ⊎_elim
-    (λ (t : A × B). inl t.0)
+-- a head was held from the first, or it ends in the last block
+pub got_short : (A C : Type 0) (old held : List ℕ) (m n : ℕ) → (A × (held ≡ old)) ⊎ (C × LastBlock held) → HasTree held m → m ≡ n → HasTree old n ⊎ (length held - n < 4096)
+got_short A C old held m n f x e = ⊎_elim
+    (λ (t : A × (held ≡ old)). inl (subst (λ (w : List ℕ). HasTree w n) t.1 (subst (λ (k : ℕ). HasTree held k) e x)))
     (λ (t : C × LastBlock held). inr (let s = ends_in_block held x.0 x.1 t.1 x.2 in omega (arith, s, x.3, e)))
+    f
+
+pub head_or_short : (old held after : List ℕ) (n : ℕ) → HasTree old n ⊎ (length held - n < 4096) → after ≡ drop n held → HasHead old ⊎ (length after < 4096)
+head_or_short old held after n f e = ⊎_elim
+    (λ (t : HasTree old n). inl (some_head old n t))
+    (λ (t : length held - n < 4096). inr (omega (arith, t, ap length e, length-drop n held)))
     f
 
 pub grew_none : (old new : List ℕ) (n : ℕ) (left : Option (List ℕ)) → Grew old new n left → n ≡ 0 → HasNoTree old → NoHeadIn new left

@@ -47,7 +47,7 @@ pub(crate) fn fill<S: Source>(source: &mut S, held: &mut Vec<u8>) -> Result<Fron
     ensures rest { prepend_known held.new.items (S.left source.new) ≡ prepend_known held.old.items (S.left source.old) }
     ensures front { IfOk result (λ front. IsFront front held.new.items (S.left source.new)) }
     ensures kept { (n : ℕ) → HasTree held.old.items n → source.new ≡ source.old }
-    ensures short { (n : ℕ) → result ≡ Ok (Front.Got n) → (source.new ≡ source.old) ⊎ (length held.new.items - n < 4096) }
+    ensures short { (n : ℕ) → result ≡ Ok (Front.Got n) → HasTree held.old.items n ⊎ (length held.new.items - n < 4096) }
     ensures lent { SourceLent (S.aside source.old) (S.aside source.new) (S.faults source.old) (S.faults source.new) }
     ensures cause { IsErrOf result HeadFault.ReadFault → Rose (S.faults source.old) (S.faults source.new) }
 {

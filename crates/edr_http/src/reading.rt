@@ -31,7 +31,7 @@ fn take_head<S: Source>(
     ensures done { IfOk result (λ outcome. Finds outcome (prepend_known held.old.items (S.left source.old)) (prepend_known held.new.items (S.left source.new))) }
     ensures fault { OnErr result (prepend_known held.new.items (S.left source.new) ≡ prepend_known held.old.items (S.left source.old)) }
     ensures behind { IsBehind (prepend_known held.old.items (S.left source.old)) (prepend_known held.new.items (S.left source.new)) }
-    ensures short { IsGot result → (source.new ≡ source.old) ⊎ (vec_len held.new < 4096) }
+    ensures short { IsGot result → HasHead held.old.items ⊎ (length held.new.items < 4096) }
     ensures kept { (n : ℕ) → HasTree held.old.items n → source.new ≡ source.old }
     ensures lent { SourceLent (S.aside source.old) (S.aside source.new) (S.faults source.old) (S.faults source.new) }
     ensures cause { IsErrOf result HeadFault.ReadFault → Rose (S.faults source.old) (S.faults source.new) }
@@ -63,7 +63,7 @@ pub fn read_head<S: Source>(
     ensures done { IfOk result (λ outcome. Finds outcome (prepend_known inbox.old (S.left source.old)) (prepend_known inbox.new (S.left source.new))) }
     ensures fault { OnErr result (prepend_known inbox.new (S.left source.new) ≡ prepend_known inbox.old (S.left source.old)) }
     ensures behind { IsBehind (prepend_known inbox.old (S.left source.old)) (prepend_known inbox.new (S.left source.new)) }
-    ensures short { IsGot result → (source.new ≡ source.old) ⊎ (length inbox.new < 4096) }
+    ensures short { IsGot result → HasHead inbox.old ⊎ (length inbox.new < 4096) }
     ensures kept { HasHead inbox.old → source.new ≡ source.old }
     ensures lent { SourceLent (S.aside source.old) (S.aside source.new) (S.faults source.old) (S.faults source.new) }
     ensures cause { IsErrOf result HeadFault.ReadFault → Rose (S.faults source.old) (S.faults source.new) }

@@ -5,7 +5,7 @@ use Rattle.edr_http.proofs.filling.fill.Goals as goal
 pub returns-in-Got-clause-short : goal.returns-in-Got-clause-short
 returns-in-Got-clause-short g c n e =
     let here = rw c.deref.ensures.value at c.in-Got.ensures in
-    got_short _ _ _ c.loop.held.items c.in-Got.n n c.loop.invariant.fresh here (cc)
+    got_short _ _ c.args.held.now.items c.loop.held.items c.in-Got.n n c.loop.invariant.fresh here (cc)
 
 pub returns-else-is_empty-clause-front : goal.returns-else-is_empty-clause-front
 returns-else-is_empty-clause-front g c =

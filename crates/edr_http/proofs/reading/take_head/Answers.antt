@@ -1,6 +1,6 @@
-use Rattle.std.proofs.Common.{ℕ, List, subst, sym}
+use Rattle.std.proofs.Common.{ℕ, List, subst, sym, rules}
 use Rattle.edr_http.specs.Heads.{BeginsWith}
-use Rattle.edr_http.proofs.RestLemmas.{finds_got, rest_after}
+use Rattle.edr_http.proofs.RestLemmas.{finds_got, rest_after, head_or_short}
 use Rattle.edr_http.proofs.reading.take_head.Goals as goal
 
 pub returns-in-Ok-clause-done : goal.returns-in-Ok-clause-done
@@ -11,3 +11,8 @@ returns-in-Ok-clause-done g c =
 
 pub returns-in-Ok-clause-behind : goal.returns-in-Ok-clause-behind
 returns-in-Ok-clause-behind g c = rest_after _ _ _ _ _ c.in-Ok-Got.n c.fill.ensures.rest c.remove_front.ensures
+
+pub returns-in-Ok-clause-short : goal.returns-in-Ok-clause-short
+returns-in-Ok-clause-short g c got =
+    let told = c.fill.ensures.short c.in-Ok-Got.n (search rules) in
+    head_or_short c.args.held.now.items c.fill.new.held.items c.remove_front.new.held.items c.in-Ok-Got.n told c.remove_front.ensures
