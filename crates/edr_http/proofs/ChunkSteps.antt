@@ -7,6 +7,7 @@ use Rattle.std.proofs.Math.Seq.{take-add, take-length}
 use Rattle.std.specs.Io.KnownBytes.{append_known}
 use Rattle.std.specs.Prelude.{nat_le}
 use Rattle.std.proofs.lemmas.Bool.Decides.{nat_tests}
+use Rattle.edr_base.specs.Calls.{Front}
 use Rattle.edr_base.specs.KnownBytes.{grew_on}
 use Rattle.edr_http.specs.Chunks.{crlf, chunk, first_chunks}
 use Rattle.edr_http.specs.ChunkLaws.{take_front, drop_front}
@@ -71,6 +72,18 @@ pub rest_on : (old mid new : Option (List ℕ)) (text : List ℕ) (at k n : ℕ)
 rest_on old mid new text at k n h p q =
     let q' = subst (λ (z : List ℕ). new ≡ append_known mid (take n z)) (rest_whole k text) q in
     subst (λ (z : List ℕ). new ≡ append_known old z) (sym (sub_take at k n text h)) (grew_on old mid new (take (k - at) (drop at text)) (take n (drop k text)) p q')
+
+-- the same from the start on, and that all or a beginning went out
+pub wrote_on : (old mid new : Option (List ℕ)) (text : List ℕ) (k n : ℕ) → mid ≡ append_known old (take k text) → new ≡ append_known mid (take n (take (length text - k) (drop k text))) → new ≡ append_known old (take (k + n) text)
+wrote_on old mid new text k n p q =
+    let q' = subst (λ (z : List ℕ). new ≡ append_known mid (take n z)) (rest_whole k text) q in
+    grew_on old mid new (take k text) (take n (drop k text)) p q' ∙ ap (λ w. append_known old w) (sym (take-add k n text))
+
+pub whole_of : (old new : Option (List ℕ)) (text : List ℕ) (k : ℕ) → length text ≤ k → new ≡ append_known old (take k text) → new ≡ append_known old text
+whole_of old new text k l e = e ∙ ap (λ w. append_known old w) (take_all k text l)
+
+pub front_of : (old new : Option (List ℕ)) (text : List ℕ) (k : ℕ) → new ≡ append_known old (take k text) → Front text old new
+front_of old new text k e = record { bytes = take k text; begins = (drop k text, sym (take-append-drop k text)); grew = e }
 
 payload_length : (n : ℕ) (t : List ℕ) → 4104 * n ≤ length t → length (payload n t) ≡ 4096 * n
 payload_length zero t h = refl

@@ -1,11 +1,12 @@
 -- The rest of a connection: what is held, and what is left of the source.
-use Rattle.std.proofs.Common.{◌≡◌, ◌≢◌, ℕ, ◌+◌, ◌-◌, ◌≤◌, ◌<◌, length, length-append, length-drop, List, [], ◌++◌, take, drop, sym, ap, subst, ◌∙◌, refl, Some, None, append-nil, arith, Bool, true, false, ◌∷◌, ◌⊎◌, inl, inr, ⊎_elim}
+use Rattle.std.proofs.Common.{◌≡◌, ◌≢◌, ℕ, ◌+◌, ◌-◌, ◌≤◌, ◌<◌, length, length-append, length-drop, List, [], ◌++◌, take, drop, sym, ap, subst, ◌∙◌, refl, Some, None, append-nil, arith, Bool, true, false, ◌∷◌, ◌⊎◌, max, inl, inr, ⊎_elim}
 use Rattle.std.specs.Prelude.{nat_le}
 use Rattle.std.proofs.lemmas.Bool.Decides.{nat_tests}
 use Rattle.std.specs.declared.option.Option.{Option}
 use Rattle.std.specs.Io.KnownBytes.{prepend_known, IsAtEnd}
 use Rattle.std.proofs.lemmas.List.{take-append-le, take_all, take-append-drop}
 use Rattle.std.proofs.lemmas.Grind.{common_steps}
+use Rattle.std.proofs.Math.Nat.{le-max_right}
 use mathlib.Core.List.{append_assoc}
 use Rattle.httparse.specs.Grammar.{RequestHead, print_request, ReadsRequest}
 use Rattle.edr_base.specs.KnownBytes.{prepend_more, prepend_nothing}
@@ -61,6 +62,10 @@ head_or_short old held after n f e = ⊎_elim
     (λ (t : HasTree old n). inl (some_head old n t))
     (λ (t : length held - n < 4096). inr (omega (arith, t, ap length e, length-drop n held)))
     f
+
+-- what is held stays within the bound where a block was read behind less than a head
+pub held_bound : (old held new : ℕ) → held < 16384 → new ≤ held + 4096 → new ≤ max old ((16384 - 1) + 4096)
+held_bound old held new few grew = let r = le-max_right old 20479 in omega (arith, few, grew, r)
 
 pub grew_none : (old new : List ℕ) (n : ℕ) (left : Option (List ℕ)) → Grew old new n left → n ≡ 0 → HasNoTree old → NoHeadIn new left
 grew_none old new n left g z none =

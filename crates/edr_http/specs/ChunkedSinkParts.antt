@@ -1,5 +1,7 @@
 -- What a sink that sends chunks keeps. Of the bytes of the sink inside, the last came from it: the chunks of `n` full pieces,
--- and the first `b` bytes of the chunk of the piece `p` that it holds.
+-- and the first `b` bytes of the chunk of the piece `p` that it holds. `body_known` and `bottom_known` are what the layer's
+-- `written` and `bottom` are; what they mean is said without these parts, by `EndsBody` and `BeginsBody` in ChunkedSinks, and
+-- of whole calls in ChunkedSinkLaws.
 use Rattle.std.specs.Prelude.{◌≡◌, ℕ, zero, suc, ◌+◌, ◌-◌, ◌*◌, ◌≤◌, nat_le, Bool, true, false, List, [], ◌++◌, length, take, drop, codes, option_map}
 use Rattle.std.specs.declared.option.Option.{Option}
 use Rattle.std.specs.Prelude.{None, Some}

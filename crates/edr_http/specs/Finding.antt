@@ -4,7 +4,7 @@ use Rattle.std.specs.declared.option.Option.{Option}
 use Rattle.std.specs.Prelude.{None, Some, ⊤}
 use Rattle.std.specs.Io.KnownBytes.{IsAtEnd}
 use Rattle.httparse.specs.Grammar.{RequestHead, print_request}
-use Rattle.edr_http.specs.Heads.{BeginsWith, head_limit}
+use Rattle.edr_http.specs.Heads.{BeginsWith, head_limit, block_size}
 use Rattle.edr_http.specs.declared.finding.Found.{Found}
 use Rattle.edr_http.specs.declared.finding.Found.TheVariants as found
 use Rattle.edr_http.specs.declared.filling.Front.{Front}
@@ -60,4 +60,4 @@ pub record LastBlock (held : List ℕ) : Type 0 where
   pub block : List ℕ
   pub joined : held ≡ before ++ block
   pub none : HasNoTree before
-  pub short : length block ≤ 4096
+  pub short : length block ≤ block_size

@@ -1,5 +1,5 @@
 -- The head of a request at the front of some bytes (RFC 9112, sections 2 to 5), in the grammar of `httparse`.
-use Rattle.std.specs.Prelude.{◌≡◌, ◌≢◌, ◌⊎◌, ℕ, ◌≤◌, List, [], length, map, take, ⊤}
+use Rattle.std.specs.Prelude.{◌≡◌, ◌≢◌, ◌⊎◌, ℕ, ◌+◌, ◌-◌, ◌≤◌, max, List, [], length, map, take, ⊤}
 use Rattle.std.specs.declared.option.Option.{Option}
 use Rattle.std.specs.Prelude.{None, Some, Result, Ok, Err}
 use Rattle.std.specs.Io.KnownBytes.{prepend_known}
@@ -17,6 +17,14 @@ field_limit = 64
 -- the bytes of a head
 abbrev pub head_limit : ℕ
 head_limit = 16_384
+
+-- the bytes that are read at once
+abbrev pub block_size : ℕ
+block_size = 4_096
+
+-- the bytes that are held after a call, where so many were held before: at most those, or less than a head and one block
+abbrev pub most_held : ℕ → ℕ
+most_held before = max before ((head_limit - 1) + block_size)
 
 -- what a head says: its method, its target, 1 of HTTP/1.1, and its fields by name and value
 abbrev pub head_of : RequestHead → Head

@@ -59,7 +59,8 @@ impl<K: Sink> Sink for ChunkedSink<K> {
         ensures idle { (⟦<ChunkedSink<K> as Sink>⟧.beside self.old).idle ≡ true → 0 < length piece.now
             → (result ≡ Err Stop.OutOfMemory) × (⟦<ChunkedSink<K> as Faults>⟧.faults self.new ≡ ⟦<ChunkedSink<K> as Faults>⟧.faults self.old) }
 
-        // beyond the trait: no piece can be counted any more
+        // beyond the trait: nothing is flushed, and no piece can be counted any more
+        ensures settled { K.flushed (sink_inside self.new) ≡ K.flushed (sink_inside self.old) }
         ensures last { pieces_sent self.old ≡ 18446744073709551615 → 0 < length piece.now
             → result ≡ Err Stop.OutOfMemory }
     {
@@ -192,6 +193,27 @@ impl<K: Sink> ChunkedSink<K> {
         }
     }
 
+    // Writes a whole text, by which the sink inside isn't flushed.
+    #[tactic(auto, using(crate::proofs::ChunkSteps::wrote_on, crate::proofs::ChunkSteps::front_of, edr_base::specs::KnownBytes::append_nothing))]
+    fn send_whole(&mut self, text: &[u8]) -> Result<(), SendFault>
+        ensures bytes { Writes result text.now (⟦<ChunkedSink<K> as Sink>⟧.written self.old) (⟦<ChunkedSink<K> as Sink>⟧.written self.new) }
+        ensures flushed { K.flushed (sink_inside self.new) ≡ K.flushed (sink_inside self.old) }
+        ensures lent { SinkLent (⟦<ChunkedSink<K> as Sink>⟧.beside self.old) (⟦<ChunkedSink<K> as Sink>⟧.beside self.new)
+            (⟦<ChunkedSink<K> as Faults>⟧.faults self.old) (⟦<ChunkedSink<K> as Faults>⟧.faults self.new) }
+        ensures cause { IsErrOf result SendFault.WriteFault
+            → Rose (⟦<ChunkedSink<K> as Faults>⟧.faults self.old) (⟦<ChunkedSink<K> as Faults>⟧.faults self.new) }
+    {
+        let mut sent = 0;
+        while sent < text.len() {
+            match self.write(&text[sent..]) {
+                Ok(count) => sent += count,
+                Err(Stop::Failed) => return Err(SendFault::WriteFault),
+                Err(Stop::OutOfMemory) => return Err(SendFault::OutOfMemory),
+            }
+        }
+        Ok(())
+    }
+
     /// Ends the body where the layer stands: sends what is left of its chunks, and the last chunk. Then the layer is idle,
     /// and another end does nothing.
     pub fn end(&mut self) -> Result<(), SendFault>
@@ -223,6 +245,7 @@ impl<K: Sink> ChunkedSink<K> {
     {}
 
     /// Ends a body that was written with this outcome: after `Ok` its end is sent, and after a fault it breaks off here.
+    /// Of a body that was ended already, the outcome is handed back.
     ///
     /// Where the outcome is that of writing a text to the new layer, the chunks of the text are written behind what
     /// stands below, or a beginning of them after a fault.
@@ -231,6 +254,9 @@ impl<K: Sink> ChunkedSink<K> {
             → (⟦<ChunkedSink<K> as Sink>⟧.beside self.old).bottom ≡ below → start ≡ nothing_in below
             → Writes outcome text start (⟦<ChunkedSink<K> as Sink>⟧.written self.old)
             → Writes result (chunked text) below (K.written (sink_inside self.new)) }
+        ensures again { (⟦<ChunkedSink<K> as Sink>⟧.beside self.old).idle ≡ true
+            → (result ≡ outcome) × (sink_inside self.new ≡ sink_inside self.old) }
+        ensures idle { IsOk outcome → (⟦<ChunkedSink<K> as Sink>⟧.beside self.new).idle ≡ true }
         ensures fault { OnErr outcome ((result ≡ outcome) × (sink_inside self.new ≡ sink_inside self.old)) }
         ensures flushed { K.flushed (sink_inside self.new) ≡ K.flushed (sink_inside self.old) }
         ensures lent { SinkLent (K.beside (sink_inside self.old)) (K.beside (sink_inside self.new))
@@ -269,14 +295,16 @@ impl<K: Sink> ChunkedSink<K> {
     }
 }
 
-/// Sends a text as a whole body in chunks to a sink that is lent. After a fault a beginning of the chunks was sent.
+/// Sends a text as a whole body in chunks to a sink that is lent, and doesn't flush it. After a fault a beginning of the
+/// chunks was sent.
 #[tactic(auto, using(edr_base::specs::LentParts::held_name, edr_base::specs::LentParts::held_below))]
 pub fn send_body<K: Sink>(sink: &mut K, text: &[u8]) -> Result<(), SendFault>
     ensures bytes { Writes result (chunked text.now) (K.written sink.old) (K.written sink.new) }
+    ensures flushed { K.flushed sink.new ≡ K.flushed sink.old }
     ensures lent { SinkLent (K.beside sink.old) (K.beside sink.new) (K.faults sink.old) (K.faults sink.new) }
     ensures cause { IsErrOf result SendFault.WriteFault → Rose (K.faults sink.old) (K.faults sink.new) }
 {
     let mut layer = ChunkedSink::of(Lent::of(sink));
-    let outcome = send(&mut layer, text);
+    let outcome = layer.send_whole(text);
     layer.end_after(outcome)
 }

@@ -3,7 +3,7 @@ ghost use Rattle.std.specs.Prelude.{◌≡◌, ◌≤◌, ◌<◌, ◌⊎◌, �
 ghost use Rattle.std.specs.Io.KnownBytes.{prepend_known};
 ghost use Rattle.edr_base.specs.Outside.{Rose};
 ghost use Rattle.edr_base.specs.Calls.{SourceLent};
-ghost use Rattle.edr_http.specs.Heads.{Finds, HasHead, IsGot, IsBehind};
+ghost use Rattle.edr_http.specs.Heads.{Finds, HasHead, IsGot, IsBehind, block_size, most_held};
 ghost use Rattle.edr_http.specs.Finding.{HasTree};
 
 use crate::copying::copy_head;
@@ -31,7 +31,8 @@ fn take_head<S: Source>(
     ensures done { IfOk result (λ outcome. Finds outcome (prepend_known held.old.items (S.left source.old)) (prepend_known held.new.items (S.left source.new))) }
     ensures fault { OnErr result (prepend_known held.new.items (S.left source.new) ≡ prepend_known held.old.items (S.left source.old)) }
     ensures behind { IsBehind (prepend_known held.old.items (S.left source.old)) (prepend_known held.new.items (S.left source.new)) }
-    ensures short { IsGot result → HasHead held.old.items ⊎ (length held.new.items < 4096) }
+    ensures short { IsGot result → HasHead held.old.items ⊎ (length held.new.items < block_size) }
+    ensures bounded { length held.new.items ≤ most_held (length held.old.items) }
     ensures kept { (n : ℕ) → HasTree held.old.items n → source.new ≡ source.old }
     ensures lent { SourceLent (S.aside source.old) (S.aside source.new) (S.faults source.old) (S.faults source.new) }
     ensures cause { IsErrOf result HeadFault.ReadFault → Rose (S.faults source.old) (S.faults source.new) }
@@ -55,6 +56,7 @@ fn take_head<S: Source>(
 ///
 /// Where the rest isn't empty and begins with no head of at most 64 fields and 16,384 bytes, `Refused(BadHead)` is
 /// answered, and the rest stays as it was, as it does after a fault. Nothing is read where `inbox` holds a head already.
+/// Whatever is answered, `inbox` holds no more than before then, or no more than 20,479 bytes.
 pub fn read_head<S: Source>(
     alloc: Global,
     source: &mut S,
@@ -63,7 +65,8 @@ pub fn read_head<S: Source>(
     ensures done { IfOk result (λ outcome. Finds outcome (prepend_known inbox.old (S.left source.old)) (prepend_known inbox.new (S.left source.new))) }
     ensures fault { OnErr result (prepend_known inbox.new (S.left source.new) ≡ prepend_known inbox.old (S.left source.old)) }
     ensures behind { IsBehind (prepend_known inbox.old (S.left source.old)) (prepend_known inbox.new (S.left source.new)) }
-    ensures short { IsGot result → HasHead inbox.old ⊎ (length inbox.new < 4096) }
+    ensures short { IsGot result → HasHead inbox.old ⊎ (length inbox.new < block_size) }
+    ensures bounded { length inbox.new ≤ most_held (length inbox.old) }
     ensures kept { HasHead inbox.old → source.new ≡ source.old }
     ensures lent { SourceLent (S.aside source.old) (S.aside source.new) (S.faults source.old) (S.faults source.new) }
     ensures cause { IsErrOf result HeadFault.ReadFault → Rose (S.faults source.old) (S.faults source.new) }

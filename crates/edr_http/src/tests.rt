@@ -115,6 +115,21 @@ fn heads_are_read_and_checked(rt: HostRuntime) -> Result<(), Fail> {
     Ok(())
 }
 
+// A head that has come is answered without a further read, which would fail.
+#[test]
+fn nothing_is_read_behind_a_head(rt: HostRuntime) -> Result<(), Fail> {
+    let alloc = rt.alloc();
+    let fails = Vec::from_slice(alloc, &[2u64])?;
+    let input = input_of(alloc, "GET / HTTP/1.1|Host: a||GET")?;
+    let mut source = MemorySource::of(input, 5000, fails);
+    let mut inbox = Inbox::new(alloc);
+    let told = read_head(alloc, &mut source, &mut inbox);
+    assert_eq!(rt; answer(alloc, &told)?.as_str(), "ok");
+    let next = read_head(alloc, &mut source, &mut inbox);
+    assert_eq!(rt; answer(alloc, &next)?.as_str(), "fault");
+    Ok(())
+}
+
 // A head with so many fields, whose last value has so many letters.
 fn long_head(alloc: Global, fields: usize, letters: usize) -> Result<Vec<u8>, AllocError> {
     let mut bytes = Vec::from_slice(alloc, b"GET / HTTP/1.1\r\nHost: a\r\n")?;

@@ -4,5 +4,5 @@ use Rattle.edr_http.proofs.chunked_sink.send_body.Goals as goal
 
 pub returns-clause-bytes : goal.returns-clause-bytes
 returns-clause-bytes g c =
-    let wrote = c.end_after.ensures.bytes c.args.text.now (g.K.Sink.written c.args.sink.now) _ (search rules) (search rules) (search rules) c.send-outcome.ensures.bytes in
+    let wrote = c.end_after.ensures.bytes c.args.text.now (g.K.Sink.written c.args.sink.now) _ (search rules) (search rules) (search rules) c.send_whole-outcome.ensures.bytes in
     search (rules, held_name)
