@@ -38,6 +38,7 @@ mod TimeChoices
 mod PointDomains
 mod CheckLaws
 mod PlanSteps
+mod ReplyTexts
 mod PlanForms
 mod PlanChoices
 mod SearchedIds
@@ -45,7 +46,6 @@ mod Additions
 mod Ascending
 mod Cuts
 mod Puts
-mod ReplyTexts
 mod SlotLists
 mod TextSteps
 mod TileSteps

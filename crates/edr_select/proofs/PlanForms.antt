@@ -13,14 +13,15 @@ use Rattle.edr_wkt.specs.declared.geometry.Geometry.TheVariants.{Points, Line, P
 use Rattle.edr_wkt.specs.Geometries.{positions_of}
 use Rattle.covjson_value.specs.declared.domains.Domain.{Domain}
 use Rattle.covjson_value.specs.declared.domains.CoordinateName.TheVariants.{Z}
-use Rattle.covjson_value.specs.Coverages.{IsNamedAxis}
+use Rattle.covjson_value.specs.Coverages.{IsNamedAxis, IsValidDocument}
 use Rattle.covjson_value.specs.Domains.{axis_length}
 use Rattle.edr_chunk.specs.declared.shapes.GridShape.{GridShape}
 use Rattle.edr_chunk.specs.Places.{IsShape, nodes}
+use Rattle.edr_chunk.specs.Samples.{AreSamples}
 use Rattle.edr_edition.specs.Values.{InstanceValue, CollectionValue}
 use Rattle.edr_edition.specs.Instances.{HasGrid}
 use Rattle.edr_edition.specs.Editions.{IsCollection}
-use Rattle.edr_edition.specs.Stores.{Subject, instance_named}
+use Rattle.edr_edition.specs.Stores.{of_grid, Subject, instance_named}
 use Rattle.edr_edition.specs.declared.kinds.Kind.TheVariants.{Grid}
 use Rattle.edr_query.specs.declared.addresses.QueryKind.TheVariants as kind
 use Rattle.edr_query.specs.declared.shapes.Shape.TheVariants as at
@@ -51,6 +52,7 @@ use Rattle.edr_select.proofs.PlanLaws as plans
 use Rattle.edr_select.proofs.PlannedLaws as valid
 use Rattle.edr_select.proofs.Positions.{ArePoints, one, several, position_points}
 use Rattle.edr_select.proofs.PlanSteps.{known_size, refused_size}
+use Rattle.edr_select.proofs.ReplyTexts.{document_valid}
 
 -- ---- points
 
@@ -255,6 +257,17 @@ plan_stands c q i geometry asked some form is plan query shape parameters many a
     → plan.parameters ≡ (chosen i q geometry).parameters → plan.coverages ≡ planned_in c.referencing i (chosen i q geometry) form → StandsFor plan (grid_of c i))
     query (λ asked some is parameters are. stands_at c i geometry plan asked some form is shape parameters many are) asked some is parameters are
 
+same_grid : {i j : InstanceValue} → of_grid i ≡ of_grid j → i ≡ j
+same_grid e = grind (arith, e)
+
+-- the document of a plan that stands for its query is valid
+valid_document : (plan : PlanValue) (s : Subject) (i : InstanceValue) (q : QueryValue) → s.held ≡ of_grid i → AreSamples i.grid.values → IsPlan plan → plan.query ≡ q
+    → StandsFor plan s → IsValidDocument (document s q)
+valid_document plan s i q held samples is query stands =
+    subst (λ (q : QueryValue). IsValidDocument (document s q)) query
+    (document_valid stands.instance.grid plan (document s plan.query) is
+    (subst (λ (j : InstanceValue). AreSamples j.grid.values) (same_grid (sym held ∙ stands.held)) samples) stands.document)
+
 -- no refusal is left where the plan isn't too large
 pub is_plan_in : (c : CollectionValue) (q : QueryValue) (i : InstanceValue) (geometry : Geometry) → IsAsked c q i geometry → IsSome (chosen i q geometry)
     → (form : Form) → IsForm geometry (chosen i q geometry) form → (plan : PlanValue) → plan.query ≡ q → plan.shape ≡ i.grid.shape
@@ -264,6 +277,8 @@ pub is_plan_in : (c : CollectionValue) (q : QueryValue) (i : InstanceValue) (geo
 is_plan_in c q i geometry asked some form is plan query shape parameters many are left fits = record {
   none = left ∙ known_size c q i geometry asked (size_is c q i geometry asked some form is ∙ fits);
   query_is = query;
+  valid = valid_document plan (grid_of c i) i q refl asked.grid.samples (is_plan c q i geometry asked some form is plan shape parameters many are) query
+      (plan_stands c q i geometry asked some form is plan query shape parameters many are);
   stands = plan_stands c q i geometry asked some form is plan query shape parameters many are;
 }
 

@@ -227,16 +227,24 @@ told_by false (coverage ∷ []) d one e = subst (λ (d : Document). Told false (
     some_is e = grind (arith, e)
 told_by false (coverage ∷ (other ∷ coverages)) d one e = absurd (omega (arith, one refl))
 
--- the text of the plan's document is that of its pieces
+-- that of a plan over a grid
+told_of : (grid : chunk.Values) (plan : PlanValue) (d : Document) → IsPlan plan → plan_document grid plan ≡ Some d → Told plan.many (map (coverage_of grid plan.parameters) plan.coverages) d
+told_of grid plan d is f =
+    told_by plan.many (map (coverage_of grid plan.parameters) plan.coverages) d (λ one. length-map plan.coverages (coverage_of grid plan.parameters) ∙ is.alone one) f
+
+-- the plan's document is valid
+pub document_valid : (grid : chunk.Values) (plan : PlanValue) (d : Document) → IsPlan plan → All (λ v. IfSome v IsSample) grid.values → plan_document grid plan ≡ Some d → IsValidDocument d
+document_valid grid plan d is samples f =
+    let told = told_of grid plan d is f in told.valid (coverages_valid grid plan.shape plan.parameters plan.coverages samples is.coverages)
+
+-- its text is that of its pieces
 pub plan_text_is : DocumentOfPieces → (grid : chunk.Values) (plan : PlanValue) (d : Document) → IsPlan plan → All (λ v. IfSome v IsSample) grid.values → plan_document grid plan ≡ Some d
     → plan_text grid plan ≡ document_text d
 plan_text_is law grid plan d is samples f =
-    let told : Told plan.many (map (coverage_of grid plan.parameters) plan.coverages) d =
-    told_by plan.many (map (coverage_of grid plan.parameters) plan.coverages) d (λ one. length-map plan.coverages (coverage_of grid plan.parameters) ∙ is.alone one) f in
-    let valid : IsValidDocument d = told.valid (coverages_valid grid plan.shape plan.parameters plan.coverages samples is.coverages) in
+    let told = told_of grid plan d is f in
     ap (λ (cs : List Coverage). document_begin plan.many ++ (coverages_from 0 cs ++ document_end plan.many)) (sym told.coverages_is)
     ∙ ap (λ (m : Bool). document_begin m ++ (coverages_from 0 (coverages_of d) ++ document_end m)) (sym told.many_is)
-    ∙ sym (law d valid)
+    ∙ sym (law d (document_valid grid plan d is samples f))
 
 -- it is written from all its values
 pub text_is : DocumentOfPieces → (grid : chunk.Values) (plan : PlanValue) (values : List (Option ℤ)) (d : Document) → IsPlan plan → All (λ v. IfSome v IsSample) grid.values

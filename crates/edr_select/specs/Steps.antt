@@ -6,6 +6,7 @@ use Rattle.edr_base.specs.declared.refusals.Refusal.TheVariants.{BadCrs, NoSampl
 use Rattle.edr_wkt.specs.declared.geometry.Geometry.{Geometry}
 use Rattle.edr_wkt.specs.declared.geometry.Geometry.TheVariants.{Points, Line, Polygons}
 use Rattle.covjson_value.specs.declared.coverages.Referencing.{Referencing}
+use Rattle.covjson_value.specs.Coverages.{IsValidDocument}
 use Rattle.edr_edition.specs.declared.kinds.Kind.TheVariants.{Grid}
 use Rattle.edr_edition.specs.Values.{InstanceValue, CollectionValue}
 use Rattle.edr_edition.specs.Instances.{HasGrid}
@@ -19,6 +20,7 @@ use Rattle.edr_select.specs.declared.forms.Form.{Form}
 use Rattle.edr_select.specs.declared.forms.Form.TheVariants.{AtPoint, Along, Apart}
 use Rattle.edr_select.specs.declared.planning.PlanFault.{PlanFault}
 use Rattle.edr_select.specs.declared.planning.PlanFault.TheVariants.{Refused, OutOfMemory}
+use Rattle.edr_select.specs.Documents.{document}
 use Rattle.edr_select.specs.Refusals.{applies_to_query, applies_to_subject, asks_levels}
 use Rattle.edr_select.specs.Checks.{of_data, refused_query, grid_of}
 use Rattle.edr_select.specs.Choices.{Chosen, chosen, IsSome}
@@ -97,8 +99,9 @@ planned_in referencing i c (AtPoint spot) = map (planned_at referencing i c) c.s
 planned_in referencing i c (Along t z) = planned_along referencing i c t z ∷ []
 planned_in referencing i c Apart = map (planned_at referencing i c) c.spots
 
--- no refusal applies to the query, and the plan stands for it
+-- no refusal applies to the query, its document is valid, and the plan stands for it
 pub record IsPlanIn (collection : CollectionValue) (q : QueryValue) (instance : InstanceValue) (plan : PlanValue) : Type 0 where
   pub none : refused_query collection q ≡ None
   pub query_is : plan.query ≡ q
+  pub valid : IsValidDocument (document (grid_of collection instance) q)
   pub stands : StandsFor plan (grid_of collection instance)

@@ -74,7 +74,7 @@ fn plan_in(
 }
 
 /// The plan of the reply to a query (OGC 19-086r6, section 8) from an edition, or the first refusal that applies. It opens no
-/// chunk.
+/// chunk. The document that is planned is valid (OGC 21-069r2).
 pub fn plan(alloc: Global, query: &Query, edition: &Edition) -> Result<Plan, PlanFault>
     ensures { MatchPlan result edition.now query.now }
 {
