@@ -118,6 +118,7 @@ module _ (s : Subject) (q : QueryValue) (i : InstanceValue) (geometry : Geometry
         (one_value Y (spot_of i spot).0 (spot_is spot ms).y) (one_value X (spot_of i spot).1 (spot_is spot ms).x))
         (no_tuples_at (times_of i c) (levels_of i c) (spot_of i spot)) some_parameters
         (asked_are q.parameters i.parameters h.parameters) (asked_ascend q.parameters i.parameters h.ascending);
+    bare = refl;
     as_many = length-map c.parameters (parameter_at i.parameters);
     count = count_at (times_of i c) (levels_of i c) (spot_of i spot)
         ∙ (ap₂ (λ a b. a * b) (length-map c.times (value_at i.ts)) (level_count (levels_asked q) i.zs some.levels)
@@ -145,6 +146,7 @@ module _ (s : Subject) (q : QueryValue) (i : InstanceValue) (geometry : Geometry
         (omega (arith, some_length c.spots some.spots, length-map c.spots (spot_of i)))
         (omega (arith, few_spots, length-map c.spots (spot_of i))))
         some_parameters (asked_are q.parameters i.parameters h.parameters) (asked_ascend q.parameters i.parameters h.ascending);
+    bare = refl;
     as_many = length-map c.parameters (parameter_at i.parameters);
     count = count_along (value_at i.ts t) (level_at i.zs z) (map (spot_of i) c.spots)
         ∙ (length-map c.spots (spot_of i) ∙ sym (length-map c.spots (λ spot. node_of i.xs spot t z)));

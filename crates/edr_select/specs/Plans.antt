@@ -69,9 +69,10 @@ plan_tiles plan = flat_map (tiles_of_coverage plan.shape plan.parameters) plan.c
 
 -- ---- every plan
 
--- a coverage that is planned for a grid of a shape and some of its parameters: all but its ranges is valid, and it has a cell for each value
+-- a coverage that is planned for a grid of a shape and some of its parameters: all but its ranges is valid, it has none of these, and it has a cell for each value
 pub record IsPlanned (shape : GridShape) (parameters : List ℕ) (planned : PlannedValue) : Type 0 where
   pub head : IsHead planned.head
+  pub bare : planned.head.ranges ≡ []
   pub as_many : length planned.head.parameters ≡ length parameters
   pub count : count_of planned.head.domain ≡ length planned.cells
   pub cells : All (λ cell. Within shape (place_at 0 cell)) planned.cells
