@@ -50,12 +50,12 @@ until_back : (side : Option ℤ) (t : ℤ) → is_until side t ≡ true → IsUn
 until_back None t h = tt
 until_back (Some s) t h = le_from t s h
 
-time_test : (ts : Times) (t : ℤ) → HasTime ts t → has_time ts t ≡ true
+pub time_test : (ts : Times) (t : ℤ) → HasTime ts t → has_time ts t ≡ true
 time_test times.All t h = refl
 time_test (times.At only) t h = (Decides-int_eq t only).1 h
 time_test (times.Between first last) t h = pair_true (is_from first t) (is_until last t) (from_test first t h.0) (until_test last t h.1)
 
-time_back : (ts : Times) (t : ℤ) → has_time ts t ≡ true → HasTime ts t
+pub time_back : (ts : Times) (t : ℤ) → has_time ts t ≡ true → HasTime ts t
 time_back times.All t h = tt
 time_back (times.At only) t h = (Decides-int_eq t only).0 h
 time_back (times.Between low high) t h = (from_back low t (first (is_from low t) (is_until high t) h), until_back high t (second (is_from low t) (is_until high t) h))
@@ -94,14 +94,14 @@ series_back (pos n) first step l h =
     (f.place, omega (arith, ints, f.high), (Decides-int_eq l (first +ℤ pos f.place *ℤ step)).0 f.passes)
 series_back (negsuc n) first step l h = cc
 
-level_test : (ls : Levels) (l : ℤ) → HasLevel ls l → has_level ls l ≡ true
+pub level_test : (ls : Levels) (l : ℤ) → HasLevel ls l → has_level ls l ≡ true
 level_test levels.All l h = refl
 level_test (levels.At only) l h = (Decides-int_eq l only).1 h
 level_test (levels.Between low high) l h = pair_true (int_le low l) (int_le l high) (le_true low l h.0) (le_true l high h.1)
 level_test (levels.List these) l h = among l these h.0 h.1 h.2
 level_test (levels.Series n first step) l h = in_series n first step l h.0 h.1 h.2
 
-level_back : (ls : Levels) (l : ℤ) → has_level ls l ≡ true → HasLevel ls l
+pub level_back : (ls : Levels) (l : ℤ) → has_level ls l ≡ true → HasLevel ls l
 level_back levels.All l h = tt
 level_back (levels.At only) l h = (Decides-int_eq l only).0 h
 level_back (levels.Between low high) l h = (le_from low l (first (int_le low l) (int_le l high) h), le_from l high (second (int_le low l) (int_le l high) h))

@@ -29,6 +29,7 @@ mod FoundPlaces
 mod Vectors
 mod Has
 mod NearestTests
+mod WantedLaws
 mod Along
 mod AxisPlaces
 mod ParameterChoices

@@ -1,6 +1,7 @@
 pub mod Limits
 pub mod Samples
 pub mod Wanted
+pub mod WantedLaws
 pub mod Lines
 pub mod Selections
 pub mod Heads

@@ -1,7 +1,14 @@
-//! Laws of refusals.
+//! Laws of refusals and of selections.
 ghost use Rattle.edr_select.specs.Refusals.{RefusalIsLeast};
+ghost use Rattle.edr_select.specs.WantedLaws.{SelectionsGoByAxes};
 
 /// The refusal that an edition gives a page is the least that applies; where there is none, none applies.
 pub fn refusal_is_least()
     ensures { RefusalIsLeast }
+{}
+
+/// What a query takes goes by the relations of axes: its times and its levels have what it takes, and a value of an axis is
+/// taken where it is the nearest.
+pub fn selections_go_by_axes()
+    ensures { SelectionsGoByAxes }
 {}
