@@ -42,6 +42,7 @@ mod PlanSteps
 mod ReplyTexts
 mod PlanForms
 mod PlanChoices
+mod DocumentLaws
 mod SearchedIds
 mod Additions
 mod Ascending

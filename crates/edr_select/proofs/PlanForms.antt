@@ -261,7 +261,7 @@ same_grid : {i j : InstanceValue} → of_grid i ≡ of_grid j → i ≡ j
 same_grid e = grind (arith, e)
 
 -- the document of a plan that stands for its query is valid
-valid_document : (plan : PlanValue) (s : Subject) (i : InstanceValue) (q : QueryValue) → s.held ≡ of_grid i → AreSamples i.grid.values → IsPlan plan → plan.query ≡ q
+pub valid_document : (plan : PlanValue) (s : Subject) (i : InstanceValue) (q : QueryValue) → s.held ≡ of_grid i → AreSamples i.grid.values → IsPlan plan → plan.query ≡ q
     → StandsFor plan s → IsValidDocument (document s q)
 valid_document plan s i q held samples is query stands =
     subst (λ (q : QueryValue). IsValidDocument (document s q)) query

@@ -65,11 +65,11 @@ newest_member (x ∷ is) i h = here (newest is) refl (newest_member is)
     here (Some other) e later =
         ends (greater x (Some other)) (either other (is_lt (order x.id other.id)) (later other e)) (sym (ap (λ found. Some (greater x found)) e) ∙ h)
 
-named_member : (name : Option (List ℕ)) (is : List InstanceValue) (i : InstanceValue) → instance_named name is ≡ Some i → Contains is i
+pub named_member : (name : Option (List ℕ)) (is : List InstanceValue) (i : InstanceValue) → instance_named name is ≡ Some i → Contains is i
 named_member None is i h = newest_member is i h
 named_member (Some id) is i h = found_member id is i h
 
-subject_found : (c : CollectionValue) (q : QueryValue) (i : InstanceValue) → c.kind ≡ Grid → instance_named q.instance c.instances ≡ Some i
+pub subject_found : (c : CollectionValue) (q : QueryValue) (i : InstanceValue) → c.kind ≡ Grid → instance_named q.instance c.instances ≡ Some i
     → subject_in q.instance c ≡ Some (grid_of c i)
 subject_found c q i kind named = rw (kind, named) refl
 

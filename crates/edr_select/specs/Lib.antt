@@ -11,6 +11,7 @@ pub mod Choices
 pub mod Plans
 pub mod Planned
 pub mod Planning
+pub mod DocumentLaws
 pub mod Sending
 pub mod Checks
 pub mod Steps

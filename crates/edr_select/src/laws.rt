@@ -1,4 +1,5 @@
-//! Laws of refusals and of selections.
+//! Laws of refusals, of selections and of documents.
+ghost use Rattle.edr_select.specs.DocumentLaws.{DocumentsAreValid};
 ghost use Rattle.edr_select.specs.Refusals.{RefusalIsLeast};
 ghost use Rattle.edr_select.specs.WantedLaws.{SelectionsGoByAxes};
 
@@ -11,4 +12,9 @@ pub fn refusal_is_least()
 /// taken where it is the nearest.
 pub fn selections_go_by_axes()
     ensures { SelectionsGoByAxes }
+{}
+
+/// The document of a query that no refusal applies to is valid (OGC 21-069r2).
+pub fn documents_are_valid()
+    ensures { DocumentsAreValid }
 {}

@@ -29,7 +29,7 @@ mod streaming;
 mod value_runs;
 mod writing;
 
-pub use laws::{refusal_is_least, selections_go_by_axes};
+pub use laws::{documents_are_valid, refusal_is_least, selections_go_by_axes};
 pub use planning::{PlanFault, plan};
 pub use plans::{GridNode, Plan};
 pub use sending::send;
