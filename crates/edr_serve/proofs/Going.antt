@@ -49,7 +49,7 @@ broke_on rs ss a b c es ns cs x y =
       bytes = subst (λ (z : List ℕ). Front z a.written c.written) (sym (output_on rs ss es y.editions x.full)) (front_on a.written b.written c.written (output rs es) (output ss y.editions) x.bytes y.bytes);
       uses = uses_on a.seen es y.editions b.seen c.seen x.uses y.uses;
       order = subst (λ (z : List ℕ). NeverFall (last_number a.seen) z (last_number c.seen)) same
-        (never_on (last_number a.seen) (last_number b.seen) (last_number c.seen) ns (map number_of y.editions) x.order y.order);
+          (never_on (last_number a.seen) (last_number b.seen) (last_number c.seen) ns (map number_of y.editions) x.order y.order);
       taken = subst (λ (z : List ℕ). TakenGrew a.taken c.taken z) same (taken_on a.taken b.taken c.taken ns (map number_of y.editions) x.taken y.taken);
     }
 
@@ -65,12 +65,22 @@ broke_whole rs a b es ns cs x = record {
 
 answered_none : (a : State) → Answered [] a a [] [] []
 answered_none a = record {
-  full = refl; bytes = append_nothing a.written; chunks_are = refl; numbers_are = refl; uses = seen_same a.seen; order = omega arith; taken = taken_same a.taken;
+  full = refl;
+  bytes = append_nothing a.written;
+  chunks_are = refl;
+  numbers_are = refl;
+  uses = seen_same a.seen;
+  order = omega arith;
+  taken = taken_same a.taken;
 }
 
 broke_none : (a : State) → BrokeOff [] a a
 broke_none a = record {
-  editions = []; bytes = front_none a.written a.written [] refl; uses = seen_same a.seen; order = omega arith; taken = taken_same a.taken;
+  editions = [];
+  bytes = front_none a.written a.written [] refl;
+  uses = seen_same a.seen;
+  order = omega arith;
+  taken = taken_same a.taken;
 }
 
 -- ---- the first request of the rest, and those behind it
@@ -117,7 +127,13 @@ pub record Going (turns : ℕ) (rest behind : Option (List ℕ)) (before now : S
 
 pub going_start : (rest : Option (List ℕ)) (a : State) → Going 1000 rest rest a a [] []
 going_start rest a = record {
-  done = []; editions = []; goes = λ rs k. k; begins = λ rs k. k; ends = λ rs. refl; count = refl; answered = answered_none a;
+  done = [];
+  editions = [];
+  goes = λ rs k. k;
+  begins = λ rs k. k;
+  ends = λ rs. refl;
+  count = refl;
+  answered = answered_none a;
 }
 
 snoc : (done : List Request) (r : Request) (rs : List Request) → (done ++ r ∷ []) ++ rs ≡ done ++ r ∷ rs
@@ -130,7 +146,8 @@ going_more n rest b c x y z ns cs report some g e none =
     let r = e.request in
     let still : r.end ≡ None = sym e.replied.end ∙ none in
     record {
-      done = g.done ++ r ∷ []; editions = g.editions ++ e.replied.editions;
+      done = g.done ++ r ∷ [];
+      editions = g.editions ++ e.replied.editions;
       goes = λ rs k. subst (λ (z : List Request). IfTold (λ bytes. Requests request_limit bytes z) rest) (sym (snoc g.done r rs)) (g.goes (r ∷ rs) (goes_on n b c r rs e.first still k));
       begins = λ rs k. subst (λ (z : List Request). IfTold (λ bytes. Begun request_limit bytes z) rest) (sym (snoc g.done r rs)) (g.begins (r ∷ rs) (begins_on n b c r rs e.first still k));
       ends = λ rs. ap session_end (snoc g.done r rs) ∙ (g.ends (r ∷ rs) ∙ ap (λ (o : Option End). unwrap_or o (session_end rs)) still);
@@ -148,10 +165,11 @@ going_last n rest b c x y z ns cs one end report g e ends count numbers chunks e
     let closed : r.end ≡ Some end = sym e.replied.end ∙ ends in
     let all = answered_on g.done (r ∷ []) x y z g.editions e.replied.editions ns (option_to_list one.edition) cs (chunks_in one) g.answered e.replied.answered in
     record {
-      requests = g.done ++ r ∷ []; editions = g.editions ++ e.replied.editions;
+      requests = g.done ++ r ∷ [];
+      editions = g.editions ++ e.replied.editions;
       all = g.goes (r ∷ []) (closes_with n b c r end e.first closed);
       answered = subst (λ (ds : List (List ℕ)). Answered (g.done ++ r ∷ []) x z (g.editions ++ e.replied.editions) report.editions ds) (sym chunks)
-        (subst (λ (ms : List ℕ). Answered (g.done ++ r ∷ []) x z (g.editions ++ e.replied.editions) ms (cs ++ chunks_in one)) (sym numbers) all);
+          (subst (λ (ms : List ℕ). Answered (g.done ++ r ∷ []) x z (g.editions ++ e.replied.editions) ms (cs ++ chunks_in one)) (sym numbers) all);
       count = omega (arith, count, g.count, length-append g.done (r ∷ []));
       end = end_is ∙ sym (g.ends (r ∷ []) ∙ ap (λ (o : Option End). unwrap_or o EndOfInput) closed);
     }
@@ -160,7 +178,8 @@ going_last n rest b c x y z ns cs one end report g e ends count numbers chunks e
 going_stop : (n : ℕ) (rest b c : Option (List ℕ)) (x y : State) (ns : List ℕ) (cs : List (List ℕ)) (report : SessionReport)
     → Going n rest b x y ns cs → Told (λ u v. (u ≡ []) × (v ≡ [])) b c → report.requests + n ≡ 1000 → report.editions ≡ ns → report.reads ≡ cs → report.end ≡ EndOfInput → Session rest x y report
 going_stop n rest b c x y ns cs report g e count numbers chunks end_is = record {
-  requests = g.done; editions = g.editions;
+  requests = g.done;
+  editions = g.editions;
   all = subst (λ (z : List Request). IfTold (λ bytes. Requests request_limit bytes z) rest) (append-nil g.done) (g.goes [] (at_end n b c e));
   answered = subst (λ (ds : List (List ℕ)). Answered g.done x y g.editions report.editions ds) (sym chunks) (subst (λ (ms : List ℕ). Answered g.done x y g.editions ms cs) (sym numbers) g.answered);
   count = omega (arith, count, g.count);
@@ -177,7 +196,8 @@ going_broken n rest b x y z ns cs g e = record {
 served_broken : (n : ℕ) (b c : Option (List ℕ)) (y z : State) (report : OneReport) → Served n b c y z report → Broken n b y z
 served_broken n b c y z report (inl e) = subst (λ (w : State). Broken n b y w) (sym e.same) (record { requests = []; begun = begun_none n b; broke_off = broke_none y })
 served_broken n b c y z report (inr e) = record {
-  requests = e.request ∷ []; begun = begun_one n e.request b c e.first;
+  requests = e.request ∷ [];
+  begun = begun_one n e.request b c e.first;
   broke_off = broke_whole (e.request ∷ []) y z e.replied.editions (option_to_list report.edition) (chunks_in report) e.replied.answered;
 }
 

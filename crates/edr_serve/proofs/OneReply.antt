@@ -70,7 +70,9 @@ pub page_untaken : (requests : List Request) (w : Option (List ℕ)) (s s' : Lis
 page_untaken requests w s s' t t' grows ascending taken = record {
   editions = [];
   bytes = front_none w w (output requests []) refl;
-  uses = grows; order = last_later s s' grows ascending; taken = taken;
+  uses = grows;
+  order = last_later s s' grows ascending;
+  taken = taken;
 }
 
 -- ---- from none
@@ -92,9 +94,15 @@ refused_replied head refusal end w w' s t bytes = record {
   answered = record {
     full = refl;
     bytes = bytes ∙ ap (append_known w) (sym (append-nil (refused_text head refusal end)));
-    chunks_are = refl; numbers_are = refl; uses = seen_same s; order = same_order s; taken = taken_same t;
+    chunks_are = refl;
+    numbers_are = refl;
+    uses = seen_same s;
+    order = same_order s;
+    taken = taken_same t;
   };
-  newest = All-nil (EndsWith s); unread = λ n. refl; end = refl;
+  newest = All-nil (EndsWith s);
+  unread = λ n. refl;
+  end = refl;
 }
 
 pub refused_broke : (head : Bool) (refusal : Refusal) (end : Option End) (w w' : Option (List ℕ)) (s : List EditionValue) (t : Option (List ℕ))
@@ -102,12 +110,18 @@ pub refused_broke : (head : Bool) (refusal : Refusal) (end : Option End) (w w' :
 refused_broke head refusal end w w' s t front = record {
   editions = [];
   bytes = subst (λ (z : List ℕ). Front z w w') (sym (append-nil (refused_text head refusal end))) front;
-  uses = seen_same s; order = same_order s; taken = taken_same t;
+  uses = seen_same s;
+  order = same_order s;
+  taken = taken_same t;
 }
 
 pub none_broke : (w : Option (List ℕ)) (s : List EditionValue) (t : Option (List ℕ)) → BrokeOff [] (state w s t) (state w s t)
 none_broke w s t = record {
-  editions = []; bytes = front_none w w [] refl; uses = seen_same s; order = same_order s; taken = taken_same t;
+  editions = [];
+  bytes = front_none w w [] refl;
+  uses = seen_same s;
+  order = same_order s;
+  taken = taken_same t;
 }
 
 -- ---- a head

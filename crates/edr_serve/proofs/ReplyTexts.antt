@@ -134,7 +134,7 @@ pub data_sent : {T E : Type 0} (r : Result T E) (a b : Option (List ℕ)) (e : E
     → IsPlanFor e q plan → Some s ≡ subject_of e q.collection q.instance → Writes r (chunked (document_text (document s plan.query))) a b → Writes r (chunked (text_of e q)) a b
 data_sent r a b e q plan s x named written =
     let same : document_text (document s plan.query) ≡ text_of e q =
-        ap (λ (p : QueryValue). document_text (document s p)) x.query_is ∙ ap (λ (o : Option Subject). unwrap_or (option_map (λ (z : Subject). document_text (document z q)) o) []) named in
+    ap (λ (p : QueryValue). document_text (document s p)) x.query_is ∙ ap (λ (o : Option Subject). unwrap_or (option_map (λ (z : Subject). document_text (document z q)) o) []) named in
     subst (λ text. Writes r (chunked text) a b) same written
 
 pub data_read : (e : EditionValue) (q : QueryValue) (plan : PlanValue) (s : Subject) → IsPlanFor e q plan → Some s ≡ subject_of e q.collection q.instance

@@ -75,9 +75,10 @@ requests_same head refusal target n b (r ∷ rs) [] x y = absurd (no_first n r x
 requests_same head refusal target n b (r ∷ rs) (s ∷ ss) x y =
     let u = first_same head refusal target n b r s x.0 y.0 x.1 y.1 in
     let end : is_some r.end ≡ is_some s.end = ap (λ (z : Request). is_some z.end) u.0 in
-    let more : (v : Bool) → is_some r.end ≡ v → rs ≡ ss = elim
-      [ true ↦ λ t. x.2 t ∙ sym (y.2 (sym end ∙ t))
-      | false ↦ λ f. requests_same head refusal target (n - 1) x.0 rs ss (x.3 f) (subst (λ (z : List ℕ). Requests (n - 1) z ss) (sym u.1) (y.3 (sym end ∙ f))) ] in
+    let more : (v : Bool) → is_some r.end ≡ v → rs ≡ ss = elim [
+      | true ↦ λ t. x.2 t ∙ sym (y.2 (sym end ∙ t))
+      | false ↦ λ f. requests_same head refusal target (n - 1) x.0 rs ss (x.3 f) (subst (λ (z : List ℕ). Requests (n - 1) z ss) (sym u.1) (y.3 (sym end ∙ f)))
+    ] in
     ap (λ z. z ∷ rs) u.0 ∙ ap (λ z. s ∷ z) (more (is_some r.end) refl)
 
 -- the requests that were begun are the first of those that the bytes hold
@@ -87,9 +88,10 @@ begun_same head refusal target n b (r ∷ rs) [] x y = absurd (no_first n r x.0 
 begun_same head refusal target n b (r ∷ rs) (s ∷ ss) x y =
     let u = first_same head refusal target n b r s x.0 y.0 x.1 y.1 in
     let end : is_some r.end ≡ is_some s.end = ap (λ (z : Request). is_some z.end) u.0 in
-    let more : (v : Bool) → is_some r.end ≡ v → (m : List Request) × (ss ≡ rs ++ m) = elim
-      [ true ↦ λ t. ([], y.2 (sym end ∙ t) ∙ (sym (x.2 t) ∙ sym (append-nil rs)))
-      | false ↦ λ f. begun_same head refusal target (n - 1) x.0 rs ss (x.3 f) (subst (λ (z : List ℕ). Requests (n - 1) z ss) (sym u.1) (y.3 (sym end ∙ f))) ] in
+    let more : (v : Bool) → is_some r.end ≡ v → (m : List Request) × (ss ≡ rs ++ m) = elim [
+      | true ↦ λ t. ([], y.2 (sym end ∙ t) ∙ (sym (x.2 t) ∙ sym (append-nil rs)))
+      | false ↦ λ f. begun_same head refusal target (n - 1) x.0 rs ss (x.3 f) (subst (λ (z : List ℕ). Requests (n - 1) z ss) (sym u.1) (y.3 (sym end ∙ f)))
+    ] in
     let tail = more (is_some r.end) refl in
     (tail.0, ap (λ z. s ∷ z) tail.1 ∙ ap (λ z. z ∷ (rs ++ tail.0)) (sym u.0))
 
@@ -133,10 +135,10 @@ found_first : ((bytes : List ℕ) → IsDecided bytes) → ((head : Head) → (r
 found_first decided refused targets n behind [] = ([], refl)
 found_first decided refused targets n behind (x ∷ b) = ⊎_elim
     (λ (has : HasHead (x ∷ b)).
-        let o = refused has.0 in
-        let a = asked_of o.0 has.0.target targets in
-        let r : Request = record { is_head = is_head has.0; asked = a.0; end = end_of (suc n) (says_close has.0) a.0 } in
-        with_head n behind (x ∷ b) has.0 has.1 has.2 r (record { refusal = o.0; refused = o.1; asks = a.1; is_head_is = refl; end_is = refl }) r.end refl)
+    let o = refused has.0 in
+    let a = asked_of o.0 has.0.target targets in
+    let r : Request = record { is_head = is_head has.0; asked = a.0; end = end_of (suc n) (says_close has.0) a.0 } in
+    with_head n behind (x ∷ b) has.0 has.1 has.2 r (record { refusal = o.0; refused = o.1; asks = a.1; is_head_is = refl; end_is = refl }) r.end refl)
     (λ (none : HasNoHead (x ∷ b)). (no_head ∷ [], (x ∷ b, inr (record { some = λ e. cc e; none = none; request_is = refl; rest_is = refl }), (λ _. refl), λ f. absurd (cc f))))
     (decided (x ∷ b))
 

@@ -13,10 +13,9 @@ use crate::replying::reply_page;
 use crate::reports::OneReport;
 use edr_base::{Refusal, SendFault, Sink, settle};
 use edr_chunk::Reads;
-use edr_edition::Edition;
+use edr_edition::{Edition, Editions};
 use edr_http::{Head, check_head, write_refusal};
 use edr_query::{Page, TargetFault, read_target};
-use edr_edition::Editions;
 use std::alloc::Global;
 
 // The end with a request, by whether the peer closes and by its turn.

@@ -11,8 +11,8 @@ use crate::heads::{answer_head, refuse};
 use crate::reports::{OneReport, SessionFault, SessionReport};
 use edr_base::{Items, SendFault, Sink, Source};
 use edr_chunk::Reads;
-use edr_http::{HeadFault, HeadOutcome, Inbox, read_head};
 use edr_edition::Editions;
+use edr_http::{HeadFault, HeadOutcome, Inbox, read_head};
 use std::alloc::Global;
 
 // The fault of a session whose sink couldn't take a reply.

@@ -9,9 +9,8 @@ ghost use Rattle.edr_select.specs.Plans.{StandsFor};
 ghost use Rattle.edr_select.specs.Sending.{Opens};
 ghost use Rattle.edr_http.specs.Chunks.{chunked};
 
-use edr_base::{SendFault, Sink};
+use edr_base::{Lent, SendFault, Sink};
 use edr_edition::Store;
-use edr_base::Lent;
 use edr_http::ChunkedSink;
 use edr_select::{Plan, send};
 use std::alloc::Global;

@@ -19,4 +19,4 @@ returns-in-Err-Refused-clause-broke g c =
     let flag : c.check_head-ask.result.is_head ≡ is_head c.args.head.now = search rules in
     let end_is : c.end_refused-end-in-Err-Refused.result ≡ end_of (1001 - c.args.turn) (says_close c.args.head.now) (Err c.in-Err-Refused.refusal) = search rules in
     target_refused_fault c.refuse-in-Err-Refused.result (1001 - c.args.turn) c.args.head.now c.check_head-ask.result.is_head c.in-Err-Refused.refusal c.end_refused-end-in-Err-Refused.result _ _ _ _
-        none asked flag end_is c.refuse-in-Err-Refused.ensures.bytes
+    none asked flag end_is c.refuse-in-Err-Refused.ensures.bytes

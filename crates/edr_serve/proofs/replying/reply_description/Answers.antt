@@ -14,4 +14,4 @@ returns-in-Ok-clause-bytes g c =
 pub returns-in-Err-Refused-clause-bytes : goal.returns-in-Err-Refused-clause-bytes
 returns-in-Err-Refused-clause-bytes g c =
     refused_page c.write_refusal.result _ _ c.args.edition.now c.args.page.now c.in-Err-Refused.refusal c.args.number c.args.is_head c.args.close
-        (rw c.in-Err-Refused.field-0-is at c.in-Err-Refused.ensures) c.write_refusal.ensures.bytes
+    (rw c.in-Err-Refused.field-0-is at c.in-Err-Refused.ensures) c.write_refusal.ensures.bytes

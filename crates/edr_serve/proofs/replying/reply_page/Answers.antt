@@ -16,7 +16,7 @@ returns-in-Ok g c =
     let described : IsDescription c.args.page.now = search rules in
     record {
       bytes = renamed (Ok c.new.result) _ _ c.args.edition.now c.args.page.now c.args.page.now c.number.result c.args.edition.now.number c.args.is_head c.args.close refl number
-        (same_ok _ _ _ _ _ c.in-Ok.ensures.bytes);
+          (same_ok _ _ _ _ _ c.in-Ok.ensures.bytes);
       reads = c.new.ensures ∙ described_chunks c.args.edition.now c.args.page.now c.args.is_head described;
       lent = search rules;
       cause = search rules;
@@ -27,7 +27,7 @@ returns-in-Err g c =
     let number : c.number.result ≡ c.args.edition.now.number = search rules in
     record {
       bytes = renamed (Err c.in-Err.fault) _ _ c.args.edition.now c.args.page.now c.args.page.now c.number.result c.args.edition.now.number c.args.is_head c.args.close refl number
-        (same_err _ _ _ _ _ _ c.in-Err.ensures.bytes);
+          (same_err _ _ _ _ _ _ c.in-Err.ensures.bytes);
       reads = search rules;
       lent = search rules;
       cause = search rules;

@@ -5,7 +5,7 @@ use Rattle.edr_serve.proofs.replying.reply_query.Goals as goal
 pub returns-in-Err-Refused-clause-bytes : goal.returns-in-Err-Refused-clause-bytes
 returns-in-Err-Refused-clause-bytes g c =
     refused_page c.reply_refused.result _ _ c.args.edition.now (Ask c.args.query.now) c.in-Err-Refused.refusal c.args.number c.args.is_head c.args.close
-        (rw c.in-Err-Refused.field-0-is at c.in-Err-Refused.ensures) c.reply_refused.ensures.bytes
+    (rw c.in-Err-Refused.field-0-is at c.in-Err-Refused.ensures) c.reply_refused.ensures.bytes
 
 pub returns-in-Err-OutOfMemory-clause-bytes : goal.returns-in-Err-OutOfMemory-clause-bytes
 returns-in-Err-OutOfMemory-clause-bytes g c = nothing_written _ _ _ _

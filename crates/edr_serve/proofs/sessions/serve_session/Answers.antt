@@ -15,7 +15,7 @@ returns-in-Some-clause-done g c =
     let chunks : c.of-in-Some.result ≡ c.requests.reads.items ++ chunks_in c.in-Ok.report = search rules in
     let sum : c.requests.turn + (1001 - c.requests.turn) ≡ 1001 = omega (arith, c.requests.invariant.turn_in) in
     session_ends (1001 - c.requests.turn) c.requests.turn _ _ _ _ _ _ _ _ c.in-Ok.report c.in-Some.end _ c.in-Some.is sum c.replies.ensures.at_end c.replies.ensures.closed
-        c.requests.invariant.turn_in.0 numbers chunks refl c.requests.invariant.going c.in-Ok.ensures.done
+    c.requests.invariant.turn_in.0 numbers chunks refl c.requests.invariant.going c.in-Ok.ensures.done
 
 pub returns-in-Some-clause-behind : goal.returns-in-Some-clause-behind
 returns-in-Some-clause-behind g c = left_behind _ _ _ _ c.requests.invariant.behind c.in-Ok.ensures.behind
