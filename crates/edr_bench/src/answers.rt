@@ -53,7 +53,7 @@ impl fmt::Display for BenchFault {
             BenchFault::Usage => {
                 write!(
                     f,
-                    "usage: edr_bench wkt | make COUNT | write COUNT ROUNDS | tree COUNT ROUNDS | read ROUNDS | parse ROUNDS | tiles1 ROUNDS | tiles5 ROUNDS | targets ROUNDS | pairs ROUNDS"
+                    "usage: edr_bench wkt | make COUNT | write COUNT ROUNDS | tree COUNT ROUNDS | read ROUNDS | parse ROUNDS | tiles1 ROUNDS | tiles5 ROUNDS | targets ROUNDS | pairs ROUNDS | answers TARGET ROUNDS"
                 )
             }
             BenchFault::Input => write!(f, "input not read"),

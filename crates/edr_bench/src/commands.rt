@@ -21,6 +21,8 @@ pub enum Command {
     Targets(u32),
     /// Cuts and decodes the pairs of targets so many times.
     Pairs(u32),
+    /// Answers the target that the second word is so many times.
+    Answers(u32),
     /// Packs a grid and opens each of its tiles so many times.
     Tiles(Samples, u32),
 }
@@ -46,6 +48,9 @@ pub fn command_of(words: &[String]) -> Option<Command> {
         }
         [name, count, rounds] if name.as_str() == "tree" => {
             Some(Command::Tree(rows_of(count)?, rounds_of(rounds)?))
+        }
+        [name, _, rounds] if name.as_str() == "answers" => {
+            Some(Command::Answers(rounds_of(rounds)?))
         }
         [name, rounds] if name.as_str() == "tiles1" => {
             Some(Command::Tiles(Samples::OneDigit, rounds_of(rounds)?))

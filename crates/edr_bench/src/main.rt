@@ -10,12 +10,15 @@
 //! - `parse ROUNDS` reads it as a tree of JSON so many times, and prints the number of its members.
 //! - `tiles1 ROUNDS` and `tiles5 ROUNDS` pack a grid of 2,000 by 2,000 samples of one or up to five digits, open each of its
 //!   tiles so many times, and print how many were opened.
+//! - `answers TARGET ROUNDS` reads standard input as a feed, answers the target from its last edition so many times, and
+//!   prints how many bytes the answer has.
 //! - `targets ROUNDS` reads each line of standard input as a target so many times, and prints how many ask for a page.
 //! - `pairs ROUNDS` cuts and decodes the pairs of each such line so many times, and prints how many there are.
 #![tactic(auto)]
 
 mod answers;
 mod commands;
+mod feeds;
 mod grids;
 mod running;
 mod targets;
@@ -42,7 +45,7 @@ fn main(rt: HostRuntime) -> ExitCode {
     let mut input = RealSource::of(rt.stdin());
     let done = match words_of(&rt) {
         Ok(words) => match command_of(&words) {
-            Some(command) => carry_out(rt.alloc(), command, &mut input),
+            Some(command) => carry_out(rt.alloc(), &words, command, &mut input),
             None => Err(BenchFault::Usage),
         },
         Err(_) => Err(BenchFault::OutOfMemory),

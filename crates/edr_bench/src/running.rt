@@ -3,6 +3,7 @@ ghost use Rattle.covjson_value.specs.Coverages.{IsValidDocument};
 
 use crate::answers::{Answer, BenchFault};
 use crate::commands::Command;
+use crate::feeds::answer_from_feed;
 use crate::grids::{Rows, grid_of};
 use crate::targets::{decode_pairs, read_targets};
 use crate::tiles::open_tiles;
@@ -141,9 +142,18 @@ fn parse_rounds(alloc: Global, text: &[u8], rounds: u32) -> Result<usize, BenchF
     Ok(count)
 }
 
-/// Does what a command asks for. Only `wkt`, `read`, `parse`, `targets` and `pairs` read the input.
+// The target that the words give.
+fn target_of(words: &[String]) -> &[u8] {
+    match words {
+        [_, target, _] => target.as_str().as_bytes(),
+        _ => b"",
+    }
+}
+
+/// Does what a command asks for. Only `wkt`, `read`, `parse`, `targets`, `pairs` and `answers` read the input.
 pub fn carry_out<S: Source>(
     alloc: Global,
+    words: &[String],
     command: Command,
     input: &mut S,
 ) -> Result<Answer, BenchFault> {
@@ -153,6 +163,10 @@ pub fn carry_out<S: Source>(
         Command::Write(rows, rounds) => write(alloc, rows, rounds),
         Command::Tree(rows, rounds) => write_tree(alloc, rows, rounds),
         Command::Tiles(samples, rounds) => Ok(Answer::Count(open_tiles(alloc, samples, rounds)?)),
+        Command::Answers(rounds) => {
+            let target = target_of(words);
+            Ok(Answer::Count(answer_from_feed(alloc, input, target, rounds)?))
+        }
         Command::Read(rounds) => {
             let text = text_of(alloc, input)?;
             Ok(Answer::Count(read_rounds(alloc, &text, rounds)?))

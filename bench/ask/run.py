@@ -1,9 +1,11 @@
 #!/usr/bin/env python3
-"""Measures the first reply: `edr ask` on one grid, beside python3 with its json and jq where it is there.
+"""Measures `edr ask`: one position on one grid, beside python3 with its json and jq where it is there, and how the time
+of an answer alone grows with the grid and with the values of the reply.
 
-It makes its grids from a seed in a temporary folder, runs each program several times on each, and prints a table of
-the least wall time and the peak memory of each, and their ratios. A peak below that of this script itself, about 15 MB,
-can't be told, and shows as that. Run it from anywhere: bench/first_reply/run.py"""
+It makes its grids from a seed in a temporary folder. The first table has the least wall time and the peak memory of each
+program over several runs, and their ratios; a peak below that of this script itself, about 15 MB, can't be told, and shows
+as that. The second has the time of an answer once the feed is read, by `edr_bench answers`: the time of many rounds less
+that of one. Run it from anywhere: bench/ask/run.py"""
 import multiprocessing
 import os
 import random
@@ -14,6 +16,10 @@ import tempfile
 import time
 
 HERE = os.path.dirname(os.path.abspath(__file__))
+sys.path.insert(0, os.path.join(HERE, ".."))
+from measure import bench  # noqa: E402
+from measure import measure as bench_measure  # noqa: E402
+
 EDR = os.path.join(HERE, "..", "..", "crates", "edr", "out", "edr")
 SEED = 20260101
 RUNS = 5
@@ -68,6 +74,54 @@ def programs_at(x, y):
     return programs
 
 
+def grid_of(times, columns, rows):
+    """One line: a grid of so many hours, with samples of one digit."""
+    values = random.Random(SEED)
+    instants = ",".join('"2024-01-%02dT%02d:00:00Z"' % (1 + hour // 24, hour % 24) for hour in range(times))
+    samples = ",".join(map(str, values.choices(range(10), k=times * columns * rows)))
+    return (
+        '{"type":"Coverage","domain":{"type":"Domain","domainType":"Grid","axes":{"x":{"start":0,"stop":%d,"num":%d},"y":'
+        '{"start":0,"stop":%d,"num":%d},"t":{"values":[%s]}},"referencing":%s},"parameters":{"temp":{"type":"Parameter",'
+        '"unit":{"symbol":"Cel"},"observedProperty":{"label":{"en":"Temperature"}}}},"ranges":{"temp":{"type":"NdArray",'
+        '"dataType":"integer","axisNames":["t","y","x"],"shape":[%d,%d,%d],"values":[%s]}}}\n'
+        % (columns - 1, columns, rows - 1, rows, instants, REFERENCING, times, rows, columns, samples)
+    )
+
+
+def points(count, columns):
+    """The target of so many positions, each on a node of its own."""
+    nodes = ",".join(f"({number % columns} {number // columns})" for number in range(count))
+    return f"/collections/grid/position?coords=MULTIPOINT({nodes})"
+
+
+def answer_time(path, target, rounds):
+    """The seconds of one answer, and the bytes of it."""
+    one, _, length = bench_measure(bench("answers", target, 1), path)
+    many, _, _ = bench_measure(bench("answers", target, 1 + rounds), path)
+    return (many - one) / rounds, int(length)
+
+
+def growth(folder):
+    print("| grid | target | values | microseconds an answer | nanoseconds a value | bytes |")
+    print("|---|---|---|---|---|---|")
+    point = "/collections/grid/position?coords=POINT(31 17)"
+    rows = [
+        (1, 100, 40, "POINT", point, 1, 20_000),
+        (1, 2000, 2000, "POINT", point, 1, 20_000),
+        (200, 100, 200, "POINT", point, 200, 500),
+        (200, 100, 200, "MULTIPOINT of 100", points(100, 100), 100 * 200, 20),
+        (200, 100, 200, "MULTIPOINT of 1,000", points(1_000, 100), 1_000 * 200, 5),
+        (200, 100, 200, "MULTIPOINT of 10,000", points(10_000, 100), 10_000 * 200, 2),
+    ]
+    for times, columns, lines, name, target, values, rounds in rows:
+        path = os.path.join(folder, "grid.json")
+        with open(path, "w") as file:
+            file.write(grid_of(times, columns, lines))
+        seconds, length = answer_time(path, target, rounds)
+        grid = f"{times} by {lines} by {columns}"
+        print(f"| {grid} | {name} | {values:,} | {seconds * 1e6:.1f} | {seconds * 1e9 / values:.0f} | {length:,} |")
+
+
 def main():
     if not os.path.exists(EDR):
         sys.exit("the program isn't built: run ./edr once")
@@ -94,6 +148,8 @@ def main():
                 ratio = took / found["python3"][0]
                 sample = (peak - size) / (columns * rows)
                 print(f"| {name} | {size:,} | {program} | {took:.3f} | {ratio:.2f} | {peak / 1e6:.0f} | {sample:.0f} |")
+        print()
+        growth(folder)
 
 
 if __name__ == "__main__":
