@@ -9,3 +9,4 @@ pub mod OneReply
 pub mod OneRequest
 pub mod Going
 pub mod OpenedChunks
+pub mod SessionRows

@@ -23,7 +23,7 @@ pub record Request : Type 0 where
 
 -- ---- how a session ends
 
--- the refusals of a head that close the connection: those of a head that can't be told from what follows it
+-- the refusals after which the connection is closed: those of the head, but for that of its method
 abbrev pub closes : Refusal → Bool
 closes refusal = nat_le (line_of refusal).number 4
 
