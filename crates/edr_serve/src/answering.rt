@@ -108,7 +108,7 @@ fn answer_page<K: Sink>(
 /// that describes; or answers the first refusal that applies, by its number.
 ///
 /// With `Ok` the whole text was written, and with a refusal nothing. After `WriteFault` a beginning of the text was written, and
-/// after `OutOfMemory` a beginning of it or nothing. It flushes nothing.
+/// after `OutOfMemory` a beginning of it or nothing.
 pub fn answer<K: Sink>(
     alloc: Global,
     target: &[u8],

@@ -1,6 +1,11 @@
 use Rattle.std.proofs.Common.{◌-◌}
-use Rattle.edr_serve.proofs.OneRequest.{served_refused, broken_bad}
+use Rattle.edr_serve.proofs.OneRequest.{served_head, served_refused, broken_bad}
 use Rattle.edr_serve.proofs.sessions.serve_one.Goals as goal
+
+pub returns-in-Ok-clause-done : goal.returns-in-Ok-clause-done
+returns-in-Ok-clause-done g c =
+    let found = rw c.in-Ok-Got.field-0-is at c.in-Ok-Got.ensures.done in
+    served_head (1001 - c.args.turn) c.in-Ok-Got.head _ _ _ _ c.in-Ok.report c.in-Ok.ensures.done c.in-Ok.ensures.going found
 
 pub returns-in-Ok-refuse-clause-done : goal.returns-in-Ok-refuse-clause-done
 returns-in-Ok-refuse-clause-done g c =
