@@ -16,7 +16,7 @@ use Rattle.edr_serve.specs.declared.reports.OneReport.{OneReport}
 use Rattle.edr_serve.specs.declared.reports.SessionReport.{SessionReport}
 use Rattle.edr_serve.specs.Requests.{Request, IsFirst, Requests, Begun, session_end, request_limit}
 use Rattle.edr_serve.specs.Replies.{readers, number_of, output, opened}
-use Rattle.edr_serve.specs.Sessions.{State, IfTold, last_number, NeverFall, Answered, BrokeOff, Session, Broken, chunks_in, Exchanged, Served}
+use Rattle.edr_serve.specs.Sessions.{State, IfTold, last_number, NeverFall, Answered, BrokeOff, Session, Broken, BrokenAtOne, chunks_in, Exchanged, Served}
 use Rattle.edr_serve.proofs.ReplyLaws.{output_on, opened_on, readers_on}
 use Rattle.edr_serve.proofs.Shelves.{seen_same, uses_on, taken_same, taken_on, never_on}
 use Rattle.edr_serve.proofs.OneRequest.{begun_none}
@@ -192,6 +192,10 @@ going_broken n rest b x y z ns cs g e = record {
   begun = g.begins e.requests e.begun;
   broke_off = broke_on g.done e.requests x y z g.editions ns cs g.answered e.broke_off;
 }
+
+-- a fault at one request
+pub broken_of : (n : ℕ) (b : Option (List ℕ)) (y z : State) → BrokenAtOne n b y z → Broken n b y z
+broken_of n b y z e = record { requests = e.requests; begun = e.begun; broke_off = e.broke_off }
 
 served_broken : (n : ℕ) (b c : Option (List ℕ)) (y z : State) (report : OneReport) → Served n b c y z report → Broken n b y z
 served_broken n b c y z report (inl e) = subst (λ (w : State). Broken n b y w) (sym e.same) (record { requests = []; begun = begun_none n b; broke_off = broke_none y })

@@ -1,5 +1,5 @@
 -- One request of a connection, by what was found at the front of the rest.
-use Rattle.std.proofs.Common.{◌≡◌, ◌≢◌, inl, inr, ℕ, false, List, [], ◌∷◌, sym, subst, refl, Some, None}
+use Rattle.std.proofs.Common.{◌≡◌, ◌≢◌, inl, inr, ℕ, false, List, [], ◌∷◌, sym, subst, refl, Some, None, arith}
 use Rattle.std.specs.declared.option.Option.{Option}
 use Rattle.std.specs.Prelude.{is_some}
 use Rattle.std.specs.Io.KnownBytes.{append_known}
@@ -14,7 +14,7 @@ use Rattle.edr_serve.specs.declared.ends.End.{End}
 use Rattle.edr_serve.specs.declared.ends.End.TheVariants.{EndOfInput, ClosedByRefusal}
 use Rattle.edr_serve.specs.declared.reports.OneReport.{OneReport}
 use Rattle.edr_serve.specs.Requests.{Request, IsOf, IsFirst, Begun, no_head}
-use Rattle.edr_serve.specs.Sessions.{State, state, IfTold, Broken, Served}
+use Rattle.edr_serve.specs.Sessions.{State, state, IfTold, BrokenAtOne, Served}
 use Rattle.edr_serve.specs.Serving.{HeadReplied, HeadBroken}
 use Rattle.edr_serve.proofs.OneReply.{refused_replied, refused_broke, none_broke}
 
@@ -64,20 +64,20 @@ served_end n b c s t = inl (record { at_end = t; same = refl; report_is = refl }
 
 -- ---- it wasn't
 
-pub broken_head : (n : ℕ) (head : Head) (b c : Option (List ℕ)) (before after : State) → HeadBroken n head before after → Told (λ bytes rest. HeadOf bytes head rest) b c → Broken n b before after
+pub broken_head : (n : ℕ) (head : Head) (b c : Option (List ℕ)) (before after : State) → HeadBroken n head before after → Told (λ bytes rest. HeadOf bytes head rest) b c → BrokenAtOne n b before after
 broken_head n head b c before after (inl x) t =
-    record { requests = x.request ∷ []; begun = begun_one n x.request b c (of_head n head x.request b c x.is_of t); broke_off = x.broke_off }
-broken_head n head b c before after (inr x) t = record { requests = []; begun = begun_none n b; broke_off = x }
+    record { requests = x.request ∷ []; one = omega arith; begun = begun_one n x.request b c (of_head n head x.request b c x.is_of t); broke_off = x.broke_off }
+broken_head n head b c before after (inr x) t = record { requests = []; one = omega arith; begun = begun_none n b; broke_off = x }
 
 pub broken_bad : (n : ℕ) (refusal : Refusal) (b c w w' : Option (List ℕ)) (s : List EditionValue) (t : Option (List ℕ))
     → refusal ≡ BadHead → Told (λ bytes rest. (bytes ≢ []) × HasNoHead bytes × (rest ≡ bytes)) b c
-    → Front (reply_text (refusal_body refusal) None false (is_some bad_end)) w w' → Broken n b (state w s t) (state w' s t)
+    → Front (reply_text (refusal_body refusal) None false (is_some bad_end)) w w' → BrokenAtOne n b (state w s t) (state w' s t)
 broken_bad n refusal b c w w' s t is told front =
     let text = subst (λ (r : Refusal). Front (reply_text (refusal_body r) None false (is_some bad_end)) w w') is front in
-    record { requests = no_head ∷ []; begun = begun_one n no_head b c (of_none n b c told); broke_off = refused_broke false BadHead bad_end w w' s t text }
+    record { requests = no_head ∷ []; one = omega arith; begun = begun_one n no_head b c (of_none n b c told); broke_off = refused_broke false BadHead bad_end w w' s t text }
 
-pub broken_read : (n : ℕ) (b w : Option (List ℕ)) (s : List EditionValue) (t : Option (List ℕ)) → Broken n b (state w s t) (state w s t)
-broken_read n b w s t = record { requests = []; begun = begun_none n b; broke_off = none_broke w s t }
+pub broken_read : (n : ℕ) (b w : Option (List ℕ)) (s : List EditionValue) (t : Option (List ℕ)) → BrokenAtOne n b (state w s t) (state w s t)
+broken_read n b w s t = record { requests = []; one = omega arith; begun = begun_none n b; broke_off = none_broke w s t }
 
 -- bytes that have no head were refused, as is reported
 pub served_refused : (n : ℕ) (refusal : Refusal) (b c w w' : Option (List ℕ)) (s : List EditionValue) (t : Option (List ℕ)) (report : OneReport)

@@ -83,6 +83,13 @@ pub record Broken (turns : ℕ) (rest : Option (List ℕ)) (before after : State
 
 -- ---- one request, which has so many turns left
 
+-- a fault came after it was begun, or before
+pub record BrokenAtOne (turns : ℕ) (rest : Option (List ℕ)) (before after : State) : Type 0 where
+  pub requests : List Request
+  pub one : length requests ≤ 1
+  pub begun : IfTold (λ bytes. Begun turns bytes requests) rest
+  pub broke_off : BrokeOff requests before after
+
 -- the chunks that a report of one request tells, as those of a session: a list where an edition was taken
 abbrev pub chunks_in : OneReport → List (List ℕ)
 chunks_in report = option_to_list (option_map (λ (number : ℕ). report.reads) report.edition)

@@ -114,6 +114,7 @@ fn answer_page<K: Sink, E: Editions>(
         (state (K.written sink.old) (E.seen shelf.old) (E.taken shelf.old)) (state (K.written sink.new) (E.seen shelf.new) (E.taken shelf.new)) report) }
     ensures broke { OnErr result (BrokeOff (record { is_head = is_head; asked = Ok page.now; end = end } ∷ [])
         (state (K.written sink.old) (E.seen shelf.old) (E.taken shelf.old)) (state (K.written sink.new) (E.seen shelf.new) (E.taken shelf.new))) }
+    ensures stock { E.stock shelf.new ≡ E.stock shelf.old }
     ensures end { IfOk result (λ report. report.end ≡ end) }
     ensures flushed { OnOk result (IsFlushed (K.written sink.new) (K.flushed sink.new)) }
     ensures lent { SinkLent (K.beside sink.old) (K.beside sink.new) (K.faults sink.old) (K.faults sink.new) }
@@ -139,6 +140,7 @@ pub(crate) fn answer_head<K: Sink, E: Editions>(
         (state (K.written sink.old) (E.seen shelf.old) (E.taken shelf.old)) (state (K.written sink.new) (E.seen shelf.new) (E.taken shelf.new)) report) }
     ensures broke { OnErr result (HeadBroken (1001 - turn) head.now
         (state (K.written sink.old) (E.seen shelf.old) (E.taken shelf.old)) (state (K.written sink.new) (E.seen shelf.new) (E.taken shelf.new))) }
+    ensures stock { E.stock shelf.new ≡ E.stock shelf.old }
     ensures going { IfOk result (λ report. report.end ≢ Some End.EndOfInput) }
     ensures flushed { OnOk result (IsFlushed (K.written sink.new) (K.flushed sink.new)) }
     ensures lent { SinkLent (K.beside sink.old) (K.beside sink.new) (K.faults sink.old) (K.faults sink.new) }

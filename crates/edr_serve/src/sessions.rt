@@ -4,7 +4,7 @@ ghost use Rattle.std.specs.Io.KnownBytes.{prepend_known};
 ghost use Rattle.edr_base.specs.Outside.{Rose};
 ghost use Rattle.edr_base.specs.Calls.{SourceLent, SinkLent, IsFlushed};
 ghost use Rattle.edr_http.specs.Heads.{Told, IsBehind};
-ghost use Rattle.edr_serve.specs.Sessions.{state, chunks_in, Served, Broken, Session};
+ghost use Rattle.edr_serve.specs.Sessions.{state, chunks_in, Served, Broken, BrokenAtOne, Session};
 
 use crate::ends::End;
 use crate::heads::{answer_head, refuse};
@@ -31,7 +31,8 @@ fn of_sending(fault: SendFault) -> SessionFault
 ///
 /// A request for a page is answered from the newest edition of the shelf, which it takes once, and any other request from
 /// none. Where the input is at its end, nothing is written or taken. `ReadFault` and `WriteFault` come only where the source
-/// or the sink counted a fault in this call, and a beginning of the reply may have been written after any fault.
+/// or the sink counted a fault in this call, and a beginning of the reply, to this one request, may have been written after any
+/// fault. It puts no edition on the shelf.
 #[tactic(auto, using(crate::proofs::OneRequest::served_head, crate::proofs::OneRequest::served_bad, crate::proofs::OneRequest::served_end, crate::proofs::OneRequest::broken_head, crate::proofs::OneRequest::broken_bad, crate::proofs::OneRequest::broken_read))]
 pub fn serve_one<S: Source, K: Sink, E: Editions>(
     alloc: Global,
@@ -45,8 +46,9 @@ pub fn serve_one<S: Source, K: Sink, E: Editions>(
     ensures done { IfOk result (λ report. Served (1001 - turn)
         (prepend_known inbox.old (S.left source.old)) (prepend_known inbox.new (S.left source.new))
         (state (K.written sink.old) (E.seen shelf.old) (E.taken shelf.old)) (state (K.written sink.new) (E.seen shelf.new) (E.taken shelf.new)) report) }
-    ensures fault { OnErr result (Broken (1001 - turn) (prepend_known inbox.old (S.left source.old))
+    ensures fault { OnErr result (BrokenAtOne (1001 - turn) (prepend_known inbox.old (S.left source.old))
         (state (K.written sink.old) (E.seen shelf.old) (E.taken shelf.old)) (state (K.written sink.new) (E.seen shelf.new) (E.taken shelf.new))) }
+    ensures stock { E.stock shelf.new ≡ E.stock shelf.old }
     ensures behind { IsBehind (prepend_known inbox.old (S.left source.old)) (prepend_known inbox.new (S.left source.new)) }
     ensures flushed { IfOk result (λ report. report.end ≢ Some End.EndOfInput → IsFlushed (K.written sink.new) (K.flushed sink.new)) }
     ensures untouched { IfOk result (λ report. report.end ≡ Some End.EndOfInput → (sink.new ≡ sink.old) × (shelf.new ≡ shelf.old)) }
@@ -109,7 +111,8 @@ fn replies(turn: u32, end: End) -> u32
 
 /// Serves the requests of a connection, in their order, until one ends the session or the input is at its end.
 ///
-/// Each request for a page is answered from one edition, the newest when its turn comes, and every reply is flushed.
+/// Each request for a page is answered from one edition, the newest when its turn comes, and every reply is flushed. It puts no
+/// edition on the shelf.
 /// `ReadFault` and `WriteFault` come only where the source or the sink counted a fault in this call; a beginning of the
 /// replies was written then.
 #[tactic(auto, using(crate::proofs::Going::going_begins, crate::proofs::Going::behind_begins))]
@@ -123,6 +126,7 @@ pub fn serve_session<S: Source, K: Sink, E: Editions>(
         (state (K.written sink.old) (E.seen shelf.old) (E.taken shelf.old)) (state (K.written sink.new) (E.seen shelf.new) (E.taken shelf.new)) report) }
     ensures fault { OnErr result (Broken 1000 (S.left source.old)
         (state (K.written sink.old) (E.seen shelf.old) (E.taken shelf.old)) (state (K.written sink.new) (E.seen shelf.new) (E.taken shelf.new))) }
+    ensures stock { E.stock shelf.new ≡ E.stock shelf.old }
     ensures behind { IsBehind (S.left source.old) (S.left source.new) }
     ensures ended { IfOk result (λ report. report.end ≡ End.EndOfInput → Told (λ bytes rest. rest ≡ []) (S.left source.old) (S.left source.new)) }
     ensures flushed { OnOk result ((sink.new ≡ sink.old) ⊎ IsFlushed (K.written sink.new) (K.flushed sink.new)) }

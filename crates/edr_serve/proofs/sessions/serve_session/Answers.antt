@@ -1,6 +1,6 @@
 use Rattle.std.proofs.Common.{◌≡◌, ◌≤◌, ◌+◌, ◌-◌, ◌++◌, refl, rules, arith, option_to_list}
 use Rattle.edr_serve.specs.Sessions.{chunks_in}
-use Rattle.edr_serve.proofs.Going.{kept_broken, going_broken, limit_broken, session_ends, session_goes, behind_on, left_behind, left_now}
+use Rattle.edr_serve.proofs.Going.{kept_broken, going_broken, broken_of, limit_broken, session_ends, session_goes, behind_on, left_behind, left_now}
 use Rattle.edr_serve.proofs.sessions.serve_session.Goals as goal
 
 pub returns-then-not-keep-clause-fault : goal.returns-then-not-keep-clause-fault
@@ -21,7 +21,7 @@ pub returns-in-Some-clause-behind : goal.returns-in-Some-clause-behind
 returns-in-Some-clause-behind g c = left_behind _ _ _ _ c.requests.invariant.behind c.in-Ok.ensures.behind
 
 pub returns-in-Err-clause-fault : goal.returns-in-Err-clause-fault
-returns-in-Err-clause-fault g c = going_broken _ _ _ _ _ _ _ _ c.requests.invariant.going c.in-Err.ensures.fault
+returns-in-Err-clause-fault g c = going_broken _ _ _ _ _ _ _ _ c.requests.invariant.going (broken_of _ _ _ _ c.in-Err.ensures.fault)
 
 pub returns-in-Err-clause-behind : goal.returns-in-Err-clause-behind
 returns-in-Err-clause-behind g c = left_behind _ _ _ _ c.requests.invariant.behind c.in-Err.ensures.behind
@@ -41,6 +41,7 @@ requests-preserved g c =
     record {
       turn_in = search rules;
       going = session_goes _ _ _ _ _ _ _ _ _ _ _ _ c.in-Ok.report c.in-None.is some fewer numbers chunks c.requests.invariant.going c.in-Ok.ensures.done;
+      stock = search rules;
       behind = behind_on _ _ _ c.requests.invariant.behind c.in-Ok.ensures.behind;
       flushed = search rules;
       source = search rules;

@@ -14,6 +14,7 @@ invariant-requests g l =
           (state (g.K.Sink.written l.fn.sink) (g.E.Editions.seen l.fn.shelf) (g.E.Editions.taken l.fn.shelf))
           (state (g.K.Sink.written l.sink) (g.E.Editions.seen l.shelf) (g.E.Editions.taken l.shelf))
           l.editions.items l.reads.items;
+      stock : g.E.Editions.stock l.shelf ≡ g.E.Editions.stock l.fn.shelf;
       behind : IsBehind (g.S.Source.left l.fn.source) (prepend_known l.inbox (g.S.Source.left l.source));
       flushed : (l.sink ≡ l.fn.sink) ⊎ IsFlushed (g.K.Sink.written l.sink) (g.K.Sink.flushed l.sink);
       source : SourceLent (g.S.Source.aside l.fn.source) (g.S.Source.aside l.source) (g.S.Faults.faults l.fn.source) (g.S.Faults.faults l.source);
