@@ -50,10 +50,9 @@ def check_input(draw: Draw) -> Ask:
 GROUP = 10  # so many inputs of `ask` and of `replay` have one feed
 
 # What the program is started with.
-ASKS = {"ask": ask_input, "check": check_input}
+ASKS = {"ask": ask_input, "check": check_input, "replay": replay_input}
 LARGE_ASKS = {"large-ask": large_ask_input}
-UNBUILT_ASKS = {"replay": replay_input}  # compared where it is asked for by name, as long as the program doesn't have it
-ALL_ASKS = ASKS | LARGE_ASKS | UNBUILT_ASKS
+ALL_ASKS = ASKS | LARGE_ASKS
 
 READERS = {
     "number": Kind(number_text, answers.number_answer, "n"),

@@ -8,7 +8,7 @@ use Rattle.edr_base.specs.KnownBytes.{append_nothing, front_none}
 use Rattle.edr_base.specs.declared.sending.SendFault.{SendFault}
 use Rattle.edr_base.specs.declared.sending.SendFault.TheVariants.{WriteFault as ErrorsFault}
 use Rattle.edr.specs.declared.endings.Ending.{Ending}
-use Rattle.edr.specs.declared.endings.Ending.TheVariants.{Done, Usage, NotFeed, ReadFault, WriteFault, OutOfMemory, Refused}
+use Rattle.edr.specs.declared.endings.Ending.TheVariants.{Done, Usage, NotFeed, ReadFault, WriteFault, OutOfMemory, Refused, OpenFault}
 use Rattle.edr.specs.Ends.{said_of, line_of, Tells}
 
 -- but for Done, the line is what is said and a line feed
@@ -20,6 +20,7 @@ line_of-said ReadFault other = refl
 line_of-said WriteFault other = refl
 line_of-said OutOfMemory other = refl
 line_of-said (Refused refusal) other = refl
+line_of-said OpenFault other = refl
 
 -- what is said, cut before the line of the feed that it names
 pub line_is : (front place said : List ℕ) → front ++ place ≡ said → front ++ (place ++ codes "\n") ≡ said ++ codes "\n"

@@ -1,2 +1,6 @@
 pub mod EndingLemmas
 pub mod AskLemmas
+pub mod NameLemmas
+pub mod ReplayLemmas
+pub mod AdvanceLemmas
+pub mod EndLemmas

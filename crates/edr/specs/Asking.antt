@@ -5,7 +5,7 @@ use Rattle.edr_base.specs.Outside.{Rose}
 use Rattle.edr_base.specs.declared.refusals.Refusal.{Refusal}
 use Rattle.edr_feed.specs.Feeds.{FeedStandsIn}
 use Rattle.edr.specs.declared.endings.Ending.{Ending}
-use Rattle.edr.specs.declared.endings.Ending.TheVariants.{Done, Usage, NotFeed, ReadFault, WriteFault, OutOfMemory, Refused}
+use Rattle.edr.specs.declared.endings.Ending.TheVariants.{Done, Usage, NotFeed, ReadFault, WriteFault, OutOfMemory, Refused, OpenFault}
 use Rattle.edr.specs.Commands.{IsAnswerFrom}
 
 -- the cause of an ending where a target is answered: the refusal of the target, or a count that rose
@@ -17,6 +17,7 @@ AnswerCause ReadFault IsThe before after = ⊥
 AnswerCause WriteFault IsThe before after = Rose before after
 AnswerCause OutOfMemory IsThe before after = ⊤
 AnswerCause (Refused refusal) IsThe before after = IsThe (Err refusal)
+AnswerCause OpenFault IsThe before after = ⊥
 
 -- the same where the feed is read before: the input is no feed, or a count rose
 abbrev pub AskCause : Ending → List ℕ → Option (List ℕ) → ℕ → ℕ → ℕ → ℕ → Type 0
@@ -27,3 +28,4 @@ AskCause ReadFault target input read_before read_after written_before written_af
 AskCause WriteFault target input read_before read_after written_before written_after = Rose written_before written_after
 AskCause OutOfMemory target input read_before read_after written_before written_after = ⊤
 AskCause (Refused refusal) target input read_before read_after written_before written_after = IsAnswerFrom input target (Err refusal)
+AskCause OpenFault target input read_before read_after written_before written_after = ⊥

@@ -1,8 +1,9 @@
 -- The commands of the program: what the words ask for, and what each command uses, gives and refuses. One more command is
 -- one more row in each table.
-use Rattle.std.specs.Prelude.{◌≡◌, ◌+◌, ℕ, bytes_eq, codes, if◌then◌else◌, ◌&&◌, List, [], ◌∷◌, ◌++◌, length, Result, Ok, Err, None, Some}
+use Rattle.std.specs.Prelude.{◌≡◌, ◌+◌, ℕ, true, false, bytes_eq, codes, if◌then◌else◌, ◌&&◌, List, [], ◌∷◌, ◌++◌, length, IsUtf8, ⊤, Result, Ok, Err, None, Some}
 use Rattle.std.specs.declared.option.Option.{Option}
 use Rattle.std.specs.Fmt.{decimal}
+use Rattle.std.specs.Str.{is_utf8}
 use Rattle.std.specs.List.{flat_map, slice_index_or}
 use Rattle.edr_base.specs.Outside.{Asked as AskedOf}
 use Rattle.edr_base.specs.Limits.{feed_limit}
@@ -13,8 +14,9 @@ use Rattle.edr_feed.specs.Feeds.{FeedStandsIn}
 use Rattle.edr_feed.specs.Summaries.{summary_line}
 use Rattle.edr_feed.specs.declared.refusals.FeedRefusal.{FeedRefusal}
 use Rattle.edr_serve.specs.Answers.{IsAnswerTo}
+use Rattle.edr.specs.Replays.{IsReplayOf, IsReplayBegun}
 use Rattle.edr.specs.declared.commands.Command.{Command}
-use Rattle.edr.specs.declared.commands.Command.TheVariants.{Ask, Check, CheckSummary}
+use Rattle.edr.specs.declared.commands.Command.TheVariants.{Ask, Replay, ReplayAdvance, Check, CheckSummary}
 
 -- a command, and the word behind it that it goes by, where it has one
 pub record Asked : Type 0 where
@@ -30,30 +32,40 @@ asked_by [] = None
 asked_by (word ∷ []) = if bytes_eq word (codes "check") then asks Check [] else None
 asked_by (word ∷ next ∷ []) =
     if bytes_eq word (codes "ask") then asks Ask next
+    else if bytes_eq word (codes "replay") && is_utf8 next then asks Replay next
     else if bytes_eq word (codes "check") && bytes_eq next (codes "--summary") then asks CheckSummary []
     else None
-asked_by (word ∷ next ∷ more ∷ words) = None
+asked_by (word ∷ next ∷ more ∷ []) =
+    if bytes_eq word (codes "replay") && is_utf8 next && bytes_eq more (codes "--advance") then asks ReplayAdvance next else None
+asked_by (word ∷ next ∷ more ∷ other ∷ words) = None
 
 -- ---- what each command uses of the files and of the link: what it asks of them, and None where it doesn't touch them
 
 abbrev pub files_asked : Command → List ℕ → Option (List AskedOf)
 files_asked Ask argument = None
+files_asked Replay feed = Some ((feed, 0) ∷ [])
+files_asked ReplayAdvance feed = Some ((feed, 0) ∷ [])
 files_asked Check argument = None
 files_asked CheckSummary argument = None
 
 abbrev pub link_asked : Command → List ℕ → Option (List AskedOf)
 link_asked Ask argument = None
+link_asked Replay feed = None
+link_asked ReplayAdvance feed = None
 link_asked Check argument = None
 link_asked CheckSummary argument = None
 
--- ---- how many bytes each command takes from the input at most: what it reads, and what a read may have taken beside
+-- ---- how many bytes each command takes from the input at most: what it reads, and what a read may have taken beside; None
+-- where that goes by what the input holds
 
-abbrev pub read_at_most : Command → ℕ
-read_at_most Ask = feed_limit + buffer_size
-read_at_most Check = feed_limit + buffer_size
-read_at_most CheckSummary = feed_limit + buffer_size
+abbrev pub read_at_most : Command → Option ℕ
+read_at_most Ask = Some (feed_limit + buffer_size)
+read_at_most Replay = None
+read_at_most ReplayAdvance = None
+read_at_most Check = Some (feed_limit + buffer_size)
+read_at_most CheckSummary = Some (feed_limit + buffer_size)
 
--- ---- what each command gives from what the input holds
+-- ---- what each command gives from what the input holds, and from what the files of each name hold
 
 -- the line that tells how many editions there are
 abbrev pub count_line : List EditionValue → List ℕ
@@ -81,34 +93,67 @@ pub record IsAnswerFrom (input : Option (List ℕ)) (target : List ℕ) (answer 
   pub last : IsLastOf editions edition
   pub answered : IsAnswerTo edition target answer
 
--- the text that is asked for: the answer to the target, or what is told of the feed
-abbrev pub IsOutputOf : Command → List ℕ → Option (List ℕ) → List ℕ → Type 0
-IsOutputOf Ask target input text = IsAnswerFrom input target (Ok text)
-IsOutputOf Check argument input text = IsTextOfFeed count_line input text
-IsOutputOf CheckSummary argument input text = IsTextOfFeed summary_lines input text
+-- what the files hold, by their names
+abbrev pub Contents : Type 0
+Contents = List ℕ → Option (List ℕ)
 
--- the input is no feed, for that reason
-abbrev pub IsNoInputOf : Command → Option (List ℕ) → FeedRefusal → Type 0
-IsNoInputOf Ask input refusal = FeedStandsIn input (Err refusal)
-IsNoInputOf Check input refusal = FeedStandsIn input (Err refusal)
-IsNoInputOf CheckSummary input refusal = FeedStandsIn input (Err refusal)
+-- the text that is asked for: the answer to the target, what is told of the feed, or the replies to the requests of the input
+abbrev pub IsOutputOf : Command → List ℕ → Contents → Option (List ℕ) → List ℕ → Type 0
+IsOutputOf Ask target content input text = IsAnswerFrom input target (Ok text)
+IsOutputOf Replay feed content input text = IsReplayOf false (content feed) input text
+IsOutputOf ReplayAdvance feed content input text = IsReplayOf true (content feed) input text
+IsOutputOf Check argument content input text = IsTextOfFeed count_line input text
+IsOutputOf CheckSummary argument content input text = IsTextOfFeed summary_lines input text
+
+-- the text of which a beginning is written where a fault comes: that which is asked for, or the replies to the requests that
+-- were begun, which are the first of the input's
+abbrev pub IsBegunOf : Command → List ℕ → Contents → Option (List ℕ) → List ℕ → Type 0
+IsBegunOf Ask target content input text = IsAnswerFrom input target (Ok text)
+IsBegunOf Replay feed content input text = IsReplayBegun false (content feed) input text
+IsBegunOf ReplayAdvance feed content input text = IsReplayBegun true (content feed) input text
+IsBegunOf Check argument content input text = IsTextOfFeed count_line input text
+IsBegunOf CheckSummary argument content input text = IsTextOfFeed summary_lines input text
+
+-- the input is no feed, or the file is none, for that reason
+abbrev pub IsNoInputOf : Command → List ℕ → Contents → Option (List ℕ) → FeedRefusal → Type 0
+IsNoInputOf Ask target content input refusal = FeedStandsIn input (Err refusal)
+IsNoInputOf Replay feed content input refusal = FeedStandsIn (content feed) (Err refusal)
+IsNoInputOf ReplayAdvance feed content input refusal = FeedStandsIn (content feed) (Err refusal)
+IsNoInputOf Check argument content input refusal = FeedStandsIn input (Err refusal)
+IsNoInputOf CheckSummary argument content input refusal = FeedStandsIn input (Err refusal)
 
 -- what is asked for is refused: the answer to the target is a refusal
 abbrev pub IsRefusedBy : Command → List ℕ → Option (List ℕ) → Refusal → Type 0
 IsRefusedBy Ask target input refusal = IsAnswerFrom input target (Err refusal)
+IsRefusedBy Replay feed input refusal = ⊥
+IsRefusedBy ReplayAdvance feed input refusal = ⊥
 IsRefusedBy Check argument input refusal = ⊥
 IsRefusedBy CheckSummary argument input refusal = ⊥
 
 -- ---- the same of words, which may ask for nothing
 
-abbrev pub IsOutput : Option Asked → Option (List ℕ) → List ℕ → Type 0
-IsOutput None input text = ⊥
-IsOutput (Some asked) input text = IsOutputOf asked.command asked.argument input text
+abbrev pub IsOutput : Option Asked → Contents → Option (List ℕ) → List ℕ → Type 0
+IsOutput None content input text = ⊥
+IsOutput (Some asked) content input text = IsOutputOf asked.command asked.argument content input text
 
-abbrev pub IsNoInput : Option Asked → Option (List ℕ) → FeedRefusal → Type 0
-IsNoInput None input refusal = ⊥
-IsNoInput (Some asked) input refusal = IsNoInputOf asked.command input refusal
+abbrev pub IsBegun : Option Asked → Contents → Option (List ℕ) → List ℕ → Type 0
+IsBegun None content input text = ⊥
+IsBegun (Some asked) content input text = IsBegunOf asked.command asked.argument content input text
+
+abbrev pub IsNoInput : Option Asked → Contents → Option (List ℕ) → FeedRefusal → Type 0
+IsNoInput None content input refusal = ⊥
+IsNoInput (Some asked) content input refusal = IsNoInputOf asked.command asked.argument content input refusal
 
 abbrev pub IsRefused : Option Asked → Option (List ℕ) → Refusal → Type 0
 IsRefused None input refusal = ⊥
 IsRefused (Some asked) input refusal = IsRefusedBy asked.command asked.argument input refusal
+
+-- ---- for private clauses
+
+-- the word behind a command that names a file is UTF-8
+abbrev pub IsNamed : Command → List ℕ → Type 0
+IsNamed Ask target = ⊤
+IsNamed Replay feed = IsUtf8 feed
+IsNamed ReplayAdvance feed = IsUtf8 feed
+IsNamed Check argument = ⊤
+IsNamed CheckSummary argument = ⊤

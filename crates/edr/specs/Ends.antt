@@ -1,9 +1,9 @@
 -- How a run ends: its status, and what it leaves on each object. Each table goes by the ending, and by the command where it
 -- differs from command to command.
-use Rattle.std.specs.Prelude.{◌≡◌, ◌⊎◌, ℕ, ◌++◌, ⊤, codes, List, [], Result, IsErrOf, IsNone, None, Some, option_map}
+use Rattle.std.specs.Prelude.{◌≡◌, ◌⊎◌, ℕ, Bool, true, false, ◌++◌, ⊤, codes, List, [], Result, IsErrOf, IsNone, None, Some, option_map}
 use Rattle.std.specs.declared.option.Option.{Option}
 use Rattle.std.specs.Fmt.{decimal}
-use Rattle.std.specs.Io.KnownBytes.{IsAtEnd}
+use Rattle.std.specs.Io.KnownBytes.{IsAtEnd, prepend_known}
 use Rattle.edr_base.specs.RefusalTable.{body_of}
 use Rattle.edr_base.specs.Outside.{Aside, Asked as AskedOf, Rose}
 use Rattle.edr_base.specs.Calls.{Writes, WrittenWhole, WrittenInPart, ReadsAtMost}
@@ -12,10 +12,11 @@ use Rattle.edr_base.specs.declared.sending.SendFault.TheVariants.{WriteFault as 
 use Rattle.edr_feed.specs.declared.refusals.FeedRefusal.{FeedRefusal}
 use Rattle.edr_feed.specs.declared.refusals.FeedRefusal.TheVariants.{TooLong, LineTooLong, NotJson, NotFeedLine, Cov, Change, NothingPublished}
 use Rattle.edr.specs.declared.commands.Command.{Command}
-use Rattle.edr.specs.declared.commands.Command.TheVariants.{Ask, Check, CheckSummary}
+use Rattle.edr.specs.declared.commands.Command.TheVariants.{Ask, Replay, ReplayAdvance, Check, CheckSummary}
 use Rattle.edr.specs.declared.endings.Ending.{Ending}
-use Rattle.edr.specs.declared.endings.Ending.TheVariants.{Done, Usage, NotFeed, ReadFault, WriteFault, OutOfMemory, Refused}
-use Rattle.edr.specs.Commands.{Asked, IsOutput, IsNoInput, IsRefused, files_asked, link_asked, read_at_most}
+use Rattle.edr.specs.declared.endings.Ending.TheVariants.{Done, Usage, NotFeed, ReadFault, WriteFault, OutOfMemory, Refused, OpenFault}
+use Rattle.edr.specs.Commands.{Asked, Contents, IsOutput, IsBegun, IsNoInput, IsRefused, files_asked, link_asked, read_at_most}
+use Rattle.edr.specs.Replays.{IsServed}
 
 abbrev pub status_of : Ending → ℕ
 status_of Done = 0
@@ -25,6 +26,7 @@ status_of ReadFault = 3
 status_of WriteFault = 4
 status_of OutOfMemory = 5
 status_of (Refused refusal) = 6
+status_of OpenFault = 9
 
 -- a line of the feed
 abbrev pub at_line : ℕ → List ℕ
@@ -49,6 +51,7 @@ said_of ReadFault = codes "read fault"
 said_of WriteFault = codes "write fault"
 said_of OutOfMemory = codes "out of memory"
 said_of (Refused refusal) = body_of refusal
+said_of OpenFault = codes "open fault"
 
 -- the line of an ending: none where all was done
 abbrev pub line_of : Ending → List ℕ
@@ -59,35 +62,71 @@ line_of ReadFault = said_of ReadFault ++ codes "\n"
 line_of WriteFault = said_of WriteFault ++ codes "\n"
 line_of OutOfMemory = said_of OutOfMemory ++ codes "\n"
 line_of (Refused refusal) = said_of (Refused refusal) ++ codes "\n"
+line_of OpenFault = said_of OpenFault ++ codes "\n"
 
--- what stands on the output: a text for which P holds, whole and flushed; a beginning of it; or nothing
-abbrev pub OutputEnds : Ending → (List ℕ → Type 0) → Option (List ℕ) → Option (List ℕ) → Option ℕ → Type 0
-OutputEnds Done P old new flushed = WrittenWhole P old new flushed
-OutputEnds Usage P old new flushed = new ≡ old
-OutputEnds (NotFeed refusal) P old new flushed = new ≡ old
-OutputEnds ReadFault P old new flushed = new ≡ old
-OutputEnds WriteFault P old new flushed = WrittenInPart P old new
-OutputEnds OutOfMemory P old new flushed = (new ≡ old) ⊎ WrittenInPart P old new
-OutputEnds (Refused refusal) P old new flushed = new ≡ old
+-- whether a command writes before it has read all
+abbrev pub writes_early : Command → Bool
+writes_early Ask = false
+writes_early Replay = true
+writes_early ReplayAdvance = true
+writes_early Check = false
+writes_early CheckSummary = false
 
--- the counts of faults of the objects
+abbrev pub is_early : Option Asked → Bool
+is_early None = false
+is_early (Some asked) = writes_early asked.command
+
+-- what stands on the output where a read failed: nothing, or a beginning where a command writes before it has read all
+abbrev pub ReadFaultLeaves : Bool → (List ℕ → Type 0) → Option (List ℕ) → Option (List ℕ) → Type 0
+ReadFaultLeaves false Begun old new = new ≡ old
+ReadFaultLeaves true Begun old new = (new ≡ old) ⊎ WrittenInPart Begun old new
+
+-- what stands on the output: a text for which Whole holds, whole and flushed; a beginning of one for which Begun holds; or nothing
+abbrev pub OutputEnds : Ending → Bool → (List ℕ → Type 0) → (List ℕ → Type 0) → Option (List ℕ) → Option (List ℕ) → Option ℕ → Type 0
+OutputEnds Done early Whole Begun old new flushed = WrittenWhole Whole old new flushed
+OutputEnds Usage early Whole Begun old new flushed = new ≡ old
+OutputEnds (NotFeed refusal) early Whole Begun old new flushed = new ≡ old
+OutputEnds ReadFault early Whole Begun old new flushed = ReadFaultLeaves early Begun old new
+OutputEnds WriteFault early Whole Begun old new flushed = WrittenInPart Begun old new
+OutputEnds OutOfMemory early Whole Begun old new flushed = (new ≡ old) ⊎ WrittenInPart Begun old new
+OutputEnds (Refused refusal) early Whole Begun old new flushed = new ≡ old
+OutputEnds OpenFault early Whole Begun old new flushed = new ≡ old
+
+-- the counts of faults of the objects, and whether no file is open
 pub record Counts : Type 0 where
   pub input : ℕ
   pub output : ℕ
   pub files : ℕ
   pub link : ℕ
+  pub closed : Bool
 
--- a read failed: of the input
+-- a file was opened, and a read of it failed
+abbrev pub FileFailed : Counts → Counts → Type 0
+FileFailed before after = Rose before.files after.files × (after.closed ≡ false)
+
+-- a read failed: of the input, or of the file
 abbrev pub ReadFailed : Command → Counts → Counts → Type 0
 ReadFailed Ask before after = Rose before.input after.input
+ReadFailed Replay before after = Rose before.input after.input ⊎ FileFailed before after
+ReadFailed ReplayAdvance before after = Rose before.input after.input ⊎ FileFailed before after
 ReadFailed Check before after = Rose before.input after.input
 ReadFailed CheckSummary before after = Rose before.input after.input
 
 -- a write failed: on the output
 abbrev pub WriteFailed : Command → Counts → Counts → Type 0
 WriteFailed Ask before after = Rose before.output after.output
+WriteFailed Replay before after = Rose before.output after.output
+WriteFailed ReplayAdvance before after = Rose before.output after.output
 WriteFailed Check before after = Rose before.output after.output
 WriteFailed CheckSummary before after = Rose before.output after.output
+
+-- a file couldn't be opened
+abbrev pub OpenFailed : Command → Counts → Counts → Type 0
+OpenFailed Ask before after = ⊥
+OpenFailed Replay before after = Rose before.files after.files × (after.closed ≡ true)
+OpenFailed ReplayAdvance before after = Rose before.files after.files × (after.closed ≡ true)
+OpenFailed Check before after = ⊥
+OpenFailed CheckSummary before after = ⊥
 
 -- the same of words, which may ask for nothing, and then nothing fails
 abbrev pub FailsIn : (Command → Counts → Counts → Type 0) → Option Asked → Counts → Counts → Type 0
@@ -95,33 +134,65 @@ FailsIn Failed None before after = ⊥
 FailsIn Failed (Some asked) before after = Failed asked.command before after
 
 -- the cause of an ending: no input for what is asked for, a count that rose, or the refusal of what is asked for
-abbrev pub HasCause : Ending → Option Asked → Option (List ℕ) → Counts → Counts → Type 0
-HasCause Done asked input before after = ⊤
-HasCause Usage asked input before after = IsNone asked
-HasCause (NotFeed refusal) asked input before after = IsNoInput asked input refusal
-HasCause ReadFault asked input before after = FailsIn ReadFailed asked before after
-HasCause WriteFault asked input before after = FailsIn WriteFailed asked before after
-HasCause OutOfMemory asked input before after = ⊤
-HasCause (Refused refusal) asked input before after = IsRefused asked input refusal
+abbrev pub HasCause : Ending → Option Asked → Contents → Option (List ℕ) → Counts → Counts → Type 0
+HasCause Done asked content input before after = ⊤
+HasCause Usage asked content input before after = IsNone asked
+HasCause (NotFeed refusal) asked content input before after = IsNoInput asked content input refusal
+HasCause ReadFault asked content input before after = FailsIn ReadFailed asked before after
+HasCause WriteFault asked content input before after = FailsIn WriteFailed asked before after
+HasCause OutOfMemory asked content input before after = ⊤
+HasCause (Refused refusal) asked content input before after = IsRefused asked input refusal
+HasCause OpenFault asked content input before after = FailsIn OpenFailed asked before after
 
 -- the words ask for nothing only where the run ends with the usage line
 abbrev pub EndsByWords : Ending → Option Asked → Type 0
 EndsByWords ending asked = IsNone asked → ending ≡ Usage
 
+-- some bytes were taken, at most so many where that is said
+abbrev pub ReadsWithin : Option ℕ → Option (List ℕ) → Option (List ℕ) → Type 0
+ReadsWithin None old new = (bytes : List ℕ) × (old ≡ prepend_known bytes new)
+ReadsWithin (Some most) old new = ReadsAtMost most old new
+
 -- what was taken from the input: nothing where the words ask for nothing
 abbrev pub ReadsBy : Option Asked → Option (List ℕ) → Option (List ℕ) → Type 0
 ReadsBy None old new = new ≡ old
-ReadsBy (Some asked) old new = ReadsAtMost (read_at_most asked.command) old new
+ReadsBy (Some asked) old new = ReadsWithin (read_at_most asked.command) old new
 
--- where all was done, the input was read to its end
-abbrev pub IsReadByEnd : Ending → Option (List ℕ) → Type 0
-IsReadByEnd Done left = IsAtEnd left
-IsReadByEnd Usage left = ⊤
-IsReadByEnd (NotFeed refusal) left = ⊤
-IsReadByEnd ReadFault left = ⊤
-IsReadByEnd WriteFault left = ⊤
-IsReadByEnd OutOfMemory left = ⊤
-IsReadByEnd (Refused refusal) left = ⊤
+-- how far each command reads the input where all was done
+abbrev pub IsReadBy : Command → Option (List ℕ) → Option (List ℕ) → Type 0
+IsReadBy Ask input left = IsAtEnd left
+IsReadBy Replay input left = IsServed input left
+IsReadBy ReplayAdvance input left = IsServed input left
+IsReadBy Check input left = IsAtEnd left
+IsReadBy CheckSummary input left = IsAtEnd left
+
+abbrev pub IsRead : Option Asked → Option (List ℕ) → Option (List ℕ) → Type 0
+IsRead None input left = ⊤
+IsRead (Some asked) input left = IsReadBy asked.command input left
+
+-- where all was done, the input was read so far
+abbrev pub IsReadByEnd : Ending → Type 0 → Type 0
+IsReadByEnd Done Far = Far
+IsReadByEnd Usage Far = ⊤
+IsReadByEnd (NotFeed refusal) Far = ⊤
+IsReadByEnd ReadFault Far = ⊤
+IsReadByEnd WriteFault Far = ⊤
+IsReadByEnd OutOfMemory Far = ⊤
+IsReadByEnd (Refused refusal) Far = ⊤
+IsReadByEnd OpenFault Far = ⊤
+
+-- the status that says that a command didn't come to its input: the file couldn't be opened, or is no feed
+abbrev pub LeavesInput : Command → ℕ → Type 0
+LeavesInput Ask status = ⊥
+LeavesInput Replay status = (status ≡ 2) ⊎ (status ≡ 9)
+LeavesInput ReplayAdvance status = (status ≡ 2) ⊎ (status ≡ 9)
+LeavesInput Check status = ⊥
+LeavesInput CheckSummary status = ⊥
+
+-- the same of words: where they ask for nothing, the input is left as it is
+abbrev pub IsUnread : Option Asked → ℕ → Type 0
+IsUnread None status = ⊤
+IsUnread (Some asked) status = LeavesInput asked.command status
 
 -- a text was written, or a beginning of it: then a fault of that sink was counted, or memory was wanting
 pub record Tells (text : List ℕ) (old new : Option (List ℕ)) (before after : ℕ) : Type 0 where
@@ -129,10 +200,14 @@ pub record Tells (text : List ℕ) (old new : Option (List ℕ)) (before after :
   pub writes : Writes outcome text old new
   pub cause : IsErrOf outcome ErrorsFault → Rose before after
 
+-- just this more was asked; with want of memory, whose status is 5, that or nothing
+abbrev pub Asks : List AskedOf → ℕ → Option (List AskedOf) → Option (List AskedOf) → Type 0
+Asks more status before after = (after ≡ option_map (λ asked. asked ++ more) before) ⊎ ((status ≡ 5) × (after ≡ before))
+
 -- an object that the words don't use is as it was; of one that they use more was asked, just what they say
-abbrev pub AskedBeside : {T : Type 0} → (T → Aside) → Option (List AskedOf) → T → T → Type 0
-AskedBeside aside None old new = new ≡ old
-AskedBeside aside (Some more) old new = (aside new).asked ≡ option_map (λ asked. asked ++ more) (aside old).asked
+abbrev pub AskedBeside : {T : Type 0} → (T → Aside) → Option (List AskedOf) → ℕ → T → T → Type 0
+AskedBeside aside None status old new = new ≡ old
+AskedBeside aside (Some more) status old new = Asks more status (aside old).asked (aside new).asked
 
 -- what the words ask of the files and of the link
 abbrev pub of_files : Option Asked → Option (List AskedOf)
@@ -152,14 +227,15 @@ pub record Moment : Type 0 where
   pub counts : Counts
   pub errors : ℕ  -- the count of the errors
 
--- a whole run, by what the words ask for
-pub record Ends (ending : Ending) (asked : Option Asked) (status : ℕ) (before after : Moment) : Type 0 where
+-- a whole run, by what the words ask for; `content` is what the files hold
+pub record Ends (ending : Ending) (asked : Option Asked) (content : Contents) (status : ℕ) (before after : Moment) : Type 0 where
   pub number : status ≡ status_of ending
   pub words : EndsByWords ending asked
   pub input : ReadsBy asked before.left after.left
-  pub ended : IsReadByEnd ending after.left
-  pub output : OutputEnds ending (IsOutput asked before.left) before.written after.written after.flushed
-  pub cause : HasCause ending asked before.left before.counts after.counts
+  pub ended : IsReadByEnd ending (IsRead asked before.left after.left)
+  pub output : OutputEnds ending (is_early asked) (IsOutput asked content before.left) (IsBegun asked content before.left)
+      before.written after.written after.flushed
+  pub cause : HasCause ending asked content before.left before.counts after.counts
   pub line : Tells (line_of ending) before.told after.told before.errors after.errors
 
 -- ---- for private clauses

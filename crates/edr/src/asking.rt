@@ -1,5 +1,6 @@
 //! Answers targets.
-ghost use Rattle.std.specs.Prelude.{◌+◌, ◌<◌, length, Ok};
+ghost use Rattle.std.specs.Prelude.{◌+◌, ◌<◌, length, Ok, false};
+ghost use Rattle.std.specs.Io.KnownBytes.{IsAtEnd};
 ghost use Rattle.edr_base.specs.Calls.{SourceLent, SinkLent, ReadsAtMost, buffer_size};
 ghost use Rattle.edr_base.specs.Limits.{feed_limit};
 ghost use Rattle.edr_serve.specs.Answers.{IsAnswerTo};
@@ -25,7 +26,8 @@ fn last_of(editions: &[Edition]) -> &Edition
 
 // Writes what an edition answers to a target, and flushes.
 fn answered<K: Sink>(alloc: Global, target: &[u8], edition: &Edition, output: &mut K) -> Ending
-    ensures output { OutputEnds result (λ text. IsAnswerTo edition.now target.now (Ok text)) (K.written output.old) (K.written output.new) (K.flushed output.new) }
+    ensures output { OutputEnds result false (λ text. IsAnswerTo edition.now target.now (Ok text)) (λ text. IsAnswerTo edition.now target.now (Ok text))
+        (K.written output.old) (K.written output.new) (K.flushed output.new) }
     ensures cause { AnswerCause result (IsAnswerTo edition.now target.now) (K.faults output.old) (K.faults output.new) }
     ensures lent { SinkLent (K.beside output.old) (K.beside output.new) (K.faults output.old) (K.faults output.new) }
 {
@@ -48,9 +50,10 @@ pub fn ask<S: Source, K: Sink>(
     input: &mut S,
     output: &mut K,
 ) -> Ending
-    ensures output { OutputEnds result (λ text. IsAnswerFrom (S.left input.old) target.now (Ok text)) (K.written output.old) (K.written output.new) (K.flushed output.new) }
+    ensures output { OutputEnds result false (λ text. IsAnswerFrom (S.left input.old) target.now (Ok text))
+        (λ text. IsAnswerFrom (S.left input.old) target.now (Ok text)) (K.written output.old) (K.written output.new) (K.flushed output.new) }
     ensures cause { AskCause result target.now (S.left input.old) (S.faults input.old) (S.faults input.new) (K.faults output.old) (K.faults output.new) }
-    ensures ended { IsReadByEnd result (S.left input.new) }
+    ensures ended { IsReadByEnd result (IsAtEnd (S.left input.new)) }
     ensures read { ReadsAtMost (feed_limit + buffer_size) (S.left input.old) (S.left input.new) }
     ensures input { SourceLent (S.aside input.old) (S.aside input.new) (S.faults input.old) (S.faults input.new) }
     ensures lent { SinkLent (K.beside output.old) (K.beside output.new) (K.faults output.old) (K.faults output.new) }

@@ -1,5 +1,6 @@
 //! Tells what a feed has.
-ghost use Rattle.std.specs.Prelude.{◌≡◌, ◌+◌, IfOk, OnOk, IsErrOf};
+ghost use Rattle.std.specs.Prelude.{◌≡◌, ◌+◌, false, IfOk, OnOk, IsErrOf};
+ghost use Rattle.std.specs.Io.KnownBytes.{IsAtEnd};
 ghost use Rattle.edr_base.specs.Outside.{Rose};
 ghost use Rattle.edr_base.specs.Calls.{SourceLent, SinkLent, ReadsAtMost, WrittenWhole, WrittenInPart, buffer_size};
 ghost use Rattle.edr_base.specs.Limits.{feed_limit};
@@ -77,9 +78,10 @@ pub fn check<S: Source, K: Sink>(
     input: &mut S,
     output: &mut K,
 ) -> Ending
-    ensures output { OutputEnds result (IsTextOfFeed (told summary) (S.left input.old)) (K.written output.old) (K.written output.new) (K.flushed output.new) }
+    ensures output { OutputEnds result false (IsTextOfFeed (told summary) (S.left input.old)) (IsTextOfFeed (told summary) (S.left input.old))
+        (K.written output.old) (K.written output.new) (K.flushed output.new) }
     ensures cause { CheckCause result (S.left input.old) (S.faults input.old) (S.faults input.new) (K.faults output.old) (K.faults output.new) }
-    ensures ended { IsReadByEnd result (S.left input.new) }
+    ensures ended { IsReadByEnd result (IsAtEnd (S.left input.new)) }
     ensures read { ReadsAtMost (feed_limit + buffer_size) (S.left input.old) (S.left input.new) }
     ensures input { SourceLent (S.aside input.old) (S.aside input.new) (S.faults input.old) (S.faults input.new) }
     ensures lent { SinkLent (K.beside output.old) (K.beside output.new) (K.faults output.old) (K.faults output.new) }

@@ -28,6 +28,8 @@ pub enum Ending {
     OutOfMemory,
     /// The target was refused.
     Refused(Refusal),
+    /// A file couldn't be opened.
+    OpenFault,
 }
 
 impl Ending {
@@ -43,6 +45,7 @@ impl Ending {
             Ending::WriteFault => 4,
             Ending::OutOfMemory => 5,
             Ending::Refused(_) => 6,
+            Ending::OpenFault => 9,
         }
     }
 }
@@ -74,6 +77,7 @@ fn said(ending: Ending) -> (&'static [u8], Option<usize>)
         Ending::WriteFault => (b"write fault", None),
         Ending::OutOfMemory => (b"out of memory", None),
         Ending::Refused(refusal) => (refusal.body(), None),
+        Ending::OpenFault => (b"open fault", None),
     }
 }
 

@@ -5,10 +5,11 @@ mod asking;
 mod checking;
 mod commands;
 mod endings;
+mod replaying;
 mod running;
 mod words;
 
-use edr_base::{MemoryFiles, MemoryLink, RealSink, RealSource};
+use edr_base::{MemoryLink, RealFiles, RealSink, RealSource};
 use endings::{Ending, tell};
 use running::run;
 use std::process::ExitCode;
@@ -23,7 +24,7 @@ fn main(rt: HostRuntime) -> ExitCode {
     };
     let mut input = RealSource::of(rt.stdin());
     let mut output = RealSink::of(rt.stdout());
-    let mut files = MemoryFiles::of(alloc, Vec::new(alloc), 1, Vec::new(alloc));
+    let mut files = RealFiles::new(rt);
     let mut link = MemoryLink::of(alloc, Vec::new(alloc), 1, Vec::new(alloc));
     let status = run(
         alloc,

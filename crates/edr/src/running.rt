@@ -1,13 +1,14 @@
 //! The program over its objects.
-ghost use Rattle.std.specs.Prelude.{◌≡◌, IsNone};
+ghost use Rattle.std.specs.Prelude.{◌≡◌};
 ghost use Rattle.edr_base.specs.Calls.{SourceLent, SinkLent};
-ghost use Rattle.edr.specs.Commands.{asked_by, IsOutput};
-ghost use Rattle.edr.specs.Ends.{Ends, EndsByWords, OutputEnds, HasCause, IsReadByEnd, ReadsBy, AskedBeside, of_files, of_link};
+ghost use Rattle.edr.specs.Commands.{asked_by, IsOutput, IsBegun};
+ghost use Rattle.edr.specs.Ends.{Ends, EndsByWords, OutputEnds, is_early, HasCause, IsRead, IsReadByEnd, ReadsBy, IsUnread, AskedBeside, of_files, of_link, status_of};
 
 use crate::asking::ask;
 use crate::checking::check;
 use crate::commands::{Command, asked_by};
 use crate::endings::{Ending, tell};
+use crate::replaying::replay;
 use edr_base::{Files, Link, Sink, Source, Text};
 use std::alloc::Global;
 
@@ -21,22 +22,24 @@ fn carry_out<S: Source, K: Sink, F: Files, L: Link>(
     link: &mut L,
 ) -> Ending
     ensures words { EndsByWords result (asked_by words.now) }
-    ensures output { OutputEnds result (IsOutput (asked_by words.now) (S.left input.old)) (K.written output.old) (K.written output.new) (K.flushed output.new) }
-    ensures cause { HasCause result (asked_by words.now) (S.left input.old)
-        (record { input = S.faults input.old; output = K.faults output.old; files = F.faults files.old; link = L.faults link.old })
-        (record { input = S.faults input.new; output = K.faults output.new; files = F.faults files.new; link = L.faults link.new }) }
-    ensures unread { IsNone (asked_by words.now) → (input.new ≡ input.old) × (output.new ≡ output.old) }
-    ensures ended { IsReadByEnd result (S.left input.new) }
+    ensures output { OutputEnds result (is_early (asked_by words.now)) (IsOutput (asked_by words.now) (F.aside files.old).content (S.left input.old))
+        (IsBegun (asked_by words.now) (F.aside files.old).content (S.left input.old)) (K.written output.old) (K.written output.new) (K.flushed output.new) }
+    ensures cause { HasCause result (asked_by words.now) (F.aside files.old).content (S.left input.old)
+        (record { input = S.faults input.old; output = K.faults output.old; files = F.faults files.old; link = L.faults link.old; closed = (F.aside files.old).idle })
+        (record { input = S.faults input.new; output = K.faults output.new; files = F.faults files.new; link = L.faults link.new; closed = (F.aside files.new).idle }) }
+    ensures unread { IsUnread (asked_by words.now) (status_of result) → (input.new ≡ input.old) × (output.new ≡ output.old) }
+    ensures ended { IsReadByEnd result (IsRead (asked_by words.now) (S.left input.old) (S.left input.new)) }
     ensures read { ReadsBy (asked_by words.now) (S.left input.old) (S.left input.new) }
     ensures input { SourceLent (S.aside input.old) (S.aside input.new) (S.faults input.old) (S.faults input.new) }
     ensures lent { SinkLent (K.beside output.old) (K.beside output.new) (K.faults output.old) (K.faults output.new) }
-    ensures files { AskedBeside F.aside (of_files (asked_by words.now)) files.old files.new }
-    ensures link { AskedBeside L.aside (of_link (asked_by words.now)) link.old link.new }
+    ensures files { AskedBeside F.aside (of_files (asked_by words.now)) (status_of result) files.old files.new }
+    ensures link { AskedBeside L.aside (of_link (asked_by words.now)) (status_of result) link.old link.new }
 {
-    let _ = files;
     let _ = link;
     match asked_by(words) {
         Some((Command::Ask, target)) => ask(alloc, target, input, output),
+        Some((Command::Replay, feed)) => replay(alloc, false, feed, input, output, files),
+        Some((Command::ReplayAdvance, feed)) => replay(alloc, true, feed, input, output, files),
         Some((Command::Check, _)) => check(alloc, false, input, output),
         Some((Command::CheckSummary, _)) => check(alloc, true, input, output),
         None => Ending::Usage,
@@ -57,13 +60,13 @@ pub fn run<S: Source, K: Sink, D: Sink, F: Files, L: Link>(
     files: &mut F,
     link: &mut L,
 ) -> u8
-    ensures ends { (ending : Ending) × Ends ending (asked_by words.now) result
+    ensures ends { (ending : Ending) × Ends ending (asked_by words.now) (F.aside files.old).content result
         (record {
           left = S.left input.old;
           written = K.written output.old;
           flushed = K.flushed output.old;
           told = D.written errors.old;
-          counts = record { input = S.faults input.old; output = K.faults output.old; files = F.faults files.old; link = L.faults link.old };
+          counts = record { input = S.faults input.old; output = K.faults output.old; files = F.faults files.old; link = L.faults link.old; closed = (F.aside files.old).idle };
           errors = D.faults errors.old;
         })
         (record {
@@ -71,15 +74,15 @@ pub fn run<S: Source, K: Sink, D: Sink, F: Files, L: Link>(
           written = K.written output.new;
           flushed = K.flushed output.new;
           told = D.written errors.new;
-          counts = record { input = S.faults input.new; output = K.faults output.new; files = F.faults files.new; link = L.faults link.new };
+          counts = record { input = S.faults input.new; output = K.faults output.new; files = F.faults files.new; link = L.faults link.new; closed = (F.aside files.new).idle };
           errors = D.faults errors.new;
         }) }
-    ensures unread { IsNone (asked_by words.now) → (input.new ≡ input.old) × (output.new ≡ output.old) }
+    ensures unread { IsUnread (asked_by words.now) result → (input.new ≡ input.old) × (output.new ≡ output.old) }
     ensures input { SourceLent (S.aside input.old) (S.aside input.new) (S.faults input.old) (S.faults input.new) }
     ensures output { SinkLent (K.beside output.old) (K.beside output.new) (K.faults output.old) (K.faults output.new) }
     ensures errors { SinkLent (D.beside errors.old) (D.beside errors.new) (D.faults errors.old) (D.faults errors.new) }
-    ensures files { AskedBeside F.aside (of_files (asked_by words.now)) files.old files.new }
-    ensures link { AskedBeside L.aside (of_link (asked_by words.now)) link.old link.new }
+    ensures files { AskedBeside F.aside (of_files (asked_by words.now)) result files.old files.new }
+    ensures link { AskedBeside L.aside (of_link (asked_by words.now)) result link.old link.new }
 {
     let ending = carry_out(alloc, words, input, output, files, link);
     tell(ending, errors);

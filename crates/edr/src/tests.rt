@@ -27,6 +27,27 @@ const SEVERAL: &[u8] =
 const INSTANCE: &[u8] =
     b"{\"crs\":[\"plane\"],\"data_queries\":{\"area\":{\"link\":{\"href\":\"/collections/c/instances/2/area\",\"rel\":\"data\"}},\"corridor\":{\"link\":{\"href\":\"/collections/c/instances/2/corridor\",\"rel\":\"data\"}},\"cube\":{\"link\":{\"href\":\"/collections/c/instances/2/cube\",\"rel\":\"data\"}},\"position\":{\"link\":{\"href\":\"/collections/c/instances/2/position\",\"rel\":\"data\"}},\"radius\":{\"link\":{\"href\":\"/collections/c/instances/2/radius\",\"rel\":\"data\"}},\"trajectory\":{\"link\":{\"href\":\"/collections/c/instances/2/trajectory\",\"rel\":\"data\"}}},\"extent\":{\"spatial\":{\"bbox\":[[0,0,10,0]],\"crs\":\"plane\"},\"temporal\":{\"interval\":[[\"2024-01-01T00:00:00Z\",\"2024-01-01T00:00:00Z\"]]}},\"id\":\"2\",\"links\":[],\"output_formats\":[\"CoverageJSON\"],\"parameter_names\":{\"temp\":{\"observedProperty\":{\"label\":{\"en\":\"Temperature\"}},\"type\":\"Parameter\"}},\"title\":\"C\"}";
 
+// Two editions: each present value of the second is higher by 100.
+const TWO_GRIDS: &[u8] =
+    b"{\"type\":\"Coverage\",\"domain\":{\"type\":\"Domain\",\"domainType\":\"Grid\",\"axes\":{\"x\":{\"values\":[0,100,200]},\"y\":{\"values\":[0,100]},\"t\":{\"values\":[\"2024-01-01T00:00:00Z\",\"2024-01-01T01:00:00Z\"]}},\"referencing\":[{\"coordinates\":[\"x\",\"y\"],\"system\":{\"type\":\"ProjectedCRS\",\"id\":\"http://www.opengis.net/def/crs/EPSG/0/32633\"}},{\"coordinates\":[\"t\"],\"system\":{\"type\":\"TemporalRS\",\"calendar\":\"Gregorian\"}}]},\"parameters\":{\"temp\":{\"type\":\"Parameter\",\"unit\":{\"symbol\":\"Cel\"},\"observedProperty\":{\"label\":{\"en\":\"Temperature\"}}}},\"ranges\":{\"temp\":{\"type\":\"NdArray\",\"dataType\":\"integer\",\"axisNames\":[\"t\",\"y\",\"x\"],\"shape\":[2,2,3],\"values\":[10,11,12,13,null,15,20,21,22,23,24,25]}}}\n{\"type\":\"Coverage\",\"domain\":{\"type\":\"Domain\",\"domainType\":\"Grid\",\"axes\":{\"x\":{\"values\":[0,100,200]},\"y\":{\"values\":[0,100]},\"t\":{\"values\":[\"2024-01-01T00:00:00Z\",\"2024-01-01T01:00:00Z\"]}},\"referencing\":[{\"coordinates\":[\"x\",\"y\"],\"system\":{\"type\":\"ProjectedCRS\",\"id\":\"http://www.opengis.net/def/crs/EPSG/0/32633\"}},{\"coordinates\":[\"t\"],\"system\":{\"type\":\"TemporalRS\",\"calendar\":\"Gregorian\"}}]},\"parameters\":{\"temp\":{\"type\":\"Parameter\",\"unit\":{\"symbol\":\"Cel\"},\"observedProperty\":{\"label\":{\"en\":\"Temperature\"}}}},\"ranges\":{\"temp\":{\"type\":\"NdArray\",\"dataType\":\"integer\",\"axisNames\":[\"t\",\"y\",\"x\"],\"shape\":[2,2,3],\"values\":[110,111,112,113,null,115,120,121,122,123,124,125]}}}";
+
+// Three requests for the same value.
+const THREE: &[u8] =
+    b"GET /collections/grid/position?coords=POINT(50%200)&datetime=2024-01-01T00:00:00Z HTTP/1.1\r\nHost: a\r\n\r\nGET /collections/grid/position?coords=POINT(50%200)&datetime=2024-01-01T00:00:00Z HTTP/1.1\r\nHost: a\r\n\r\nGET /collections/grid/position?coords=POINT(50%200)&datetime=2024-01-01T00:00:00Z HTTP/1.1\r\nHost: a\r\n\r\n";
+
+const FROM_FIRST: &[u8] =
+    b"HTTP/1.1 200 OK\r\nContent-Type: application/prs.coverage+json\r\nX-Edr-Edition: 1\r\nTransfer-Encoding: chunked\r\n\r\n221\r\n{\"domain\":{\"axes\":{\"t\":{\"values\":[\"2024-01-01T00:00:00Z\"]},\"x\":{\"values\":[0]},\"y\":{\"values\":[0]}},\"domainType\":\"Point\",\"referencing\":[{\"coordinates\":[\"x\",\"y\"],\"system\":{\"id\":\"http://www.opengis.net/def/crs/EPSG/0/32633\",\"type\":\"ProjectedCRS\"}},{\"coordinates\":[\"t\"],\"system\":{\"calendar\":\"Gregorian\",\"type\":\"TemporalRS\"}}],\"type\":\"Domain\"},\"parameters\":{\"temp\":{\"observedProperty\":{\"label\":{\"en\":\"Temperature\"}},\"type\":\"Parameter\",\"unit\":{\"symbol\":\"Cel\"}}},\"ranges\":{\"temp\":{\"dataType\":\"integer\",\"type\":\"NdArray\",\"values\":[10]}},\"type\":\"Coverage\"}\r\n0\r\n\r\nHTTP/1.1 200 OK\r\nContent-Type: application/prs.coverage+json\r\nX-Edr-Edition: 1\r\nTransfer-Encoding: chunked\r\n\r\n221\r\n{\"domain\":{\"axes\":{\"t\":{\"values\":[\"2024-01-01T00:00:00Z\"]},\"x\":{\"values\":[0]},\"y\":{\"values\":[0]}},\"domainType\":\"Point\",\"referencing\":[{\"coordinates\":[\"x\",\"y\"],\"system\":{\"id\":\"http://www.opengis.net/def/crs/EPSG/0/32633\",\"type\":\"ProjectedCRS\"}},{\"coordinates\":[\"t\"],\"system\":{\"calendar\":\"Gregorian\",\"type\":\"TemporalRS\"}}],\"type\":\"Domain\"},\"parameters\":{\"temp\":{\"observedProperty\":{\"label\":{\"en\":\"Temperature\"}},\"type\":\"Parameter\",\"unit\":{\"symbol\":\"Cel\"}}},\"ranges\":{\"temp\":{\"dataType\":\"integer\",\"type\":\"NdArray\",\"values\":[10]}},\"type\":\"Coverage\"}\r\n0\r\n\r\nHTTP/1.1 200 OK\r\nContent-Type: application/prs.coverage+json\r\nX-Edr-Edition: 1\r\nTransfer-Encoding: chunked\r\n\r\n221\r\n{\"domain\":{\"axes\":{\"t\":{\"values\":[\"2024-01-01T00:00:00Z\"]},\"x\":{\"values\":[0]},\"y\":{\"values\":[0]}},\"domainType\":\"Point\",\"referencing\":[{\"coordinates\":[\"x\",\"y\"],\"system\":{\"id\":\"http://www.opengis.net/def/crs/EPSG/0/32633\",\"type\":\"ProjectedCRS\"}},{\"coordinates\":[\"t\"],\"system\":{\"calendar\":\"Gregorian\",\"type\":\"TemporalRS\"}}],\"type\":\"Domain\"},\"parameters\":{\"temp\":{\"observedProperty\":{\"label\":{\"en\":\"Temperature\"}},\"type\":\"Parameter\",\"unit\":{\"symbol\":\"Cel\"}}},\"ranges\":{\"temp\":{\"dataType\":\"integer\",\"type\":\"NdArray\",\"values\":[10]}},\"type\":\"Coverage\"}\r\n0\r\n\r\n";
+
+const FROM_EACH: &[u8] =
+    b"HTTP/1.1 200 OK\r\nContent-Type: application/prs.coverage+json\r\nX-Edr-Edition: 1\r\nTransfer-Encoding: chunked\r\n\r\n221\r\n{\"domain\":{\"axes\":{\"t\":{\"values\":[\"2024-01-01T00:00:00Z\"]},\"x\":{\"values\":[0]},\"y\":{\"values\":[0]}},\"domainType\":\"Point\",\"referencing\":[{\"coordinates\":[\"x\",\"y\"],\"system\":{\"id\":\"http://www.opengis.net/def/crs/EPSG/0/32633\",\"type\":\"ProjectedCRS\"}},{\"coordinates\":[\"t\"],\"system\":{\"calendar\":\"Gregorian\",\"type\":\"TemporalRS\"}}],\"type\":\"Domain\"},\"parameters\":{\"temp\":{\"observedProperty\":{\"label\":{\"en\":\"Temperature\"}},\"type\":\"Parameter\",\"unit\":{\"symbol\":\"Cel\"}}},\"ranges\":{\"temp\":{\"dataType\":\"integer\",\"type\":\"NdArray\",\"values\":[10]}},\"type\":\"Coverage\"}\r\n0\r\n\r\nHTTP/1.1 200 OK\r\nContent-Type: application/prs.coverage+json\r\nX-Edr-Edition: 2\r\nTransfer-Encoding: chunked\r\n\r\n222\r\n{\"domain\":{\"axes\":{\"t\":{\"values\":[\"2024-01-01T00:00:00Z\"]},\"x\":{\"values\":[0]},\"y\":{\"values\":[0]}},\"domainType\":\"Point\",\"referencing\":[{\"coordinates\":[\"x\",\"y\"],\"system\":{\"id\":\"http://www.opengis.net/def/crs/EPSG/0/32633\",\"type\":\"ProjectedCRS\"}},{\"coordinates\":[\"t\"],\"system\":{\"calendar\":\"Gregorian\",\"type\":\"TemporalRS\"}}],\"type\":\"Domain\"},\"parameters\":{\"temp\":{\"observedProperty\":{\"label\":{\"en\":\"Temperature\"}},\"type\":\"Parameter\",\"unit\":{\"symbol\":\"Cel\"}}},\"ranges\":{\"temp\":{\"dataType\":\"integer\",\"type\":\"NdArray\",\"values\":[110]}},\"type\":\"Coverage\"}\r\n0\r\n\r\nHTTP/1.1 200 OK\r\nContent-Type: application/prs.coverage+json\r\nX-Edr-Edition: 2\r\nTransfer-Encoding: chunked\r\n\r\n222\r\n{\"domain\":{\"axes\":{\"t\":{\"values\":[\"2024-01-01T00:00:00Z\"]},\"x\":{\"values\":[0]},\"y\":{\"values\":[0]}},\"domainType\":\"Point\",\"referencing\":[{\"coordinates\":[\"x\",\"y\"],\"system\":{\"id\":\"http://www.opengis.net/def/crs/EPSG/0/32633\",\"type\":\"ProjectedCRS\"}},{\"coordinates\":[\"t\"],\"system\":{\"calendar\":\"Gregorian\",\"type\":\"TemporalRS\"}}],\"type\":\"Domain\"},\"parameters\":{\"temp\":{\"observedProperty\":{\"label\":{\"en\":\"Temperature\"}},\"type\":\"Parameter\",\"unit\":{\"symbol\":\"Cel\"}}},\"ranges\":{\"temp\":{\"dataType\":\"integer\",\"type\":\"NdArray\",\"values\":[110]}},\"type\":\"Coverage\"}\r\n0\r\n\r\n";
+
+// A description, its head alone, a query that is refused, a method that isn't allowed, and the beginning of a head.
+const SEVERAL_REQUESTS: &[u8] =
+    b"GET /conformance HTTP/1.1\r\nHost: a\r\n\r\nHEAD /conformance HTTP/1.1\r\nHost: a\r\n\r\nGET /collections/grid/position?coords=POINT(-1%200)&datetime=2024-01-01T00:00:00Z HTTP/1.1\r\nHost: a\r\n\r\nPOST / HTTP/1.1\r\nHost: a\r\n\r\nGET / HTTP/1.1\r\n";
+
+const SEVERAL_REPLIES: &[u8] =
+    b"HTTP/1.1 200 OK\r\nContent-Type: application/json\r\nX-Edr-Edition: 1\r\nTransfer-Encoding: chunked\r\n\r\n11\r\n{\"conformsTo\":[]}\r\n0\r\n\r\nHTTP/1.1 200 OK\r\nContent-Type: application/json\r\nX-Edr-Edition: 2\r\nTransfer-Encoding: chunked\r\n\r\nHTTP/1.1 404 Not Found\r\nContent-Type: application/json\r\nX-Edr-Edition: 2\r\nTransfer-Encoding: chunked\r\n\r\n20\r\n{\"code\":\"NoSamples\",\"number\":25}\r\n0\r\n\r\nHTTP/1.1 405 Method Not Allowed\r\nContent-Type: application/json\r\nAllow: GET, HEAD\r\nTransfer-Encoding: chunked\r\n\r\n26\r\n{\"code\":\"MethodNotOffered\",\"number\":5}\r\n0\r\n\r\nHTTP/1.1 400 Bad Request\r\nContent-Type: application/json\r\nTransfer-Encoding: chunked\r\nConnection: close\r\n\r\n1d\r\n{\"code\":\"BadHead\",\"number\":1}\r\n0\r\n\r\n";
+
 const USAGE: &[u8] =
     b"usage: edr ask TARGET | replay FEED [--advance] | check [--summary] | make NUMBER | show | fetch URL\n";
 
@@ -48,6 +69,20 @@ fn words_of(alloc: Global, words: &[&[u8]]) -> Result<Vec<Text>, OutOfMemory> {
     Ok(kept)
 }
 
+// A feed of two editions, and a file that is no feed.
+fn files(alloc: Global) -> Result<Vec<(Vec<u8>, Vec<u8>)>, OutOfMemory> {
+    let mut files = Vec::new(alloc);
+    files.push((
+        Vec::from_slice(alloc, b"feed")?,
+        Vec::from_slice(alloc, TWO_GRIDS)?,
+    ))?;
+    files.push((
+        Vec::from_slice(alloc, b"other")?,
+        Vec::from_slice(alloc, b"{")?,
+    ))?;
+    Ok(files)
+}
+
 // The status, the output and the errors of a run over objects in memory that give and take at most `cut` bytes a call.
 fn run_cut(
     alloc: Global,
@@ -65,7 +100,7 @@ fn run_cut(
     );
     let mut output = MemorySink::of(alloc, cut, Vec::new(alloc));
     let mut errors = MemorySink::of(alloc, cut, Vec::new(alloc));
-    let mut files = MemoryFiles::of(alloc, Vec::new(alloc), 1, Vec::new(alloc));
+    let mut files = MemoryFiles::of(alloc, files(alloc)?, cut, Vec::new(alloc));
     let mut link = MemoryLink::of(alloc, Vec::new(alloc), 1, Vec::new(alloc));
     let status = run(
         alloc,
@@ -238,6 +273,55 @@ fn runs_end_as_they_have_to(rt: HostRuntime) -> Result<(), Fail> {
             status: 2,
             output: b"",
             errors: b"feed: NotJson line 2\n",
+        },
+        Case {
+            words: &[b"replay", b"feed"],
+            input: THREE,
+            status: 0,
+            output: FROM_FIRST,
+            errors: b"",
+        },
+        Case {
+            words: &[b"replay", b"feed", b"--advance"],
+            input: THREE,
+            status: 0,
+            output: FROM_EACH,
+            errors: b"",
+        },
+        Case {
+            words: &[b"replay", b"feed", b"--advance"],
+            input: SEVERAL_REQUESTS,
+            status: 0,
+            output: SEVERAL_REPLIES,
+            errors: b"",
+        },
+        Case {
+            words: &[b"replay", b"feed"],
+            input: b"",
+            status: 0,
+            output: b"",
+            errors: b"",
+        },
+        Case {
+            words: &[b"replay", b"other"],
+            input: THREE,
+            status: 2,
+            output: b"",
+            errors: b"feed: NotJson line 1\n",
+        },
+        Case {
+            words: &[b"replay", b"none"],
+            input: THREE,
+            status: 9,
+            output: b"",
+            errors: b"open fault\n",
+        },
+        Case {
+            words: &[b"replay", b"\xff"],
+            input: THREE,
+            status: 1,
+            output: b"",
+            errors: USAGE,
         },
         Case {
             words: &[b"ask"],

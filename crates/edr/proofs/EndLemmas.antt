@@ -1,0 +1,128 @@
+-- How a run ends that serves a connection.
+use Rattle.std.proofs.Common.{◌≡◌, ℕ, ◌≤◌, Bool, true, List, Some, Ok, Err, IfSome, inl, inr, refl, arith}
+use Rattle.std.specs.declared.option.Option.{Option}
+use Rattle.edr_base.specs.Outside.{Rose}
+use Rattle.edr_base.specs.Calls.{IsFlushed, WrittenWhole, WrittenInPart}
+use Rattle.edr_edition.specs.Values.{EditionValue}
+use Rattle.edr_feed.specs.Feeds.{FeedStandsIn}
+use Rattle.edr_feed.specs.Refusals.{refusal_of}
+use Rattle.edr_feed.specs.declared.faults.FeedFault.{FeedFault}
+use Rattle.edr_feed.specs.declared.faults.FeedFault.TheVariants as feeds
+use Rattle.edr_serve.specs.declared.reports.SessionFault.{SessionFault}
+use Rattle.edr_serve.specs.declared.reports.SessionFault.TheVariants as faults
+use Rattle.edr.specs.declared.endings.Ending.{Ending}
+use Rattle.edr.specs.declared.endings.Ending.TheVariants.{Done, Usage, NotFeed, ReadFault, WriteFault, OutOfMemory, Refused, OpenFault}
+use Rattle.edr.specs.Checking.{fault_ends}
+use Rattle.edr.specs.Replays.{IsReplayOf, IsReplayBegun, AreReplies, AreBegun}
+use Rattle.edr.specs.Ends.{OutputEnds, IsReadByEnd, Counts, FileFailed}
+use Rattle.edr.specs.Replaying.{ServeCause, ReplayCause, IsBefore, session_ends, Settles}
+use Rattle.edr.proofs.ReplayLemmas.{stands_opened}
+
+-- ---- a session broke off
+
+pub broken_output : (fault : SessionFault) (Whole Begun : List ℕ → Type 0) (old new : Option (List ℕ)) (flushed : Option ℕ) → WrittenInPart Begun old new
+    → OutputEnds (session_ends fault) true Whole Begun old new flushed
+broken_output faults.ReadFault Whole Begun old new flushed part = inr part
+broken_output faults.WriteFault Whole Begun old new flushed part = part
+broken_output faults.OutOfMemory Whole Begun old new flushed part = inr part
+
+pub broken_cause : (fault : SessionFault) (r r' w w' : ℕ) → (fault ≡ faults.ReadFault → Rose r r') → (fault ≡ faults.WriteFault → Rose w w') → ServeCause (session_ends fault) r r' w w'
+broken_cause faults.ReadFault r r' w w' f g = f refl
+broken_cause faults.WriteFault r r' w w' f g = g refl
+broken_cause faults.OutOfMemory r r' w w' f g = tt
+
+pub broken_begun : (fault : SessionFault) → ¬ (IsBefore (session_ends fault))
+broken_begun faults.ReadFault x = x
+broken_begun faults.WriteFault x = x
+broken_begun faults.OutOfMemory x = x
+
+pub broken_read : (fault : SessionFault) (Far : Type 0) → IsReadByEnd (session_ends fault) Far
+broken_read faults.ReadFault Far = tt
+broken_read faults.WriteFault Far = tt
+broken_read faults.OutOfMemory Far = tt
+
+-- ---- all was written
+
+pub settled_output : (ending : Ending) (before after : ℕ) (Whole Begun : List ℕ → Type 0) (old new : Option (List ℕ)) (flushed : Option ℕ) → Settles ending before after new flushed
+    → (IsFlushed new flushed → WrittenWhole Whole old new flushed) → WrittenInPart Begun old new → OutputEnds ending true Whole Begun old new flushed
+settled_output Done before after Whole Begun old new flushed s whole part = whole s
+settled_output Usage before after Whole Begun old new flushed s whole part = absurd s
+settled_output (NotFeed refusal) before after Whole Begun old new flushed s whole part = absurd s
+settled_output ReadFault before after Whole Begun old new flushed s whole part = absurd s
+settled_output WriteFault before after Whole Begun old new flushed s whole part = part
+settled_output OutOfMemory before after Whole Begun old new flushed s whole part = inr part
+settled_output (Refused refusal) before after Whole Begun old new flushed s whole part = absurd s
+settled_output OpenFault before after Whole Begun old new flushed s whole part = absurd s
+
+pub rose_earlier : (first before after : ℕ) → first ≤ before → Rose before after → Rose first after
+rose_earlier first before after h x = omega (arith, h, x)
+
+pub settled_cause : (ending : Ending) (r r' first before after : ℕ) (new : Option (List ℕ)) (flushed : Option ℕ) → first ≤ before → Settles ending before after new flushed → ServeCause ending r r' first after
+settled_cause Done r r' first before after new flushed h s = tt
+settled_cause Usage r r' first before after new flushed h s = s
+settled_cause (NotFeed refusal) r r' first before after new flushed h s = s
+settled_cause ReadFault r r' first before after new flushed h s = absurd s
+settled_cause WriteFault r r' first before after new flushed h s = rose_earlier first before after h s
+settled_cause OutOfMemory r r' first before after new flushed h s = tt
+settled_cause (Refused refusal) r r' first before after new flushed h s = s
+settled_cause OpenFault r r' first before after new flushed h s = s
+
+pub settled_begun : (ending : Ending) (before after : ℕ) (new : Option (List ℕ)) (flushed : Option ℕ) → Settles ending before after new flushed → ¬ (IsBefore ending)
+settled_begun Done before after new flushed s x = x
+settled_begun Usage before after new flushed s x = x
+settled_begun (NotFeed refusal) before after new flushed s x = s
+settled_begun ReadFault before after new flushed s x = x
+settled_begun WriteFault before after new flushed s x = x
+settled_begun OutOfMemory before after new flushed s x = x
+settled_begun (Refused refusal) before after new flushed s x = x
+settled_begun OpenFault before after new flushed s x = s
+
+pub read_so_far : (ending : Ending) (Far : Type 0) → Far → IsReadByEnd ending Far
+read_so_far Done Far x = x
+read_so_far Usage Far x = tt
+read_so_far (NotFeed refusal) Far x = tt
+read_so_far ReadFault Far x = tt
+read_so_far WriteFault Far x = tt
+read_so_far OutOfMemory Far x = tt
+read_so_far (Refused refusal) Far x = tt
+read_so_far OpenFault Far x = tt
+
+-- ---- the feed in the file
+
+whole_replay : (advances : Bool) (editions : List EditionValue) (feed input old new : Option (List ℕ)) (flushed : Option ℕ) → FeedStandsIn feed (Ok editions)
+    → WrittenWhole (AreReplies advances editions input) old new flushed → WrittenWhole (IsReplayOf advances feed input) old new flushed
+whole_replay advances editions feed input old new flushed stands o =
+    record { text = o.text; is = record { editions = editions; published = stands; replies = o.is }; grew = o.grew; settled = o.settled }
+
+part_replay : (advances : Bool) (editions : List EditionValue) (feed input old new : Option (List ℕ)) → FeedStandsIn feed (Ok editions)
+    → WrittenInPart (AreBegun advances editions input) old new → WrittenInPart (IsReplayBegun advances feed input) old new
+part_replay advances editions feed input old new stands o =
+    record { text = o.text; is = record { editions = editions; published = stands; replies = o.is }; front = o.front }
+
+pub replay_output : (ending : Ending) (advances : Bool) (editions : List EditionValue) (content left input old new : Option (List ℕ)) (flushed : Option ℕ)
+    → IfSome content (λ told. left ≡ Some told) → FeedStandsIn left (Ok editions)
+    → OutputEnds ending true (AreReplies advances editions input) (AreBegun advances editions input) old new flushed
+    → OutputEnds ending true (IsReplayOf advances content input) (IsReplayBegun advances content input) old new flushed
+replay_output Done advances editions content left input old new flushed h x o = whole_replay advances editions content input old new flushed (stands_opened content left (Ok editions) h x) o
+replay_output Usage advances editions content left input old new flushed h x o = o
+replay_output (NotFeed refusal) advances editions content left input old new flushed h x o = o
+replay_output ReadFault advances editions content left input old new flushed h x (inl o) = inl o
+replay_output ReadFault advances editions content left input old new flushed h x (inr o) = inr (part_replay advances editions content input old new (stands_opened content left (Ok editions) h x) o)
+replay_output WriteFault advances editions content left input old new flushed h x o = part_replay advances editions content input old new (stands_opened content left (Ok editions) h x) o
+replay_output OutOfMemory advances editions content left input old new flushed h x (inl o) = inl o
+replay_output OutOfMemory advances editions content left input old new flushed h x (inr o) = inr (part_replay advances editions content input old new (stands_opened content left (Ok editions) h x) o)
+replay_output (Refused refusal) advances editions content left input old new flushed h x o = o
+replay_output OpenFault advances editions content left input old new flushed h x o = o
+
+-- the file is no feed, or a read of it failed
+pub fault_cause : (fault : FeedFault) (content left : Option (List ℕ)) (before after : Counts) → IfSome content (λ told. left ≡ Some told)
+    → IfSome (refusal_of fault) (λ refusal. FeedStandsIn left (Err refusal)) → (fault ≡ feeds.ReadFault → FileFailed before after) → ReplayCause (fault_ends fault) content before after
+fault_cause feeds.ReadFault content left before after h x f = inr (f refl)
+fault_cause feeds.TooLong content left before after h x f = stands_opened content left (Err _) h x
+fault_cause (feeds.LineTooLong line) content left before after h x f = stands_opened content left (Err _) h x
+fault_cause (feeds.NotJson line) content left before after h x f = stands_opened content left (Err _) h x
+fault_cause (feeds.NotFeedLine line) content left before after h x f = stands_opened content left (Err _) h x
+fault_cause (feeds.Cov line inner) content left before after h x f = stands_opened content left (Err _) h x
+fault_cause (feeds.Change line inner) content left before after h x f = stands_opened content left (Err _) h x
+fault_cause feeds.NothingPublished content left before after h x f = stands_opened content left (Err _) h x
+fault_cause feeds.OutOfMemory content left before after h x f = tt

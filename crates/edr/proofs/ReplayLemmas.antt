@@ -1,0 +1,192 @@
+-- Editions that requests read, and what is written of them.
+use Rattle.std.proofs.Common.{◌≡◌, ℕ, suc, ◌+◌, ◌-◌, min, slice_index_or, Bool, false, List, [], ◌∷◌, ◌++◌, length, Result, Ok, Err, Some, None, IfSome, sym, ap, subst, ◌∙◌, refl, flat_map, length-append, append-nil, arith}
+use Rattle.std.specs.declared.option.Option.{Option}
+use Rattle.std.specs.Prelude.{⊤}
+use Rattle.std.specs.Io.KnownBytes.{append_known, IsAtEnd}
+use mathlib.Core.List.{append_assoc}
+use Rattle.edr_base.specs.Calls.{Begins, Front, IsFlushed, WrittenWhole, WrittenInPart}
+use Rattle.edr_base.specs.KnownBytes.{front_whole}
+use Rattle.edr_base.specs.declared.refusals.Refusal.{Refusal}
+use Rattle.edr_edition.specs.Values.{EditionValue}
+use Rattle.edr_edition.specs.Shelves.{BeginsSeen, EndsWith, no_edition}
+use Rattle.edr_feed.specs.Feeds.{FeedStandsIn}
+use Rattle.edr_feed.specs.declared.refusals.FeedRefusal.{FeedRefusal}
+use Rattle.edr_http.specs.Heads.{Told, IsBehind}
+use Rattle.edr_query.specs.declared.pages.Page.{Page}
+use Rattle.edr_serve.specs.declared.ends.End.TheVariants.{EndOfInput}
+use Rattle.edr_serve.specs.declared.reports.SessionReport.{SessionReport}
+use Rattle.edr_serve.specs.Requests.{Request, Requests, Begun, request_limit}
+use Rattle.edr_serve.specs.Replies.{bytes_of, replies, first_reply, reply_without, reply_from, readers, count_if_page, output}
+use Rattle.edr_serve.specs.Sessions.{State, IfTold, Uses, Session, Broken}
+use Rattle.edr.specs.Replays.{edition_at, if_page, editions_read, replayed, AreReplies, AreBegun, IsServed}
+
+-- ---- a shelf that stays as it is
+
+seen_on : (a b c : List EditionValue) → BeginsSeen a b → BeginsSeen b c → BeginsSeen a c
+seen_on a b c x y = (x.0 ++ y.0, y.1 ∙ (ap (λ w. w ++ y.0) x.1 ∙ append_assoc a x.0 y.0))
+
+uses_begin : (b es a : List EditionValue) → Uses b es a → BeginsSeen b a
+uses_begin b [] a x = x
+uses_begin b (e ∷ es) a x = seen_on b x.0 a x.1 (uses_begin x.0 es a x.3)
+
+empty_by : (xs : List EditionValue) (n m : ℕ) → n ≡ (n + length xs) + m → xs ≡ []
+empty_by [] n m h = refl
+empty_by (x ∷ xs) n m h = absurd (omega (arith, h))
+
+-- what is seen between is as before
+same_between : (a between : List EditionValue) → BeginsSeen a between → BeginsSeen between a → between ≡ a
+same_between a between x y =
+    let all : length a ≡ length (between ++ y.0) = ap length y.1 in
+    let some : length between ≡ length (a ++ x.0) = ap length x.1 in
+    let sum : length a ≡ (length a + length x.0) + length y.0 = omega (arith, all, some, length-append between y.0, length-append a x.0) in
+    x.1 ∙ (ap (λ w. a ++ w) (empty_by x.0 (length a) (length y.0) sum) ∙ append-nil a)
+
+-- each of the editions is that one
+abbrev pub AreFirst : EditionValue → List EditionValue → Type 0
+AreFirst first [] = ⊤
+AreFirst first (e ∷ es) = (e ≡ first) × AreFirst first es
+
+-- those that are used are the last, where that is one
+pub uses_same : (a : List EditionValue) (last : EditionValue) → ((e : EditionValue) → EndsWith a e → e ≡ last)
+    → (b es : List EditionValue) → b ≡ a → Uses b es a → AreFirst last es
+uses_same a last h b [] p x = tt
+uses_same a last h b (e ∷ es) p x =
+    let same : x.0 ≡ a = same_between a x.0 (subst (λ (z : List EditionValue). BeginsSeen z x.0) p x.1) (uses_begin x.0 es a x.3) in
+    (h e (subst (λ (z : List EditionValue). EndsWith z e) same x.2), uses_same a last h x.0 es same x.3)
+
+last_of_one : (front : List EditionValue) (first e : EditionValue) → first ∷ [] ≡ front ++ e ∷ [] → e ≡ first
+last_of_one [] first e p = cc
+last_of_one (f ∷ []) first e p = absurd (cc p)
+last_of_one (f ∷ g ∷ front) first e p = absurd (cc p)
+
+uses_first : (first : EditionValue) (b es : List EditionValue) → b ≡ first ∷ [] → Uses b es (first ∷ []) → AreFirst first es
+uses_first first b es p x = uses_same (first ∷ []) first (λ e ends. last_of_one ends.0 first e ends.1) b es p x
+
+-- ---- the editions that requests read
+
+pub read_step : (standing : EditionValue) (first : EditionValue) (asked : Result Page Refusal) (n : ℕ) (es others : List EditionValue) → standing ≡ first
+    → ((fs : List EditionValue) → length fs ≡ n → AreFirst first fs → fs ≡ others) → length es ≡ count_if_page asked n → AreFirst first es → es ≡ if_page asked standing others
+read_step standing first (Ok page) n [] others h ih p a = absurd (cc p)
+read_step standing first (Ok page) n (e ∷ es) others h ih p a =
+    ap (λ w. w ∷ es) (a.0 ∙ sym h) ∙ ap (λ w. standing ∷ w) (ih es (omega (arith, p)) a.1)
+read_step standing first (Err refusal) n es others h ih p a = ih es p a
+
+-- one for each request that reads one
+read_first : (standing : ℕ → EditionValue) (first : EditionValue) → ((n : ℕ) → standing n ≡ first) → (k : ℕ) (rs : List Request) (es : List EditionValue)
+    → length es ≡ readers rs → AreFirst first es → es ≡ editions_read standing k rs
+read_first standing first h k [] [] p a = refl
+read_first standing first h k [] (e ∷ es) p a = absurd (cc p)
+read_first standing first h k (r ∷ rs) es p a =
+    read_step (standing k) first r.asked (readers rs) es (editions_read standing (k + 1) rs) (h k) (λ fs q b. read_first standing first h (k + 1) rs fs q b) p a
+
+begins_behind : (front a b : List ℕ) → Begins a b → Begins (front ++ a) (front ++ b)
+begins_behind front a b x = (x.0, ap (λ w. front ++ w) x.1 ∙ sym (append_assoc front a x.0))
+
+pub begins_step : (standing first : EditionValue) (r : Request) (asked : Result Page Refusal) (rs : List Request) (es others : List EditionValue) → standing ≡ first
+    → ((fs : List EditionValue) → AreFirst first fs → Begins (output rs fs) (output rs others)) → AreFirst first es
+    → Begins (flat_map bytes_of (first_reply r asked es (replies rs))) (flat_map bytes_of (first_reply r asked (if_page asked standing others) (replies rs)))
+begins_step standing first r (Err refusal) rs es others h ih a = begins_behind (bytes_of (reply_without r refusal)) (output rs es) (output rs others) (ih es a)
+begins_step standing first r (Ok page) rs [] others h ih a = (flat_map bytes_of (reply_from r page standing ∷ replies rs others), refl)
+begins_step standing first r (Ok page) rs (e ∷ es) others h ih a =
+    subst (λ (z : EditionValue). Begins (bytes_of (reply_from r page z) ++ output rs es) (bytes_of (reply_from r page standing) ++ output rs others)) (h ∙ sym a.0)
+    (begins_behind (bytes_of (reply_from r page standing)) (output rs es) (output rs others) (ih es a.1))
+
+-- or for the first of them
+begins_first : (standing : ℕ → EditionValue) (first : EditionValue) → ((n : ℕ) → standing n ≡ first) → (k : ℕ) (rs : List Request) (es : List EditionValue)
+    → AreFirst first es → Begins (output rs es) (output rs (editions_read standing k rs))
+begins_first standing first h k [] es a = ([], refl)
+begins_first standing first h k (r ∷ rs) es a =
+    begins_step (standing k) first r r.asked rs es (editions_read standing (k + 1) rs) (h k) (λ fs b. begins_first standing first h (k + 1) rs fs b) a
+
+pub front_of_more : (a b : List ℕ) (old new : Option (List ℕ)) → Begins a b → Front a old new → Front b old new
+front_of_more a b old new x f = record {
+  bytes = f.bytes;
+  begins = (f.begins.0 ++ x.0, x.1 ∙ (ap (λ w. w ++ x.0) f.begins.1 ∙ append_assoc f.bytes f.begins.0 x.0));
+  grew = f.grew;
+}
+
+-- ---- requests that were answered were begun
+
+begun_all : (n : ℕ) (bytes : List ℕ) (rs : List Request) → Requests n bytes rs → Begun n bytes rs
+begun_all n bytes [] x = tt
+begun_all n bytes (r ∷ rs) x = (x.0, x.1, x.2, λ f. begun_all (n - 1) x.0 rs (x.3 f))
+
+told_begun : (input : Option (List ℕ)) (rs : List Request) → IfTold (λ bytes. Requests request_limit bytes rs) input → IfTold (λ bytes. Begun request_limit bytes rs) input
+told_begun None rs x = tt
+told_begun (Some bytes) rs x = begun_all request_limit bytes rs x
+
+pub are_begun : (advances : Bool) (editions : List EditionValue) (input : Option (List ℕ)) (text : List ℕ) → AreReplies advances editions input text → AreBegun advances editions input text
+are_begun advances editions input text x = record { requests = x.requests; begun = told_begun input x.requests x.all; text_is = x.text_is }
+
+-- ---- a session over a shelf of the first edition
+
+none_before : (m : ℕ) → min 0 (suc m - 1) ≡ 0
+none_before m = omega arith
+
+standing_first : (first : EditionValue) (others : List EditionValue) (n : ℕ) → edition_at false (first ∷ others) n ≡ first
+standing_first first others n = ap (λ k. slice_index_or (first ∷ others) k no_edition) (none_before (length others))
+
+pub same_shelf : (a b : List EditionValue) → Some a ≡ Some b → a ≡ b
+same_shelf a b e = cc
+
+pub replies_first : (first : EditionValue) (others editions : List EditionValue) (input : Option (List ℕ)) (x y : State) (report : SessionReport)
+    → editions ≡ first ∷ others → x.seen ≡ first ∷ [] → Some y.seen ≡ Some x.seen → Session input x y report
+    → (text : List ℕ) × AreReplies false editions input text × (y.written ≡ append_known x.written text)
+replies_first first others editions input x y report p q s e =
+    let after : y.seen ≡ first ∷ [] = same_shelf y.seen x.seen s ∙ q in
+    let uses : Uses x.seen e.editions (first ∷ []) = subst (λ (z : List EditionValue). Uses x.seen e.editions z) after e.answered.uses in
+    let read : e.editions ≡ editions_read (edition_at false (first ∷ others)) 0 e.requests =
+    read_first (edition_at false (first ∷ others)) first (standing_first first others) 0 e.requests e.editions e.answered.full (uses_first first x.seen e.editions q uses) in
+    let text : output e.requests e.editions ≡ replayed false editions e.requests =
+    ap (λ w. output e.requests w) read ∙ ap (λ (w : List EditionValue). replayed false w e.requests) (sym p) in
+    (output e.requests e.editions, record { requests = e.requests; all = e.all; text_is = text }, e.answered.bytes)
+
+pub begun_first : (first : EditionValue) (others editions : List EditionValue) (input : Option (List ℕ)) (x y : State)
+    → editions ≡ first ∷ others → x.seen ≡ first ∷ [] → Some y.seen ≡ Some x.seen → Broken request_limit input x y
+    → WrittenInPart (AreBegun false editions input) x.written y.written
+begun_first first others editions input x y p q s e =
+    let after : y.seen ≡ first ∷ [] = same_shelf y.seen x.seen s ∙ q in
+    let uses : Uses x.seen e.broke_off.editions (first ∷ []) = subst (λ (z : List EditionValue). Uses x.seen e.broke_off.editions z) after e.broke_off.uses in
+    let more : Begins (output e.requests e.broke_off.editions) (replayed false (first ∷ others) e.requests) =
+    begins_first (edition_at false (first ∷ others)) first (standing_first first others) 0 e.requests e.broke_off.editions (uses_first first x.seen e.broke_off.editions q uses) in
+    record {
+      text = replayed false (first ∷ others) e.requests;
+      is = record { requests = e.requests; begun = e.begun; text_is = ap (λ (w : List EditionValue). replayed false w e.requests) (sym p) };
+      front = front_of_more (output e.requests e.broke_off.editions) (replayed false (first ∷ others) e.requests) x.written y.written more e.broke_off.bytes;
+    }
+
+-- ---- the same of the ends of a run
+
+pub whole_first : (first : EditionValue) (others editions : List EditionValue) (input : Option (List ℕ)) (x y : State) (report : SessionReport) (new : Option (List ℕ)) (flushed : Option ℕ)
+    → editions ≡ first ∷ others → x.seen ≡ first ∷ [] → Some y.seen ≡ Some x.seen → Session input x y report → new ≡ y.written → IsFlushed new flushed
+    → WrittenWhole (AreReplies false editions input) x.written new flushed
+whole_first first others editions input x y report new flushed p q s e same settled =
+    let text = replies_first first others editions input x y report p q s e in
+    record { text = text.0; is = text.1; grew = same ∙ text.2; settled = settled }
+
+pub part_first : (first : EditionValue) (others editions : List EditionValue) (input : Option (List ℕ)) (x y : State) (report : SessionReport) (new : Option (List ℕ))
+    → editions ≡ first ∷ others → x.seen ≡ first ∷ [] → Some y.seen ≡ Some x.seen → Session input x y report → new ≡ y.written
+    → WrittenInPart (AreBegun false editions input) x.written new
+part_first first others editions input x y report new p q s e same =
+    let text = replies_first first others editions input x y report p q s e in
+    record { text = text.0; is = are_begun false editions input text.0 text.1; front = front_whole x.written new text.0 (same ∙ text.2) }
+
+pub at_end : (input left : Option (List ℕ)) → IsBehind input left → Told (λ bytes rest. rest ≡ []) input left → IsAtEnd left
+at_end None None b t = tt
+at_end None (Some left) b t = absurd (cc b.1)
+at_end (Some input) None b t = absurd t
+at_end (Some input) (Some left) b t = t
+
+-- how far the input was read
+pub served_first : (input left : Option (List ℕ)) (x y : State) (report : SessionReport) → Session input x y report → IsBehind input left
+    → (report.end ≡ EndOfInput → Told (λ bytes rest. rest ≡ []) input left) → IsServed input left
+served_first input left x y report e behind far = record { requests = e.requests; all = e.all; ended = λ ends. at_end input left behind (far (e.end ∙ ends)) }
+
+-- ---- the feed in a file
+
+-- what stands of what was opened stands of what the file holds
+pub stands_opened : (content left : Option (List ℕ)) (answer : Result (List EditionValue) FeedRefusal) → IfSome content (λ told. left ≡ Some told)
+    → FeedStandsIn left answer → FeedStandsIn content answer
+stands_opened (Some told) left answer h x = subst (λ (z : Option (List ℕ)). FeedStandsIn z answer) h x
+stands_opened None None answer h x = x
+stands_opened None (Some told) answer h x = (told, x)

@@ -1,0 +1,22 @@
+use Rattle.std.proofs.Common.{◌≡◌, ◌∙◌, List, Ok, Err, true, false, sym, ap, subst}
+use Rattle.edr_base.specs.Outside.{Aside}
+use Rattle.edr_edition.specs.Values.{EditionValue}
+use Rattle.edr_feed.specs.Feeds.{FeedStandsIn}
+use Rattle.edr.proofs.EndLemmas.{replay_output, fault_cause, rose_earlier}
+use Rattle.edr.proofs.replaying.replay.Goals as goal
+
+pub returns-in-Ok-read_feed-clause-output : goal.returns-in-Ok-read_feed-clause-output
+returns-in-Ok-read_feed-clause-output g c =
+    let stands = subst (λ (list : List EditionValue). FeedStandsIn (g.F.Source.left c.open.new.self) (Ok list)) (sym c.into_vec.ensures) c.in-Ok-read_feed.ensures.editions in
+    rw c.if-advances.true (replay_output c.served_advancing.result true c.into_vec.result.items _ _ _ _ _ _ c.in-Ok.ensures.left stands c.served_advancing.ensures.output)
+
+pub returns-in-Ok-2-clause-output : goal.returns-in-Ok-2-clause-output
+returns-in-Ok-2-clause-output g c =
+    let stands = subst (λ (list : List EditionValue). FeedStandsIn (g.F.Source.left c.open.new.self) (Ok list)) (sym c.into_vec-in-Ok-2.ensures) c.in-Ok-read_feed.ensures.editions in
+    rw c.if-advances.false (replay_output c.served_from_first.result false c.into_vec-in-Ok-2.result.items _ _ _ _ _ _ c.in-Ok.ensures.left stands c.served_from_first.ensures.output)
+
+pub returns-in-Err-clause-cause : goal.returns-in-Err-clause-cause
+returns-in-Err-clause-cause g c =
+    let closed = ap (λ (aside : Aside). aside.idle) c.in-Err.ensures.lent.same ∙ c.in-Ok.ensures.ready in
+    rw c.ending_of.ensures
+    (fault_cause c.in-Err.fault _ _ _ _ c.in-Ok.ensures.left c.in-Err.ensures.fault (λ is. (rose_earlier _ _ _ c.in-Ok.ensures.cause.later (c.in-Err.ensures.cause (ap Err is)), closed)))
