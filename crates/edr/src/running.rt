@@ -48,9 +48,12 @@ fn carry_out<S: Source, K: Sink, F: Files, L: Link>(
 
 /// All that the program does, over the objects that it is lent: `words` are those after the program's name.
 ///
-/// `ask TARGET` reads a feed from `input`, and writes to `output` what its last edition answers to the target. `check` reads a feed
-/// from `input` and writes how many editions it has; `check --summary` writes what each of them has. The answer is the status of the program; with each but 0 one line says why on `errors`. Of files and of the link nothing is asked that
-/// the words don't ask for, and where they ask for nothing there neither is touched.
+/// `ask TARGET` reads a feed from `input`, and writes to `output` what its last edition answers to the target. `replay FEED` reads
+/// the feed in the file of that name, and serves `input` as one connection to `output`, from the feed's first edition; with
+/// `--advance` each request but the first finds the feed's next edition. `check` reads a feed from `input` and writes how many
+/// editions it has; `check --summary` writes what each of them has. The answer is the status of the program; with each but 0 one
+/// line says why on `errors`. Of files and of the link nothing is asked that the words don't ask for, and where they ask for
+/// nothing there neither is touched.
 pub fn run<S: Source, K: Sink, D: Sink, F: Files, L: Link>(
     alloc: Global,
     words: &[Text],

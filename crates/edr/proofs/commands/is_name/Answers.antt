@@ -1,4 +1,3 @@
-use Rattle.std.proofs.Common.{◌≡◌}
 use Rattle.edr.proofs.NameLemmas.{named}
 use Rattle.edr.proofs.commands.is_name.Goals as goal
 

@@ -1,4 +1,4 @@
-use Rattle.std.proofs.Common.{◌≡◌, ◌∙◌, List, Ok, Err, true, false, sym, ap, subst}
+use Rattle.std.proofs.Common.{◌∙◌, List, Ok, Err, true, false, sym, ap, subst}
 use Rattle.edr_base.specs.Outside.{Aside}
 use Rattle.edr_edition.specs.Values.{EditionValue}
 use Rattle.edr_feed.specs.Feeds.{FeedStandsIn}

@@ -1,4 +1,4 @@
-use Rattle.std.proofs.Common.{◌≡◌, ◌∙◌, sym}
+use Rattle.std.proofs.Common.{◌∙◌, sym}
 use Rattle.edr.proofs.ReplayLemmas.{whole_first, part_first, begun_first, served_first}
 use Rattle.edr.proofs.EndLemmas.{settled_output, broken_output, read_so_far}
 use Rattle.edr.proofs.replaying.served_from_first.Goals as goal
