@@ -58,7 +58,7 @@ def main() -> int:
     parser = argparse.ArgumentParser(description=__doc__, formatter_class=argparse.RawDescriptionHelpFormatter)
     parser.add_argument("--edr", help="the program, a built one or a file of Python; without it the rows are printed")
     parser.add_argument("--large", action="store_true", help="the large rows too")
-    parser.add_argument("--request", type=int, default=FIRST, help="at which request of the work the program is")
+    parser.add_argument("--request", type=int, default=FIRST, help="at which stage the program is")
     given = parser.parse_args()
     rows = [row for row in all_rows(given.large) if given.request <= row.last]
     if given.edr is None:

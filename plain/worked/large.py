@@ -34,7 +34,7 @@ from worked.texts import (
 
 def many_times(count: int) -> list[str]:
     """So many minutes, of at most two days."""
-    return [f"2024-01-{1 + minute // 1440:02}T{minute // 60 % 24:02}:{minute % 60:02}:00Z" for minute in range(count)]
+    return [f"2024-06-0{1 + minute // 1440}T{minute // 60 % 24:02}:{minute % 60:02}:00Z" for minute in range(count)]
 
 
 def many_parameters(count: int) -> str:

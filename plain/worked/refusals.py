@@ -17,7 +17,7 @@ ANY_QUERY: list[tuple[int, Parts]] = [
     (8, {"crs": "local", "crs ": "local"}),
     (8, {"f": "json", "f ": "json"}),
     (9, {"f": "XML"}),
-    (14, {"datetime": "2024-01"}),
+    (14, {"datetime": "2024-06-01"}),
     (15, {"z": "20/0"}),
     (18, {"collection": "none"}),
     (19, {"collection": "bare"}),
