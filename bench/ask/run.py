@@ -88,9 +88,10 @@ def grid_of(times, columns, rows):
     )
 
 
-def points(count, columns):
-    """The target of so many positions, each on a node of its own."""
-    nodes = ",".join(f"({number % columns} {number // columns})" for number in range(count))
+def points(count, columns, nodes=None):
+    """The target of so many positions, each on a node of its own, or again and again on the first of so many nodes."""
+    places = [number % (nodes or count) for number in range(count)]
+    nodes = ",".join(f"({place % columns} {place // columns})" for place in places)
     return f"/collections/grid/position?coords=MULTIPOINT({nodes})"
 
 
@@ -111,7 +112,8 @@ def growth(folder):
         (200, 100, 200, "POINT", point, 200, 500),
         (200, 100, 200, "MULTIPOINT of 100", points(100, 100), 100 * 200, 20),
         (200, 100, 200, "MULTIPOINT of 1,000", points(1_000, 100), 1_000 * 200, 5),
-        (200, 100, 200, "MULTIPOINT of 10,000", points(10_000, 100), 10_000 * 200, 2),
+        (200, 100, 200, "MULTIPOINT of 5,000", points(5_000, 100), 5_000 * 200, 2),
+        (200, 100, 200, "MULTIPOINT of 10,000, two a node", points(10_000, 100, 5_000), 5_000 * 200, 2),
     ]
     for times, columns, lines, name, target, values, rounds in rows:
         path = os.path.join(folder, "grid.json")
