@@ -3,8 +3,8 @@
     python3 plain/rows.py ROWS [--request N] [--show]
 
 Each line of ROWS is an object with `words`, `input`, `files` by their names, and `answers`, a list of [first, last, status, output,
-errors]: what is answered from one request of the work to another. Without `--request`, all queries and stations are switched on and the last
-answers are wanted; with it, the switches stay as they are, and the answers are those at that request. The last line is
+errors]: what is answered from one stage of the product to another. Without `--request`, all queries and stations are switched on and the last
+answers are wanted; with it, the switches stay as they are, and the answers are those at that stage. The last line is
 `N agree, M differ`.
 """
 
