@@ -10,7 +10,8 @@ use Rattle.std.proofs.lemmas.List.{get_or_default}
 use Rattle.std.proofs.lemmas.List.Kept.{AllPairs-filter}
 use Rattle.std.proofs.lemmas.List.Sums.{count_by-le-length}
 use Rattle.std.specs.Int.Signed.{lt_z_yes, <ℤ_irrefl}
-use Rattle.edr_axes.specs.Axes.{value_at, IsAscending, IsAxis, distance, NearestIsThere, BoundsSplitAxes}
+use Rattle.jiff_core.proofs.SignedLemmas.{signed_arith}
+use Rattle.edr_axes.specs.Axes.{value_at, IsAscending, IsAxis, distance, NearestIsThere, NearestIsOne, BoundsSplitAxes}
 use Rattle.edr_axes.specs.CountLaws.{passes_before, before_passes}
 
 pub <ℤ_trans : (a b c : ℤ) → a <ℤ b → b <ℤ c → a <ℤ c
@@ -32,6 +33,14 @@ ascending_far values ascend low (suc high) h inside =
     elim (eq-or-lt_of_le (le_of_suc-le-suc h)) [
       | inl same ↦ subst Below (sym same) step
       | inr below ↦ <ℤ_trans (value_at values low) (value_at values high) (value_at values (suc high)) (ascending_far values ascend low high below (le_of_suc-le inside)) step
+    ]
+
+-- and at most those at its place or after it
+pub ascending_at_most : (values : List ℤ) → IsAscending values → (low high : ℕ) → low ≤ high → high < length values → value_at values low ≤ℤ value_at values high
+ascending_at_most values steps low high h inside =
+    elim (cases_lt low high) [
+      | inl lt ↦ omega (arith, signed_arith, ascending_far values steps low high lt inside)
+      | inr ge ↦ (let same : high ≡ low = omega arith in rw same (omega (arith, signed_arith)))
     ]
 
 -- a value stands at one place
@@ -165,3 +174,14 @@ nearest_is_there values c axis =
     let many : suc (length values - 1) ≡ length values = omega arith in
     let (place, near) = subst (λ (n : ℕ). (place : ℕ) × IsNearestOf values c n place) many (nearest_of values c (length values - 1)) in
     (place, record { inside = near.inside; least = near.least; lower = near.lower })
+
+-- and only one
+pub nearest_is_one : NearestIsOne
+nearest_is_one values c place other x y =
+    elim (cases_lt place other) [
+      | inl lt ↦ absurd (omega (arith, x.least other y.inside, y.lower place lt))
+      | inr ge ↦ elim (cases_lt other place) [
+        | inl lt ↦ absurd (omega (arith, y.least place x.inside, x.lower other lt))
+        | inr le ↦ omega arith
+      ]
+    ]

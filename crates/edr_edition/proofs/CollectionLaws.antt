@@ -1,8 +1,6 @@
 -- Collections in the order of their ids, and what a change makes of them.
-use Rattle.std.proofs.Common.{◌≡◌, inl, inr, ℕ, zero, suc, ◌<◌, not, codes, List, [], ◌∷◌, Contains, Option, Some, None, Result, Ok, Err, IfSome, unwrap_or, refl, sym, ap, ◌∙◌, subst, arith}
-use Rattle.std.proofs.lemmas.Bool.{cases_Bool}
+use Rattle.std.proofs.Common.{◌≡◌, ℕ, zero, suc, ◌<◌, not, codes, List, [], ◌∷◌, Option, Some, None, Result, Ok, Err, IfSome, unwrap_or, refl, sym, subst, arith}
 use Rattle.std.proofs.lemmas.List.Elements.{All-nil, All-append, All-cons, All-filter}
-use Rattle.std.proofs.lemmas.Slice.Eq.{bytes_eq-Decides}
 use Rattle.std.proofs.lemmas.Str.{IsUtf8-from_ascii}
 use Rattle.std.specs.List.{filter}
 use Rattle.std.specs.Str.{IsAscii}
@@ -11,8 +9,8 @@ use Rattle.covjson_value.specs.declared.coverages.Referencing.{Referencing}
 use Rattle.covjson_value.specs.Coverages.{IsReferencing, IsValid}
 use Rattle.edr_base.specs.FirstThatApplies.{NoneApplies}
 use Rattle.edr_base.specs.Names.{IsNameByte, IsName}
-use Rattle.edr_ids.specs.Ids.{has_id, is_below, is_above, item_of, with_item, without_id}
-use Rattle.edr_ids.specs.ListLaws.{AscendBy-with_item, AscendBy-without_id}
+use Rattle.edr_ids.specs.Ids.{has_id, is_below, is_above, with_item, without_id}
+use Rattle.edr_ids.specs.ListLaws.{item_found, AscendBy-with_item, AscendBy-without_id}
 use Rattle.edr_edition.specs.declared.kinds.Kind.TheVariants.{Grid as Grids}
 use Rattle.edr_edition.specs.declared.changes.Change.{Change}
 use Rattle.edr_edition.specs.declared.changes.Change.TheVariants.{Collection, Grid, DropCollection, DropInstance, Bare}
@@ -42,17 +40,7 @@ collections_without id cs are = record {
   ascending = AscendBy-without_id collection_id id cs are.ascending;
 }
 
--- ---- the item of an id
-
--- it is in the list, and has the id
-pub item_found : {V : Type 0} (key : V → List ℕ) (id : List ℕ) (xs : List V) (x : V) → item_of key id xs ≡ Some x → Contains xs x × (key x ≡ id)
-item_found key id [] x h = cc
-item_found key id (y ∷ xs) x h = elim (cases_Bool (has_id key id y)) [
-  | inl has ↦ (let found : Some y ≡ Some x = rw has at h in
-      let same : y ≡ x = cc in
-      ((0, omega arith, same), ap key (sym same) ∙ (bytes_eq-Decides (key y) id).0 has))
-  | inr lacks ↦ (let rest = item_found key id xs x (rw lacks at h) in ((suc rest.0.0, omega (arith, rest.0.1), rest.0.2), rest.1))
-]
+-- ---- the collection of an id
 
 pub found_is_collection : (cs : List CollectionValue) (id : List ℕ) (c : CollectionValue) → AreCollections cs → collection_in cs id ≡ Some c → IsCollection c
 found_is_collection cs id c are is =

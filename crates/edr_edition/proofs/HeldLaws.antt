@@ -7,7 +7,7 @@ use Rattle.edr_edition.specs.Values.{InstanceValue, CollectionValue, EditionValu
 use Rattle.edr_edition.specs.Instances.{IsInstance}
 use Rattle.edr_edition.specs.Editions.{IsCollection}
 use Rattle.edr_edition.specs.Stores.{instance_named, Held, of_grid, Subject, held_in, subject_in, subject_of, IsHeldBy, IsHeld, IsSubject, held_by}
-use Rattle.edr_edition.proofs.CollectionLaws.{item_found}
+use Rattle.edr_ids.specs.ListLaws.{item_found}
 use Rattle.edr_edition.proofs.NewestLaws.{newest_is_newest}
 
 -- ---- items

@@ -4,12 +4,10 @@ pub mod OutcomeLaws
 pub mod InstanceLaws
 pub mod CollectionInstances
 pub mod ParameterLaws
-pub mod GridShapes
 pub mod CollectionLaws
 pub mod StepLaws
 pub mod TallySteps
 pub mod PackedGrids
 pub mod NewestLaws
 pub mod HeldLaws
-pub mod InstanceGrids
 pub mod ShelfLaws

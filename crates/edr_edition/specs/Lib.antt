@@ -3,6 +3,8 @@ pub mod Tallies
 pub mod TallyLaws
 pub mod Instances
 pub mod InstanceLaws
+pub mod ShapeLaws
+pub mod GridLaws
 pub mod Parameters
 pub mod Editions
 pub mod Stores

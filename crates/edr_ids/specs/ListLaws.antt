@@ -1,5 +1,5 @@
 -- Laws of lists of items with ids, for the proofs of callers.
-use Rattle.std.proofs.Common.{◌≡◌, inl, inr, ℕ, zero, suc, ◌<◌, Bool, true, false, not, if◌then◌else◌, List, [], ◌∷◌, ◌++◌, length, map, All, Some, None, Ordering, Less, Equal, Greater, bytes_eq, refl, sym, ap, ◌∙◌, subst}
+use Rattle.std.proofs.Common.{◌≡◌, inl, inr, ℕ, zero, suc, ◌<◌, Bool, true, false, not, if◌then◌else◌, List, [], ◌∷◌, ◌++◌, length, map, All, Some, None, Contains, Ordering, Less, Equal, Greater, bytes_eq, refl, sym, ap, ◌∙◌, subst, arith}
 use Rattle.std.proofs.Math.Nat.{zero-lt-suc, suc-le-suc_iff, le_of_suc-le-suc, not-suc-le-zero, lt_trans}
 use Rattle.std.proofs.lemmas.Bool.{false≢true, cases_Bool}
 use Rattle.std.proofs.lemmas.Cmp.{nat_list_cmp_total, tied_itself}
@@ -166,3 +166,15 @@ module _ {V : Type 0} (id_of : V → List ℕ) where
       (λ k d h. less_from_test _ (filter_passes (is_below id_of id) items k d h))
       (λ k d h. greater_from_test _ (filter_passes (is_above id_of id) items k d h))
       (AscendBy-filter (λ k. is_lt (order k id)) items up) (AscendBy-filter (λ k. is_gt (order k id)) items up)
+
+-- ---- the item of an id
+
+-- it is in the list, and has the id
+pub item_found : {V : Type 0} (key : V → List ℕ) (id : List ℕ) (xs : List V) (x : V) → item_of key id xs ≡ Some x → Contains xs x × (key x ≡ id)
+item_found key id [] x h = cc
+item_found key id (y ∷ xs) x h = elim (cases_Bool (has_id key id y)) [
+  | inl has ↦ (let found : Some y ≡ Some x = rw has at h in
+      let same : y ≡ x = cc in
+      ((0, omega arith, same), ap key (sym same) ∙ (bytes_eq-Decides (key y) id).0 has))
+  | inr lacks ↦ (let rest = item_found key id xs x (rw lacks at h) in ((suc rest.0.0, omega (arith, rest.0.1), rest.0.2), rest.1))
+]

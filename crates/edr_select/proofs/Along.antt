@@ -4,7 +4,7 @@ use Rattle.std.specs.Prelude.{◌&&◌, ◌||◌}
 use Rattle.std.specs.List.{list_any}
 use Rattle.std.proofs.lemmas.Int.{ints}
 use Rattle.edr_axes.specs.Axes.{value_at, IsAscending, IsAxis}
-use Rattle.edr_axes.proofs.AxisLemmas.{ascending_at_most}
+use Rattle.edr_axes.specs.AxisLaws.{ascending_at_most}
 use Rattle.edr_select.specs.Wanted.{is_along}
 use Rattle.edr_select.proofs.Lists.{both}
 

@@ -11,7 +11,7 @@ use Rattle.std.proofs.lemmas.List.Sums.{count_by-le-length}
 use Rattle.edr_axes.specs.Axes.{value_at, IsAscending, IsAxis}
 use Rattle.edr_axes.specs.CountLaws.{point_of_count}
 use Rattle.edr_axes.specs.AxisLaws.{ascending_once, ascending_parted, at_most_parted}
-use Rattle.edr_axes.proofs.AxisLemmas.{ascending_at_most}
+use Rattle.edr_axes.specs.AxisLaws.{ascending_at_most}
 use Rattle.edr_select.proofs.AscendingOnce.{filter_range_agree}
 use Rattle.edr_select.proofs.RunsOfPlaces.{run_is}
 

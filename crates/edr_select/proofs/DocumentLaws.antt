@@ -14,8 +14,8 @@ use Rattle.edr_edition.specs.Values.{InstanceValue, CollectionValue, EditionValu
 use Rattle.edr_edition.specs.Instances.{IsInstance, HasGrid}
 use Rattle.edr_edition.specs.Editions.{IsCollection}
 use Rattle.edr_edition.specs.Stores.{Subject, instance_named}
-use Rattle.edr_edition.proofs.CollectionLaws.{item_found}
-use Rattle.edr_edition.proofs.InstanceGrids.{instance_has}
+use Rattle.edr_ids.specs.ListLaws.{item_found}
+use Rattle.edr_edition.specs.GridLaws.{instance_has}
 use Rattle.edr_query.specs.declared.pages.Page.TheVariants.{Ask}
 use Rattle.edr_query.specs.declared.shapes.Shape.{Shape}
 use Rattle.edr_query.specs.declared.shapes.Shape.TheVariants as at

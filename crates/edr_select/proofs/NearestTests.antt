@@ -7,7 +7,7 @@ use Rattle.std.proofs.lemmas.Bool.Decides.{nat_tests}
 use Rattle.std.proofs.lemmas.Int.{ints}
 use Rattle.edr_axes.specs.Axes.{value_at, distance, IsAscending, IsAxis, IsNearest}
 use Rattle.edr_axes.specs.AxisLaws.{ascending_far}
-use Rattle.edr_axes.proofs.AxisLemmas.{nearest_is_one}
+use Rattle.edr_axes.specs.AxisLaws.{nearest_is_one}
 use Rattle.edr_select.specs.Wanted.{is_nearest}
 
 abbrev closer : ℤ → ℤ → ℤ → Bool

@@ -1,4 +1,4 @@
-use Rattle.edr_axes.proofs.AxisLemmas.{nearest_is_one}
+use Rattle.edr_axes.specs.AxisLaws.{nearest_is_one}
 use Rattle.edr_axes.proofs.axis.nearest_is_one.Goals as goal
 
 pub returns : goal.returns

@@ -1,4 +1,4 @@
-use Rattle.edr_edition.proofs.InstanceGrids.{instance_has}
+use Rattle.edr_edition.specs.GridLaws.{instance_has}
 use Rattle.edr_edition.proofs.laws.instances_have_grids.Goals as goal
 
 pub returns : goal.returns

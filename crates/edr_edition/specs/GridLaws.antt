@@ -1,4 +1,4 @@
--- The axes, parameters and values of an instance.
+-- Laws of the axes, parameters and values of an instance, for the proofs of callers.
 use Rattle.std.proofs.Common.{◌≡◌, ℕ, ◌*◌, ℤ, true, is_some, List, [], ◌∷◌, length, All, Option, Some, None, IfSome, refl, sym, ap, ◌∙◌, subst, arith}
 use Rattle.std.proofs.lemmas.List.{length-append}
 use Rattle.std.proofs.lemmas.List.Elements.{All-nil, All-append, All-head, All-tail}
@@ -16,7 +16,7 @@ use Rattle.edr_chunk.specs.Places.{nodes}
 use Rattle.edr_chunk.specs.Samples.{HasSample, AreSamples}
 use Rattle.edr_edition.specs.Values.{InstanceValue}
 use Rattle.edr_edition.specs.Instances.{IsTimedGrid, shape_of, shape_over, values_of, instance_of, IsInstance, HasGrid}
-use Rattle.edr_edition.proofs.GridShapes.{timed_shape, ranges_fill}
+use Rattle.edr_edition.specs.ShapeLaws.{timed_shape, ranges_fill}
 
 -- ---- axes that are there
 

@@ -1,4 +1,4 @@
--- The shape of a grid of few nodes, and the values of its ranges.
+-- Laws of the shape of a grid of few nodes and of the values of its ranges, for the proofs of callers.
 use Rattle.std.proofs.Common.{◌≡◌, ℕ, ◌*◌, ◌≤◌, ℤ, List, All, Option, Some, None, IfSome, true, refl, ap, ◌∙◌, subst, arith}
 use Rattle.std.proofs.Math.Nat.{le-mul_of_pos_right}
 use Rattle.covjson_value.specs.declared.domains.CoordinateName.{CoordinateName}
