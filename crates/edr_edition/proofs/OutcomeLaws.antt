@@ -17,6 +17,7 @@ use Rattle.edr_edition.specs.Outcomes.{HasOneOutcome, collection_of, KeepsOthers
 use Rattle.edr_edition.proofs.ParameterLaws.{first_difference_once}
 use Rattle.edr_edition.proofs.FaultLaws.{Decided, grid_decided}
 use Rattle.edr_edition.proofs.RefusalLaws.{same_refuses, none_to_add, unknown_refuses, none_to_drop, grid_unknown, drop_unknown, drop_decided}
+use Rattle.edr_ids.specs.ListLaws.{item_found}
 use Rattle.edr_edition.proofs.CollectionLaws.{found_are_collections, bare_is_collection, made_are_collections}
 
 -- ---- some outcome
