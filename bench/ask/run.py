@@ -20,7 +20,7 @@ sys.path.insert(0, os.path.join(HERE, ".."))
 from measure import bench  # noqa: E402
 from measure import measure as bench_measure  # noqa: E402
 
-EDR = os.path.join(HERE, "..", "..", "crates", "edr", "out", "edr")
+EDR = os.path.join(HERE, "..", "..", "edr")
 SEED = 20260101
 RUNS = 5
 INSTANT = "2024-01-01T00:00:00Z"

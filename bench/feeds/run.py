@@ -1,10 +1,14 @@
 #!/usr/bin/env python3
-"""Measures `edr check --summary` on feeds: how fast lines are read beside python3 with its json, how many bytes a sample of
-an edition takes, and how time and memory grow with collections, publishes, blank lines and nested objects.
+"""Measures `edr check` on feeds: how fast lines are read beside python3 with its json, how many bytes a sample takes and how
+long a tile is opened, and how time and memory grow with collections, publishes, blank lines and nested objects.
 
-It makes its feeds from a seed in a temporary folder, and prints two tables. Peaks are those of the whole process. Each
-feed is read RUNS times, and the least wall time is kept. The program is asked through `./edr`, as users ask it. Run it from
-anywhere: bench/feeds/run.py"""
+It makes its feeds from a seed in a temporary folder, and prints the tables of docs/BENCHMARKS.md, with what is wanted beside
+what was found. Peaks are those of the whole process. Each feed is read RUNS times, and the least wall time is kept. The
+program is asked through `./edr`, as users ask it. Run it from anywhere: bench/feeds/run.py
+
+Bytes a sample and the opening of tiles are measured by `edr_bench tiles1` and `tiles5`, on the packed grid that an instance of
+an edition has: 2,000 by 2,000 nodes, whose samples of five digits no line of a feed could have. The bytes are those of its
+peak over that of `make`, which has the same samples in a list, and packs none."""
 import multiprocessing
 import os
 import random
@@ -14,9 +18,18 @@ import tempfile
 import time
 
 HERE = os.path.dirname(os.path.abspath(__file__))
+sys.path.insert(0, os.path.join(HERE, ".."))
+from measure import bench  # noqa: E402
+from measure import measure as bench_measure  # noqa: E402
+
 EDR = os.path.join(HERE, "..", "..", "edr")
 SEED = 20260101
 RUNS = 3
+NODES = 4_000_000
+TILES = 1_024
+TILE_ROUNDS = 200
+# of the megabytes a second of python3; bytes a sample of one digit, and of five; microseconds a tile
+LEAST_SPEED, MOST_BYTES, MOST_TILE = 1.2, {"tiles1": 1.1, "tiles5": 3.2}, 10
 REFERENCING = (
     '[{"coordinates":["x","y"],"system":{"id":"local","type":"ProjectedCRS"}},'
     '{"coordinates":["t"],"system":{"calendar":"Gregorian","type":"TemporalRS"}}]'
@@ -54,23 +67,14 @@ def _write(path, make, words):
             file.write(piece)
 
 
-def instances(count, columns, rows, low, high):
-    """A collection with so many instances, published once."""
-    yield '{"collection":{"id":"grid","kind":"grid","title":"grid","crs":"local"}}\n'
-    for number in range(count):
-        grid = coverage(columns, rows, samples(columns * rows, low, high, SEED + number))
-        yield '{"grid":{"collection":"grid","instance":"%d","coverage":%s}}\n' % (number, grid)
-    yield '{"publish":{}}\n'
-
-
 def bare(count, columns, rows, low, high):
     """Bare grids, each published."""
     for number in range(count):
         yield coverage(columns, rows, samples(columns * rows, low, high, SEED + number)) + "\n"
 
 
-def collections(order):
-    numbers = list(range(160_000))
+def collections(count, order):
+    numbers = list(range(count))
     if order == "descending":
         numbers.reverse()
     if order == "shuffled":
@@ -80,7 +84,7 @@ def collections(order):
     yield '{"publish":{}}\n'
 
 
-def publishes(count, items, changed):
+def publishes(items, count, changed):
     """So many instances, and so many publishes, with one instance set before each where `changed`."""
     small = coverage(1, 1, "1")
     yield '{"collection":{"id":"g","kind":"grid","title":"t","crs":"local"}}\n'
@@ -107,9 +111,24 @@ def measure(words, path, runs=RUNS):
     return best, peak, output
 
 
+def with_publishes(count, publishes_):
+    for number in range(count):
+        yield '{"collection":{"id":"%06d","kind":"grid","title":"t","crs":"c"}}\n' % number
+    for _ in range(publishes_):
+        yield '{"publish":{}}\n'
+
+
+def repeated(count, piece):
+    yield piece * count
+
+
+def objects(count):
+    yield "[" + '{"":1},' * count + "1]"
+
+
 def reading(folder):
-    print("| feed | bytes | program | seconds | megabytes a second | of python3 | MB at the peak |")
-    print("|---|---|---|---|---|---|---|")
+    print("| feed | bytes | program | seconds | megabytes a second | of python3 | wanted, at least | MB at the peak |")
+    print("|---|---|---|---|---|---|---|---|")
     for name, count, columns, rows, low, high in [
         ("one-digit samples, 4,000,000 a line", 25, 2000, 2000, 0, 9),
         ("five-digit samples, 1,000,000 a line", 33, 1000, 1000, 10000, 99999),
@@ -120,70 +139,62 @@ def reading(folder):
         theirs = measure([sys.executable, os.path.join(HERE, "check.py")], path)
         if ours[2] != theirs[2]:
             sys.exit(f"{name}: the two programs tell different things")
-        for program, (seconds, peak, _) in [("edr", ours), ("python3", theirs)]:
-            speed = size / seconds / 1e6
-            of_python = theirs[0] / seconds
-            print(f"| {name} | {size:,} | {program} | {seconds:.2f} | {speed:.0f} | {of_python:.2f} | {peak / 1e6:.0f} |")
+        for program, (seconds, peak, _), wanted in [("edr", ours, f"{LEAST_SPEED:.2f}"), ("python3", theirs, "")]:
+            speed = f"{seconds:.2f} | {size / seconds / 1e6:.0f} | {theirs[0] / seconds:.2f} | {wanted}"
+            print(f"| {name} | {size:,} | {program} | {speed} | {peak / 1e6:.0f} |", flush=True)
 
 
-def bytes_a_sample(folder, low, high):
-    """How many bytes an edition takes for a sample: the growth of the peak between 2 and 6 grids of 2,000 by 2,000."""
-    peaks = []
-    for count in (2, 6):
-        path = write(os.path.join(folder, "feed"), instances, count, 2000, 2000 if high < 10 else 1000, low, high)
-        peaks.append(measure([EDR, "check"], path, 1)[1])
-    nodes = 2000 * (2000 if high < 10 else 1000)
-    return (peaks[1] - peaks[0]) / (4 * nodes)
+def samples_and_tiles():
+    print("| 4,000,000 samples | bytes a sample | wanted, at most | microseconds to open a tile | wanted, at most |")
+    print("|---|---|---|---|---|")
+    _, listed, _ = bench_measure(bench("make", NODES))
+    for name, command in [("of one digit", "tiles1"), ("of up to five digits", "tiles5")]:
+        none, packed, _ = bench_measure(bench(command, 0))
+        took, _, opened = bench_measure(bench(command, TILE_ROUNDS))
+        if opened != str(TILES * TILE_ROUNDS):
+            sys.exit(f"{opened} tiles were opened")
+        tile = (took - none) / TILE_ROUNDS / TILES * 1e6
+        size = f"{(packed - listed) / NODES:.2f} | {MOST_BYTES[command]:.1f}"
+        print(f"| {name} | {size} | {tile:.3f} | {MOST_TILE} |", flush=True)
 
 
 def growth(folder):
-    print("| what | seconds | MB at the peak | |")
-    print("|---|---|---|---|")
+    """How much longer each feed takes than one of half the size: 2 is a time that grows with the size."""
+    print("| what | seconds | of half as much | MB at the peak | of half as much | |")
+    print("|---|---|---|---|---|---|")
     feeds = [
-        ("160,000 collections, ids ascending", collections, "ascending"),
-        ("160,000 collections, ids descending", collections, "descending"),
-        ("160,000 collections, ids shuffled", collections, "shuffled"),
-        ("20,000 instances, published once", publishes, 1, 20_000, False),
-        ("20,000 instances, 4,000 publishes", publishes, 4_000, 20_000, False),
-        ("20,000 instances, 4,000 publishes, one set before each", publishes, 4_000, 20_000, True),
-        ("40,000 collections, published once", with_publishes, 40_000, 1),
-        ("40,000 collections, 500 publishes", with_publishes, 40_000, 500),
-        ("16,000,000 line feeds", repeated, "\n", 16_000_000, ""),
-        ("16,000,000 blanks in one line", repeated, " ", 16_000_000, ""),
-        ('a line of 16 MB of `{"":` nested', repeated, '{"":', 4_000_000, ""),
-        ("a line of 16 MB of objects of one member", objects),
+        ("{:,} collections, ids ascending", 160_000, collections, "ascending"),
+        ("{:,} collections, ids descending", 160_000, collections, "descending"),
+        ("{:,} collections, ids shuffled", 160_000, collections, "shuffled"),
+        ("{:,} instances, published once", 20_000, publishes, 1, False),
+        ("{:,} instances, 4,000 publishes", 20_000, publishes, 4_000, False),
+        ("{:,} instances, 4,000 publishes, one set before each", 20_000, publishes, 4_000, True),
+        ("{:,} collections, published once", 40_000, with_publishes, 1),
+        ("{:,} collections, 500 publishes", 40_000, with_publishes, 500),
+        ("{:,} line feeds", 16_000_000, repeated, "\n"),
+        ("{:,} blanks in one line", 16_000_000, repeated, " "),
+        ('a line of {:,} times `{{"":`, nested', 4_000_000, repeated, '{"":'),
+        ("a line of {:,} objects of one member", 2_200_000, objects),
     ]
-    for name, make, *words in feeds:
-        path = write(os.path.join(folder, "feed"), make, *words)
-        seconds, peak, output = measure([EDR, "check"], path)
-        print(f"| {name} | {seconds:.2f} | {peak / 1e6:.0f} | `{output.decode().strip()}` |")
-
-
-def with_publishes(count, publishes_):
-    for number in range(count):
-        yield '{"collection":{"id":"%06d","kind":"grid","title":"t","crs":"c"}}\n' % number
-    for _ in range(publishes_):
-        yield '{"publish":{}}\n'
-
-
-def repeated(piece, count, end):
-    yield piece * count + end
-
-
-def objects():
-    yield "[" + '{"":1},' * 2_200_000 + "1]"
+    for name, count, make, *words in feeds:
+        found = []
+        for size in (count // 2, count):
+            path = write(os.path.join(folder, "feed"), make, size, *words)
+            found.append(measure([EDR, "check"], path))
+        (half, half_peak, _), (seconds, peak, output) = found
+        time_ = f"{seconds:.2f} | {seconds / half:.2f}"
+        memory = f"{peak / 1e6:.0f} | {peak / half_peak:.2f}"
+        print(f"| {name.format(count)} | {time_} | {memory} | `{output.decode().strip()}` |", flush=True)
 
 
 def main():
     if not os.path.exists(os.path.join(HERE, "..", "..", "crates", "edr", "out", "edr")):
         sys.exit("the program isn't built: run ./edr once")
+    bench("make", NODES)
     with tempfile.TemporaryDirectory() as folder:
         reading(folder)
         print()
-        print("| samples | bytes a sample in an edition |")
-        print("|---|---|")
-        for name, low, high in [("one digit", 0, 9), ("five digits, both signs", -99999, 99999), ("all equal", 7, 7)]:
-            print(f"| {name} | {bytes_a_sample(folder, low, high):.2f} |")
+        samples_and_tiles()
         print()
         growth(folder)
 
