@@ -71,7 +71,7 @@ def _is_offered(query: Query, collection: Collection) -> bool:
         return False
     if name == "position":
         return query.shape.geometry.tag == "POINT" and "nearest" in built.QUERIES_BUILT
-    return name in _OFFERED_BY_STATIONS and name in built.QUERIES_BUILT
+    return name in _OFFERED_BY_STATIONS and name in built.QUERIES_BUILT and built.STATIONS_ARE_READ
 
 
 def _asks_for_levels(query: Query) -> bool:

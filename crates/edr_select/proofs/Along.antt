@@ -1,9 +1,9 @@
 -- Between the least and the greatest value of an axis.
-use Rattle.std.proofs.Common.{◌≡◌, ℕ, zero, suc, ◌+◌, ◌-◌, ◌<◌, ◌≤◌, Bool, true, false, List, [], ◌∷◌, length, refl, ap, ap₂, sym, ◌∙◌, arith, ℤ, pos, ◌<ℤ◌, ◌≤ℤ◌, int_le}
+use Rattle.std.proofs.Common.{◌≡◌, ℕ, zero, suc, ◌-◌, ◌<◌, Bool, true, false, List, [], ◌∷◌, length, refl, ap₂, arith, ℤ, ◌≤ℤ◌, int_le}
 use Rattle.std.specs.Prelude.{◌&&◌, ◌||◌}
 use Rattle.std.specs.List.{list_any}
 use Rattle.std.proofs.lemmas.Int.{ints}
-use Rattle.edr_axes.specs.Axes.{value_at, IsAscending, IsAxis}
+use Rattle.edr_axes.specs.Axes.{value_at, IsAxis}
 use Rattle.edr_axes.specs.AxisLaws.{ascending_at_most}
 use Rattle.edr_select.specs.Wanted.{is_along}
 use Rattle.edr_select.proofs.Lists.{both}

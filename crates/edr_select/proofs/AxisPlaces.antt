@@ -1,5 +1,5 @@
 -- Which places of an axis have a value, and the values from one to another.
-use Rattle.std.proofs.Common.{◌≡◌, ℕ, ◌+◌, ◌-◌, ◌<◌, ◌≤◌, max, Bool, true, false, List, [], ◌∷◌, length, get_or, count_by, Contains, refl, ap, ap₂, sym, ◌∙◌, subst, arith, inl, inr, ℤ, pos, ◌<ℤ◌, ◌≤ℤ◌, int_lt, int_le}
+use Rattle.std.proofs.Common.{◌≡◌, ℕ, ◌+◌, ◌-◌, ◌<◌, ◌≤◌, max, Bool, true, false, List, [], ◌∷◌, length, count_by, Contains, refl, ap, sym, ◌∙◌, arith, inl, inr, ℤ, pos, ◌≤ℤ◌, int_lt, int_le}
 use Rattle.std.specs.Prelude.{◌&&◌}
 use Rattle.std.specs.Ordering.{int_eq}
 use Rattle.std.specs.List.{filter, range_with_len}
@@ -12,7 +12,6 @@ use Rattle.edr_axes.specs.Axes.{value_at, IsAscending, IsAxis}
 use Rattle.edr_axes.specs.CountLaws.{point_of_count}
 use Rattle.edr_axes.specs.AxisLaws.{ascending_once, ascending_parted, at_most_parted}
 use Rattle.edr_axes.specs.AxisLaws.{ascending_at_most}
-use Rattle.edr_select.proofs.AscendingOnce.{filter_range_agree}
 use Rattle.edr_select.proofs.RunsOfPlaces.{run_is}
 
 -- ---- one value

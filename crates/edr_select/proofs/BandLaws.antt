@@ -8,11 +8,11 @@ use Rattle.edr_chunk.specs.Places.{Within, nodes, NumbersTellPlaces}
 use Rattle.edr_chunk.specs.Tiles.{tile_shape, tile_place, tiles, tile_of}
 use Rattle.edr_chunk.specs.LawsOfPlaces.{TilesAreNumbered}
 use Rattle.edr_select.specs.declared.plans.GridNode.{GridNode}
-use Rattle.edr_select.specs.Plans.{place_at}
+use Rattle.edr_select.specs.Listings.{place_at}
 use Rattle.edr_select.specs.Bands.{first_tile, band_of}
 
 -- rows of places, each as wide as the others
-row_above : (a b x wide : ℕ) → a < b → x < wide → a * wide + x < b * wide
+pub row_above : (a b x wide : ℕ) → a < b → x < wide → a * wide + x < b * wide
 row_above a b x wide l inside =
     let m : (a + 1) * wide ≤ b * wide = mul-le-mul_right wide (up a b l) in
     omega (arith, m, more a wide, inside)

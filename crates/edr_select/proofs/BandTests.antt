@@ -3,7 +3,7 @@ use Rattle.std.proofs.Common.{◌≡◌, ◌≢◌, ℕ, ◌+◌, ◌-◌, ◌<�
 use Rattle.std.proofs.lemmas.Bool.{cases_lt}
 use Rattle.edr_chunk.specs.declared.shapes.GridShape.{GridShape}
 use Rattle.edr_select.specs.declared.plans.GridNode.{GridNode}
-use Rattle.edr_select.specs.Plans.{PlannedValue, PlanValue}
+use Rattle.edr_select.specs.Listings.{PlannedValue, ListingValue}
 use Rattle.edr_select.specs.Bands.{band_of, BandsRise, NumbersRise, Rises}
 
 -- a cell whose band stands below that of the one before it
@@ -28,12 +28,12 @@ numbers_fall numbers k least d inside none last low rise = elim (cases_lt 0 k) [
 ]
 
 -- plans that don't rise
-pub several : (plan : PlanValue) (planned : PlannedValue) → length plan.coverages ≢ 1 → ¬ (Rises plan planned)
+pub several : (plan : ListingValue) (planned : PlannedValue) → length plan.coverages ≢ 1 → ¬ (Rises plan planned)
 several plan planned other rises = other (ap length rises.alone)
 
-pub parameters_fall : (plan : PlanValue) (planned : PlannedValue) → ¬ (NumbersRise plan.parameters) → ¬ (Rises plan planned)
+pub parameters_fall : (plan : ListingValue) (planned : PlannedValue) → ¬ (NumbersRise plan.parameters) → ¬ (Rises plan planned)
 parameters_fall plan planned fall rises = fall rises.parameters
 
-pub cells_fall : (plan : PlanValue) (first planned : PlannedValue) → first ≡ get_or plan.coverages 0 first → ¬ (BandsRise plan.shape first.cells) → ¬ (Rises plan planned)
+pub cells_fall : (plan : ListingValue) (first planned : PlannedValue) → first ≡ get_or plan.coverages 0 first → ¬ (BandsRise plan.shape first.cells) → ¬ (Rises plan planned)
 cells_fall plan first planned is fall rises =
     fall (subst (λ (p : PlannedValue). BandsRise plan.shape p.cells) (sym (is ∙ ap (λ (cs : List PlannedValue). get_or cs 0 first) rises.alone)) rises.bands)

@@ -1,20 +1,20 @@
 -- The refusals of a query from step to step.
-use Rattle.std.proofs.Common.{◌≡◌, ℕ, Bool, true, false, List, [], ◌∷◌, Option, Some, None, refl, ap, sym, ◌∙◌, subst}
-use Rattle.std.specs.Prelude.{not, ◌&&◌, ◌||◌, cond, is_some, is_none, option_map, option_and_then}
+use Rattle.std.proofs.Common.{◌≡◌, ℕ, false, List, [], Option, Some, None, refl, ap, ◌∙◌}
+use Rattle.std.specs.Prelude.{cond}
 use Rattle.std.specs.List.{find}
 use Rattle.edr_base.specs.declared.refusals.Refusal.{Refusal}
-use Rattle.edr_base.specs.declared.refusals.Refusal.TheVariants.{UnknownCollection, UnknownInstance, UnknownLocation, QueryNotOffered, UnknownParameterName, BadCrs, NoLevels, NoSamples, TooLarge}
-use Rattle.edr_wkt.specs.declared.geometry.Geometry.{Geometry}
+use Rattle.edr_base.specs.declared.refusals.Refusal.TheVariants.{UnknownCollection, UnknownInstance, UnknownLocation}
 use Rattle.edr_ids.specs.Ids.{item_of}
 use Rattle.edr_edition.specs.declared.kinds.Kind.TheVariants.{Grid, Station}
-use Rattle.edr_edition.specs.Values.{InstanceValue, StationValue, CollectionValue, EditionValue, collection_id, station_id}
-use Rattle.edr_edition.specs.Stores.{of_grid, Subject, instance_named, subject_in, subject_of}
+use Rattle.edr_edition.specs.Values.{InstanceValue, CollectionValue, EditionValue, collection_id}
+use Rattle.edr_edition.specs.Stores.{Subject, instance_named, subject_in, subject_of}
 use Rattle.edr_query.specs.declared.pages.Page.TheVariants.{Ask}
 use Rattle.edr_query.specs.declared.shapes.Shape.{Shape}
 use Rattle.edr_query.specs.declared.shapes.Shape.TheVariants as at
 use Rattle.edr_query.specs.Values.{QueryValue}
-use Rattle.edr_select.specs.Refusals.{refused, in_order, applies, applies_if, applies_if_found, applies_in, applies_to_query, applies_to_subject, lacks_instance, lacks_station, lacks_station_of, offers, is_answered, names_other, crs_is_other, ids_in}
-use Rattle.edr_select.specs.Checks.{of_data, refused_data, refused_query, refused_in, grid_of}
+use Rattle.edr_select.specs.Refusals.{refused, in_order, applies_if, applies_if_found, applies_to_subject}
+use Rattle.edr_select.specs.Checks.{refused_query, refused_in, grid_of}
+use Rattle.edr_select.specs.Choices.{TakesEach}
 
 -- a refusal that is of no data applies to no subject
 none_of_data : (q : QueryValue) (refusal : Refusal) → ((s : Subject) → applies_to_subject q refusal s ≡ false) → (found : Option Subject) → applies_if (applies_to_subject q refusal) found ≡ false
@@ -44,10 +44,20 @@ subject_is e q c i h k n = rw (h, k, n) refl
 pub unknown_instance : (c : CollectionValue) (q : QueryValue) → c.kind ≡ Grid → instance_named q.instance c.instances ≡ None → refused_in c (Ask q) ≡ Some UnknownInstance
 unknown_instance c q k n = rw (k, n) refl
 
--- a position goes on to its names
-pub of_position : (c : CollectionValue) (q : QueryValue) (i : InstanceValue) (geometry : Geometry) → c.kind ≡ Grid → instance_named q.instance c.instances ≡ Some i → q.shape ≡ at.Position geometry
+of_shape : (c : CollectionValue) (q : QueryValue) (i : InstanceValue) → c.kind ≡ Grid → instance_named q.instance c.instances ≡ Some i → (shape : Shape) → TakesEach shape → q.shape ≡ shape
     → refused_in c (Ask q) ≡ refused_query c q
-of_position c q i geometry k n s = rw (k, n, s) refl
+of_shape c q i k n (at.Position geometry) each s = rw (k, n, s) refl
+of_shape c q i k n (at.Radius geometry within) each s = rw (k, n, s) refl
+of_shape c q i k n (at.Area geometry) each s = rw (k, n, s) refl
+of_shape c q i k n (at.Cube lo hi levels) each s = rw (k, n, s) refl
+of_shape c q i k n (at.Trajectory geometry) each s = absurd each
+of_shape c q i k n (at.Corridor geometry width height) each s = absurd each
+of_shape c q i k n (at.Location id) each s = absurd each
+
+-- a query that takes each time, level and place by itself goes on to its names
+pub of_each : (c : CollectionValue) (q : QueryValue) (i : InstanceValue) → c.kind ≡ Grid → instance_named q.instance c.instances ≡ Some i → TakesEach q.shape
+    → refused_in c (Ask q) ≡ refused_query c q
+of_each c q i k n each = of_shape c q i k n q.shape each refl
 
 -- ---- collections of stations, which have none by now
 

@@ -1,11 +1,9 @@
--- What a position takes of an instance, by the places that are chosen.
+-- What a query takes of an instance that takes each time, level and place by itself, by the places that are chosen.
 use Rattle.std.proofs.Common.{◌≡◌, ℕ, ◌+◌, ◌*◌, ◌<◌, Bool, true, false, List, [], ◌∷◌, length, refl, ap₂, sym, ◌∙◌, arith, mod-lt, Contains, Some, None}
 use Rattle.std.specs.List.{list_any}
 use Rattle.std.proofs.lemmas.Bool.{false_from_ne_true}
 use Rattle.std.proofs.lemmas.Nat.{div-mul-add, mod-mul-add, mul-add-lt, div_below}
 use Rattle.edr_axes.specs.Axes.{value_at}
-use Rattle.edr_wkt.specs.declared.geometry.Geometry.{Geometry}
-use Rattle.edr_wkt.specs.Geometries.{positions_of}
 use Rattle.covjson_value.specs.Domains.{axis_length}
 use Rattle.edr_chunk.specs.declared.shapes.GridPlace.{GridPlace}
 use Rattle.edr_chunk.specs.Grids.{value}
@@ -17,8 +15,8 @@ use Rattle.edr_select.specs.Wanted.{takes_time, takes_level, levels_asked}
 use Rattle.edr_select.specs.Selections.{is_asked}
 use Rattle.edr_select.specs.Heads.{is_some_stored}
 use Rattle.edr_select.specs.Documents.{value_in}
-use Rattle.edr_select.specs.Choices.{Chosen, chosen, IsSome, level_at, is_nearest_place, row_of, column_of, node_of}
-use Rattle.edr_select.specs.Plans.{place_at}
+use Rattle.edr_select.specs.Choices.{TakesEach, takes_node, Chosen, chosen, IsSome, level_at, row_of, column_of, node_of}
+use Rattle.edr_select.specs.Listings.{place_at}
 use Rattle.edr_select.proofs.Lists.{some_member, no_member}
 use Rattle.edr_select.proofs.Kept.{contains_kept, kept_below, kept_passes}
 use Rattle.edr_select.proofs.Grids.{IsGrid}
@@ -60,9 +58,9 @@ each_of c some =
       spot_in = s.among;
     }
 
-module _ (i : InstanceValue) (q : QueryValue) (geometry : Geometry) (g : IsGrid i) where
+module _ (i : InstanceValue) (q : QueryValue) (each : TakesEach q.shape) (g : IsGrid i) where
   abbrev c : Chosen
-  c = chosen i q geometry
+  c = chosen i q
 
   abbrev asks : ℕ → Bool
   asks p = is_asked q.parameters (id_at i.parameters p)
@@ -73,8 +71,8 @@ module _ (i : InstanceValue) (q : QueryValue) (geometry : Geometry) (g : IsGrid 
   abbrev takes_z : ℕ → Bool
   takes_z z = takes_level (levels_asked q) (level_at i.zs z)
 
-  abbrev is_near : ℕ → Bool
-  is_near spot = list_any (is_nearest_place i.ys i.xs (row_of i.xs spot) (column_of i.xs spot)) (positions_of geometry)
+  abbrev is_taken : ℕ → Bool
+  is_taken spot = takes_node i q.shape (row_of i.xs spot) (column_of i.xs spot)
 
   -- ---- the members of the four lists
 
@@ -96,11 +94,11 @@ module _ (i : InstanceValue) (q : QueryValue) (geometry : Geometry) (g : IsGrid 
   pub level_below : (z : ℕ) → Contains c.levels z → z < axis_length i.zs
   level_below z m = kept_below takes_z (axis_length i.zs) z m
 
-  pub spot_near : (spot : ℕ) → Contains c.spots spot → is_near spot ≡ true
-  spot_near spot m = kept_passes is_near (length i.ys * length i.xs) spot m
+  pub spot_taken : (spot : ℕ) → Contains c.spots spot → is_taken spot ≡ true
+  spot_taken spot m = kept_passes is_taken (length i.ys * length i.xs) spot m
 
   pub spot_below : (spot : ℕ) → Contains c.spots spot → spot < length i.ys * length i.xs
-  spot_below spot m = kept_below is_near (length i.ys * length i.xs) spot m
+  spot_below spot m = kept_below is_taken (length i.ys * length i.xs) spot m
 
   pub row_below : (spot : ℕ) → spot < length i.ys * length i.xs → row_of i.xs spot < length i.ys
   row_below spot h = div_below spot (length i.xs) (length i.ys) g.xs.some h
@@ -126,37 +124,37 @@ module _ (i : InstanceValue) (q : QueryValue) (geometry : Geometry) (g : IsGrid 
 
   -- a place whose parts are chosen is taken
   pub chosen_taken : (p t z spot : ℕ) → Contains c.parameters p → Contains c.times t → Contains c.levels z → Contains c.spots spot
-      → Taken i q geometry (place_at p (node_of i.xs spot t z))
-  chosen_taken p t z spot mp mt mz ms = record { asked = parameter_asked p mp; time = time_taken t mt; level = level_taken z mz; near = spot_near spot ms }
+      → Taken i q (place_at p (node_of i.xs spot t z))
+  chosen_taken p t z spot mp mt mz ms = record { asked = parameter_asked p mp; time = time_taken t mt; level = level_taken z mz; near = spot_taken spot ms }
 
   -- and the parts of one that is taken are chosen
-  pub taken_chosen : (a : GridPlace) → Within i.grid.shape a → Taken i q geometry a → IsChosenAt i c a
+  pub taken_chosen : (a : GridPlace) → Within i.grid.shape a → Taken i q a → IsChosenAt i c a
   taken_chosen a within h =
       let column : a.x < length i.xs = omega (arith, within.x, g.columns) in
       let row : a.y < length i.ys = omega (arith, within.y, g.rows) in
-      let near : is_near (a.y * length i.xs + a.x) ≡ true =
-      ap₂ (λ y x. list_any (is_nearest_place i.ys i.xs y x) (positions_of geometry)) (div-mul-add a.y (length i.xs) a.x column) (mod-mul-add a.y (length i.xs) a.x column)
+      let near : is_taken (a.y * length i.xs + a.x) ≡ true =
+      ap₂ (λ y x. takes_node i q.shape y x) (div-mul-add a.y (length i.xs) a.x column) (mod-mul-add a.y (length i.xs) a.x column)
       ∙ h.near in
       let below : a.y * length i.xs + a.x < length i.ys * length i.xs = omega (arith, mul-add-lt a.y (length i.xs) a.x (length i.ys) row column) in
       record {
         parameter = contains_kept asks (length i.parameters) a.parameter (omega (arith, within.parameter, g.parameters)) h.asked;
         time = contains_kept takes_t (length i.ts) a.t (omega (arith, within.t, g.times)) h.time;
         level = contains_kept takes_z (axis_length i.zs) a.z (omega (arith, within.z, g.levels)) h.level;
-        spot = contains_kept is_near (length i.ys * length i.xs) (a.y * length i.xs + a.x) below near;
+        spot = contains_kept is_taken (length i.ys * length i.xs) (a.y * length i.xs + a.x) below near;
       }
 
   -- the sample of a cell whose parts are chosen is picked
   pub pick_at : (t : Stored → Bool) (p m z spot : ℕ) → Contains c.parameters p → Contains c.times m → Contains c.levels z → Contains c.spots spot
-      → t (stored_at i (place_at p (node_of i.xs spot m z))) ≡ true → list_any t (picks_at i q geometry) ≡ true
+      → t (stored_at i (place_at p (node_of i.xs spot m z))) ≡ true → list_any t (picks_at i q) ≡ true
   pick_at t p m z spot mp mt mz ms passes =
-      found_pick i q geometry t (place_at p (node_of i.xs spot m z)) (chosen_within p m z spot mp mt mz ms) (chosen_taken p m z spot mp mt mz ms) passes
+      found_pick i q each t (place_at p (node_of i.xs spot m z)) (chosen_within p m z spot mp mt mz ms) (chosen_taken p m z spot mp mt mz ms) passes
 
   -- its value is found
   pub value_at_cell : (p t z spot : ℕ) → Contains c.parameters p → Contains c.times t → Contains c.levels z → Contains c.spots spot
-      → value_in (picks_at i q geometry) None (id_at i.parameters p) (node_at i (place_at 0 (node_of i.xs spot t z)))
+      → value_in (picks_at i q) None (id_at i.parameters p) (node_at i (place_at 0 (node_of i.xs spot t z)))
       ≡ value i.grid (place_at p (node_of i.xs spot t z))
   value_at_cell p t z spot mp mt mz ms =
-      value_at_place i q geometry (place_at p (node_of i.xs spot t z)) g (chosen_within p t z spot mp mt mz ms) (chosen_taken p t z spot mp mt mz ms)
+      value_at_place i q each (place_at p (node_of i.xs spot t z)) g (chosen_within p t z spot mp mt mz ms) (chosen_taken p t z spot mp mt mz ms)
 
   -- ---- whether anything is picked
 
@@ -164,27 +162,27 @@ module _ (i : InstanceValue) (q : QueryValue) (geometry : Geometry) (g : IsGrid 
   some_is [] = refl
   some_is (x ∷ xs) = refl
 
-  pub some_picked : IsSome c → is_some_stored (picks_at i q geometry) ≡ true
+  pub some_picked : IsSome c → is_some_stored (picks_at i q) ≡ true
   some_picked some =
       let e = each_of c some in
-      sym (some_is (picks_at i q geometry)) ∙ pick_at (λ x. true) e.parameter e.time e.level e.spot e.parameter_in e.time_in e.level_in e.spot_in refl
+      sym (some_is (picks_at i q)) ∙ pick_at (λ x. true) e.parameter e.time e.level e.spot e.parameter_in e.time_in e.level_in e.spot_in refl
 
   -- a chosen place of what is picked
-  chosen_pick : is_some_stored (picks_at i q geometry) ≡ true → (a : GridPlace) × IsChosenAt i c a
+  chosen_pick : is_some_stored (picks_at i q) ≡ true → (a : GridPlace) × IsChosenAt i c a
   chosen_pick h =
-      let f = pick_found i q geometry (λ x. true) (some_is (picks_at i q geometry) ∙ h) in
+      let f = pick_found i q each (λ x. true) (some_is (picks_at i q) ∙ h) in
       (f.place, taken_chosen f.place f.within f.taken)
 
-  pub none_without_parameters : c.parameters ≡ [] → is_some_stored (picks_at i q geometry) ≡ false
-  none_without_parameters none = false_from_ne_true (is_some_stored (picks_at i q geometry)) (λ h.
+  pub none_without_parameters : c.parameters ≡ [] → is_some_stored (picks_at i q) ≡ false
+  none_without_parameters none = false_from_ne_true (is_some_stored (picks_at i q)) (λ h.
       let f = chosen_pick h in no_member c.parameters f.0.parameter none f.1.parameter)
 
-  pub none_without_times : c.times ≡ [] → is_some_stored (picks_at i q geometry) ≡ false
-  none_without_times none = false_from_ne_true (is_some_stored (picks_at i q geometry)) (λ h. let f = chosen_pick h in no_member c.times f.0.t none f.1.time)
+  pub none_without_times : c.times ≡ [] → is_some_stored (picks_at i q) ≡ false
+  none_without_times none = false_from_ne_true (is_some_stored (picks_at i q)) (λ h. let f = chosen_pick h in no_member c.times f.0.t none f.1.time)
 
-  pub none_without_levels : c.levels ≡ [] → is_some_stored (picks_at i q geometry) ≡ false
-  none_without_levels none = false_from_ne_true (is_some_stored (picks_at i q geometry)) (λ h. let f = chosen_pick h in no_member c.levels f.0.z none f.1.level)
+  pub none_without_levels : c.levels ≡ [] → is_some_stored (picks_at i q) ≡ false
+  none_without_levels none = false_from_ne_true (is_some_stored (picks_at i q)) (λ h. let f = chosen_pick h in no_member c.levels f.0.z none f.1.level)
 
-  pub none_without_spots : c.spots ≡ [] → is_some_stored (picks_at i q geometry) ≡ false
-  none_without_spots none = false_from_ne_true (is_some_stored (picks_at i q geometry)) (λ h.
+  pub none_without_spots : c.spots ≡ [] → is_some_stored (picks_at i q) ≡ false
+  none_without_spots none = false_from_ne_true (is_some_stored (picks_at i q)) (λ h.
       let f = chosen_pick h in no_member c.spots (f.0.y * length i.xs + f.0.x) none f.1.spot)

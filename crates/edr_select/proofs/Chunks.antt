@@ -1,23 +1,21 @@
--- The chunks that a position needs are the tiles of the cells that are chosen.
+-- The chunks that a query needs are the tiles of the cells that are chosen.
 use Rattle.std.proofs.Common.{◌≡◌, ℕ, zero, suc, ◌||◌, ◌+◌, ◌*◌, ◌<◌, ◌==◌, Bool, true, false, List, [], ◌∷◌, length, refl, ap, ap₂, sym, ◌∙◌, subst, arith, ℤ, Contains}
 use Rattle.std.specs.Prelude.{map}
 use Rattle.std.specs.List.{flat_map, list_any, range_with_len, slice_index_or}
 use Rattle.std.proofs.lemmas.Nat.{div-mul-add, mod-mul-add}
 use Rattle.std.proofs.lemmas.List.Elements.{filter_agree}
-use Rattle.edr_wkt.specs.declared.geometry.Geometry.{Geometry}
 use Rattle.edr_chunk.specs.declared.shapes.GridShape.{GridShape}
 use Rattle.edr_chunk.specs.declared.shapes.GridPlace.{GridPlace}
 use Rattle.edr_chunk.specs.AllPlaces.{at}
 use Rattle.edr_chunk.specs.Tiles.{tiles, tile_of}
 use Rattle.edr_edition.specs.Values.{InstanceValue}
 use Rattle.edr_edition.specs.Stores.{Held, of_grid, Subject}
-use Rattle.edr_query.specs.declared.shapes.Shape.TheVariants as shapes
 use Rattle.edr_query.specs.Values.{QueryValue}
 use Rattle.edr_select.specs.declared.plans.GridNode.{GridNode}
 use Rattle.edr_select.specs.Samples.{Stored, chunks_in, ascending_once}
 use Rattle.edr_select.specs.Selections.{chunk_of, needed}
-use Rattle.edr_select.specs.Choices.{Chosen, chosen, node_of, cells_at, cells_along}
-use Rattle.edr_select.specs.Plans.{PlannedValue, PlanValue, place_at, tiles_of_range, tiles_of_coverage, plan_tiles}
+use Rattle.edr_select.specs.Choices.{TakesEach, Chosen, chosen, node_of, cells_at, cells_along}
+use Rattle.edr_select.specs.Listings.{PlannedValue, ListingValue, place_at, tiles_of_range, tiles_of_coverage, listing_tiles}
 use Rattle.edr_select.proofs.Lists.{any-map, any-flat_map, any_agree, both, passing, any_member, member_here}
 use Rattle.edr_select.proofs.Grids.{IsGrid}
 use Rattle.edr_select.proofs.Picks.{picks_at, picked_is, pick_found}
@@ -46,12 +44,12 @@ pub record HasTiles (i : InstanceValue) (c : Chosen) (numbers : List ℕ) : Type
   pub all : (u : ℕ → Bool) (p t z spot : ℕ) → Contains c.parameters p → Contains c.times t → Contains c.levels z → Contains c.spots spot
       → u (tile_at i p t z spot) ≡ true → list_any u numbers ≡ true
 
-module _ (i : InstanceValue) (q : QueryValue) (geometry : Geometry) (g : IsGrid i) where
+module _ (i : InstanceValue) (q : QueryValue) (each : TakesEach q.shape) (g : IsGrid i) where
   abbrev c : Chosen
-  c = chosen i q geometry
+  c = chosen i q
 
   abbrev picks : List Stored
-  picks = picks_at i q geometry
+  picks = picks_at i q
 
   -- the place of a chosen node, by its number
   same_tile : (a : GridPlace) → a.x < length i.xs → tile_at i a.parameter a.t a.z (a.y * length i.xs + a.x) ≡ tile_of i.grid.shape a
@@ -62,8 +60,8 @@ module _ (i : InstanceValue) (q : QueryValue) (geometry : Geometry) (g : IsGrid 
   pub picks_have_tiles : HasTiles i c (map chunk_of picks)
   picks_have_tiles = record {
     only = λ u h.
-        let f = pick_found i q geometry (λ (x : Stored). u (chunk_of x)) (sym (any-map u chunk_of picks) ∙ h) in
-        let m = laws.taken_chosen i q geometry g f.place f.within f.taken in
+        let f = pick_found i q each (λ (x : Stored). u (chunk_of x)) (sym (any-map u chunk_of picks) ∙ h) in
+        let m = laws.taken_chosen i q each g f.place f.within f.taken in
         record {
           p = f.place.parameter;
           t = f.place.t;
@@ -76,7 +74,7 @@ module _ (i : InstanceValue) (q : QueryValue) (geometry : Geometry) (g : IsGrid 
           passes = ap u (same_tile f.place (omega (arith, f.within.x, g.columns))) ∙ f.passes;
         };
     all = λ u p t z spot mp mt mz ms h.
-        any-map u chunk_of picks ∙ laws.pick_at i q geometry g (λ (x : Stored). u (chunk_of x)) p t z spot mp mt mz ms h;
+        any-map u chunk_of picks ∙ laws.pick_at i q each g (λ (x : Stored). u (chunk_of x)) p t z spot mp mt mz ms h;
   }
 
   -- two such lists give the same numbers, ascending, each once
@@ -214,20 +212,20 @@ module _ (s : Subject) (i : InstanceValue) (c : Chosen) where
 
 -- ---- a plan's chunks
 
-module _ (s : Subject) (q : QueryValue) (i : InstanceValue) (geometry : Geometry) (held : s.held ≡ of_grid i) (shape : q.shape ≡ shapes.Position geometry) (g : IsGrid i) where
+module _ (s : Subject) (q : QueryValue) (i : InstanceValue) (held : s.held ≡ of_grid i) (each : TakesEach q.shape) (g : IsGrid i) where
   abbrev choice : Chosen
-  choice = chosen i q geometry
+  choice = chosen i q
 
   -- the chunks that a query needs are those of any list with these members
   pub chunks_are : (numbers : List ℕ) → HasTiles i choice numbers → ascending_once (tiles i.grid.shape) numbers ≡ needed s q
   chunks_are numbers h =
-      same_numbers i q geometry g (tiles i.grid.shape) numbers (map chunk_of (picks_at i q geometry)) h (picks_have_tiles i q geometry g)
-      ∙ sym (ap (λ (picks : List Stored). ascending_once (chunks_in s.held) (map chunk_of picks)) (picked_is s q i geometry held shape)
-      ∙ ap (λ (h' : Held). ascending_once (chunks_in h') (map chunk_of (picks_at i q geometry))) held)
+      same_numbers i q each g (tiles i.grid.shape) numbers (map chunk_of (picks_at i q)) h (picks_have_tiles i q each g)
+      ∙ sym (ap (λ (picks : List Stored). ascending_once (chunks_in s.held) (map chunk_of picks)) (picked_is s q i held each)
+      ∙ ap (λ (h' : Held). ascending_once (chunks_in h') (map chunk_of (picks_at i q))) held)
 
   -- a plan with these coverages opens what the query needs
-  plan_chunks : (plan : PlanValue) (coverages : List PlannedValue) → plan.shape ≡ i.grid.shape → plan.parameters ≡ choice.parameters → plan.coverages ≡ coverages
-      → HasTiles i choice (flat_map (tiles_of_coverage i.grid.shape choice.parameters) coverages) → ascending_once (tiles plan.shape) (plan_tiles plan) ≡ needed s q
+  plan_chunks : (plan : ListingValue) (coverages : List PlannedValue) → plan.shape ≡ i.grid.shape → plan.parameters ≡ choice.parameters → plan.coverages ≡ coverages
+      → HasTiles i choice (flat_map (tiles_of_coverage i.grid.shape choice.parameters) coverages) → ascending_once (tiles plan.shape) (listing_tiles plan) ≡ needed s q
   plan_chunks plan coverages is_shape parameters are h =
       ap (λ (d : GridShape). ascending_once (tiles d) (flat_map (tiles_of_coverage d plan.parameters) plan.coverages)) is_shape
       ∙ (ap (λ (ps : List ℕ). ascending_once (tiles i.grid.shape) (flat_map (tiles_of_coverage i.grid.shape ps) plan.coverages)) parameters
@@ -235,19 +233,19 @@ module _ (s : Subject) (q : QueryValue) (i : InstanceValue) (geometry : Geometry
       ∙ chunks_are (flat_map (tiles_of_coverage i.grid.shape choice.parameters) coverages) h))
 
   -- of each spot in turn
-  pub chunks_of_spots : (plan : PlanValue) → plan.shape ≡ i.grid.shape → plan.parameters ≡ choice.parameters
+  pub chunks_of_spots : (plan : ListingValue) → plan.shape ≡ i.grid.shape → plan.parameters ≡ choice.parameters
       → plan.coverages ≡ map (planned_at s i choice) choice.spots
-      → ascending_once (tiles plan.shape) (plan_tiles plan) ≡ needed s q
+      → ascending_once (tiles plan.shape) (listing_tiles plan) ≡ needed s q
   chunks_of_spots plan is_shape parameters are = plan_chunks plan (map (planned_at s i choice) choice.spots) is_shape parameters are (spots_have_tiles s i choice)
 
   -- of one spot
-  pub chunks_of_spot : (spot : ℕ) → choice.spots ≡ spot ∷ [] → (plan : PlanValue) → plan.shape ≡ i.grid.shape → plan.parameters ≡ choice.parameters
-      → plan.coverages ≡ planned_at s i choice spot ∷ [] → ascending_once (tiles plan.shape) (plan_tiles plan) ≡ needed s q
+  pub chunks_of_spot : (spot : ℕ) → choice.spots ≡ spot ∷ [] → (plan : ListingValue) → plan.shape ≡ i.grid.shape → plan.parameters ≡ choice.parameters
+      → plan.coverages ≡ planned_at s i choice spot ∷ [] → ascending_once (tiles plan.shape) (listing_tiles plan) ≡ needed s q
   chunks_of_spot spot spot_is plan is_shape parameters are = chunks_of_spots plan is_shape parameters (are ∙ sym (ap (map (planned_at s i choice)) spot_is))
 
   -- of all spots at one time and level
-  pub chunks_along : (t z : ℕ) → choice.times ≡ t ∷ [] → choice.levels ≡ z ∷ [] → (plan : PlanValue) → plan.shape ≡ i.grid.shape
+  pub chunks_along : (t z : ℕ) → choice.times ≡ t ∷ [] → choice.levels ≡ z ∷ [] → (plan : ListingValue) → plan.shape ≡ i.grid.shape
       → plan.parameters ≡ choice.parameters
-      → plan.coverages ≡ planned_along s i choice t z ∷ [] → ascending_once (tiles plan.shape) (plan_tiles plan) ≡ needed s q
+      → plan.coverages ≡ planned_along s i choice t z ∷ [] → ascending_once (tiles plan.shape) (listing_tiles plan) ≡ needed s q
   chunks_along t z time_is level_is plan is_shape parameters are =
       plan_chunks plan (planned_along s i choice t z ∷ []) is_shape parameters are (along_has_tiles s i choice t z time_is level_is)

@@ -19,7 +19,7 @@ use Rattle.edr_query.specs.Values.{QueryValue}
 use Rattle.edr_select.specs.declared.plans.GridNode.{GridNode}
 use Rattle.edr_select.specs.Documents.{document, coverages_in, values_in}
 use Rattle.edr_select.specs.Choices.{Chosen, chosen, IsSome, node_of}
-use Rattle.edr_select.specs.Plans.{PlannedValue, place_at, range_over, coverage_of}
+use Rattle.edr_select.specs.Listings.{PlannedValue, place_at, range_over, coverage_of}
 use Rattle.edr_select.proofs.Grids.{IsGrid}
 use Rattle.edr_select.proofs.Coverages.{planned_at, planned_along}
 use Rattle.edr_select.proofs.PlanDocuments.{document_at_point, document_along, document_apart}
@@ -68,9 +68,9 @@ turned : (s p t z : ℕ) → s * (p * (t * z)) ≡ p * (t * (z * s))
 turned s p t z = mul_comm s (p * (t * z)) ∙ (mul_assoc p (t * z) s ∙ ap (λ n. p * n) (mul_assoc t z s))
 
 module _ (s : Subject) (q : QueryValue) (i : InstanceValue) (geometry : Geometry) (held : s.held ≡ of_grid i) (shape : q.shape ≡ at.Position geometry) (g : IsGrid i)
-    (some : IsSome (chosen i q geometry)) where
+    (some : IsSome (chosen i q)) where
   abbrev c : Chosen
-  c = chosen i q geometry
+  c = chosen i q
 
   abbrev planned_coverage : PlannedValue → Coverage
   planned_coverage = coverage_of i.grid c.parameters

@@ -1,15 +1,14 @@
 -- Ranges and coverages cut out of all values.
-use Rattle.std.proofs.Common.{◌≡◌, ℕ, suc, ◌+◌, ◌-◌, ◌*◌, ◌<◌, ◌≤◌, Bool, true, false, eqb, List, [], ◌∷◌, ◌++◌, length, drop, get_or, ℤ, Option, ap, sym, ◌∙◌, arith, drop-cons}
+use Rattle.std.proofs.Common.{◌≡◌, ℕ, suc, ◌+◌, ◌-◌, ◌*◌, ◌<◌, Bool, true, false, eqb, List, ◌∷◌, ◌++◌, length, drop, get_or, ℤ, Option, ap, sym, ◌∙◌, arith, drop-cons}
 use Rattle.std.specs.Prelude.{◌==◌, if◌then◌else◌}
 use Rattle.std.proofs.lemmas.Bool.{eq-eqb, ne_eqb}
 use Rattle.covjson_write.specs.declared.stages.Stage.TheVariants.{Ready, Within}
 use Rattle.std.specs.List.{slice_range}
-use Rattle.std.proofs.Math.Nat.{mul-le-mul_right}
-use Rattle.std.proofs.lemmas.List.{drop-drop, drop_all, take_all, length-drop}
+use Rattle.std.proofs.lemmas.List.{drop-drop, take_all, length-drop}
 use Rattle.covjson_write.specs.declared.range_heads.RangeHead.{RangeHead}
 use Rattle.covjson_write.specs.Pieces.{is_later, range_piece, ranges_from, head_of, coverage_begin, coverage_piece, coverages_from}
 use Rattle.serde_json.specs.Written.{comma_if}
-use Rattle.edr_select.specs.Plans.{PlannedValue}
+use Rattle.edr_select.specs.Listings.{PlannedValue}
 use Rattle.edr_select.specs.Gathered.{ranges_cut, coverage_cut, coverages_cut, size_of, sizes_of}
 
 drop_next : {X : Type 0} (xs : List X) (i : ℕ) (x : X) → i < length xs → x ≡ get_or xs i x → drop i xs ≡ x ∷ drop (i + 1) xs

@@ -1,4 +1,4 @@
--- The document of a query that no refusal applies to is that of a plan, and so it is valid.
+-- The document of a query that no refusal applies to is that of a reply, and so it is valid.
 use Rattle.std.proofs.Common.{◌≡◌, ℕ, Bool, true, false, List, [], ◌∷◌, length, Some, None, refl, ap, sym, ◌∙◌, subst, arith, inl, inr}
 use Rattle.std.specs.declared.option.Option.{Option}
 use Rattle.std.specs.Prelude.{◌⊎◌, not, ◌&&◌, is_none}
@@ -28,8 +28,9 @@ use Rattle.edr_select.specs.Heads.{is_some_stored}
 use Rattle.edr_select.specs.Documents.{document}
 use Rattle.edr_select.specs.DocumentLaws.{DocumentsAreValid}
 use Rattle.edr_select.specs.Checks.{grid_of}
-use Rattle.edr_select.specs.Choices.{Chosen, chosen, IsSome}
-use Rattle.edr_select.specs.Plans.{PlanValue}
+use Rattle.edr_select.specs.Choices.{TakesEach, Chosen, chosen, IsSome}
+use Rattle.edr_select.specs.Listings.{ListingValue}
+use Rattle.edr_select.specs.Masks.{IsArea}
 use Rattle.edr_select.specs.Steps.{IsAsked, IsForm, are_several, is_many, planned_in}
 use Rattle.edr_select.proofs.Lists.{all_member}
 use Rattle.edr_select.proofs.Grids.{IsGrid}
@@ -37,8 +38,9 @@ use Rattle.edr_select.proofs.Instances.{grid_from}
 use Rattle.edr_select.proofs.PositionLaws as position
 use Rattle.edr_select.proofs.CheckLaws.{subject_is}
 use Rattle.edr_select.proofs.PlanSteps.{named_member, subject_found}
-use Rattle.edr_select.proofs.PlanForms.{is_asked, spot_alone, is_plan, plan_stands, valid_document}
+use Rattle.edr_select.proofs.PlanForms.{spot_alone, listing_valid}
 use Rattle.edr_select.proofs.RefusalLaws.{refusal_is_least}
+use Rattle.edr_select.proofs.FramePlans.{area_valid}
 
 -- there is one
 abbrev Is : {V : Type 0} → Option V → Type 0
@@ -57,21 +59,20 @@ in_found : (q : QueryValue) (refusal : Refusal) (o : Option CollectionValue) (co
     → ¬ (applies_if_found (Ask q) refusal o ≡ true) → ¬ (applies_in collection (Ask q) refusal ≡ true)
 in_found q refusal o collection e n = subst (λ (p : Option CollectionValue). ¬ (applies_if_found (Ask q) refusal p ≡ true)) e n
 
--- a position of grids is answered, and nothing else
+-- only a query of grids is answered that takes each time, level and place by itself
 record IsAnswered (kind : Kind) (shape : Shape) : Type 0 where
-  geometry : Geometry
   kind_is : kind ≡ Grid
-  shape_is : shape ≡ at.Position geometry
+  each : TakesEach shape
 
 not_both : (b : Bool) → not (b && false) ≡ true
 not_both true = refl
 not_both false = refl
 
 answered : (kind : Kind) (shape : Shape) (b : Bool) → ¬ (not (b && is_answered kind shape) ≡ true) → IsAnswered kind shape
-answered Grid (at.Position geometry) b n = record { geometry = geometry; kind_is = refl; shape_is = refl }
-answered Grid (at.Radius geometry within) b n = absurd (n (not_both b))
-answered Grid (at.Area geometry) b n = absurd (n (not_both b))
-answered Grid (at.Cube lo hi levels) b n = absurd (n (not_both b))
+answered Grid (at.Position geometry) b n = record { kind_is = refl; each = tt }
+answered Grid (at.Radius geometry within) b n = record { kind_is = refl; each = tt }
+answered Grid (at.Area geometry) b n = record { kind_is = refl; each = tt }
+answered Grid (at.Cube lo hi levels) b n = record { kind_is = refl; each = tt }
 answered Grid (at.Trajectory geometry) b n = absurd (n (not_both b))
 answered Grid (at.Corridor geometry width height) b n = absurd (n (not_both b))
 answered Grid (at.Location id) b n = absurd (n (not_both b))
@@ -108,32 +109,37 @@ form_at geometry choice true e alone = elim (one_number choice.times) [
 
 -- ---- the document
 
-module _ (c : CollectionValue) (q : QueryValue) (i : InstanceValue) (geometry : Geometry) (asked : IsAsked c q i geometry) where
-  some_taken : ¬ (not (is_some_stored (picked (grid_of c i) q)) ≡ true) → IsSome (chosen i q geometry)
+module _ (c : CollectionValue) (q : QueryValue) (i : InstanceValue) (asked : IsAsked c q i) where
+  some_taken : ¬ (not (is_some_stored (picked (grid_of c i) q)) ≡ true) → IsSome (chosen i q)
   some_taken n =
       let g : IsGrid i = grid_from i asked.grid in
       record {
-        parameters = λ e. n (ap not (position.none_without_parameters (grid_of c i) q i geometry refl asked.shape g e));
-        times = λ e. n (ap not (position.none_without_times (grid_of c i) q i geometry refl asked.shape g e));
-        levels = λ e. n (ap not (position.none_without_levels (grid_of c i) q i geometry refl asked.shape g e));
-        spots = λ e. n (ap not (position.none_without_spots (grid_of c i) q i geometry refl asked.shape g e));
+        parameters = λ e. n (ap not (position.none_without_parameters (grid_of c i) q i refl asked.each g e));
+        times = λ e. n (ap not (position.none_without_times (grid_of c i) q i refl asked.each g e));
+        levels = λ e. n (ap not (position.none_without_levels (grid_of c i) q i refl asked.each g e));
+        spots = λ e. n (ap not (position.none_without_spots (grid_of c i) q i refl asked.each g e));
       }
 
-  valid_form : IsSome (chosen i q geometry) → (form : Form) → IsForm geometry (chosen i q geometry) form → IsValidDocument (document (grid_of c i) q)
-  valid_form some form is =
-      let plan : PlanValue = record {
-        query = q;
+  -- of a position
+  valid_position : (geometry : Geometry) → q.shape ≡ at.Position geometry → IsSome (chosen i q) → IsValidDocument (document (grid_of c i) q)
+  valid_position geometry shape some =
+      let h = form_at geometry (chosen i q) (are_several geometry) refl (spot_alone c q i geometry asked shape some) in
+      let listing : ListingValue = record {
         shape = i.grid.shape;
-        parameters = (chosen i q geometry).parameters;
-        many = is_many form;
-        coverages = planned_in c.referencing i (chosen i q geometry) form;
+        parameters = (chosen i q).parameters;
+        many = is_many h.form;
+        coverages = planned_in c.referencing i (chosen i q) h.form;
       } in
-      valid_document plan (grid_of c i) i q refl asked.grid.samples (is_plan c q i geometry asked some form is plan refl refl refl refl) refl
-      (plan_stands c q i geometry asked some form is plan refl refl refl refl refl)
+      listing_valid c q i geometry asked shape some h.form h.is listing refl refl refl refl
 
-  valid_taken : IsSome (chosen i q geometry) → IsValidDocument (document (grid_of c i) q)
-  valid_taken some =
-      let h = form_at geometry (chosen i q geometry) (are_several geometry) refl (spot_alone c q i geometry asked some) in valid_form some h.form h.is
+  valid_taken : (shape : Shape) → q.shape ≡ shape → TakesEach shape → IsSome (chosen i q) → IsValidDocument (document (grid_of c i) q)
+  valid_taken (at.Position geometry) is each some = valid_position geometry is some
+  valid_taken (at.Radius geometry within) is each some = area_valid c q i asked (subst IsArea (sym is) tt) some
+  valid_taken (at.Area geometry) is each some = area_valid c q i asked (subst IsArea (sym is) tt) some
+  valid_taken (at.Cube lo hi levels) is each some = area_valid c q i asked (subst IsArea (sym is) tt) some
+  valid_taken (at.Trajectory geometry) is each some = absurd each
+  valid_taken (at.Corridor geometry width height) is each some = absurd each
+  valid_taken (at.Location id) is each some = absurd each
 
 same_subject : {s t : Subject} → Some s ≡ Some t → s ≡ t
 same_subject e = grind (arith, e)
@@ -149,7 +155,7 @@ documents_are_valid e q subject are query none named =
     let i = held.0 in
     let collection : IsCollection c = all_member IsCollection e.collections c are.each (item_found collection_id q.collection e.collections c found.1).0 in
     let grid : HasGrid i = instance_has i (all_member IsInstance c.instances i collection.instances.each (named_member q.instance c.instances i held.1)) in
-    let asked = is_asked c q i a.geometry collection a.kind_is held.1 grid a.shape_is query in
+    let asked : IsAsked c q i = record { is_collection = collection; kind = a.kind_is; instance_is = held.1; each = a.each; shape = query.shape; grid = grid } in
     let stored = subst (λ (s : Option Subject). ¬ (applies_if (applies_to_subject q NoSamples) s ≡ true)) (subject_found c q i a.kind_is held.1) (in_found q NoSamples o c found.1 (n NoSamples)) in
     subst (λ (s : Subject). IsValidDocument (document s q)) (same_subject (sym (subject_is e q c i found.1 a.kind_is held.1) ∙ named))
-    (valid_taken c q i a.geometry asked (some_taken c q i a.geometry asked stored))
+    (valid_taken c q i asked q.shape refl a.each (some_taken c q i asked stored))

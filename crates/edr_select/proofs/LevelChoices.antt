@@ -1,8 +1,8 @@
 -- Levels of a list, by their places on an axis.
-use Rattle.std.proofs.Common.{◌≡◌, ℕ, ◌+◌, ◌-◌, ◌<◌, Bool, true, false, List, [], ◌∷◌, ◌++◌, length, get_or, take, Contains, Option, Some, None, refl, ap, sym, ◌∙◌, arith, eqb, ℤ, pos}
+use Rattle.std.proofs.Common.{◌≡◌, ℕ, ◌+◌, ◌-◌, ◌<◌, Bool, true, List, [], ◌∷◌, ◌++◌, length, get_or, take, Contains, Some, None, ap, sym, ◌∙◌, arith, eqb, ℤ}
 use Rattle.std.specs.Prelude.{◌||◌}
 use Rattle.std.specs.Ordering.{int_eq}
-use Rattle.std.specs.List.{list_any, filter, range_with_len}
+use Rattle.std.specs.List.{list_any, range_with_len}
 use Rattle.edr_axes.specs.declared.levels.Levels.{Levels}
 use Rattle.edr_axes.specs.declared.levels.Levels.TheVariants as levels
 use Rattle.std.proofs.lemmas.Bool.Decides.{nat_tests, Decides-int_eq}

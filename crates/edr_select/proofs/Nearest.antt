@@ -11,11 +11,14 @@ use Rattle.edr_axes.specs.AxisLaws.{ascending_far}
 use Rattle.edr_wkt.specs.declared.geometry.Geometry.{Geometry}
 use Rattle.edr_wkt.specs.Geometries.{positions_of}
 use Rattle.edr_edition.specs.Values.{InstanceValue}
+use Rattle.edr_query.specs.declared.shapes.Shape.{Shape}
+use Rattle.edr_query.specs.declared.shapes.Shape.TheVariants as at
 use Rattle.edr_query.specs.Values.{QueryValue}
 use Rattle.edr_select.specs.Wanted.{is_along, is_nearest}
-use Rattle.edr_select.specs.Choices.{Chosen, chosen, is_nearest_place, row_of, column_of}
+use Rattle.edr_select.specs.Choices.{TakesEach, takes_node, Chosen, chosen, is_nearest_place, row_of, column_of}
 use Rattle.edr_select.proofs.Lists.{some_member}
 use Rattle.edr_select.proofs.Grids.{IsGrid}
+use Rattle.edr_select.proofs.Picks.{takes_position}
 use Rattle.edr_select.proofs.ChosenLaws as laws
 
 abbrev closer : ℤ → ℤ → ℤ → Bool
@@ -100,33 +103,42 @@ near_parts true true false d h = cc
 near_parts true false c d h = cc
 near_parts false b c d h = cc
 
-module _ (i : InstanceValue) (q : QueryValue) (geometry : Geometry) (g : IsGrid i) (point : Position) (alone : positions_of geometry ≡ point ∷ []) where
+module _ (i : InstanceValue) (q : QueryValue) (geometry : Geometry) (shape : q.shape ≡ at.Position geometry) (g : IsGrid i) (point : Position)
+    (alone : positions_of geometry ≡ point ∷ []) where
   abbrev c : Chosen
-  c = chosen i q geometry
+  c = chosen i q
 
-  parts : (spot : ℕ) → list_any (is_nearest_place i.ys i.xs (row_of i.xs spot) (column_of i.xs spot)) (positions_of geometry) ≡ true
+  each : TakesEach q.shape
+  each = takes_position q geometry shape
+
+  -- the node of a number is taken where it is the nearest to the point
+  taken_is : (spot : ℕ) → takes_node i q.shape (row_of i.xs spot) (column_of i.xs spot) ≡ list_any (is_nearest_place i.ys i.xs (row_of i.xs spot) (column_of i.xs spot)) (point ∷ [])
+  taken_is spot =
+      ap (λ (k : Shape). takes_node i k (row_of i.xs spot) (column_of i.xs spot)) shape
+      ∙ ap (list_any (is_nearest_place i.ys i.xs (row_of i.xs spot) (column_of i.xs spot))) alone
+
+  parts : (spot : ℕ) → takes_node i q.shape (row_of i.xs spot) (column_of i.xs spot) ≡ true
       → (is_nearest i.ys point.y (value_at i.ys (row_of i.xs spot)) ≡ true) × (is_nearest i.xs point.x (value_at i.xs (column_of i.xs spot)) ≡ true)
   parts spot h =
       near_parts (is_along i.ys point.y) (is_along i.xs point.x) (is_nearest i.ys point.y (value_at i.ys (row_of i.xs spot))) (is_nearest i.xs point.x (value_at i.xs (column_of i.xs spot)))
-      (sym (ap (list_any (is_nearest_place i.ys i.xs (row_of i.xs spot) (column_of i.xs spot))) alone) ∙ h)
+      (sym (taken_is spot) ∙ h)
 
   same_spot : (k l : ℕ) → k < length i.ys * length i.xs → l < length i.ys * length i.xs
-      → list_any (is_nearest_place i.ys i.xs (row_of i.xs k) (column_of i.xs k)) (positions_of geometry) ≡ true
-      → list_any (is_nearest_place i.ys i.xs (row_of i.xs l) (column_of i.xs l)) (positions_of geometry) ≡ true → l ≡ k
+      → takes_node i q.shape (row_of i.xs k) (column_of i.xs k) ≡ true → takes_node i q.shape (row_of i.xs l) (column_of i.xs l) ≡ true → l ≡ k
   same_spot k l hk hl near_k near_l =
       let a = parts k near_k in
       let b = parts l near_l in
-      let row : row_of i.xs l ≡ row_of i.xs k = one_passes i.ys point.y g.ys.ascending (row_of i.xs l) (row_of i.xs k) (laws.row_below i q geometry g l hl) (laws.row_below i q geometry g k hk) b.0 a.0 in
-      let column : column_of i.xs l ≡ column_of i.xs k = one_passes i.xs point.x g.xs.ascending (column_of i.xs l) (column_of i.xs k) (laws.column_below i q geometry g l) (laws.column_below i q geometry g k) b.1 a.1 in
+      let row : row_of i.xs l ≡ row_of i.xs k = one_passes i.ys point.y g.ys.ascending (row_of i.xs l) (row_of i.xs k) (laws.row_below i q each g l hl) (laws.row_below i q each g k hk) b.0 a.0 in
+      let column : column_of i.xs l ≡ column_of i.xs k = one_passes i.xs point.x g.xs.ascending (column_of i.xs l) (column_of i.xs k) (laws.column_below i q each g l) (laws.column_below i q each g k) b.1 a.1 in
       sym (div-add-mod' l (length i.xs)) ∙ (ap₂ (λ r x. r * length i.xs + x) row column ∙ div-add-mod' k (length i.xs))
 
   -- a spot that is chosen is the only one
   pub only_spot : (spot : ℕ) → Contains c.spots spot → c.spots ≡ spot ∷ []
   only_spot spot m =
-      let below = laws.spot_below i q geometry g spot m in
-      one_kept (λ k. list_any (is_nearest_place i.ys i.xs (row_of i.xs k) (column_of i.xs k)) (positions_of geometry)) 0 (length i.ys * length i.xs) spot
-      (omega arith) (omega (arith, below)) (laws.spot_near i q geometry g spot m)
-      (λ l low high near. same_spot spot l below (omega (arith, high)) (laws.spot_near i q geometry g spot m) near)
+      let below = laws.spot_below i q each g spot m in
+      one_kept (λ k. takes_node i q.shape (row_of i.xs k) (column_of i.xs k)) 0 (length i.ys * length i.xs) spot
+      (omega arith) (omega (arith, below)) (laws.spot_taken i q each g spot m)
+      (λ l low high near. same_spot spot l below (omega (arith, high)) (laws.spot_taken i q each g spot m) near)
 
   -- where there is one, it is alone
   pub one_spot : c.spots ≢ [] → (spot : ℕ) × (c.spots ≡ spot ∷ [])

@@ -1,11 +1,11 @@
 -- The nearest value of an axis: from its place to the test, and only its place passes.
-use Rattle.std.proofs.Common.{◌≡◌, ℕ, zero, suc, ◌+◌, ◌<◌, ◌≤◌, Bool, true, false, List, [], ◌∷◌, length, get_or, refl, ap, sym, ◌∙◌, arith, inl, inr, ℤ, pos, ◌<ℤ◌, ◌≤ℤ◌, int_lt, int_le}
+use Rattle.std.proofs.Common.{◌≡◌, ℕ, zero, suc, ◌<◌, ◌≤◌, Bool, true, false, List, [], ◌∷◌, length, refl, ap, sym, ◌∙◌, arith, inl, inr, ℤ, ◌<ℤ◌, ◌≤ℤ◌, int_lt}
 use Rattle.std.specs.Prelude.{◌&&◌, ◌||◌, not, nat_lt, nat_le}
-use Rattle.std.specs.List.{list_all, slice_index_or}
+use Rattle.std.specs.List.{list_all}
 use Rattle.std.proofs.lemmas.Bool.{cases_lt}
 use Rattle.std.proofs.lemmas.Bool.Decides.{nat_tests}
 use Rattle.std.proofs.lemmas.Int.{ints}
-use Rattle.edr_axes.specs.Axes.{value_at, distance, IsAscending, IsAxis, IsNearest}
+use Rattle.edr_axes.specs.Axes.{value_at, distance, IsAscending, IsNearest}
 use Rattle.edr_axes.specs.AxisLaws.{ascending_far}
 use Rattle.edr_axes.specs.AxisLaws.{nearest_is_one}
 use Rattle.edr_select.specs.Wanted.{is_nearest}

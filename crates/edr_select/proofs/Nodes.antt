@@ -15,7 +15,7 @@ use Rattle.edr_select.specs.Samples.{node_at}
 use Rattle.edr_select.specs.Wanted.{takes_level}
 use Rattle.edr_select.specs.Heads.{Spot, domain_at, position_at}
 use Rattle.edr_select.specs.Choices.{Chosen, level_at, level_places, node_of, cells_at, cells_along, times_of, levels_of, spot_of}
-use Rattle.edr_select.specs.Plans.{place_at}
+use Rattle.edr_select.specs.Listings.{place_at}
 use Rattle.edr_select.proofs.Lists.{map-map, map-flat_map, flat_map_agree}
 
 -- the nodes of one place, at each time and level
@@ -53,7 +53,7 @@ one_level asked None none some = here (takes_level asked None) some
 one_level asked (Some zs) none some = cc
 
 -- the levels that are chosen, as the nodes have them
-levels_shown : (zs : Option (List ℤ)) (levels : List ℕ) → (zs ≡ None → levels ≡ 0 ∷ [])
+pub levels_shown : (zs : Option (List ℤ)) (levels : List ℕ) → (zs ≡ None → levels ≡ 0 ∷ [])
     → values_or_absent (option_map (λ values. map (value_at values) levels) zs) ≡ map (level_at zs) levels
 levels_shown None levels one = sym (ap (map (level_at None)) (one refl))
 levels_shown (Some values) levels one = map-map Some (value_at values) levels

@@ -1,4 +1,4 @@
--- The times, levels and places that occur in what a position picks are those that are chosen.
+-- The times, levels and places that occur in what a query picks are those that are chosen.
 use Rattle.std.proofs.Common.{◌≡◌, ℕ, ◌*◌, ◌<◌, Bool, true, false, List, length, get_or, refl, ap, ap₂, sym, ◌∙◌, arith, ℤ, pos, Some, None}
 use Rattle.std.specs.declared.option.Option.{Option}
 use Rattle.std.specs.Prelude.{map, ◌&&◌, option_map}
@@ -7,8 +7,6 @@ use Rattle.std.specs.List.{filter, list_any, range_with_len}
 use Rattle.std.proofs.lemmas.Bool.Decides.{Decides-int_eq}
 use Rattle.std.proofs.lemmas.List.{get_or_default}
 use Rattle.edr_axes.specs.Axes.{value_at}
-use Rattle.edr_wkt.specs.declared.geometry.Geometry.{Geometry}
-use Rattle.edr_wkt.specs.Geometries.{positions_of}
 use Rattle.covjson_value.specs.Domains.{axis_length}
 use Rattle.covjson_value.specs.Samples.{same_where_given}
 use Rattle.edr_edition.specs.Values.{InstanceValue}
@@ -16,7 +14,7 @@ use Rattle.edr_query.specs.Values.{QueryValue}
 use Rattle.edr_select.specs.Samples.{Stored}
 use Rattle.edr_select.specs.Wanted.{takes_time, takes_level, levels_asked}
 use Rattle.edr_select.specs.Heads.{Spot, times_in, levels_in, spots_in, stands_at}
-use Rattle.edr_select.specs.Choices.{Chosen, chosen, IsSome, level_at, is_nearest_place, row_of, column_of, times_of, levels_of, spot_of}
+use Rattle.edr_select.specs.Choices.{TakesEach, takes_node, Chosen, chosen, IsSome, level_at, row_of, column_of, times_of, levels_of, spot_of}
 use Rattle.edr_select.proofs.Lists.{filter_at, filter-map, both}
 use Rattle.edr_select.proofs.Kept.{contains_kept, kept_agree, filter_by_places, pairs_numbered}
 use Rattle.edr_select.proofs.Grids.{IsGrid, one_place}
@@ -46,12 +44,12 @@ levels_by_places : (zs : Option (List ℤ)) (picks : List Stored) (t : Option �
 levels_by_places None picks t are = refl
 levels_by_places (Some values) picks t are = ap Some (are values refl ∙ filter_by_places (λ l. t (Some l)) values)
 
-module _ (i : InstanceValue) (q : QueryValue) (geometry : Geometry) (g : IsGrid i) (some : IsSome (chosen i q geometry)) where
+module _ (i : InstanceValue) (q : QueryValue) (each : TakesEach q.shape) (g : IsGrid i) (some : IsSome (chosen i q)) where
   abbrev c : Chosen
-  c = chosen i q geometry
+  c = chosen i q
 
   abbrev picks : List Stored
-  picks = picks_at i q geometry
+  picks = picks_at i q
 
   one : OneOfEach c
   one = each_of c some
@@ -61,10 +59,10 @@ module _ (i : InstanceValue) (q : QueryValue) (geometry : Geometry) (g : IsGrid 
       let time : ℤ = get_or i.ts k d in
       let here : value_at i.ts k ≡ time = get_or_default i.ts k (pos 0) d inside in
       both (list_any (λ (s : Stored). same_where_given s.sample.at.t (Some time)) picks) (takes_time q.times (Some time))
-      (λ e. let f = pick_found i q geometry (λ (s : Stored). same_where_given s.sample.at.t (Some time)) e in
+      (λ e. let f = pick_found i q each (λ (s : Stored). same_where_given s.sample.at.t (Some time)) e in
       let same : value_at i.ts f.place.t ≡ time = (Decides-int_eq (value_at i.ts f.place.t) time).0 f.passes in
       sym (ap (λ (v : ℤ). takes_time q.times (Some v)) same) ∙ f.taken.time)
-      (λ e. laws.pick_at i q geometry g (λ (s : Stored). same_where_given s.sample.at.t (Some time)) one.parameter k one.level one.spot
+      (λ e. laws.pick_at i q each g (λ (s : Stored). same_where_given s.sample.at.t (Some time)) one.parameter k one.level one.spot
       one.parameter_in
       (contains_kept (λ t. takes_time q.times (Some (value_at i.ts t))) (length i.ts) k inside (ap (λ (v : ℤ). takes_time q.times (Some v)) here ∙ e))
       one.level_in one.spot_in ((Decides-int_eq (value_at i.ts k) time).1 here)))
@@ -80,10 +78,10 @@ module _ (i : InstanceValue) (q : QueryValue) (geometry : Geometry) (g : IsGrid 
       let here : level_at i.zs k ≡ Some level = ap (λ o. level_at o k) zs ∙ ap Some (get_or_default values k (pos 0) d inside) in
       let inner : k < axis_length i.zs = omega (arith, inside, ap (λ (o : Option (List ℤ)). axis_length o) zs) in
       both (list_any (λ (s : Stored). same_where_given s.sample.at.z (Some level)) picks) (takes_level (levels_asked q) (Some level))
-      (λ e. let f = pick_found i q geometry (λ (s : Stored). same_where_given s.sample.at.z (Some level)) e in
+      (λ e. let f = pick_found i q each (λ (s : Stored). same_where_given s.sample.at.z (Some level)) e in
       let same : level_at i.zs f.place.z ≡ Some level = same_given (level_at i.zs f.place.z) level f.passes in
       sym (ap (λ (v : Option ℤ). takes_level (levels_asked q) v) same) ∙ f.taken.level)
-      (λ e. laws.pick_at i q geometry g (λ (s : Stored). same_where_given s.sample.at.z (Some level)) one.parameter one.time k one.spot
+      (λ e. laws.pick_at i q each g (λ (s : Stored). same_where_given s.sample.at.z (Some level)) one.parameter one.time k one.spot
       one.parameter_in one.time_in
       (contains_kept (λ z. takes_level (levels_asked q) (level_at i.zs z)) (axis_length i.zs) k inner (ap (λ (v : Option ℤ). takes_level (levels_asked q) v) here ∙ e))
       one.spot_in
@@ -94,19 +92,19 @@ module _ (i : InstanceValue) (q : QueryValue) (geometry : Geometry) (g : IsGrid 
   levels_are = levels_by_places i.zs picks (takes_level (levels_asked q)) takes_levels
 
   spot_test : (k : ℕ) → k < length i.ys * length i.xs
-      → list_any (stands_at (spot_of i k)) picks ≡ list_any (is_nearest_place i.ys i.xs (row_of i.xs k) (column_of i.xs k)) (positions_of geometry)
+      → list_any (stands_at (spot_of i k)) picks ≡ takes_node i q.shape (row_of i.xs k) (column_of i.xs k)
   spot_test k inside =
-      both (list_any (stands_at (spot_of i k)) picks) (list_any (is_nearest_place i.ys i.xs (row_of i.xs k) (column_of i.xs k)) (positions_of geometry))
-      (λ e. let f = pick_found i q geometry (stands_at (spot_of i k)) e in
-      let y : f.place.y ≡ row_of i.xs k = one_place i.ys g.ys.ascending f.place.y (row_of i.xs k) (omega (arith, f.within.y, g.rows)) (laws.row_below i q geometry g k inside)
+      both (list_any (stands_at (spot_of i k)) picks) (takes_node i q.shape (row_of i.xs k) (column_of i.xs k))
+      (λ e. let f = pick_found i q each (stands_at (spot_of i k)) e in
+      let y : f.place.y ≡ row_of i.xs k = one_place i.ys g.ys.ascending f.place.y (row_of i.xs k) (omega (arith, f.within.y, g.rows)) (laws.row_below i q each g k inside)
       ((Decides-int_eq (value_at i.ys f.place.y) (value_at i.ys (row_of i.xs k))).0
       (first_true (int_eq (value_at i.ys f.place.y) (value_at i.ys (row_of i.xs k))) (int_eq (value_at i.xs f.place.x) (value_at i.xs (column_of i.xs k))) f.passes)) in
-      let x : f.place.x ≡ column_of i.xs k = one_place i.xs g.xs.ascending f.place.x (column_of i.xs k) (omega (arith, f.within.x, g.columns)) (laws.column_below i q geometry g k)
+      let x : f.place.x ≡ column_of i.xs k = one_place i.xs g.xs.ascending f.place.x (column_of i.xs k) (omega (arith, f.within.x, g.columns)) (laws.column_below i q each g k)
       ((Decides-int_eq (value_at i.xs f.place.x) (value_at i.xs (column_of i.xs k))).0
       (second_true (int_eq (value_at i.ys f.place.y) (value_at i.ys (row_of i.xs k))) (int_eq (value_at i.xs f.place.x) (value_at i.xs (column_of i.xs k))) f.passes)) in
-      sym (ap₂ (λ a b. list_any (is_nearest_place i.ys i.xs a b) (positions_of geometry)) y x) ∙ f.taken.near)
-      (λ e. laws.pick_at i q geometry g (stands_at (spot_of i k)) one.parameter one.time one.level k one.parameter_in one.time_in one.level_in
-      (contains_kept (λ spot. list_any (is_nearest_place i.ys i.xs (row_of i.xs spot) (column_of i.xs spot)) (positions_of geometry)) (length i.ys * length i.xs) k inside e)
+      sym (ap₂ (λ a b. takes_node i q.shape a b) y x) ∙ f.taken.near)
+      (λ e. laws.pick_at i q each g (stands_at (spot_of i k)) one.parameter one.time one.level k one.parameter_in one.time_in one.level_in
+      (contains_kept (λ spot. takes_node i q.shape (row_of i.xs spot) (column_of i.xs spot)) (length i.ys * length i.xs) k inside e)
       (pair_true (int_eq (value_at i.ys (row_of i.xs k)) (value_at i.ys (row_of i.xs k))) (int_eq (value_at i.xs (column_of i.xs k)) (value_at i.xs (column_of i.xs k)))
       ((Decides-int_eq (value_at i.ys (row_of i.xs k)) (value_at i.ys (row_of i.xs k))).1 refl)
       ((Decides-int_eq (value_at i.xs (column_of i.xs k)) (value_at i.xs (column_of i.xs k))).1 refl)))
@@ -117,5 +115,5 @@ module _ (i : InstanceValue) (q : QueryValue) (geometry : Geometry) (g : IsGrid 
       ap (filter (λ (spot : Spot). list_any (stands_at spot) picks)) (pairs_numbered i.ys i.xs)
       ∙ (filter-map (λ (spot : Spot). list_any (stands_at spot) picks) (spot_of i) (range_with_len 0 (length i.ys * length i.xs))
       ∙ ap (map (spot_of i)) (kept_agree (λ k. list_any (stands_at (spot_of i k)) picks)
-      (λ k. list_any (is_nearest_place i.ys i.xs (row_of i.xs k) (column_of i.xs k)) (positions_of geometry)) 0 (length i.ys * length i.xs)
+      (λ k. takes_node i q.shape (row_of i.xs k) (column_of i.xs k)) 0 (length i.ys * length i.xs)
       (λ k low high. spot_test k (omega (arith, high)))))

@@ -1,10 +1,9 @@
 -- Parameters by the places of their ids.
-use Rattle.std.proofs.Common.{◌≡◌, ℕ, zero, suc, ◌+◌, ◌-◌, ◌<◌, ◌≤◌, Bool, true, false, not, List, [], ◌∷◌, ◌++◌, length, get_or, take, All, refl, ap, ap₂, sym, ◌∙◌, subst, arith, inl, inr, eqb, Option, Some, None, Ordering, Less, Equal, Greater, bytes_eq, Contains}
+use Rattle.std.proofs.Common.{◌≡◌, ℕ, zero, suc, ◌+◌, ◌-◌, ◌<◌, Bool, true, false, not, List, [], ◌∷◌, ◌++◌, length, get_or, take, All, refl, ap, ap₂, sym, ◌∙◌, arith, inl, inr, eqb, Option, Some, None, Ordering, Less, Equal, bytes_eq}
 use Rattle.std.specs.Prelude.{◌||◌, ◌⊎◌, Ok, Err}
-use Rattle.std.specs.List.{slice_index_or, filter, list_any, range_with_len}
-use Rattle.std.proofs.lemmas.Bool.{cases_lt}
+use Rattle.std.specs.List.{slice_index_or, list_any, range_with_len}
 use Rattle.std.proofs.lemmas.Bool.Decides.{nat_tests}
-use Rattle.std.proofs.lemmas.List.Folds.{list_any_more, list_any_at, list_any_none}
+use Rattle.std.proofs.lemmas.List.Folds.{list_any_more, list_any_at}
 use Rattle.std.proofs.lemmas.Slice.Eq.{bytes_eq-Decides}
 use Rattle.edr_ids.specs.Ids.{order, AscendBy, has_id}
 use Rattle.edr_select.specs.PlacesOfIds.{IsPlaceOf}
@@ -14,10 +13,8 @@ use Rattle.covjson_value.specs.declared.coverages.Parameter.{Parameter}
 use Rattle.covjson_value.specs.Coverages.{ids_of}
 use Rattle.edr_edition.specs.Parameters.{parameter_id}
 use Rattle.edr_select.specs.Samples.{id_at, ascending_once}
-use Rattle.edr_select.specs.Selections.{is_asked}
 use Rattle.edr_select.specs.Refusals.{names_other}
 use Rattle.edr_select.proofs.Lists.{both}
-use Rattle.edr_select.proofs.AscendingOnce.{filter_range_agree}
 use Rattle.edr_select.specs.Choices.{parameter_places}
 use Rattle.edr_select.proofs.FoundPlaces.{Found, found_none, found_more, found_is, all_taken}
 

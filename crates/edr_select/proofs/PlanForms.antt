@@ -1,5 +1,5 @@
 -- What is planned for a position, by the form of its reply.
-use Rattle.std.proofs.Common.{◌≡◌, ◌≢◌, ℕ, zero, suc, ◌*◌, ◌^◌, ◌<◌, ◌≤◌, Bool, true, false, List, [], ◌∷◌, length, Option, Some, None, refl, ap, ap₂, sym, ◌∙◌, subst, arith, All, Contains, IfSome, ℤ, pos, mul-le-mul_right, mul-pos, mul_comm, one-mul}
+use Rattle.std.proofs.Common.{◌≡◌, ℕ, ◌*◌, ◌<◌, ◌≤◌, Bool, true, false, List, [], ◌∷◌, length, Option, Some, None, refl, ap, ap₂, sym, ◌∙◌, subst, arith, All, Contains, IfSome, ℤ, mul-le-mul_right, mul_comm, one-mul}
 use Rattle.std.specs.Prelude.{map, ◌||◌, nat_lt}
 use Rattle.std.specs.List.{slice_index_or}
 use Rattle.std.proofs.lemmas.Bool.{false≢true}
@@ -16,18 +16,17 @@ use Rattle.covjson_value.specs.declared.domains.CoordinateName.TheVariants.{Z}
 use Rattle.covjson_value.specs.Coverages.{IsNamedAxis, IsValidDocument}
 use Rattle.covjson_value.specs.Domains.{axis_length}
 use Rattle.edr_chunk.specs.declared.shapes.GridShape.{GridShape}
-use Rattle.edr_chunk.specs.Places.{IsShape, nodes}
+use Rattle.edr_chunk.specs.Places.{IsShape}
 use Rattle.edr_chunk.specs.Samples.{AreSamples}
 use Rattle.edr_edition.specs.Values.{InstanceValue, CollectionValue}
 use Rattle.edr_edition.specs.Instances.{HasGrid}
-use Rattle.edr_edition.specs.Editions.{IsCollection}
-use Rattle.edr_edition.specs.Stores.{of_grid, Subject, instance_named}
-use Rattle.edr_edition.specs.declared.kinds.Kind.TheVariants.{Grid}
+use Rattle.edr_edition.specs.Stores.{of_grid, Subject}
 use Rattle.edr_query.specs.declared.addresses.QueryKind.TheVariants as kind
 use Rattle.edr_query.specs.declared.shapes.Shape.TheVariants as at
-use Rattle.edr_query.specs.Queries.{IsTaken, IsQuery, IsShape as IsShapeOf}
+use Rattle.edr_query.specs.Queries.{IsTaken, IsShape as IsShapeOf}
 use Rattle.edr_query.specs.Values.{QueryValue}
 use Rattle.edr_select.specs.declared.plans.GridNode.{GridNode}
+use Rattle.edr_select.specs.declared.plans.Reply.TheVariants.{Listed}
 use Rattle.edr_select.specs.declared.forms.Form.{Form}
 use Rattle.edr_select.specs.declared.forms.Form.TheVariants.{AtPoint, Along, Apart}
 use Rattle.edr_select.specs.Limits.{value_limit, coverage_limit}
@@ -38,9 +37,10 @@ use Rattle.edr_select.specs.Checks.{refused_query, grid_of}
 use Rattle.edr_select.specs.Choices.{IsPoints, Chosen, chosen, IsSome, level_at, cells_along, levels_of, spot_of}
 use Rattle.edr_select.specs.Planned as planned
 use Rattle.edr_select.specs.Planned.{IsInside, IsSmall, AreAxes}
-use Rattle.edr_select.specs.Plans.{PlannedValue, PlanValue, IsPlanned, IsPlan, StandsFor}
+use Rattle.edr_select.specs.Listings.{PlannedValue, ListingValue, IsListing}
+use Rattle.edr_select.specs.Plans.{IsReplyTo}
 use Rattle.edr_select.specs.Steps.{IsAsked, IsForm, IsPlanIn, are_several, is_many, value_count, coverage_count, planned_in, refused_large}
-use Rattle.edr_select.proofs.Lists.{Each, all_member, member_here}
+use Rattle.edr_select.proofs.Lists.{all_member, member_here}
 use Rattle.edr_select.proofs.Grids.{IsGrid}
 use Rattle.edr_select.proofs.Instances.{grid_from}
 use Rattle.edr_select.proofs.ChosenLaws as laws
@@ -61,17 +61,12 @@ are_points (Points multi has_z has_m positions) h = tt
 are_points (Line has_z has_m positions) h = absurd (false≢true h.1)
 are_points (Polygons multi has_z has_m polygons) h = absurd (false≢true h.1)
 
--- a query whose shape is a position has points
-pub is_asked : (c : CollectionValue) (q : QueryValue) (i : InstanceValue) (geometry : Geometry) → IsCollection c → c.kind ≡ Grid → instance_named q.instance c.instances ≡ Some i
-    → HasGrid i → q.shape ≡ at.Position geometry → IsQuery q → IsAsked c q i geometry
-is_asked c q i geometry collection kind named grid shape query = record {
-  is_collection = collection;
-  kind = kind;
-  instance_is = named;
-  shape = shape;
-  points = subst IsShapeOf shape query.shape;
-  grid = grid;
-}
+-- a query of a position has points
+pub taken_points : (q : QueryValue) (geometry : Geometry) → IsShapeOf q.shape → q.shape ≡ at.Position geometry → IsTaken kind.Position geometry
+taken_points q geometry is shape = subst IsShapeOf shape is
+
+pub has_points : (q : QueryValue) (geometry : Geometry) → IsShapeOf q.shape → q.shape ≡ at.Position geometry → IsPoints geometry
+has_points q geometry is shape = are_points geometry (taken_points q geometry is shape)
 
 record PointsAre (geometry : Geometry) (multi : Bool) : Type 0 where
   has_z : Bool
@@ -94,7 +89,7 @@ one_of _ (several positions some) e = absurd (false≢true (sym e))
 
 -- ---- lists
 
-all_from_members : {X : Type 0} (P : X → Type 0) (xs : List X) → ((x : X) → Contains xs x → P x) → All P xs
+pub all_from_members : {X : Type 0} (P : X → Type 0) (xs : List X) → ((x : X) → Contains xs x → P x) → All P xs
 all_from_members P xs h k d l =
     h (slice_index_or xs k d) (k, l, get_or_default xs k (slice_index_or xs k d) d l)
 
@@ -140,150 +135,152 @@ same_domain : (t : ℤ) (z : Option ℤ) (spots : List Spot) → planned.points_
 same_domain t None spots = refl
 same_domain t (Some z) spots = refl
 
-module _ (c : CollectionValue) (q : QueryValue) (i : InstanceValue) (geometry : Geometry) (asked : IsAsked c q i geometry) where
-  abbrev s : Subject
-  s = grid_of c i
-
+-- the choice of a query of any kind
+module _ (c : CollectionValue) (q : QueryValue) (i : InstanceValue) (asked : IsAsked c q i) where
   g : IsGrid i
   g = grid_from i asked.grid
 
   abbrev choice : Chosen
-  choice = chosen i q geometry
+  choice = chosen i q
 
   pub inside : IsInside i choice
   inside = record {
-    parameters = all_from_members (λ p. p < length i.parameters) choice.parameters (laws.parameter_below i q geometry g);
-    times = all_from_members (λ t. t < length i.ts) choice.times (laws.time_below i q geometry g);
-    levels = all_from_members (λ z. z < axis_length i.zs) choice.levels (laws.level_below i q geometry g);
-    spots = all_from_members (λ spot. spot < length i.ys * length i.xs) choice.spots (laws.spot_below i q geometry g);
+    parameters = all_from_members (λ p. p < length i.parameters) choice.parameters (laws.parameter_below i q asked.each g);
+    times = all_from_members (λ t. t < length i.ts) choice.times (laws.time_below i q asked.each g);
+    levels = all_from_members (λ z. z < axis_length i.zs) choice.levels (laws.level_below i q asked.each g);
+    spots = all_from_members (λ spot. spot < length i.ys * length i.xs) choice.spots (laws.spot_below i q asked.each g);
   }
 
+  pub axes : IsSome choice → AreAxes i choice
+  axes some = record {
+    times = (valid.time_axis (grid_of c i) q i asked.each asked.grid asked.is_collection.referencing some).ascending;
+    levels = axis_if (levels_of i choice) (valid.level_axis (levels_asked q) i.zs asked.grid.zs some.levels);
+  }
+
+same_grid : {i j : InstanceValue} → of_grid i ≡ of_grid j → i ≡ j
+same_grid e = grind (arith, e)
+
+-- the document of a listing that is the reply to its query is valid
+pub valid_document : (listing : ListingValue) (s : Subject) (i : InstanceValue) (q : QueryValue) → s.held ≡ of_grid i → AreSamples i.grid.values → IsListing listing
+    → IsReplyTo (Listed listing) q s → IsValidDocument (document s q)
+valid_document listing s i q held samples is stands =
+    document_valid stands.instance.grid listing (document s q) is
+    (subst (λ (j : InstanceValue). AreSamples j.grid.values) (same_grid (sym held ∙ stands.held)) samples) stands.document
+
+-- ---- positions
+
+module _ (c : CollectionValue) (q : QueryValue) (i : InstanceValue) (geometry : Geometry) (asked : IsAsked c q i) (shape : q.shape ≡ at.Position geometry) where
+  abbrev s : Subject
+  s = grid_of c i
+
+  gr : IsGrid i
+  gr = grid_from i asked.grid
+
+  abbrev taken : Chosen
+  taken = chosen i q
+
+  points : IsTaken kind.Position geometry
+  points = taken_points q geometry asked.shape shape
+
   -- one spot is the nearest to one point
-  pub spot_alone : IsSome choice → are_several geometry ≡ false → length choice.spots ≡ 1
+  pub spot_alone : IsSome taken → are_several geometry ≡ false → length taken.spots ≡ 1
   spot_alone some e =
-      let p = one_of geometry (position_points geometry asked.points) e in
-      ap (λ (spots : List ℕ). length spots) (one_spot i q geometry g p.point p.alone some.spots).1
+      let p = one_of geometry (position_points geometry points) e in
+      ap (λ (spots : List ℕ). length spots) (one_spot i q geometry shape gr p.point p.alone some.spots).1
 
-  module _ (some : IsSome choice) where
-    pub axes : AreAxes i choice
-    axes = record {
-      times = (valid.time_axis s q i geometry asked.grid asked.is_collection.referencing some).ascending;
-      levels = axis_if (levels_of i choice) (valid.level_axis (levels_asked q) i.zs asked.grid.zs some.levels);
-    }
-
+  module _ (some : IsSome taken) where
     -- ---- sizes
 
     record Sizes (form : Form) : Type 0 where
-      values : values_in (document s q) ≡ value_count choice
-      coverages : length (coverages_in (document s q)) ≡ coverage_count choice form
+      values : values_in (document s q) ≡ value_count taken
+      coverages : length (coverages_in (document s q)) ≡ coverage_count taken form
 
-    sizes : (form : Form) → IsForm geometry choice form → Sizes form
+    sizes : (form : Form) → IsForm geometry taken form → Sizes form
     sizes (AtPoint spot) h =
-        let p = points_as geometry asked.points false h.0 in
+        let p = points_as geometry points false h.0 in
         record {
-          values = counts.values_at_point s q i geometry refl asked.shape g some p.has_z p.has_m p.positions p.is spot h.1;
-          coverages = counts.coverages_at_point s q i geometry refl asked.shape g some p.has_z p.has_m p.positions p.is spot h.1;
+          values = counts.values_at_point s q i geometry refl shape gr some p.has_z p.has_m p.positions p.is spot h.1;
+          coverages = counts.coverages_at_point s q i geometry refl shape gr some p.has_z p.has_m p.positions p.is spot h.1;
         }
     sizes (Along t z) h =
-        let p = points_as geometry asked.points true h.0 in
+        let p = points_as geometry points true h.0 in
         record {
-          values = counts.values_along s q i geometry refl asked.shape g some p.has_z p.has_m p.positions p.is t z h.1.0 h.1.1;
-          coverages = counts.coverages_along s q i geometry refl asked.shape g some p.has_z p.has_m p.positions p.is t z h.1.0 h.1.1;
+          values = counts.values_along s q i geometry refl shape gr some p.has_z p.has_m p.positions p.is t z h.1.0 h.1.1;
+          coverages = counts.coverages_along s q i geometry refl shape gr some p.has_z p.has_m p.positions p.is t z h.1.0 h.1.1;
         }
     sizes Apart h =
-        let p = points_as geometry asked.points true h.0 in
+        let p = points_as geometry points true h.0 in
         record {
-          values = counts.values_apart s q i geometry refl asked.shape g some p.has_z p.has_m p.positions p.is h.1;
-          coverages = counts.coverages_apart s q i geometry refl asked.shape g some p.has_z p.has_m p.positions p.is h.1;
+          values = counts.values_apart s q i geometry refl shape gr some p.has_z p.has_m p.positions p.is h.1;
+          coverages = counts.coverages_apart s q i geometry refl shape gr some p.has_z p.has_m p.positions p.is h.1;
         }
 
-    pub size_is : (form : Form) → IsForm geometry choice form
+    pub size_is : (form : Form) → IsForm geometry taken form
         → (nat_lt value_limit (values_in (document s q)) || nat_lt coverage_limit (length (coverages_in (document s q))))
-        ≡ (nat_lt value_limit (value_count choice) || nat_lt coverage_limit (coverage_count choice form))
+        ≡ (nat_lt value_limit (value_count taken) || nat_lt coverage_limit (coverage_count taken form))
     size_is form h = let n = sizes form h in ap₂ (λ values covs. nat_lt value_limit values || nat_lt coverage_limit covs) n.values n.coverages
 
     -- ---- what is planned
 
     abbrev over : List GridNode → Domain → PlannedValue
-    over cells domain = record { head = coverages.head_over s i choice domain; cells = cells }
+    over cells domain = record { head = coverages.head_over s i taken domain; cells = cells }
 
-    same_along : (t z : ℕ) → planned.planned_along c.referencing i choice t z ≡ coverages.planned_along s i choice t z
-    same_along t z = ap (over (cells_along i.xs choice t z)) (same_domain (value_at i.ts t) (level_at i.zs z) (map (spot_of i) choice.spots))
+    same_along : (t z : ℕ) → planned.planned_along c.referencing i taken t z ≡ coverages.planned_along s i taken t z
+    same_along t z = ap (over (cells_along i.xs taken t z)) (same_domain (value_at i.ts t) (level_at i.zs z) (map (spot_of i) taken.spots))
 
-    -- every plan is valid
-    pub is_plan : (form : Form) → IsForm geometry choice form → (plan : PlanValue) → plan.shape ≡ i.grid.shape → plan.parameters ≡ choice.parameters
-        → plan.many ≡ is_many form → plan.coverages ≡ planned_in c.referencing i choice form → IsPlan plan
-    is_plan (AtPoint spot) h plan shape parameters many are =
-        valid.is_plan s q i geometry asked.grid asked.is_collection.referencing some plan (map (coverages.planned_at s i choice) choice.spots) shape parameters are
-        (valid.planned_at_are s q i geometry asked.grid asked.is_collection.referencing some)
-        (λ _. length-map choice.spots (coverages.planned_at s i choice) ∙ ap (λ (spots : List ℕ). length spots) h.1)
-    is_plan (Along t z) h plan shape parameters many are =
-        valid.is_plan s q i geometry asked.grid asked.is_collection.referencing some plan (coverages.planned_along s i choice t z ∷ []) shape parameters
+    -- every listing is valid
+    pub is_listing : (form : Form) → IsForm geometry taken form → (listing : ListingValue) → listing.shape ≡ i.grid.shape → listing.parameters ≡ taken.parameters
+        → listing.many ≡ is_many form → listing.coverages ≡ planned_in c.referencing i taken form → IsListing listing
+    is_listing (AtPoint spot) h listing same parameters many are =
+        valid.is_listing s q i asked.each asked.grid asked.is_collection.referencing some listing (map (coverages.planned_at s i taken) taken.spots) same parameters are
+        (valid.planned_at_are s q i asked.each asked.grid asked.is_collection.referencing some)
+        (λ _. length-map taken.spots (coverages.planned_at s i taken) ∙ ap (λ (spots : List ℕ). length spots) h.1)
+    is_listing (Along t z) h listing same parameters many are =
+        valid.is_listing s q i asked.each asked.grid asked.is_collection.referencing some listing (coverages.planned_along s i taken t z ∷ []) same parameters
         (are ∙ ap (λ (p : PlannedValue). p ∷ []) (same_along t z)) (
-          valid.planned_along_is s q i geometry asked.grid asked.is_collection.referencing some t z
+          valid.planned_along_is s q i asked.each asked.grid asked.is_collection.referencing some t z
               (subst (λ (ts : List ℕ). Contains ts t) (sym h.1.0) (member_here t [])) (subst (λ (zs : List ℕ). Contains zs z) (sym h.1.1) (member_here z [])),
           tt,
         )
         (λ _. refl)
-    is_plan Apart h plan shape parameters many are =
-        valid.is_plan s q i geometry asked.grid asked.is_collection.referencing some plan (map (coverages.planned_at s i choice) choice.spots) shape parameters are
-        (valid.planned_at_are s q i geometry asked.grid asked.is_collection.referencing some)
+    is_listing Apart h listing same parameters many are =
+        valid.is_listing s q i asked.each asked.grid asked.is_collection.referencing some listing (map (coverages.planned_at s i taken) taken.spots) same parameters are
+        (valid.planned_at_are s q i asked.each asked.grid asked.is_collection.referencing some)
         (λ one. absurd (false≢true (sym one ∙ many)))
 
--- a plan of the query that it keeps
-stands_at : (c : CollectionValue) (i : InstanceValue) (geometry : Geometry) (plan : PlanValue) (asked : IsAsked c plan.query i geometry)
-    → (some : IsSome (chosen i plan.query geometry)) (form : Form) → IsForm geometry (chosen i plan.query geometry) form → plan.shape ≡ i.grid.shape
-    → plan.parameters ≡ (chosen i plan.query geometry).parameters → plan.many ≡ is_many form
-    → plan.coverages ≡ planned_in c.referencing i (chosen i plan.query geometry) form → StandsFor plan (grid_of c i)
-stands_at c i geometry plan asked some (AtPoint spot) h shape parameters many are =
-    let p = points_as geometry asked.points false h.0 in
-    plans.stands_at_point plan (grid_of c i) i geometry refl asked.shape (grid_from i asked.grid) some shape parameters p.has_z p.has_m p.positions p.is spot h.1 many
-    (are ∙ ap (map (planned.planned_at c.referencing i (chosen i plan.query geometry))) h.1)
-stands_at c i geometry plan asked some (Along t z) h shape parameters many are =
-    let p = points_as geometry asked.points true h.0 in
-    plans.stands_along plan (grid_of c i) i geometry refl asked.shape (grid_from i asked.grid) some shape parameters p.has_z p.has_m p.positions p.is t z h.1.0 h.1.1 many
-    (are ∙ ap (λ (p : PlannedValue). p ∷ []) (same_along c plan.query i geometry asked some t z))
-stands_at c i geometry plan asked some Apart h shape parameters many are =
-    let p = points_as geometry asked.points true h.0 in
-    plans.stands_apart plan (grid_of c i) i geometry refl asked.shape (grid_from i asked.grid) some shape parameters p.has_z p.has_m p.positions p.is h.1 many are
+    -- and it is the reply to the query
+    pub listing_stands : (form : Form) → IsForm geometry taken form → (listing : ListingValue) → listing.shape ≡ i.grid.shape → listing.parameters ≡ taken.parameters
+        → listing.many ≡ is_many form → listing.coverages ≡ planned_in c.referencing i taken form → IsReplyTo (Listed listing) q s
+    listing_stands (AtPoint spot) h listing same parameters many are =
+        let p = points_as geometry points false h.0 in
+        plans.stands_at_point listing s q i geometry refl shape gr some same parameters p.has_z p.has_m p.positions p.is spot h.1 many
+        (are ∙ ap (map (planned.planned_at c.referencing i taken)) h.1)
+    listing_stands (Along t z) h listing same parameters many are =
+        let p = points_as geometry points true h.0 in
+        plans.stands_along listing s q i geometry refl shape gr some same parameters p.has_z p.has_m p.positions p.is t z h.1.0 h.1.1 many
+        (are ∙ ap (λ (p : PlannedValue). p ∷ []) (same_along t z))
+    listing_stands Apart h listing same parameters many are =
+        let p = points_as geometry points true h.0 in
+        plans.stands_apart listing s q i geometry refl shape gr some same parameters p.has_z p.has_m p.positions p.is h.1 many are
 
--- a plan of an equal one
-pub plan_stands : (c : CollectionValue) (q : QueryValue) (i : InstanceValue) (geometry : Geometry) → IsAsked c q i geometry → IsSome (chosen i q geometry)
-    → (form : Form) → IsForm geometry (chosen i q geometry) form → (plan : PlanValue) → plan.query ≡ q → plan.shape ≡ i.grid.shape
-    → plan.parameters ≡ (chosen i q geometry).parameters → plan.many ≡ is_many form
-    → plan.coverages ≡ planned_in c.referencing i (chosen i q geometry) form → StandsFor plan (grid_of c i)
-plan_stands c q i geometry asked some form is plan query shape parameters many are =
-    subst (λ (q : QueryValue). IsAsked c q i geometry → IsSome (chosen i q geometry) → IsForm geometry (chosen i q geometry) form
-    → plan.parameters ≡ (chosen i q geometry).parameters → plan.coverages ≡ planned_in c.referencing i (chosen i q geometry) form → StandsFor plan (grid_of c i))
-    query (λ asked some is parameters are. stands_at c i geometry plan asked some form is shape parameters many are) asked some is parameters are
+    pub listing_valid : (form : Form) → IsForm geometry taken form → (listing : ListingValue) → listing.shape ≡ i.grid.shape → listing.parameters ≡ taken.parameters
+        → listing.many ≡ is_many form → listing.coverages ≡ planned_in c.referencing i taken form → IsValidDocument (document s q)
+    listing_valid form h listing same parameters many are =
+        valid_document listing s i q refl asked.grid.samples (is_listing form h listing same parameters many are) (listing_stands form h listing same parameters many are)
 
-same_grid : {i j : InstanceValue} → of_grid i ≡ of_grid j → i ≡ j
-same_grid e = grind (arith, e)
+    -- no refusal is left where the reply isn't too large
+    pub is_plan_in : (form : Form) → IsForm geometry taken form → (listing : ListingValue) → listing.shape ≡ i.grid.shape → listing.parameters ≡ taken.parameters
+        → listing.many ≡ is_many form → listing.coverages ≡ planned_in c.referencing i taken form → refused_query c q ≡ refused_large q s
+        → (nat_lt value_limit (value_count taken) || nat_lt coverage_limit (coverage_count taken form)) ≡ false
+        → IsPlanIn c q i (record { query = q; reply = Listed listing })
+    is_plan_in form h listing same parameters many are left fits = record {
+      none = left ∙ known_size c q i asked (size_is form h ∙ fits);
+      query_is = refl;
+      valid = listing_valid form h listing same parameters many are;
+      stands = listing_stands form h listing same parameters many are;
+    }
 
--- the document of a plan that stands for its query is valid
-pub valid_document : (plan : PlanValue) (s : Subject) (i : InstanceValue) (q : QueryValue) → s.held ≡ of_grid i → AreSamples i.grid.values → IsPlan plan → plan.query ≡ q
-    → StandsFor plan s → IsValidDocument (document s q)
-valid_document plan s i q held samples is query stands =
-    subst (λ (q : QueryValue). IsValidDocument (document s q)) query
-    (document_valid stands.instance.grid plan (document s plan.query) is
-    (subst (λ (j : InstanceValue). AreSamples j.grid.values) (same_grid (sym held ∙ stands.held)) samples) stands.document)
-
--- no refusal is left where the plan isn't too large
-pub is_plan_in : (c : CollectionValue) (q : QueryValue) (i : InstanceValue) (geometry : Geometry) → IsAsked c q i geometry → IsSome (chosen i q geometry)
-    → (form : Form) → IsForm geometry (chosen i q geometry) form → (plan : PlanValue) → plan.query ≡ q → plan.shape ≡ i.grid.shape
-    → plan.parameters ≡ (chosen i q geometry).parameters → plan.many ≡ is_many form
-    → plan.coverages ≡ planned_in c.referencing i (chosen i q geometry) form → refused_query c q ≡ refused_large q (grid_of c i)
-    → (nat_lt value_limit (value_count (chosen i q geometry)) || nat_lt coverage_limit (coverage_count (chosen i q geometry) form)) ≡ false → IsPlanIn c q i plan
-is_plan_in c q i geometry asked some form is plan query shape parameters many are left fits = record {
-  none = left ∙ known_size c q i geometry asked (size_is c q i geometry asked some form is ∙ fits);
-  query_is = query;
-  valid = valid_document plan (grid_of c i) i q refl asked.grid.samples (is_plan c q i geometry asked some form is plan shape parameters many are) query
-      (plan_stands c q i geometry asked some form is plan query shape parameters many are);
-  stands = plan_stands c q i geometry asked some form is plan query shape parameters many are;
-}
-
-pub is_refused_in : (c : CollectionValue) (q : QueryValue) (i : InstanceValue) (geometry : Geometry) (asked : IsAsked c q i geometry) → IsSome (chosen i q geometry)
-    → (form : Form) → IsForm geometry (chosen i q geometry) form → refused_query c q ≡ refused_large q (grid_of c i)
-    → (nat_lt value_limit (value_count (chosen i q geometry)) || nat_lt coverage_limit (coverage_count (chosen i q geometry) form)) ≡ true
-    → refused_query c q ≡ Some TooLarge
-is_refused_in c q i geometry asked some form is left large = left ∙ refused_size c q i geometry asked (size_is c q i geometry asked some form is ∙ large)
+    pub is_refused_in : (form : Form) → IsForm geometry taken form → refused_query c q ≡ refused_large q s
+        → (nat_lt value_limit (value_count taken) || nat_lt coverage_limit (coverage_count taken form)) ≡ true
+        → refused_query c q ≡ Some TooLarge
+    is_refused_in form h left large = left ∙ refused_size c q i asked (size_is form h ∙ large)

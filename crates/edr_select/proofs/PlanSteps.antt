@@ -1,13 +1,11 @@
--- The refusals of a position from step to step, from those of names on.
-use Rattle.std.proofs.Common.{◌≡◌, ◌≢◌, ℕ, zero, suc, ◌<◌, Bool, true, false, cond, List, [], ◌∷◌, length, Option, Some, None, refl, ap, sym, ◌∙◌, subst, arith, All, Contains, inl, inr}
-use Rattle.std.specs.Prelude.{◌↔◌, IsTrue, not, ◌&&◌, ◌||◌, is_some, nat_lt}
-use Rattle.std.specs.List.{find, slice_index_or}
+-- The refusals of a query from step to step, from those of names on.
+use Rattle.std.proofs.Common.{◌≡◌, ℕ, Bool, true, false, cond, List, [], ◌∷◌, length, Option, Some, None, refl, ap, sym, ◌∙◌, subst, Contains}
+use Rattle.std.specs.Prelude.{◌↔◌, IsTrue, not, ◌||◌, nat_lt}
+use Rattle.std.specs.List.{find}
 use Rattle.std.specs.Ordering.{is_lt}
-use Rattle.std.proofs.lemmas.Bool.{false≢true, false_from_ne_true, cases_Bool}
-use Rattle.std.proofs.lemmas.List.{get_or_default}
+use Rattle.std.proofs.lemmas.Bool.{false≢true, false_from_ne_true}
 use Rattle.edr_base.specs.declared.refusals.Refusal.{Refusal}
 use Rattle.edr_base.specs.declared.refusals.Refusal.TheVariants.{UnknownParameterName, BadCrs, NoLevels, NoSamples, TooLarge}
-use Rattle.edr_wkt.specs.declared.geometry.Geometry.{Geometry}
 use Rattle.covjson_value.specs.declared.coverages.Parameter.{Parameter}
 use Rattle.covjson_value.specs.Coverages.{ids_of}
 use Rattle.edr_ids.specs.Ids.{order, has_id, item_of}
@@ -24,7 +22,7 @@ use Rattle.edr_select.specs.Documents.{document, coverages_in, values_in}
 use Rattle.edr_select.specs.Checks.{of_data, refused_data, refused_query, grid_of}
 use Rattle.edr_select.specs.Choices.{Chosen, chosen, IsSome}
 use Rattle.edr_select.specs.Steps.{IsAsked, refused_known, refused_sizes, refused_large, lacks_levels}
-use Rattle.edr_select.proofs.Lists.{all_member, member_here, member_later, no_member}
+use Rattle.edr_select.proofs.Lists.{all_member, member_here, member_later}
 use Rattle.edr_select.proofs.Instances.{grid_from}
 use Rattle.edr_select.proofs.PositionLaws as position
 
@@ -81,7 +79,7 @@ stops b refusal rest e = ap (λ b. cond b (Some refusal) rest) e
 passes : (b : Bool) (refusal : Refusal) (rest : Option Refusal) → b ≡ false → cond b (Some refusal) rest ≡ rest
 passes b refusal rest e = ap (λ b. cond b (Some refusal) rest) e
 
-module _ (c : CollectionValue) (q : QueryValue) (i : InstanceValue) (geometry : Geometry) (asked : IsAsked c q i geometry) where
+module _ (c : CollectionValue) (q : QueryValue) (i : InstanceValue) (asked : IsAsked c q i) where
   abbrev s : Subject
   s = grid_of c i
 
@@ -122,23 +120,23 @@ module _ (c : CollectionValue) (q : QueryValue) (i : InstanceValue) (geometry : 
 
   -- ---- samples
 
-  none_picked : (¬ (IsSome (chosen i q geometry))) → is_some_stored (picked s q) ≡ false
+  none_picked : (¬ (IsSome (chosen i q))) → is_some_stored (picked s q) ≡ false
   none_picked none =
       let g = grid_from i asked.grid in
       false_from_ne_true (is_some_stored (picked s q)) (λ h. none (record {
-        parameters = λ e. false≢true (sym (position.none_without_parameters s q i geometry refl asked.shape g e) ∙ h);
-        times = λ e. false≢true (sym (position.none_without_times s q i geometry refl asked.shape g e) ∙ h);
-        levels = λ e. false≢true (sym (position.none_without_levels s q i geometry refl asked.shape g e) ∙ h);
-        spots = λ e. false≢true (sym (position.none_without_spots s q i geometry refl asked.shape g e) ∙ h);
+        parameters = λ e. false≢true (sym (position.none_without_parameters s q i refl asked.each g e) ∙ h);
+        times = λ e. false≢true (sym (position.none_without_times s q i refl asked.each g e) ∙ h);
+        levels = λ e. false≢true (sym (position.none_without_levels s q i refl asked.each g e) ∙ h);
+        spots = λ e. false≢true (sym (position.none_without_spots s q i refl asked.each g e) ∙ h);
       }))
 
-  pub refused_samples : (¬ (IsSome (chosen i q geometry))) → refused_sizes q s ≡ Some NoSamples
+  pub refused_samples : (¬ (IsSome (chosen i q))) → refused_sizes q s ≡ Some NoSamples
   refused_samples none = stops (not (is_some_stored (picked s q))) NoSamples (refused_large q s) (ap not (none_picked none))
 
-  pub known_samples : IsSome (chosen i q geometry) → refused_sizes q s ≡ refused_large q s
+  pub known_samples : IsSome (chosen i q) → refused_sizes q s ≡ refused_large q s
   known_samples some =
       passes (not (is_some_stored (picked s q))) NoSamples (refused_large q s)
-      (ap not (position.some_picked s q i geometry refl asked.shape (grid_from i asked.grid) some))
+      (ap not (position.some_picked s q i refl asked.each (grid_from i asked.grid) some))
 
   -- ---- sizes
 

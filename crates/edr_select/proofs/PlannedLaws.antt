@@ -1,15 +1,13 @@
--- What is planned for a position is a plan: its heads are valid, and its cells lie in the grid, one for each value.
+-- What is planned for the spots that are chosen is a listing: its heads are valid, and its cells lie in the grid, one for each value.
 use Rattle.std.proofs.Common.{◌≡◌, ◌≢◌, ℕ, zero, suc, ◌*◌, ◌^◌, ◌<◌, ◌≤◌, Bool, true, false, cond, List, [], ◌∷◌, length, refl, ap, ap₂, sym, ◌∙◌, subst, arith, mul_assoc, one-mul, mul-le-mul_right, mul-pos, Some, None, IfSome, ℤ, pos, All, Contains}
 use Rattle.std.specs.declared.option.Option.{Option}
 use Rattle.std.specs.Prelude.{map, option_map}
-use Rattle.std.specs.List.{filter, list_any, range_with_len, slice_index_or}
+use Rattle.std.specs.List.{filter, range_with_len, slice_index_or}
 use Rattle.std.proofs.lemmas.List.{length-map, get_or_default}
 use Rattle.std.proofs.lemmas.List.FromFn.{length-range_with_len}
 use Rattle.edr_base.specs.Limits.{node_limit}
 use Rattle.edr_axes.specs.declared.levels.Levels.{Levels}
 use Rattle.edr_axes.specs.Axes.{value_at}
-use Rattle.edr_wkt.specs.declared.geometry.Geometry.{Geometry}
-use Rattle.edr_wkt.specs.Geometries.{positions_of}
 use Rattle.covjson_value.specs.declared.domains.CoordinateName.TheVariants.{T, Z, Y, X}
 use Rattle.covjson_value.specs.Domains.{axis_length}
 use Rattle.covjson_value.specs.Coverages.{IsAxisValue, IsNamedAxis, IsReferencing}
@@ -21,8 +19,8 @@ use Rattle.edr_edition.specs.Stores.{Subject}
 use Rattle.edr_query.specs.Values.{QueryValue}
 use Rattle.edr_select.specs.Wanted.{takes_time, takes_level, levels_asked}
 use Rattle.edr_select.specs.Heads.{domain_at}
-use Rattle.edr_select.specs.Choices.{Chosen, chosen, IsSome, level_at, level_places, is_nearest_place, node_of, cells_at, cells_along, times_of, levels_of, row_of, column_of, spot_of}
-use Rattle.edr_select.specs.Plans.{PlannedValue, PlanValue, place_at, IsPlanned, IsPlan}
+use Rattle.edr_select.specs.Choices.{TakesEach, takes_node, Chosen, chosen, IsSome, level_at, level_places, node_of, cells_at, cells_along, times_of, levels_of, row_of, column_of, spot_of}
+use Rattle.edr_select.specs.Listings.{PlannedValue, ListingValue, place_at, IsPlanned, IsListing}
 use Rattle.edr_select.proofs.Lists.{Each, each-map_in, each-flat_map_in}
 use Rattle.edr_select.proofs.Kept.{filter_by_places}
 use Rattle.edr_select.proofs.Grids.{IsGrid}
@@ -37,7 +35,7 @@ use Rattle.edr_select.proofs.HeadLaws.{named_axis_filter, asked_are, asked_ascen
 
 -- ---- lists
 
-some_length : {A : Type 0} (xs : List A) → xs ≢ [] → 0 < length xs
+pub some_length : {A : Type 0} (xs : List A) → xs ≢ [] → 0 < length xs
 some_length [] some = absurd (some refl)
 some_length (x ∷ xs) some = omega arith
 
@@ -63,7 +61,7 @@ level_axis asked (Some values) h some =
     (named_axis_filter Z (λ l. takes_level asked (Some l)) values h
     (omega (arith, some_length (level_places asked (Some values)) some, ap (λ (vs : List ℤ). length vs) same, length-map (level_places asked (Some values)) (value_at values))))
 
-level_count : (asked : Option Levels) (zs : Option (List ℤ)) → level_places asked zs ≢ []
+pub level_count : (asked : Option Levels) (zs : Option (List ℤ)) → level_places asked zs ≢ []
     → axis_length (option_map (λ values. map (value_at values) (level_places asked zs)) zs) ≡ length (level_places asked zs)
 level_count asked None some = sym (ap (λ (ls : List ℕ). length ls) (one_level asked None refl some))
 level_count asked (Some values) some = length-map (level_places asked (Some values)) (value_at values)
@@ -80,10 +78,10 @@ plane_few shape h =
     let one : 1 * (shape.rows * shape.columns) ≤ shape.times * shape.levels * (shape.rows * shape.columns) = mul-le-mul_right (shape.rows * shape.columns) (mul-pos h.times h.levels) in
     omega (arith, whole, one, one-mul (shape.rows * shape.columns), h.few)
 
-module _ (s : Subject) (q : QueryValue) (i : InstanceValue) (geometry : Geometry) (h : HasGrid i) (referencing : IsReferencing s.collection.referencing)
-    (some : IsSome (chosen i q geometry)) where
+module _ (s : Subject) (q : QueryValue) (i : InstanceValue) (each : TakesEach q.shape) (h : HasGrid i) (referencing : IsReferencing s.collection.referencing)
+    (some : IsSome (chosen i q)) where
   abbrev c : Chosen
-  c = chosen i q geometry
+  c = chosen i q
 
   g : IsGrid i
   g = grid_from i h
@@ -100,14 +98,14 @@ module _ (s : Subject) (q : QueryValue) (i : InstanceValue) (geometry : Geometry
 
   spot_is : (spot : ℕ) → Contains c.spots spot → IsSpot (spot_of i spot)
   spot_is spot m = record {
-    y = h.ys.within (row_of i.xs spot) (pos 0) (laws.row_below i q geometry g spot (laws.spot_below i q geometry g spot m));
-    x = h.xs.within (column_of i.xs spot) (pos 0) (laws.column_below i q geometry g spot);
+    y = h.ys.within (row_of i.xs spot) (pos 0) (laws.row_below i q each g spot (laws.spot_below i q each g spot m));
+    x = h.xs.within (column_of i.xs spot) (pos 0) (laws.column_below i q each g spot);
   }
 
   -- a cell of what is chosen lies in the grid
   cell_in : (t z spot : ℕ) → Contains c.times t → Contains c.levels z → Contains c.spots spot → Within i.grid.shape (place_at 0 (node_of i.xs spot t z))
   cell_in t z spot mt mz ms =
-      laws.cell_within i q geometry g 0 t z spot h.some (laws.time_below i q geometry g t mt) (laws.level_below i q geometry g z mz) (laws.spot_below i q geometry g spot ms)
+      laws.cell_within i q each g 0 t z spot h.some (laws.time_below i q each g t mt) (laws.level_below i q each g z mz) (laws.spot_below i q each g spot ms)
 
   -- ---- what is planned for one spot
 
@@ -133,15 +131,15 @@ module _ (s : Subject) (q : QueryValue) (i : InstanceValue) (geometry : Geometry
   few_spots : length c.spots < 2 ^ 64
   few_spots =
       let kept : length c.spots ≤ length (range_with_len 0 (length i.ys * length i.xs)) =
-      kept_few (λ spot. list_any (is_nearest_place i.ys i.xs (row_of i.xs spot) (column_of i.xs spot)) (positions_of geometry)) (range_with_len 0 (length i.ys * length i.xs)) in
+      kept_few (λ spot. takes_node i q.shape (row_of i.xs spot) (column_of i.xs spot)) (range_with_len 0 (length i.ys * length i.xs)) in
       let plane : i.grid.shape.rows * i.grid.shape.columns ≡ length i.ys * length i.xs = ap₂ (λ a b. a * b) g.rows g.columns in
       omega (arith, kept, length-range_with_len 0 (length i.ys * length i.xs), plane, plane_few i.grid.shape h.is_shape)
 
   pub planned_along_is : (t z : ℕ) → Contains c.times t → Contains c.levels z → IsPlanned i.grid.shape c.parameters (planned_along s i c t z)
   planned_along_is t z mt mz = record {
     head = head_is s (domain_along i c t z) (chosen_parameters i c) referencing
-        (has_axes_along (value_at i.ts t) (level_at i.zs z) (map (spot_of i) c.spots) (h.ts.within t (pos 0) (laws.time_below i q geometry g t mt)))
-        (tuples_along (value_at i.ts t) (level_at i.zs z) (map (spot_of i) c.spots) (level_value i.zs z h.zs (laws.level_below i q geometry g z mz))
+        (has_axes_along (value_at i.ts t) (level_at i.zs z) (map (spot_of i) c.spots) (h.ts.within t (pos 0) (laws.time_below i q each g t mt)))
+        (tuples_along (value_at i.ts t) (level_at i.zs z) (map (spot_of i) c.spots) (level_value i.zs z h.zs (laws.level_below i q each g z mz))
         (all_from_each IsSpot (map (spot_of i) c.spots) (each-map_in IsSpot (spot_of i) c.spots spot_is))
         (omega (arith, some_length c.spots some.spots, length-map c.spots (spot_of i)))
         (omega (arith, few_spots, length-map c.spots (spot_of i))))
@@ -154,20 +152,20 @@ module _ (s : Subject) (q : QueryValue) (i : InstanceValue) (geometry : Geometry
         (each-map_in (λ cell. Within i.grid.shape (place_at 0 cell)) (λ spot. node_of i.xs spot t z) c.spots (λ spot ms. cell_in t z spot mt mz ms));
   }
 
-  -- ---- plans
+  -- ---- listings
 
   pub planned_at_are : Each (IsPlanned i.grid.shape c.parameters) (map (planned_at s i c) c.spots)
   planned_at_are = each-map_in (IsPlanned i.grid.shape c.parameters) (planned_at s i c) c.spots planned_at_is
 
-  -- a plan of such coverages
-  pub is_plan : (plan : PlanValue) (coverages : List PlannedValue) → plan.shape ≡ i.grid.shape → plan.parameters ≡ c.parameters → plan.coverages ≡ coverages
-      → Each (IsPlanned i.grid.shape c.parameters) coverages → (plan.many ≡ false → length coverages ≡ 1) → IsPlan plan
-  is_plan plan coverages shape parameters are planned one = record {
+  -- a listing of such coverages
+  pub is_listing : (listing : ListingValue) (coverages : List PlannedValue) → listing.shape ≡ i.grid.shape → listing.parameters ≡ c.parameters → listing.coverages ≡ coverages
+      → Each (IsPlanned i.grid.shape c.parameters) coverages → (listing.many ≡ false → length coverages ≡ 1) → IsListing listing
+  is_listing listing coverages shape parameters are planned one = record {
     shape = subst IsShape (sym shape) h.is_shape;
-    parameters = subst (λ (ps : List ℕ). All (λ p. p < plan.shape.parameters) ps) (sym parameters)
+    parameters = subst (λ (ps : List ℕ). All (λ p. p < listing.shape.parameters) ps) (sym parameters)
         (subst (λ (d : GridShape). All (λ p. p < d.parameters) c.parameters) (sym shape) below);
-    coverages = subst (λ (ps : List PlannedValue). All (IsPlanned plan.shape plan.parameters) ps) (sym are)
-        (subst (λ (ps : List ℕ). All (IsPlanned plan.shape ps) coverages) (sym parameters)
+    coverages = subst (λ (ps : List PlannedValue). All (IsPlanned listing.shape listing.parameters) ps) (sym are)
+        (subst (λ (ps : List ℕ). All (IsPlanned listing.shape ps) coverages) (sym parameters)
         (subst (λ (d : GridShape). All (IsPlanned d c.parameters) coverages) (sym shape) (all_from_each (IsPlanned i.grid.shape c.parameters) coverages planned)));
     alone = λ many. ap (λ (ps : List PlannedValue). length ps) are ∙ one many;
   }
@@ -175,4 +173,4 @@ module _ (s : Subject) (q : QueryValue) (i : InstanceValue) (geometry : Geometry
       below : All (λ p. p < i.grid.shape.parameters) c.parameters
       below k d l =
           let m : Contains c.parameters (slice_index_or c.parameters k d) = (k, l, get_or_default c.parameters k (slice_index_or c.parameters k d) d l) in
-          omega (arith, laws.parameter_below i q geometry g (slice_index_or c.parameters k d) m, g.parameters)
+          omega (arith, laws.parameter_below i q each g (slice_index_or c.parameters k d) m, g.parameters)

@@ -1,4 +1,4 @@
--- The document of a plan, from all its values.
+-- The document of a listing, from all its values.
 use Rattle.std.proofs.Common.{◌≡◌, ℕ, suc, ◌+◌, ◌-◌, ◌*◌, Bool, true, false, List, [], ◌∷◌, ◌++◌, length, take, drop, get_or, All, ℤ, Option, None, Some, refl, ap, sym, ◌∙◌, subst, arith, inl, inr, append_assoc, length-append}
 use Rattle.std.specs.Prelude.{map, IfSome}
 use Rattle.std.specs.List.{flat_map, slice_range}
@@ -24,9 +24,13 @@ use Rattle.edr_chunk.specs.Grids.{value}
 use Rattle.edr_chunk.specs.Tiles.{tile_of}
 use Rattle.edr_edition.specs.Values.{InstanceValue}
 use Rattle.edr_edition.specs.Instances.{IsInstance, values_of}
+use Rattle.edr_edition.specs.Stores.{Subject}
 use Rattle.edr_select.specs.declared.plans.GridNode.{GridNode}
-use Rattle.edr_select.specs.Plans.{PlannedValue, PlanValue, IsPlanned, IsPlan, place_at, range_over, coverage_of, document_of, plan_document, tiles_of_range, tiles_of_coverage, plan_tiles}
-use Rattle.edr_select.specs.Bands.{plan_text}
+use Rattle.edr_select.specs.declared.plans.Reply.{Reply}
+use Rattle.edr_select.specs.declared.plans.Reply.TheVariants.{Listed}
+use Rattle.edr_select.specs.Listings.{PlannedValue, ListingValue, IsPlanned, IsListing, place_at, range_over, coverage_of, document_of, listing_document, tiles_of_range, tiles_of_coverage, listing_tiles}
+use Rattle.edr_select.specs.Plans.{PlanValue, IsReplyTo, StandsFor}
+use Rattle.edr_select.specs.Bands.{listing_text}
 use Rattle.edr_select.specs.Gathered.{places_of_range, places_of_coverage, places_of_coverages, ranges_cut, coverages_cut, size_of, sizes_of}
 
 -- ---- the tiles of all values
@@ -47,7 +51,7 @@ coverage_tiles shape parameters planned =
     map_flat (tile_of shape) (places_of_range planned.cells) parameters
     ∙ flat_same (λ p. map (tile_of shape) (places_of_range planned.cells p)) (tiles_of_range shape planned.cells) (range_tiles shape planned.cells) parameters
 
-pub tiles_are : (plan : PlanValue) → map (tile_of plan.shape) (places_of_coverages plan.parameters plan.coverages) ≡ plan_tiles plan
+pub tiles_are : (plan : ListingValue) → map (tile_of plan.shape) (places_of_coverages plan.parameters plan.coverages) ≡ listing_tiles plan
 tiles_are plan =
     map_flat (tile_of plan.shape) (places_of_coverage plan.parameters) plan.coverages
     ∙ flat_same (λ planned. map (tile_of plan.shape) (places_of_coverage plan.parameters planned)) (tiles_of_coverage plan.shape plan.parameters) (coverage_tiles plan.shape plan.parameters) plan.coverages
@@ -152,7 +156,7 @@ coverages_are grid parameters (planned ∷ coverages) values e =
 
 -- ---- validity
 
-sample_at : (values : List (Option ℤ)) (n : ℕ) → All (λ v. IfSome v IsSample) values → IfSome (get_or values n None) IsSample
+pub sample_at : (values : List (Option ℤ)) (n : ℕ) → All (λ v. IfSome v IsSample) values → IfSome (get_or values n None) IsSample
 sample_at values n all = elim (cases_lt n (length values)) [
   | inl inside ↦ All-get_or (λ v. IfSome v IsSample) values n None inside all
   | inr past ↦ subst (λ (v : Option ℤ). IfSome v IsSample) (sym (get_or_past values n None past)) tt
@@ -210,6 +214,10 @@ instance_samples instance is =
 
 -- ---- the document
 
+-- a plan of a listing stands for its query as the listing does
+pub listed_stands : (plan : PlanValue) (listing : ListingValue) (s : Subject) → plan.reply ≡ Listed listing → StandsFor plan s → IsReplyTo (Listed listing) plan.query s
+listed_stands plan listing s listed stands = subst (λ (r : Reply). IsReplyTo r plan.query s) listed stands
+
 pub record Told (many : Bool) (coverages : List Coverage) (d : Document) : Type 0 where
   pub many_is : is_many d ≡ many
   pub coverages_is : coverages_of d ≡ coverages
@@ -227,19 +235,19 @@ told_by false (coverage ∷ []) d one e = subst (λ (d : Document). Told false (
     some_is e = grind (arith, e)
 told_by false (coverage ∷ (other ∷ coverages)) d one e = absurd (omega (arith, one refl))
 
--- that of a plan over a grid
-told_of : (grid : chunk.Values) (plan : PlanValue) (d : Document) → IsPlan plan → plan_document grid plan ≡ Some d → Told plan.many (map (coverage_of grid plan.parameters) plan.coverages) d
+-- that of a listing over a grid
+told_of : (grid : chunk.Values) (plan : ListingValue) (d : Document) → IsListing plan → listing_document grid plan ≡ Some d → Told plan.many (map (coverage_of grid plan.parameters) plan.coverages) d
 told_of grid plan d is f =
     told_by plan.many (map (coverage_of grid plan.parameters) plan.coverages) d (λ one. length-map plan.coverages (coverage_of grid plan.parameters) ∙ is.alone one) f
 
--- the plan's document is valid
-pub document_valid : (grid : chunk.Values) (plan : PlanValue) (d : Document) → IsPlan plan → All (λ v. IfSome v IsSample) grid.values → plan_document grid plan ≡ Some d → IsValidDocument d
+-- the listing's document is valid
+pub document_valid : (grid : chunk.Values) (plan : ListingValue) (d : Document) → IsListing plan → All (λ v. IfSome v IsSample) grid.values → listing_document grid plan ≡ Some d → IsValidDocument d
 document_valid grid plan d is samples f =
     let told = told_of grid plan d is f in told.valid (coverages_valid grid plan.shape plan.parameters plan.coverages samples is.coverages)
 
 -- its text is that of its pieces
-pub plan_text_is : DocumentOfPieces → (grid : chunk.Values) (plan : PlanValue) (d : Document) → IsPlan plan → All (λ v. IfSome v IsSample) grid.values → plan_document grid plan ≡ Some d
-    → plan_text grid plan ≡ document_text d
+pub plan_text_is : DocumentOfPieces → (grid : chunk.Values) (plan : ListingValue) (d : Document) → IsListing plan → All (λ v. IfSome v IsSample) grid.values → listing_document grid plan ≡ Some d
+    → listing_text grid plan ≡ document_text d
 plan_text_is law grid plan d is samples f =
     let told = told_of grid plan d is f in
     ap (λ (cs : List Coverage). document_begin plan.many ++ (coverages_from 0 cs ++ document_end plan.many)) (sym told.coverages_is)
@@ -247,8 +255,8 @@ plan_text_is law grid plan d is samples f =
     ∙ sym (law d (document_valid grid plan d is samples f))
 
 -- it is written from all its values
-pub text_is : DocumentOfPieces → (grid : chunk.Values) (plan : PlanValue) (values : List (Option ℤ)) (d : Document) → IsPlan plan → All (λ v. IfSome v IsSample) grid.values
-    → values ≡ map (value grid) (places_of_coverages plan.parameters plan.coverages) → plan_document grid plan ≡ Some d
+pub text_is : DocumentOfPieces → (grid : chunk.Values) (plan : ListingValue) (values : List (Option ℤ)) (d : Document) → IsListing plan → All (λ v. IfSome v IsSample) grid.values
+    → values ≡ map (value grid) (places_of_coverages plan.parameters plan.coverages) → listing_document grid plan ≡ Some d
     → document_begin plan.many ++ (coverages_from 0 (coverages_cut (length plan.parameters) plan.coverages values) ++ document_end plan.many) ≡ document_text d
 text_is law grid plan values d is samples e f =
     ap (λ (cs : List Coverage). document_begin plan.many ++ (coverages_from 0 cs ++ document_end plan.many)) (coverages_are grid plan.parameters plan.coverages values e)

@@ -1,5 +1,5 @@
 -- Runs of numbers.
-use Rattle.std.proofs.Common.{◌≡◌, ℕ, zero, suc, ◌+◌, ◌-◌, ◌<◌, ◌≤◌, Bool, true, false, cond, List, [], ◌∷◌, ◌++◌, refl, ap, ap₂, ◌∙◌, sym, arith, append-nil}
+use Rattle.std.proofs.Common.{◌≡◌, ℕ, zero, suc, ◌+◌, ◌-◌, ◌≤◌, Bool, true, false, cond, List, [], ◌∷◌, ◌++◌, ap, ap₂, ◌∙◌, sym, arith, append-nil}
 use Rattle.std.specs.List.{range_with_len, filter}
 use Rattle.edr_select.proofs.Lists.{kept_more}
 

@@ -13,7 +13,7 @@ use Rattle.edr_chunk.specs.Grids as chunk
 use Rattle.edr_chunk.specs.Grids.{value}
 use Rattle.edr_select.specs.declared.plans.GridNode.{GridNode}
 use Rattle.edr_select.specs.declared.slots.Slot.{Slot}
-use Rattle.edr_select.specs.Plans.{PlannedValue, IsPlanned, place_at}
+use Rattle.edr_select.specs.Listings.{PlannedValue, IsPlanned, place_at}
 use Rattle.edr_select.specs.Filling.{IsSlot, slot_at, slots_from, slot_tile, slot_number, value_of, SlotsGrew}
 use Rattle.edr_select.specs.Gathered.{places_of_range, places_of_coverage, places_of_coverages}
 

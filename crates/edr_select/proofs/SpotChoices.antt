@@ -1,5 +1,5 @@
 -- The nodes of a plane that are nearest to points, by their numbers.
-use Rattle.std.proofs.Common.{◌≡◌, ℕ, zero, suc, ◌+◌, ◌-◌, ◌*◌, ◌/◌, ◌%◌, ◌<◌, ◌≤◌, Bool, true, false, List, [], ◌∷◌, ◌++◌, length, get_or, take, refl, ap, ap₂, sym, ◌∙◌, arith, eqb, ℤ, Option, None, Some}
+use Rattle.std.proofs.Common.{◌≡◌, ℕ, zero, suc, ◌+◌, ◌*◌, ◌/◌, ◌%◌, ◌<◌, Bool, true, false, List, [], ◌∷◌, ◌++◌, length, get_or, take, refl, ap, ap₂, sym, ◌∙◌, arith, eqb, ℤ, Some}
 use Rattle.std.specs.Prelude.{◌||◌, ◌&&◌}
 use Rattle.std.specs.List.{list_any}
 use Rattle.std.proofs.lemmas.Bool.Decides.{nat_tests}
@@ -8,8 +8,13 @@ use Rattle.std.proofs.lemmas.Nat.{div-add-mod', same_from_place}
 use Rattle.std.proofs.lemmas.List.Folds.{list_any_more}
 use Rattle.edr_base.specs.declared.places.Position.{Position}
 use Rattle.edr_axes.specs.Axes.{value_at, IsAxis, IsNearest}
+use Rattle.edr_wkt.specs.declared.geometry.Geometry.{Geometry}
+use Rattle.edr_wkt.specs.Geometries.{positions_of}
+use Rattle.edr_edition.specs.Values.{InstanceValue}
+use Rattle.edr_query.specs.declared.shapes.Shape.TheVariants as at
+use Rattle.edr_query.specs.Values.{QueryValue}
 use Rattle.edr_select.specs.Wanted.{is_along, is_nearest}
-use Rattle.edr_select.specs.Choices.{is_nearest_place, is_number, row_of, column_of}
+use Rattle.edr_select.specs.Choices.{is_nearest_place, is_number, row_of, column_of, spot_places, spots_in}
 use Rattle.edr_select.proofs.Lists.{both}
 use Rattle.edr_select.proofs.FoundPlaces.{Found, found_more, found_same}
 use Rattle.edr_select.proofs.NearestTests.{test_from_nearest, only_nearest}
@@ -96,3 +101,9 @@ spot_is ys xs p row column k rows columns in_y in_x near_y near_x within =
     four (is_along ys p.y) (is_along xs p.x) (is_nearest ys p.y (value_at ys (row_of xs k))) (is_nearest xs p.x (value_at xs (column_of xs k))) in_y in_x
     (ap (λ r. is_nearest ys p.y (value_at ys r)) told.0 ∙ test_from_nearest ys p.y row rows.ascending near_y)
     (ap (λ c. is_nearest xs p.x (value_at xs c)) told.1 ∙ test_from_nearest xs p.x column columns.ascending near_x))
+
+-- ---- the nodes that a position takes
+
+pub spots_of_position : (i : InstanceValue) (q : QueryValue) (geometry : Geometry) (points : List Position) → q.shape ≡ at.Position geometry → points ≡ positions_of geometry
+    → spot_places i.ys i.xs points ≡ spots_in i q.shape
+spots_of_position i q geometry points shape are = ap (spot_places i.ys i.xs) are ∙ sym (ap (spots_in i) shape)

@@ -1,11 +1,11 @@
 -- The places of times that are asked.
-use Rattle.std.proofs.Common.{◌≡◌, ℕ, ◌+◌, ◌-◌, ◌<◌, ◌≤◌, Bool, true, List, length, refl, ap, ap₂, sym, ◌∙◌, arith, Option, Some, None, ℤ, int_le}
+use Rattle.std.proofs.Common.{◌≡◌, ℕ, ◌-◌, ◌<◌, List, length, ap, ap₂, sym, ◌∙◌, arith, Option, Some, None, ℤ, int_le}
 use Rattle.std.specs.Prelude.{◌&&◌}
 use Rattle.std.specs.List.{filter, range_with_len}
 use Rattle.edr_axes.specs.declared.times.Times.{Times}
 use Rattle.edr_axes.specs.declared.times.Times.TheVariants as variants
 use Rattle.edr_axes.specs.Axes.{value_at}
-use Rattle.edr_select.specs.Wanted.{is_from, is_until, takes_time}
+use Rattle.edr_select.specs.Wanted.{is_from, is_until}
 use Rattle.edr_select.specs.Choices.{time_places}
 use Rattle.edr_select.proofs.AscendingOnce.{filter_range_agree}
 use Rattle.edr_select.proofs.FoundPlaces.{all_taken}

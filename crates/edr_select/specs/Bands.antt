@@ -8,7 +8,7 @@ use Rattle.edr_chunk.specs.AllPlaces.{at}
 use Rattle.edr_chunk.specs.Grids as chunk
 use Rattle.edr_chunk.specs.Tiles.{tile_of}
 use Rattle.edr_select.specs.declared.plans.GridNode.{GridNode}
-use Rattle.edr_select.specs.Plans.{PlannedValue, PlanValue, coverage_of}
+use Rattle.edr_select.specs.Listings.{PlannedValue, ListingValue, coverage_of}
 
 -- the first tile of a node's band, which is the row of tiles of a parameter at a time and a level
 abbrev pub first_tile : GridShape → ℕ → GridNode → ℕ
@@ -27,11 +27,11 @@ abbrev pub NumbersRise : List ℕ → Type 0
 NumbersRise numbers = (i j : ℕ) (d : ℕ) → i < j → j < length numbers → slice_index_or numbers i d < slice_index_or numbers j d
 
 -- a plan has one coverage, and the tiles of its values rise band by band in the order of the text
-pub record Rises (plan : PlanValue) (planned : PlannedValue) : Type 0 where
+pub record Rises (plan : ListingValue) (planned : PlannedValue) : Type 0 where
   pub alone : plan.coverages ≡ planned ∷ []
   pub parameters : NumbersRise plan.parameters
   pub bands : BandsRise plan.shape planned.cells
 
 -- the text of the document that a plan gives over a grid
-abbrev pub plan_text : chunk.Values → PlanValue → List ℕ
-plan_text grid plan = document_begin plan.many ++ (coverages_from 0 (map (coverage_of grid plan.parameters) plan.coverages) ++ document_end plan.many)
+abbrev pub listing_text : chunk.Values → ListingValue → List ℕ
+listing_text grid plan = document_begin plan.many ++ (coverages_from 0 (map (coverage_of grid plan.parameters) plan.coverages) ++ document_end plan.many)

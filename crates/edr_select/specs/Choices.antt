@@ -1,20 +1,25 @@
--- The places on the axes of a grid that a position takes; for private clauses.
-use Rattle.std.specs.Prelude.{⊤, ◌≡◌, ◌≢◌, ℕ, ◌*◌, ◌/◌, ◌%◌, ◌==◌, ℤ, Bool, false, ◌&&◌, List, [], ◌∷◌, length, map, Option, None, Some, option_map}
+-- The places on the axes of a grid that a query takes, of the kinds that take each time, level and place by itself; for private clauses.
+use Rattle.std.specs.Prelude.{⊤, ◌≢◌, ℕ, ◌*◌, ◌/◌, ◌%◌, ◌==◌, ℤ, Bool, false, ◌&&◌, List, [], length, map, Option, None, Some, option_map}
 use Rattle.std.specs.List.{filter, flat_map, list_any, range_with_len}
 use Rattle.edr_base.specs.declared.places.Position.{Position}
+use Rattle.edr_base.specs.declared.places.Spot.{Spot}
 use Rattle.edr_axes.specs.declared.times.Times.{Times}
 use Rattle.edr_axes.specs.declared.levels.Levels.{Levels}
 use Rattle.edr_axes.specs.Axes.{value_at}
 use Rattle.edr_wkt.specs.declared.geometry.Geometry.{Geometry}
 use Rattle.edr_wkt.specs.declared.geometry.Geometry.TheVariants.{Points, Line, Polygons}
 use Rattle.edr_wkt.specs.Geometries.{positions_of}
+use Rattle.edr_geometry.specs.Planar as plane
+use Rattle.edr_geometry.specs.Planar.{in_disc}
 use Rattle.covjson_value.specs.declared.coverages.Parameter.{Parameter}
 use Rattle.covjson_value.specs.Domains.{axis_length}
 use Rattle.edr_edition.specs.Values.{InstanceValue}
+use Rattle.edr_query.specs.declared.shapes.Shape.{Shape}
+use Rattle.edr_query.specs.declared.shapes.Shape.TheVariants as at
 use Rattle.edr_query.specs.Values.{QueryValue}
 use Rattle.edr_select.specs.declared.plans.GridNode.{GridNode}
-use Rattle.edr_select.specs.Samples.{id_at, ascending_once}
-use Rattle.edr_select.specs.Wanted.{takes_time, takes_level, levels_asked, is_along, is_nearest}
+use Rattle.edr_select.specs.Samples.{id_at}
+use Rattle.edr_select.specs.Wanted.{takes_time, takes_level, levels_asked, is_along, is_nearest, in_areas, in_box}
 use Rattle.edr_select.specs.Selections.{is_asked}
 
 -- the level at a place, where there is an axis of levels
@@ -46,6 +51,34 @@ column_of xs spot = spot % length xs
 abbrev pub spot_places : List ℤ → List ℤ → List Position → List ℕ
 spot_places ys xs points = filter (λ spot. list_any (is_nearest_place ys xs (row_of xs spot) (column_of xs spot)) points) (range_with_len 0 (length ys * length xs))
 
+-- ---- the nodes of a plane that a shape takes
+
+-- the shape takes each time, level and place by itself
+abbrev pub TakesEach : Shape → Type 0
+TakesEach (at.Position geometry) = ⊤
+TakesEach (at.Radius geometry within) = ⊤
+TakesEach (at.Area geometry) = ⊤
+TakesEach (at.Cube lo hi levels) = ⊤
+TakesEach (at.Trajectory geometry) = ⊥
+TakesEach (at.Corridor geometry width height) = ⊥
+TakesEach (at.Location id) = ⊥
+
+-- where the node of a row and a column is
+abbrev pub spot_at : InstanceValue → ℕ → ℕ → Spot
+spot_at i y x = record { x = value_at i.xs x; y = value_at i.ys y }
+
+-- the node is taken
+abbrev pub takes_node : InstanceValue → Shape → ℕ → ℕ → Bool
+takes_node i (at.Position geometry) y x = list_any (is_nearest_place i.ys i.xs y x) (positions_of geometry)
+takes_node i (at.Radius geometry within) y x = list_any (λ p. in_disc (spot_at i y x) (plane.spot_of p) within) (positions_of geometry)
+takes_node i (at.Area geometry) y x = in_areas geometry (spot_at i y x)
+takes_node i (at.Cube lo hi levels) y x = in_box (spot_at i y x) lo hi
+takes_node i other y x = false
+
+-- the numbers of the nodes that are taken
+abbrev pub spots_in : InstanceValue → Shape → List ℕ
+spots_in i shape = filter (λ spot. takes_node i shape (row_of i.xs spot) (column_of i.xs spot)) (range_with_len 0 (length i.ys * length i.xs))
+
 -- a number that was found is this one
 abbrev pub is_number : Option ℕ → ℕ → Bool
 is_number None other = false
@@ -57,19 +90,19 @@ IsPoints (Points multi has_z has_m positions) = ⊤
 IsPoints (Line has_z has_m positions) = ⊥
 IsPoints (Polygons multi has_z has_m polygons) = ⊥
 
--- what a position takes of an instance
+-- what a query takes of an instance
 pub record Chosen : Type 0 where
   pub parameters : List ℕ
   pub times : List ℕ
   pub levels : List ℕ
   pub spots : List ℕ
 
-abbrev pub chosen : InstanceValue → QueryValue → Geometry → Chosen
-chosen i q geometry = record {
+abbrev pub chosen : InstanceValue → QueryValue → Chosen
+chosen i q = record {
   parameters = parameter_places q.parameters i.parameters;
   times = time_places q.times i.ts;
   levels = level_places (levels_asked q) i.zs;
-  spots = spot_places i.ys i.xs (positions_of geometry);
+  spots = spots_in i q.shape;
 }
 
 -- something of each is taken

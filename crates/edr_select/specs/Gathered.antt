@@ -7,7 +7,7 @@ use Rattle.covjson_value.specs.declared.coverages.Coverage.{Coverage}
 use Rattle.covjson_write.specs.Writers.{with_ranges}
 use Rattle.edr_chunk.specs.declared.shapes.GridPlace.{GridPlace}
 use Rattle.edr_select.specs.declared.plans.GridNode.{GridNode}
-use Rattle.edr_select.specs.Plans.{PlannedValue, place_at}
+use Rattle.edr_select.specs.Listings.{PlannedValue, place_at}
 
 -- ---- places
 

@@ -8,6 +8,9 @@ pub mod Heads
 pub mod Documents
 pub mod Refusals
 pub mod Choices
+pub mod Listings
+pub mod Bands
+pub mod Framings
 pub mod Plans
 pub mod Planned
 pub mod Planning
@@ -18,4 +21,7 @@ pub mod Steps
 pub mod PlacesOfIds
 pub mod Filling
 pub mod Gathered
-pub mod Bands
+pub mod Masks
+pub mod FrameTexts
+pub mod Strips
+pub mod AreaPlans

@@ -1,7 +1,6 @@
 -- What planning answers.
 use Rattle.std.specs.Prelude.{◌≡◌, ⊤, Result, Ok, Err, None, Some}
 use Rattle.covjson_value.specs.Coverages.{IsValidDocument}
-use Rattle.edr_base.specs.declared.refusals.Refusal.{Refusal}
 use Rattle.edr_edition.specs.Values.{EditionValue}
 use Rattle.edr_edition.specs.Stores.{Subject, subject_of}
 use Rattle.edr_query.specs.declared.pages.Page.TheVariants.{Ask}

@@ -1,94 +1,48 @@
 -- What a plan of a reply keeps, and when it stands for its query.
-use Rattle.std.specs.Prelude.{◌≡◌, ℕ, ◌<◌, Bool, true, false, ℤ, List, [], ◌∷◌, length, map, All, Option, None, Some}
-use Rattle.std.specs.List.{flat_map}
-use Rattle.covjson_value.specs.declared.coverages.NdArray.{NdArray}
-use Rattle.covjson_value.specs.declared.coverages.Coverage.{Coverage}
+use Rattle.std.specs.Prelude.{◌≡◌, ℕ, List, Option, Some}
 use Rattle.covjson_value.specs.declared.coverages.Document.{Document}
-use Rattle.covjson_value.specs.declared.coverages.Document.TheVariants.{One, Many}
-use Rattle.covjson_value.specs.Domains.{count_of}
-use Rattle.covjson_write.specs.Writers.{IsHead, with_ranges}
+use Rattle.covjson_value.specs.declared.coverages.Document.TheVariants.{One}
 use Rattle.edr_chunk.specs.declared.shapes.GridShape.{GridShape}
-use Rattle.edr_chunk.specs.declared.shapes.GridPlace.{GridPlace}
-use Rattle.edr_chunk.specs.AllPlaces.{at}
-use Rattle.edr_chunk.specs.Places.{Within, IsShape}
 use Rattle.edr_chunk.specs.Grids as chunk
-use Rattle.edr_chunk.specs.Grids.{value}
-use Rattle.edr_chunk.specs.Tiles.{tiles, tile_of}
+use Rattle.edr_chunk.specs.Tiles.{tiles}
 use Rattle.edr_edition.specs.Values.{InstanceValue}
-use Rattle.edr_edition.specs.Instances.{IsInstance}
 use Rattle.edr_edition.specs.Stores.{of_grid, Subject}
 use Rattle.edr_query.specs.Values.{QueryValue}
-use Rattle.edr_select.specs.declared.plans.GridNode.{GridNode}
+use Rattle.edr_select.specs.declared.plans.Reply.{Reply}
+use Rattle.edr_select.specs.declared.plans.Reply.TheVariants.{Listed, Framed}
 use Rattle.edr_select.specs.Samples.{ascending_once}
 use Rattle.edr_select.specs.Selections.{needed}
 use Rattle.edr_select.specs.Documents.{document}
-
--- a coverage of the reply: all of it but its ranges, and for each value of a range the node of the grid that it is read from
-pub record PlannedValue : Type 0 where
-  pub head : Coverage
-  pub cells : List GridNode
+use Rattle.edr_select.specs.Listings.{listing_document, listing_tiles}
+use Rattle.edr_select.specs.Framings.{framed_coverage, framed_tiles}
 
 pub record PlanValue : Type 0 where
   pub query : QueryValue
-  pub shape : GridShape
-  pub parameters : List ℕ  -- the places of the parameters that are asked
-  pub many : Bool  -- whether the reply is a collection
-  pub coverages : List PlannedValue
+  pub reply : Reply
 
--- a parameter's place in the grid at a node
-abbrev pub place_at : ℕ → GridNode → GridPlace
-place_at parameter cell = at parameter cell.t cell.z cell.y cell.x
+-- the shape of the grid that a reply is read from
+abbrev pub shape_of : Reply → GridShape
+shape_of (Listed listing) = listing.shape
+shape_of (Framed framing) = framing.shape
 
--- ---- the document that a plan gives over a grid
+-- the document that a reply gives over a grid
+abbrev pub reply_document : chunk.Values → Reply → Option Document
+reply_document grid (Listed listing) = listing_document grid listing
+reply_document grid (Framed framing) = Some (One (framed_coverage grid framing))
 
--- the range of a parameter: the grid's value at each cell
-abbrev pub range_over : chunk.Values → List GridNode → ℕ → NdArray
-range_over grid cells parameter = record { values = map (λ cell. value grid (place_at parameter cell)) cells }
+-- the tiles of its values, in the order of the text
+abbrev pub reply_tiles : Reply → List ℕ
+reply_tiles (Listed listing) = listing_tiles listing
+reply_tiles (Framed framing) = framed_tiles framing
 
-abbrev pub coverage_of : chunk.Values → List ℕ → PlannedValue → Coverage
-coverage_of grid parameters planned = with_ranges planned.head (map (range_over grid planned.cells) parameters)
-
--- the first coverage alone, or all of them
-abbrev pub document_of : Bool → List Coverage → Option Document
-document_of true coverages = Some (Many coverages)
-document_of false [] = None
-document_of false (coverage ∷ coverages) = Some (One coverage)
-
-abbrev pub plan_document : chunk.Values → PlanValue → Option Document
-plan_document grid plan = document_of plan.many (map (coverage_of grid plan.parameters) plan.coverages)
-
--- the tiles of all values, in the order of the text
-abbrev pub tiles_of_range : GridShape → List GridNode → ℕ → List ℕ
-tiles_of_range shape cells parameter = map (λ cell. tile_of shape (place_at parameter cell)) cells
-
-abbrev pub tiles_of_coverage : GridShape → List ℕ → PlannedValue → List ℕ
-tiles_of_coverage shape parameters planned = flat_map (tiles_of_range shape planned.cells) parameters
-
-abbrev pub plan_tiles : PlanValue → List ℕ
-plan_tiles plan = flat_map (tiles_of_coverage plan.shape plan.parameters) plan.coverages
-
--- ---- every plan
-
--- a coverage that is planned for a grid of a shape and some of its parameters: all but its ranges is valid, it has none of these, and it has a cell for each value
-pub record IsPlanned (shape : GridShape) (parameters : List ℕ) (planned : PlannedValue) : Type 0 where
-  pub head : IsHead planned.head
-  pub bare : planned.head.ranges ≡ []
-  pub as_many : length planned.head.parameters ≡ length parameters
-  pub count : count_of planned.head.domain ≡ length planned.cells
-  pub cells : All (λ cell. Within shape (place_at 0 cell)) planned.cells
-
--- a reply that isn't a collection has one coverage
-pub record IsPlan (plan : PlanValue) : Type 0 where
-  pub shape : IsShape plan.shape
-  pub parameters : All (λ parameter. parameter < plan.shape.parameters) plan.parameters
-  pub coverages : All (IsPlanned plan.shape plan.parameters) plan.coverages
-  pub alone : plan.many ≡ false → length plan.coverages ≡ 1
-
--- ---- the plan stands for its query in what is asked
-
-pub record StandsFor (plan : PlanValue) (subject : Subject) : Type 0 where
+-- a reply is that to a query, over what is asked
+pub record IsReplyTo (reply : Reply) (query : QueryValue) (subject : Subject) : Type 0 where
   pub instance : InstanceValue
   pub held : subject.held ≡ of_grid instance
-  pub shape : plan.shape ≡ instance.grid.shape
-  pub document : plan_document instance.grid plan ≡ Some (document subject plan.query)
-  pub chunks : ascending_once (tiles plan.shape) (plan_tiles plan) ≡ needed subject plan.query
+  pub shape : shape_of reply ≡ instance.grid.shape
+  pub document : reply_document instance.grid reply ≡ Some (document subject query)
+  pub chunks : ascending_once (tiles (shape_of reply)) (reply_tiles reply) ≡ needed subject query
+
+-- the plan stands for its query in what is asked
+abbrev pub StandsFor : PlanValue → Subject → Type 0
+StandsFor plan subject = IsReplyTo plan.reply plan.query subject

@@ -75,6 +75,9 @@ offers kind other = true
 -- the kinds of query that are answered by now
 abbrev pub is_answered : Kind → Shape → Bool
 is_answered Grid (at.Position geometry) = true
+is_answered Grid (at.Radius geometry within) = true
+is_answered Grid (at.Area geometry) = true
+is_answered Grid (at.Cube lo hi levels) = true
 is_answered kind other = false
 
 abbrev pub is_answered_page : Kind → Page → Bool

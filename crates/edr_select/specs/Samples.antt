@@ -1,5 +1,5 @@
 -- The samples of a grid or of stations: one flat list.
-use Rattle.std.specs.Prelude.{ℕ, ◌+◌, ◌*◌, ◌/◌, ◌++◌, ◌==◌, Bool, length, ℤ, List, [], ◌∷◌, map, Option, None, Some, option_map}
+use Rattle.std.specs.Prelude.{ℕ, ◌+◌, ◌*◌, ◌/◌, ◌++◌, ◌==◌, length, ℤ, List, [], ◌∷◌, map, Option, None, Some, option_map}
 use Rattle.std.specs.List.{slice_index_or, filter, flat_map, list_any, range_with_len}
 use Rattle.edr_axes.specs.Axes.{value_at}
 use Rattle.covjson_value.specs.declared.coverages.Parameter.{Parameter}

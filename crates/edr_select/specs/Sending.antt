@@ -1,6 +1,5 @@
 -- What sending a plan does to the store and to the sink.
 use Rattle.std.specs.Prelude.{◌≡◌, ℕ, ◌++◌, List, Result, OnOk}
-use Rattle.edr_base.specs.declared.sending.SendFault.{SendFault}
 
 -- the numbers begin the whole
 abbrev pub BeginsNumbers : List ℕ → List ℕ → Type 0

@@ -12,9 +12,7 @@ use Rattle.edr_edition.specs.Values.{InstanceValue, CollectionValue}
 use Rattle.edr_edition.specs.Instances.{HasGrid}
 use Rattle.edr_edition.specs.Editions.{IsCollection}
 use Rattle.edr_edition.specs.Stores.{Subject, instance_named}
-use Rattle.edr_query.specs.declared.addresses.QueryKind.TheVariants.{Position}
-use Rattle.edr_query.specs.declared.shapes.Shape.TheVariants as at
-use Rattle.edr_query.specs.Queries.{IsTaken}
+use Rattle.edr_query.specs.Queries.{IsShape}
 use Rattle.edr_query.specs.Values.{QueryValue}
 use Rattle.edr_select.specs.declared.forms.Form.{Form}
 use Rattle.edr_select.specs.declared.forms.Form.TheVariants.{AtPoint, Along, Apart}
@@ -23,17 +21,18 @@ use Rattle.edr_select.specs.declared.planning.PlanFault.TheVariants.{Refused, Ou
 use Rattle.edr_select.specs.Documents.{document}
 use Rattle.edr_select.specs.Refusals.{applies_to_query, applies_to_subject, asks_levels}
 use Rattle.edr_select.specs.Checks.{of_data, refused_query, grid_of}
-use Rattle.edr_select.specs.Choices.{Chosen, chosen, IsSome}
+use Rattle.edr_select.specs.Choices.{TakesEach, Chosen, chosen, IsSome}
 use Rattle.edr_select.specs.Planned.{planned_at, planned_along}
-use Rattle.edr_select.specs.Plans.{PlannedValue, PlanValue, StandsFor}
+use Rattle.edr_select.specs.Listings.{PlannedValue}
+use Rattle.edr_select.specs.Plans.{PlanValue, StandsFor}
 
--- a position is asked of an instance of a collection of grids
-pub record IsAsked (collection : CollectionValue) (q : QueryValue) (instance : InstanceValue) (geometry : Geometry) : Type 0 where
+-- a query is asked of an instance of a collection of grids, and takes each of its times, levels and places by itself
+pub record IsAsked (collection : CollectionValue) (q : QueryValue) (instance : InstanceValue) : Type 0 where
   pub is_collection : IsCollection collection
   pub kind : collection.kind ≡ Grid
   pub instance_is : instance_named q.instance collection.instances ≡ Some instance
-  pub shape : q.shape ≡ at.Position geometry
-  pub points : IsTaken Position geometry
+  pub each : TakesEach q.shape
+  pub shape : IsShape q.shape
   pub grid : HasGrid instance
 
 -- ---- the refusals that are left
@@ -59,9 +58,9 @@ IsFaultOf refused OutOfMemory = ⊤
 abbrev pub lacks_levels : QueryValue → InstanceValue → Bool
 lacks_levels q instance = asks_levels q && not (is_some instance.zs)
 
--- what a position takes, where something is taken, and the refusals that are left
-pub record IsChoice (collection : CollectionValue) (q : QueryValue) (instance : InstanceValue) (geometry : Geometry) (choice : Chosen) : Type 0 where
-  pub is : choice ≡ chosen instance q geometry
+-- what a query takes, where something is taken, and the refusals that are left
+pub record IsChoice (collection : CollectionValue) (q : QueryValue) (instance : InstanceValue) (choice : Chosen) : Type 0 where
+  pub is : choice ≡ chosen instance q
   pub some : IsSome choice
   pub refused_is : refused_query collection q ≡ refused_large q (grid_of collection instance)
 

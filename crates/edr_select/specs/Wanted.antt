@@ -1,5 +1,5 @@
 -- Which times, levels and places a query selects (OGC 19-086r6, section 8).
-use Rattle.std.specs.Prelude.{ℕ, ℤ, pos, negsuc, ◌+ℤ◌, ◌*ℤ◌, int_lt, int_le, nat_lt, nat_le, Bool, true, false, not, ◌&&◌, ◌||◌, bytes_eq, List, [], ◌∷◌, Option, None, Some}
+use Rattle.std.specs.Prelude.{ℕ, ℤ, pos, negsuc, ◌+ℤ◌, ◌*ℤ◌, int_lt, int_le, nat_lt, nat_le, Bool, true, false, not, ◌&&◌, ◌||◌, bytes_eq, List, ◌∷◌, Option, None, Some}
 use Rattle.std.specs.Ordering.{int_eq}
 use Rattle.std.specs.List.{list_any, list_all, range_with_len}
 use Rattle.edr_base.specs.declared.places.Position.{Position}

@@ -1,11 +1,11 @@
 //! Bands of tiles: the tiles of one parameter, time, level and row of tiles.
 ghost use Rattle.std.specs.Prelude.{◌≡◌, ◌<◌, ◌^◌, ◌↔◌, All, IsTrue, MatchOption};
 ghost use Rattle.edr_chunk.specs.Places.{Within, IsShape, count};
-ghost use Rattle.edr_select.specs.Plans.{PlannedValue, place_at};
+ghost use Rattle.edr_select.specs.Listings.{PlannedValue, place_at};
 ghost use Rattle.edr_select.specs.Bands.{band_of, BandsRise, NumbersRise, Rises};
 
-use crate::plans::{GridNode, Plan, Planned};
-use crate::slots::{plan_stands, tile_number};
+use crate::plans::{GridNode, Listing, Planned};
+use crate::slots::{listing_stands, tile_number};
 use edr_chunk::{GridPlace, GridShape};
 
 // The first tile of a node's band, of the first parameter.
@@ -60,20 +60,20 @@ fn bands_rise(shape: GridShape, cells: &[GridNode]) -> bool
     true
 }
 
-// The one coverage of a plan, exactly where the tiles of its values rise band by band in the order of the text.
-pub(crate) fn rising_coverage(plan: &Plan) -> Option<&Planned>
-    ensures { MatchOption result ((planned : PlannedValue) → ¬ (Rises plan.now planned)) (λ planned. Rises plan.now planned.now) }
+// The one coverage of a listing, exactly where the tiles of its values rise band by band in the order of the text.
+pub(crate) fn rising_coverage(listing: &Listing) -> Option<&Planned>
+    ensures { MatchOption result ((planned : PlannedValue) → ¬ (Rises listing.now planned)) (λ planned. Rises listing.now planned.now) }
 {
-    plan_stands(plan);
-    let coverages = plan.coverages.items();
+    listing_stands(listing);
+    let coverages = listing.coverages.items();
     if coverages.len() != 1 {
         return None;
     }
     let planned = &coverages[0];
-    if !parameters_rise(plan.shape, plan.parameters.items()) {
+    if !parameters_rise(listing.shape, listing.parameters.items()) {
         return None;
     }
-    if !bands_rise(plan.shape, planned.cells.items()) {
+    if !bands_rise(listing.shape, planned.cells.items()) {
         return None;
     }
     Some(planned)

@@ -1,10 +1,12 @@
 //! What a query is about, and the refusals in their order.
-ghost use Rattle.std.specs.Prelude.{◌≡◌, Some, true, IfOk, IfErr};
+ghost use Rattle.std.specs.Prelude.{◌≡◌, ◌||◌, Some, IfOk, IfErr};
 ghost use Rattle.edr_edition.specs.Editions.{IsCollection};
 ghost use Rattle.edr_edition.specs.Values.{collection_id};
 ghost use Rattle.edr_ids.specs.Ids as ids;
 ghost use Rattle.edr_query.specs.declared.pages.Page.TheVariants.{Ask};
-ghost use Rattle.edr_query.specs.declared.shapes.Shape.TheVariants as at;
+ghost use Rattle.edr_query.specs.Queries as queries;
+ghost use Rattle.edr_query.specs.Queries.{coords_of, box_of};
+ghost use Rattle.edr_wkt.specs.Wkt.{has_z_of};
 ghost use Rattle.edr_select.specs.Refusals.{refused, asks_levels, crs_is_other};
 ghost use Rattle.edr_select.specs.Checks.{refused_in, IsFound, IsFoundIn};
 ghost use Rattle.edr_edition.specs.declared.kinds.Kind.TheVariants.{Grid, Station};
@@ -14,20 +16,19 @@ use edr_edition::{CollectionData, Edition, GridInstance, Kind};
 use edr_query::{Query, Shape};
 use edr_wkt::Geometry;
 
-/// A position of a collection of grids and the instance that it is asked of.
+/// A collection of grids that is asked, and the instance of it.
 pub struct Asked<'a> {
     pub collection: &'a CollectionData,
     pub instance: &'a GridInstance,
-    pub geometry: &'a Geometry,
 }
 
-// Why no instance of a collection of grids is asked for a position.
+// The instance of a collection of grids that is asked, or why none is.
 fn found_grid<'a>(
-    query: &'a Query,
+    query: &Query,
     collection: &'a CollectionData,
-) -> Result<(&'a GridInstance, &'a Geometry), Refusal>
+) -> Result<&'a GridInstance, Refusal>
     requires { collection.now.kind ≡ Grid }
-    ensures found { IfOk result (λ f. IsFoundIn collection.now query.now f.0.now f.1.now) }
+    ensures found { IfOk result (λ instance. IsFoundIn collection.now query.now instance.now) }
     ensures refused { IfErr result (λ refusal. refused_in collection.now (Ask query.now) ≡ Some refusal) }
 {
     let instance = match &query.instance {
@@ -38,7 +39,9 @@ fn found_grid<'a>(
         return Err(Refusal::UnknownInstance);
     };
     match &query.shape {
-        Shape::Position(geometry) => Ok((instance, geometry)),
+        Shape::Position(_) | Shape::Radius { .. } | Shape::Area(_) | Shape::Cube { .. } => Ok(
+            instance,
+        ),
         _ => Err(Refusal::QueryNotOffered),
     }
 }
@@ -55,9 +58,9 @@ fn refused_stations(query: &Query, collection: &CollectionData) -> Refusal
     }
 }
 
-/// The position that a query asks of an edition, or the first refusal before those of names that applies.
-pub fn found<'a>(query: &'a Query, edition: &'a Edition) -> Result<Asked<'a>, Refusal>
-    ensures found { IfOk result (λ f. IsFound edition.now query.now f.collection.now f.instance.now f.geometry.now) }
+/// What a query asks of an edition, or the first refusal before those of names that applies.
+pub fn found<'a>(query: &Query, edition: &'a Edition) -> Result<Asked<'a>, Refusal>
+    ensures found { IfOk result (λ f. IsFound edition.now query.now f.collection.now f.instance.now) }
     ensures refused { IfErr result (λ refusal. refused edition.now (Ask query.now) ≡ Some refusal) }
 {
     let Some(collection) = edition.collection(query.collection.bytes()) else {
@@ -65,11 +68,10 @@ pub fn found<'a>(query: &'a Query, edition: &'a Edition) -> Result<Asked<'a>, Re
     };
     match collection.kind() {
         Kind::Grid => {
-            let (instance, geometry) = found_grid(query, collection)?;
+            let instance = found_grid(query, collection)?;
             Ok(Asked {
                 collection,
                 instance,
-                geometry,
             })
         }
         Kind::Station => Err(refused_stations(query, collection)),
@@ -86,15 +88,34 @@ pub fn has_other_crs(query: &Query, collection: &CollectionData) -> bool
     }
 }
 
-/// Whether a position asks for levels.
-pub fn has_levels_asked(query: &Query, geometry: &Geometry) -> bool
-    requires { query.now.shape ≡ at.Position geometry.now }
-    ensures { result ≡ asks_levels query.now }
+// Whether the positions of a geometry have z.
+pub(crate) fn has_z(geometry: &Geometry) -> bool
+    ensures { result ≡ has_z_of geometry.now }
 {
-    let has_z = match geometry {
+    match geometry {
         Geometry::Points { has_z, .. }
         | Geometry::Line { has_z, .. }
         | Geometry::Polygons { has_z, .. } => *has_z,
-    };
-    query.levels.is_some() || has_z
+    }
+}
+
+// Whether a shape asks for levels: by the z of its geometry, or as a box with levels.
+fn has_levels(shape: &Shape) -> bool
+    ensures { result ≡ (queries.has_z (coords_of shape.now) || queries.has_levels (box_of shape.now)) }
+{
+    match shape {
+        Shape::Position(geometry) | Shape::Area(geometry) | Shape::Trajectory(geometry) => has_z(
+            geometry,
+        ),
+        Shape::Radius { geometry, .. } | Shape::Corridor { geometry, .. } => has_z(geometry),
+        Shape::Cube { levels, .. } => levels.is_some(),
+        Shape::Location(_) => false,
+    }
+}
+
+/// Whether a query asks for levels, by `z` or by its shape.
+pub fn has_levels_asked(query: &Query) -> bool
+    ensures { result ≡ asks_levels query.now }
+{
+    query.levels.is_some() || has_levels(&query.shape)
 }

@@ -7,25 +7,25 @@ ghost use Rattle.edr_select.specs.Filling.{grid_of, Adds};
 ghost use Rattle.edr_select.specs.Gathered.{places_of_coverages};
 
 use crate::filling::fill;
-use crate::plans::Plan;
-use crate::slots::push_plan;
+use crate::plans::Listing;
+use crate::slots::push_listing;
 use edr_base::OutOfMemory;
 use edr_edition::Store;
 use std::alloc::Global;
 
-// The values of all ranges of a plan, in the order of the text.
+// The values of all ranges of a listing, in the order of the text.
 pub(crate) fn gather(
     alloc: Global,
-    plan: &Plan,
+    listing: &Listing,
     store: &mut Store<'_>,
 ) -> Result<Vec<Option<i64>>, OutOfMemory>
-    requires { plan.now.shape ≡ (grid_of store.old.subject.held).shape }
-    ensures values { IfOk result (λ values. values.items ≡ map (value (grid_of store.old.subject.held)) (places_of_coverages plan.now.parameters plan.now.coverages)) }
-    ensures reads { Adds result (ascending_once (tiles plan.now.shape) (map (tile_of plan.now.shape) (places_of_coverages plan.now.parameters plan.now.coverages))) store.old.numbers store.new.numbers }
+    requires { listing.now.shape ≡ (grid_of store.old.subject.held).shape }
+    ensures values { IfOk result (λ values. values.items ≡ map (value (grid_of store.old.subject.held)) (places_of_coverages listing.now.parameters listing.now.coverages)) }
+    ensures reads { Adds result (ascending_once (tiles listing.now.shape) (map (tile_of listing.now.shape) (places_of_coverages listing.now.parameters listing.now.coverages))) store.old.numbers store.new.numbers }
     ensures subject { store.new.subject ≡ store.old.subject }
 {
     let mut slots = Vec::new(alloc);
-    push_plan(&mut slots, plan)?;
+    push_listing(&mut slots, listing)?;
     let mut values = Vec::new(alloc);
     fill(alloc, store, &mut slots, &mut values)?;
     Ok(values)

@@ -1,6 +1,7 @@
 //! Plans of replies to queries, and the replies that are sent.
 #![tactic(auto)]
 
+mod area_plans;
 mod axis_places;
 mod bands;
 mod cells;
@@ -12,20 +13,30 @@ mod chosen_spots;
 mod chosen_times;
 mod filling;
 mod forms;
+mod frame_domains;
+mod frame_sizes;
+mod frame_streams;
+mod frames;
 mod gathering;
 mod heads;
 mod laws;
+mod mask_rows;
+mod masks;
 mod numbers;
 mod planned;
 mod planning;
 mod plans;
 mod point_domains;
+mod position_plans;
 mod reply_coverages;
+mod row_ranges;
 mod sending;
 mod sizes;
 mod slots;
 mod steps;
 mod streaming;
+mod strips;
+mod taken_frames;
 mod value_runs;
 mod writing;
 

@@ -2,6 +2,7 @@
 
 ghost use Rattle.std.specs.Prelude.{◌≡◌};
 
+use crate::frames::Framing;
 use covjson_value::Coverage;
 use edr_base::Items;
 use edr_chunk::GridShape;
@@ -29,11 +30,51 @@ pub(crate) struct Planned {
 }
 
 impl Model for Planned {
-    ghost use Rattle.edr_select.specs.Plans.{PlannedValue};
+    ghost use Rattle.edr_select.specs.Listings.{PlannedValue};
 
     ghost Value = { PlannedValue };
 
     ghost view = { λ p. record { head = p.head; cells = p.cells } };
+}
+
+/// The coverages of a reply but for their values, each with the nodes that these are read from.
+#[derive(Drop)]
+pub struct Listing {
+    pub(crate) shape: GridShape,
+    pub(crate) parameters: Items<u64>,
+    pub(crate) many: bool,
+    pub(crate) coverages: Items<Planned>,
+}
+
+impl Model for Listing {
+    ghost use Rattle.std.specs.Prelude.{◌<◌, ◌^◌};
+    ghost use Rattle.edr_chunk.specs.Places.{count};
+    ghost use Rattle.edr_select.specs.Listings.{ListingValue, IsListing};
+
+    ghost Value = { ListingValue };
+
+    ghost view = { λ l. record {
+      shape = l.shape;
+      parameters = l.parameters;
+      many = l.many;
+      coverages = l.coverages;
+    } };
+
+    ghost invariant = { λ l. IsListing (record {
+      shape = l.shape;
+      parameters = l.parameters;
+      many = l.many;
+      coverages = l.coverages;
+    }) × (count l.shape < 2 ^ 64) };
+}
+
+/// How the values of a reply are read.
+#[derive(Drop)]
+pub enum Reply {
+    /// Each from a node of a list.
+    Listed(Listing),
+    /// Each from a node of a frame, where it is taken.
+    Framed(Framing),
 }
 
 /// What a reply to a query will be: its coverages but for their values, and the nodes that these are read from.
@@ -42,34 +83,15 @@ impl Model for Planned {
 #[derive(Drop)]
 pub struct Plan {
     pub(crate) query: Query,
-    pub(crate) shape: GridShape,
-    pub(crate) parameters: Items<u64>,
-    pub(crate) many: bool,
-    pub(crate) coverages: Items<Planned>,
+    pub(crate) reply: Reply,
 }
 
 impl Model for Plan {
-    ghost use Rattle.std.specs.Prelude.{◌<◌, ◌^◌};
-    ghost use Rattle.edr_chunk.specs.Places.{count};
-    ghost use Rattle.edr_select.specs.Plans.{PlanValue, IsPlan};
+    ghost use Rattle.edr_select.specs.Plans.{PlanValue};
 
     ghost Value = { PlanValue };
 
-    ghost view = { λ p. record {
-      query = p.query;
-      shape = p.shape;
-      parameters = p.parameters;
-      many = p.many;
-      coverages = p.coverages;
-    } };
-
-    ghost invariant = { λ p. IsPlan (record {
-      query = p.query;
-      shape = p.shape;
-      parameters = p.parameters;
-      many = p.many;
-      coverages = p.coverages;
-    }) × (count p.shape < 2 ^ 64) };
+    ghost view = { λ p. record { query = p.query; reply = p.reply } };
 }
 
 impl Plan {

@@ -10,7 +10,7 @@ use std::alloc::Global;
 use std::slice;
 
 // The axis of some values.
-fn axis_of(alloc: Global, values: &[i64]) -> Result<Axis, OutOfMemory>
+pub(crate) fn axis_of(alloc: Global, values: &[i64]) -> Result<Axis, OutOfMemory>
     requires { IsAxis values.now }
     ensures { IfOk result (λ axis. axis ≡ values.now) }
 {

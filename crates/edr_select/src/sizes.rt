@@ -14,7 +14,7 @@ const VALUE_LIMIT: u64 = 2_000_000;
 const COVERAGE_LIMIT: usize = 5_000;
 
 // The product of two counts, or None where it is above the limit of values.
-fn product(count: u64, other: u64) -> Option<u64>
+pub(crate) fn product(count: u64, other: u64) -> Option<u64>
     ensures { MatchOption result (value_limit < count * other) (λ product. (product ≡ count * other) × (product ≤ value_limit)) }
 {
     let product = count.checked_mul(other)?;

@@ -2,11 +2,11 @@
 ghost use Rattle.std.specs.Prelude.{◌≡◌, ◌<◌, ◌^◌, All, OnOk};
 ghost use Rattle.edr_chunk.specs.Places.{Within, IsShape, count};
 ghost use Rattle.edr_chunk.specs.Tiles.{tiles_along, tile_of};
-ghost use Rattle.edr_select.specs.Plans.{place_at, IsPlanned, IsPlan};
+ghost use Rattle.edr_select.specs.Listings.{place_at, IsPlanned, IsListing};
 ghost use Rattle.edr_select.specs.Filling.{SlotsGrew};
 ghost use Rattle.edr_select.specs.Gathered.{places_of_range, places_of_coverage, places_of_coverages};
 
-use crate::plans::{GridNode, Plan, Planned};
+use crate::plans::{GridNode, Listing, Planned};
 use edr_base::OutOfMemory;
 use edr_chunk::{GridPlace, GridShape, tiles_are_numbered};
 
@@ -61,12 +61,12 @@ fn place_of(parameter: u64, cell: GridNode) -> GridPlace
     }
 }
 
-// A plan is one, and its values can be counted.
-pub(crate) fn plan_stands(plan: &Plan)
-    ensures is { IsPlan plan.now }
-    ensures fits { count plan.now.shape < 2 ^ 64 }
+// A listing is one, and its values can be counted.
+pub(crate) fn listing_stands(listing: &Listing)
+    ensures is { IsListing listing.now }
+    ensures fits { count listing.now.shape < 2 ^ 64 }
 {
-    let _ = &plan.shape;
+    let _ = &listing.shape;
 }
 
 // Adds the slots of the range of a parameter.
@@ -112,14 +112,14 @@ fn push_coverage(
     Ok(())
 }
 
-// Adds the slots of all values of a plan, in the order of the text.
-pub(crate) fn push_plan(slots: &mut Vec<Slot>, plan: &Plan) -> Result<(), OutOfMemory>
-    ensures within { All (Within plan.now.shape) (places_of_coverages plan.now.parameters plan.now.coverages) }
-    ensures slots { OnOk result (SlotsGrew plan.now.shape (places_of_coverages plan.now.parameters plan.now.coverages) slots.old.items slots.new.items) }
+// Adds the slots of all values of a listing, in the order of the text.
+pub(crate) fn push_listing(slots: &mut Vec<Slot>, listing: &Listing) -> Result<(), OutOfMemory>
+    ensures within { All (Within listing.now.shape) (places_of_coverages listing.now.parameters listing.now.coverages) }
+    ensures slots { OnOk result (SlotsGrew listing.now.shape (places_of_coverages listing.now.parameters listing.now.coverages) slots.old.items slots.new.items) }
 {
-    plan_stands(plan);
-    for planned in plan.coverages.items() {
-        push_coverage(slots, plan.shape, plan.parameters.items(), planned)?;
+    listing_stands(listing);
+    for planned in listing.coverages.items() {
+        push_coverage(slots, listing.shape, listing.parameters.items(), planned)?;
     }
     Ok(())
 }

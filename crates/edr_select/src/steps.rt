@@ -1,4 +1,4 @@
-//! The refusals of a position from its names on, and what it takes.
+//! The refusals of a query from its names on, and what a position takes.
 ghost use Rattle.std.specs.Prelude.{◌≡◌, ◌↔◌, Some, IfOk, IfErr, IsTrue, MatchOption};
 ghost use Rattle.edr_query.specs.declared.shapes.Shape.TheVariants as at;
 ghost use Rattle.edr_select.specs.Checks.{refused_query, grid_of};
@@ -17,14 +17,13 @@ use edr_wkt::Geometry;
 use std::alloc::Global;
 
 // The places of the parameters that are asked, or the refusal of a name.
-fn names_taken(
+pub(crate) fn names_taken(
     alloc: Global,
     query: &Query,
     collection: &CollectionData,
     instance: &GridInstance,
-    geometry: &Geometry,
 ) -> Result<Vec<u64>, PlanFault>
-    requires { IsAsked collection.now query.now instance.now geometry.now }
+    requires { IsAsked collection.now query.now instance.now }
     ensures places { IfOk result (λ places. places.items ≡ parameter_places query.now.parameters instance.now.parameters) }
     ensures known { IfOk result (λ places. refused_query collection.now query.now ≡ refused_known collection.now query.now) }
     ensures refused { IfErr result (IsFaultOf (refused_query collection.now query.now)) }
@@ -36,29 +35,27 @@ fn names_taken(
 }
 
 // Whether levels are asked of an instance without any.
-fn lacks_levels(query: &Query, geometry: &Geometry, instance: &GridInstance) -> bool
-    requires { query.now.shape ≡ at.Position geometry.now }
+fn lacks_levels(query: &Query, instance: &GridInstance) -> bool
     ensures { result ≡ steps.lacks_levels query.now instance.now }
 {
-    let asked = has_levels_asked(query, geometry);
+    let asked = has_levels_asked(query);
     asked && instance.levels().is_none()
 }
 
 // The refusal of a reference system or of levels, where one applies.
-fn refused_asking(
+pub(crate) fn refused_asking(
     query: &Query,
     collection: &CollectionData,
     instance: &GridInstance,
-    geometry: &Geometry,
 ) -> Option<Refusal>
-    requires { IsAsked collection.now query.now instance.now geometry.now }
+    requires { IsAsked collection.now query.now instance.now }
     ensures { MatchOption result (refused_known collection.now query.now ≡ refused_sizes query.now (grid_of collection.now instance.now))
         (λ refusal. refused_known collection.now query.now ≡ Some refusal) }
 {
     if has_other_crs(query, collection) {
         return Some(Refusal::BadCrs);
     }
-    if lacks_levels(query, geometry, instance) {
+    if lacks_levels(query, instance) {
         return Some(Refusal::NoLevels);
     }
     None
@@ -82,12 +79,13 @@ pub(crate) fn choice_of(
     instance: &GridInstance,
     geometry: &Geometry,
 ) -> Result<Choice, PlanFault>
-    requires { IsAsked collection.now query.now instance.now geometry.now }
-    ensures choice { IfOk result (λ choice. IsChoice collection.now query.now instance.now geometry.now choice) }
+    requires asked { IsAsked collection.now query.now instance.now }
+    requires shape { query.now.shape ≡ at.Position geometry.now }
+    ensures choice { IfOk result (λ choice. IsChoice collection.now query.now instance.now choice) }
     ensures refused { IfErr result (IsFaultOf (refused_query collection.now query.now)) }
 {
-    let parameters = names_taken(alloc, query, collection, instance, geometry)?;
-    if let Some(refusal) = refused_asking(query, collection, instance, geometry) {
+    let parameters = names_taken(alloc, query, collection, instance)?;
+    if let Some(refusal) = refused_asking(query, collection, instance) {
         return Err(PlanFault::Refused(refusal));
     }
     let choice = choose(alloc, query, geometry, instance, parameters)?;

@@ -8,7 +8,7 @@ ghost use Rattle.covjson_write.specs.Writers.{with_values};
 ghost use Rattle.edr_chunk.specs.Places.{Within, IsShape, count};
 ghost use Rattle.edr_chunk.specs.Tiles.{tiles};
 ghost use Rattle.edr_select.specs.Samples.{ascending_once};
-ghost use Rattle.edr_select.specs.Plans.{place_at, range_over, tiles_of_range};
+ghost use Rattle.edr_select.specs.Listings.{place_at, range_over, tiles_of_range};
 ghost use Rattle.edr_select.specs.Filling.{grid_of, Adds};
 ghost use Rattle.edr_select.specs.Bands.{band_of, BandsRise};
 

@@ -9,8 +9,8 @@ ghost use Rattle.covjson_write.specs.Pieces.{values_from, range_end, range_piece
 ghost use Rattle.covjson_write.specs.Writers.{IsHead, without_range};
 ghost use Rattle.edr_select.specs.Gathered.{ranges_cut, coverages_cut, size_of, sizes_of};
 
-use crate::plans::{Plan, Planned};
-use crate::slots::plan_stands;
+use crate::plans::{Listing, Planned};
+use crate::slots::listing_stands;
 use covjson_write::Writer;
 use edr_base::{SendFault, Sink};
 use std::alloc::Global;
@@ -123,29 +123,29 @@ fn write_coverage<K: Sink>(
     }
 }
 
-// Writes the coverages of a plan one after another, each with the values behind those of the one before.
+// Writes the coverages of a listing one after another, each with the values behind those of the one before.
 fn write_coverages<K: Sink>(
     alloc: Global,
-    plan: &Plan,
+    listing: &Listing,
     writer: &mut Writer,
     sink: &mut K,
     values: &[Option<i64>],
 ) -> Result<(), SendFault>
     requires ready { writer.old.stage ≡ Ready }
     requires none { writer.old.begun ≡ false }
-    requires many { writer.old.many ≡ plan.now.many }
-    requires values { length values.now ≡ sizes_of (length plan.now.parameters) plan.now.coverages }
-    ensures bytes { Writes result (coverages_from 0 (coverages_cut (length plan.now.parameters) plan.now.coverages values.now)) (K.written sink.old) (K.written sink.new) }
+    requires many { writer.old.many ≡ listing.now.many }
+    requires values { length values.now ≡ sizes_of (length listing.now.parameters) listing.now.coverages }
+    ensures bytes { Writes result (coverages_from 0 (coverages_cut (length listing.now.parameters) listing.now.coverages values.now)) (K.written sink.old) (K.written sink.new) }
     ensures stage { OnOk result (writer.new.stage ≡ Ready) }
     ensures many { OnOk result (writer.new.many ≡ writer.old.many) }
-    ensures begun { OnOk result (plan.now.many ≡ false → writer.new.begun ≡ true) }
+    ensures begun { OnOk result (listing.now.many ≡ false → writer.new.begun ≡ true) }
     ensures lent { SinkLent (K.beside sink.old) (K.beside sink.new) (K.faults sink.old) (K.faults sink.new) }
     ensures cause { IsErrOf result SendFault.WriteFault → Rose (K.faults sink.old) (K.faults sink.new) }
 {
-    plan_stands(plan);
-    let parameters = plan.parameters.items().len();
+    listing_stands(listing);
+    let parameters = listing.parameters.items().len();
     let mut from = 0;
-    for planned in plan.coverages.items() {
+    for planned in listing.coverages.items() {
         let size = parameters * planned.cells.items().len();
         match write_coverage(alloc, writer, sink, planned, &values[from..]) {
             Ok(()) => {}
@@ -156,45 +156,45 @@ fn write_coverages<K: Sink>(
     Ok(())
 }
 
-// Writes the coverages of a plan and the end of the document.
+// Writes the coverages of a listing and the end of the document.
 #[tactic(auto, using(edr_base::specs::KnownBytes::writes_stop))]
 fn write_rest<K: Sink>(
     alloc: Global,
-    plan: &Plan,
+    listing: &Listing,
     writer: Writer,
     sink: &mut K,
     values: &[Option<i64>],
 ) -> Result<(), SendFault>
     requires ready { writer.stage ≡ Ready }
     requires none { writer.begun ≡ false }
-    requires many { writer.many ≡ plan.now.many }
-    requires values { length values.now ≡ sizes_of (length plan.now.parameters) plan.now.coverages }
-    ensures bytes { Writes result (coverages_from 0 (coverages_cut (length plan.now.parameters) plan.now.coverages values.now) ++ document_end plan.now.many) (K.written sink.old) (K.written sink.new) }
+    requires many { writer.many ≡ listing.now.many }
+    requires values { length values.now ≡ sizes_of (length listing.now.parameters) listing.now.coverages }
+    ensures bytes { Writes result (coverages_from 0 (coverages_cut (length listing.now.parameters) listing.now.coverages values.now) ++ document_end listing.now.many) (K.written sink.old) (K.written sink.new) }
     ensures lent { SinkLent (K.beside sink.old) (K.beside sink.new) (K.faults sink.old) (K.faults sink.new) }
     ensures cause { IsErrOf result SendFault.WriteFault → Rose (K.faults sink.old) (K.faults sink.new) }
 {
     let mut writer = writer;
-    match write_coverages(alloc, plan, &mut writer, sink, values) {
+    match write_coverages(alloc, listing, &mut writer, sink, values) {
         Ok(()) => writer.finish(sink),
         Err(fault) => Err(fault),
     }
 }
 
-// Writes the document of a plan with these values.
+// Writes the document of a listing with these values.
 #[tactic(auto, using(edr_base::specs::KnownBytes::writes_stop))]
 pub(crate) fn write_document<K: Sink>(
     alloc: Global,
-    plan: &Plan,
+    listing: &Listing,
     sink: &mut K,
     values: &[Option<i64>],
 ) -> Result<(), SendFault>
-    requires values { length values.now ≡ sizes_of (length plan.now.parameters) plan.now.coverages }
-    ensures bytes { Writes result (document_begin plan.now.many ++ (coverages_from 0 (coverages_cut (length plan.now.parameters) plan.now.coverages values.now) ++ document_end plan.now.many)) (K.written sink.old) (K.written sink.new) }
+    requires values { length values.now ≡ sizes_of (length listing.now.parameters) listing.now.coverages }
+    ensures bytes { Writes result (document_begin listing.now.many ++ (coverages_from 0 (coverages_cut (length listing.now.parameters) listing.now.coverages values.now) ++ document_end listing.now.many)) (K.written sink.old) (K.written sink.new) }
     ensures lent { SinkLent (K.beside sink.old) (K.beside sink.new) (K.faults sink.old) (K.faults sink.new) }
     ensures cause { IsErrOf result SendFault.WriteFault → Rose (K.faults sink.old) (K.faults sink.new) }
 {
-    match Writer::begin(alloc, sink, plan.many) {
-        Ok(writer) => write_rest(alloc, plan, writer, sink, values),
+    match Writer::begin(alloc, sink, listing.many) {
+        Ok(writer) => write_rest(alloc, listing, writer, sink, values),
         Err(fault) => Err(fault),
     }
 }

@@ -8,27 +8,29 @@ use Rattle.edr_edition.specs.Stores.{Held, of_grid, IsHeld}
 use Rattle.edr_select.specs.Samples.{ascending_once}
 use Rattle.edr_select.specs.Selections.{needed}
 use Rattle.edr_select.specs.Documents.{document}
-use Rattle.edr_select.specs.Plans.{PlanValue, plan_tiles}
-use Rattle.edr_select.specs.Bands.{plan_text}
+use Rattle.edr_select.specs.Listings.{ListingValue, listing_tiles}
+use Rattle.edr_select.specs.Bands.{listing_text}
 use Rattle.edr_select.specs.Filling.{grid_of}
 use Rattle.edr_select.proofs.Additions.{opens_adds}
-use Rattle.edr_select.proofs.ReplyTexts.{instance_samples, plan_text_is}
+use Rattle.edr_select.proofs.ReplyTexts.{instance_samples, listed_stands, plan_text_is}
 use Rattle.edr_select.proofs.sending.send_streamed.Goals as goal
 
 pub returns-clause-text : goal.returns-clause-text
 returns-clause-text g c =
-    let plan : PlanValue = c.args.plan.now in
+    let listing : ListingValue = c.args.listing.now in
+    let stands = listed_stands c.args.plan.now c.args.listing.now c.args.store.now.subject c.requires.listed c.requires.stands in
     let subject = c.args.store.now.subject in
-    let instance : InstanceValue = c.requires.stands.instance in
-    let held : subject.held ≡ of_grid instance = c.requires.stands.held in
+    let instance : InstanceValue = stands.instance in
+    let held : subject.held ≡ of_grid instance = stands.held in
     let samples : All (λ v. IfSome v IsSample) instance.grid.values = instance_samples instance (subst (λ (h : Held). IsHeld h) held c.subject_stands.ensures.held) in
     subst (λ (text : List ℕ). Writes c.stream_document.result text (g.K.Sink.written c.args.sink.now) (g.K.Sink.written c.stream_document.new.sink))
-    (ap (λ (h : Held). plan_text (grid_of h) plan) held
-    ∙ plan_text_is c.document_of_pieces.ensures instance.grid plan (document subject plan.query) c.plan_stands.ensures.is samples c.requires.stands.document)
+    (ap (λ (h : Held). listing_text (grid_of h) listing) held
+    ∙ plan_text_is c.document_of_pieces.ensures instance.grid listing (document subject c.args.plan.now.query) c.listing_stands.ensures.is samples stands.document)
     c.stream_document.ensures.bytes
 
 pub returns-clause-reads : goal.returns-clause-reads
 returns-clause-reads g c =
-    let plan : PlanValue = c.args.plan.now in
-    opens_adds c.stream_document.result (ascending_once (tiles plan.shape) (plan_tiles plan)) (needed c.args.store.now.subject plan.query)
-    c.args.store.now.numbers c.stream_document.new.store.numbers c.requires.unread c.requires.stands.chunks c.stream_document.ensures.reads
+    let listing : ListingValue = c.args.listing.now in
+    let stands = listed_stands c.args.plan.now c.args.listing.now c.args.store.now.subject c.requires.listed c.requires.stands in
+    opens_adds c.stream_document.result (ascending_once (tiles listing.shape) (listing_tiles listing)) (needed c.args.store.now.subject c.args.plan.now.query)
+    c.args.store.now.numbers c.stream_document.new.store.numbers c.requires.unread stands.chunks c.stream_document.ensures.reads

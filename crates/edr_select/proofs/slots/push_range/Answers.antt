@@ -3,7 +3,7 @@ use Rattle.std.proofs.lemmas.List.{get_or_default}
 use Rattle.edr_chunk.specs.declared.shapes.GridPlace.{GridPlace}
 use Rattle.edr_select.specs.declared.slots.Slot.{Slot}
 use Rattle.edr_select.specs.declared.plans.GridNode.{GridNode}
-use Rattle.edr_select.specs.Plans.{place_at}
+use Rattle.edr_select.specs.Listings.{place_at}
 use Rattle.edr_select.specs.Filling.{slot_at}
 use Rattle.edr_select.proofs.SlotLists.{slot_is, grew_one}
 use Rattle.edr_select.proofs.slots.push_range.Goals as goal

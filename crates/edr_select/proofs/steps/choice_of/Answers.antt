@@ -8,19 +8,17 @@ returns-then-not-is_some-clause-refused c =
     let collection = c.args.collection.now in
     let query = c.args.query.now in
     let instance = c.args.instance.now in
-    let geometry = c.args.geometry.now in
-    let none = none_chosen c.is_some.result c.in_ok-choice.choice (chosen instance query geometry) c.if-not-is_some.true c.is_some.ensures c.in_ok-choice.ensures in
-    c.in_ok-parameters.ensures.known ∙ (c.in_default.ensures ∙ refused_samples collection query instance geometry c.requires none)
+    let none = none_chosen c.is_some.result c.in_ok-choice.choice (chosen instance query) c.if-not-is_some.true c.is_some.ensures c.in_ok-choice.ensures in
+    c.in_ok-parameters.ensures.known ∙ (c.in_default.ensures ∙ refused_samples collection query instance c.requires.asked none)
 
 pub returns-clause-choice : goal.returns-clause-choice
 returns-clause-choice c =
     let collection = c.args.collection.now in
     let query = c.args.query.now in
     let instance = c.args.instance.now in
-    let geometry = c.args.geometry.now in
     let some = some_chosen c.is_some.result c.in_ok-choice.choice c.if-not-is_some.false c.is_some.ensures in
     record {
       is = c.in_ok-choice.ensures;
       some = some;
-      refused_is = c.in_ok-parameters.ensures.known ∙ (c.in_default.ensures ∙ known_samples collection query instance geometry c.requires (subst IsSome c.in_ok-choice.ensures some));
+      refused_is = c.in_ok-parameters.ensures.known ∙ (c.in_default.ensures ∙ known_samples collection query instance c.requires.asked (subst IsSome c.in_ok-choice.ensures some));
     }

@@ -7,9 +7,9 @@ use Rattle.edr_select.proofs.steps.names_taken.Goals as goal
 pub returns-in-Some-clause-known : goal.returns-in-Some-clause-known
 returns-in-Some-clause-known c =
     let known : names_other c.args.query.now.parameters (ids_of c.args.instance.now.parameters) ≡ false = search rules in
-    known_names c.args.collection.now c.args.query.now c.args.instance.now c.args.geometry.now c.requires known
+    known_names c.args.collection.now c.args.query.now c.args.instance.now c.requires known
 
 pub returns-in-None-clause-refused : goal.returns-in-None-clause-refused
 returns-in-None-clause-refused c =
     let other : names_other c.args.query.now.parameters (ids_of c.args.instance.now.parameters) ≡ true = search rules in
-    refused_names c.args.collection.now c.args.query.now c.args.instance.now c.args.geometry.now c.requires other
+    refused_names c.args.collection.now c.args.query.now c.args.instance.now c.requires other

@@ -4,5 +4,5 @@ use Rattle.edr_select.proofs.steps.refused_asking.Goals as goal
 
 pub returns : goal.returns
 returns c =
-    known_levels c.args.collection.now c.args.query.now c.args.instance.now c.args.geometry.now c.requires
+    known_levels c.args.collection.now c.args.query.now c.args.instance.now c.requires
     (sym c.has_other_crs.ensures ∙ c.if-has_other_crs.false) (sym c.lacks_levels.ensures ∙ c.if-lacks_levels.false)

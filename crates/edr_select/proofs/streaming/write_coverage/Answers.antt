@@ -7,7 +7,7 @@ use Rattle.covjson_value.specs.declared.coverages.NdArray.{NdArray}
 use Rattle.covjson_value.specs.declared.coverages.Coverage.{Coverage}
 use Rattle.covjson_write.specs.Pieces.{coverage_begin, head_of, ranges_from}
 use Rattle.covjson_write.specs.Writers.{WriterValue, with_coverage}
-use Rattle.edr_select.specs.Plans.{range_over}
+use Rattle.edr_select.specs.Listings.{range_over}
 use Rattle.edr_select.specs.Filling.{grid_of}
 use Rattle.edr_select.proofs.TextSteps.{writes_third, writes_two}
 use Rattle.edr_select.proofs.streaming.write_coverage.Goals as goal
@@ -17,7 +17,7 @@ returns-in-Ok-clause-bytes g c =
     let w : WriterValue = c.args.writer.now in
     let h : Coverage = c.args.planned.now.head in
     let written = g.K.Sink.written in
-    let ranges : List NdArray = map (range_over (grid_of c.args.store.now.subject.held) c.args.planned.now.cells) c.args.plan.now.parameters in
+    let ranges : List NdArray = map (range_over (grid_of c.args.store.now.subject.held) c.args.planned.now.cells) c.args.listing.now.parameters in
     let same : c.planned.inside.head ≡ h = search rules in
     let begun : written c.coverage.new.sink ≡ append_known (written c.args.sink.now) (comma_if w.begun ++ coverage_begin c.planned.inside.head) = c.in-Ok.ensures.bytes.whole in
     let stands : c.coverage.new.self ≡ with_coverage w c.planned.inside.head = c.in-Ok.ensures.writer in
@@ -33,7 +33,7 @@ returns-in-Err-clause-bytes g c =
     let w : WriterValue = c.args.writer.now in
     let h : Coverage = c.args.planned.now.head in
     let written = g.K.Sink.written in
-    let ranges : List NdArray = map (range_over (grid_of c.args.store.now.subject.held) c.args.planned.now.cells) c.args.plan.now.parameters in
+    let ranges : List NdArray = map (range_over (grid_of c.args.store.now.subject.held) c.args.planned.now.cells) c.args.listing.now.parameters in
     let same : c.planned.inside.head ≡ h = search rules in
     let front : Front (comma_if w.begun ++ coverage_begin c.planned.inside.head) (written c.args.sink.now) (written c.coverage.new.sink) = c.coverage.ensures.bytes.front in
     writes_two (Unit {0}) c.in-Err.fault (written c.args.sink.now) (written c.coverage.new.sink) (comma_if false) (coverage_begin h) (ranges_from (head_of h) 0 ranges)

@@ -9,7 +9,7 @@ use Rattle.edr_chunk.specs.Grids as chunk
 use Rattle.edr_chunk.specs.Tiles.{tiles}
 use Rattle.edr_select.specs.declared.plans.GridNode.{GridNode}
 use Rattle.edr_select.specs.Samples.{ascending_once}
-use Rattle.edr_select.specs.Plans.{range_over, tiles_of_range}
+use Rattle.edr_select.specs.Listings.{range_over, tiles_of_range}
 use Rattle.edr_select.specs.Filling.{grid_of}
 use Rattle.edr_select.proofs.Additions.{adds_all, adds_first}
 use Rattle.edr_select.proofs.streaming.write_filled.Goals as goal
@@ -30,18 +30,18 @@ wanted_is s shape xs cells p e f =
 
 pub returns-in-Ok-clause-reads : goal.returns-in-Ok-clause-reads
 returns-in-Ok-clause-reads g c =
-    let shape : GridShape = c.args.plan.now.shape in
+    let shape : GridShape = c.args.listing.now.shape in
     let p : ℕ = c.args.parameter in
     let listed : c.items-cells.result.now ≡ c.args.planned.now.cells = search rules in
-    let same : c.plan.inside.shape ≡ shape = search rules in
-    adds_all c.range_end.result (ascending_once (tiles c.plan.inside.shape) (tiles_of_range c.plan.inside.shape c.items-cells.result.now p)) (ascending_once (tiles shape) (tiles_of_range shape c.args.planned.now.cells p))
-    c.args.store.now.numbers c.write_runs.new.store.numbers (wanted_is c.plan.inside.shape shape c.items-cells.result.now c.args.planned.now.cells p same listed) c.in-Ok.ensures.reads.all
+    let same : c.listing.inside.shape ≡ shape = search rules in
+    adds_all c.range_end.result (ascending_once (tiles c.listing.inside.shape) (tiles_of_range c.listing.inside.shape c.items-cells.result.now p)) (ascending_once (tiles shape) (tiles_of_range shape c.args.planned.now.cells p))
+    c.args.store.now.numbers c.write_runs.new.store.numbers (wanted_is c.listing.inside.shape shape c.items-cells.result.now c.args.planned.now.cells p same listed) c.in-Ok.ensures.reads.all
 
 pub returns-in-Err-clause-reads : goal.returns-in-Err-clause-reads
 returns-in-Err-clause-reads g c =
-    let shape : GridShape = c.args.plan.now.shape in
+    let shape : GridShape = c.args.listing.now.shape in
     let p : ℕ = c.args.parameter in
     let listed : c.items-cells.result.now ≡ c.args.planned.now.cells = search rules in
-    let same : c.plan.inside.shape ≡ shape = search rules in
-    adds_first (Unit {0}) c.in-Err.fault (ascending_once (tiles c.plan.inside.shape) (tiles_of_range c.plan.inside.shape c.items-cells.result.now p)) (ascending_once (tiles shape) (tiles_of_range shape c.args.planned.now.cells p))
-    c.args.store.now.numbers c.write_runs.new.store.numbers (wanted_is c.plan.inside.shape shape c.items-cells.result.now c.args.planned.now.cells p same listed) c.write_runs.ensures.reads.begun
+    let same : c.listing.inside.shape ≡ shape = search rules in
+    adds_first (Unit {0}) c.in-Err.fault (ascending_once (tiles c.listing.inside.shape) (tiles_of_range c.listing.inside.shape c.items-cells.result.now p)) (ascending_once (tiles shape) (tiles_of_range shape c.args.planned.now.cells p))
+    c.args.store.now.numbers c.write_runs.new.store.numbers (wanted_is c.listing.inside.shape shape c.items-cells.result.now c.args.planned.now.cells p same listed) c.write_runs.ensures.reads.begun

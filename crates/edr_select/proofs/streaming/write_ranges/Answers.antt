@@ -12,7 +12,7 @@ use Rattle.edr_chunk.specs.Tiles.{tile_shape, tiles}
 use Rattle.edr_edition.specs.Stores.{Subject}
 use Rattle.edr_select.specs.declared.plans.GridNode.{GridNode}
 use Rattle.edr_select.specs.Samples.{ascending_once}
-use Rattle.edr_select.specs.Plans.{range_over, tiles_of_range}
+use Rattle.edr_select.specs.Listings.{range_over, tiles_of_range}
 use Rattle.edr_select.specs.Filling.{grid_of}
 use Rattle.edr_select.proofs.Additions.{adds_fault, added_on}
 use Rattle.edr_select.proofs.Ascending.{once_none}
@@ -30,16 +30,16 @@ loop-number-init g c = record {
   within = λ more. c.requires.within;
   ready = λ all. absurd (omega (arith, c.requires.some, all));
   subject = refl;
-  text = all_but_all (ranges_from c.args.writer.now.head 0 (map (range_over (grid_of c.args.store.now.subject.held) c.args.planned.now.cells) c.args.plan.now.parameters)) (g.K.Sink.written c.args.sink.now);
-  reads = sym (ap (λ (l : List ℕ). c.args.store.now.numbers ++ l) (once_none (tiles c.args.plan.now.shape)) ∙ append-nil c.args.store.now.numbers);
+  text = all_but_all (ranges_from c.args.writer.now.head 0 (map (range_over (grid_of c.args.store.now.subject.held) c.args.planned.now.cells) c.args.listing.now.parameters)) (g.K.Sink.written c.args.sink.now);
+  reads = sym (ap (λ (l : List ℕ). c.args.store.now.numbers ++ l) (once_none (tiles c.args.listing.now.shape)) ∙ append-nil c.args.store.now.numbers);
   lent = search rules;
 }
 
 pub loop-number-preserved : goal.loop-number-preserved
 loop-number-preserved g c =
     let head : RangeHead = c.args.writer.now.head in
-    let shape = c.args.plan.now.shape in
-    let ps : List ℕ = c.args.plan.now.parameters in
+    let shape = c.args.listing.now.shape in
+    let ps : List ℕ = c.args.listing.now.parameters in
     let cells : List GridNode = c.args.planned.now.cells in
     let grid : chunk.Values = grid_of c.args.store.now.subject.held in
     let f : ℕ → NdArray = range_over grid cells in
@@ -67,14 +67,14 @@ loop-number-preserved g c =
       reads = added_on (ascending_once (tiles shape) (flat_map (tiles_of_range shape cells) (take i ps))) (ascending_once (tiles shape) (tiles_of_range shape cells (get_or ps i 0)))
           (ascending_once (tiles shape) (flat_map (tiles_of_range shape cells) (take (i + 1) ps))) c.args.store.now.numbers c.loop-number.store.numbers c.write_range.new.store.numbers
           c.loop-number.invariant.reads c.in-Ok.ensures.reads.all
-          (parameter_step shape (c.tiles_are_numbered.ensures shape) (c.numbers_tell_places.ensures (tile_shape shape)) ps i cells c.plan_stands.ensures.is.parameters c.requires.planned.cells c.requires.parameters inside);
+          (parameter_step shape (c.tiles_are_numbered.ensures shape) (c.numbers_tell_places.ensures (tile_shape shape)) ps i cells c.listing_stands.ensures.is.parameters c.requires.planned.cells c.requires.parameters inside);
       lent = search rules;
     }
 
 pub returns-in-Err-clause-bytes : goal.returns-in-Err-clause-bytes
 returns-in-Err-clause-bytes g c =
     let head : RangeHead = c.args.writer.now.head in
-    let ps : List ℕ = c.args.plan.now.parameters in
+    let ps : List ℕ = c.args.listing.now.parameters in
     let cells : List GridNode = c.args.planned.now.cells in
     let grid : chunk.Values = grid_of c.args.store.now.subject.held in
     let f : ℕ → NdArray = range_over grid cells in
@@ -94,13 +94,13 @@ returns-in-Err-clause-bytes g c =
 
 pub returns-in-Err-clause-reads : goal.returns-in-Err-clause-reads
 returns-in-Err-clause-reads g c =
-    let shape = c.args.plan.now.shape in
-    let ps : List ℕ = c.args.plan.now.parameters in
+    let shape = c.args.listing.now.shape in
+    let ps : List ℕ = c.args.listing.now.parameters in
     let cells : List GridNode = c.args.planned.now.cells in
     let i : ℕ = c.loop-number.number in
     let inside : i < length ps = search rules in
     adds_fault (Unit {0}) c.in-Err.fault (ascending_once (tiles shape) (flat_map (tiles_of_range shape cells) (take i ps))) (ascending_once (tiles shape) (tiles_of_range shape cells (get_or ps i 0)))
     (ascending_once (tiles shape) (flat_map (tiles_of_range shape cells) (drop (i + 1) ps))) (ascending_once (tiles shape) (flat_map (tiles_of_range shape cells) ps))
     c.args.store.now.numbers c.loop-number.store.numbers c.write_range.new.store.numbers c.loop-number.invariant.reads
-    (parameter_begun shape (c.tiles_are_numbered.ensures shape) (c.numbers_tell_places.ensures (tile_shape shape)) ps i cells c.plan_stands.ensures.is.parameters c.requires.planned.cells c.requires.parameters inside)
+    (parameter_begun shape (c.tiles_are_numbered.ensures shape) (c.numbers_tell_places.ensures (tile_shape shape)) ps i cells c.listing_stands.ensures.is.parameters c.requires.planned.cells c.requires.parameters inside)
     c.write_range.ensures.reads.begun

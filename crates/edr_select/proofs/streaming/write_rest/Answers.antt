@@ -8,7 +8,7 @@ use Rattle.covjson_write.specs.Pieces.{coverage_begin, head_of, ranges_from, cov
 use Rattle.edr_chunk.specs.Grids as chunk
 use Rattle.edr_chunk.specs.Tiles.{tiles}
 use Rattle.edr_select.specs.Samples.{ascending_once}
-use Rattle.edr_select.specs.Plans.{PlannedValue, PlanValue, range_over, coverage_of, tiles_of_coverage, plan_tiles}
+use Rattle.edr_select.specs.Listings.{PlannedValue, ListingValue, range_over, coverage_of, tiles_of_coverage, listing_tiles}
 use Rattle.edr_select.specs.Filling.{grid_of}
 use Rattle.edr_select.proofs.Additions.{adds_all, adds_first}
 use Rattle.edr_select.proofs.PlansOfOne.{one_text, one_tiles, one_planned}
@@ -17,12 +17,12 @@ use Rattle.edr_select.proofs.streaming.write_rest.Goals as goal
 
 pub write_coverage-requires-clause-planned : goal.write_coverage-requires-clause-planned
 write_coverage-requires-clause-planned g c =
-    let plan : PlanValue = c.args.plan.now in
-    one_planned plan.shape plan.parameters plan.coverages c.args.planned.now c.requires.rises.alone c.plan_stands.ensures.is.coverages
+    let plan : ListingValue = c.args.listing.now in
+    one_planned plan.shape plan.parameters plan.coverages c.args.planned.now c.requires.rises.alone c.listing_stands.ensures.is.coverages
 
 pub returns-in-Ok-clause-bytes : goal.returns-in-Ok-clause-bytes
 returns-in-Ok-clause-bytes g c =
-    let plan : PlanValue = c.args.plan.now in
+    let plan : ListingValue = c.args.listing.now in
     let planned : PlannedValue = c.args.planned.now in
     let grid : chunk.Values = grid_of c.args.store.now.subject.held in
     let written = g.K.Sink.written in
@@ -36,7 +36,7 @@ returns-in-Ok-clause-bytes g c =
 
 pub returns-in-Err-clause-bytes : goal.returns-in-Err-clause-bytes
 returns-in-Err-clause-bytes g c =
-    let plan : PlanValue = c.args.plan.now in
+    let plan : ListingValue = c.args.listing.now in
     let planned : PlannedValue = c.args.planned.now in
     let grid : chunk.Values = grid_of c.args.store.now.subject.held in
     let written = g.K.Sink.written in
@@ -48,12 +48,12 @@ returns-in-Err-clause-bytes g c =
 
 pub returns-in-Ok-clause-reads : goal.returns-in-Ok-clause-reads
 returns-in-Ok-clause-reads g c =
-    let plan : PlanValue = c.args.plan.now in
-    adds_all c.finish.result (ascending_once (tiles plan.shape) (tiles_of_coverage plan.shape plan.parameters c.args.planned.now)) (ascending_once (tiles plan.shape) (plan_tiles plan))
+    let plan : ListingValue = c.args.listing.now in
+    adds_all c.finish.result (ascending_once (tiles plan.shape) (tiles_of_coverage plan.shape plan.parameters c.args.planned.now)) (ascending_once (tiles plan.shape) (listing_tiles plan))
     c.args.store.now.numbers c.write_coverage.new.store.numbers (ap (ascending_once (tiles plan.shape)) (one_tiles plan c.args.planned.now c.requires.rises.alone)) c.in-Ok.ensures.reads.all
 
 pub returns-in-Err-clause-reads : goal.returns-in-Err-clause-reads
 returns-in-Err-clause-reads g c =
-    let plan : PlanValue = c.args.plan.now in
-    adds_first (Unit {0}) c.in-Err.fault (ascending_once (tiles plan.shape) (tiles_of_coverage plan.shape plan.parameters c.args.planned.now)) (ascending_once (tiles plan.shape) (plan_tiles plan))
+    let plan : ListingValue = c.args.listing.now in
+    adds_first (Unit {0}) c.in-Err.fault (ascending_once (tiles plan.shape) (tiles_of_coverage plan.shape plan.parameters c.args.planned.now)) (ascending_once (tiles plan.shape) (listing_tiles plan))
     c.args.store.now.numbers c.write_coverage.new.store.numbers (ap (ascending_once (tiles plan.shape)) (one_tiles plan c.args.planned.now c.requires.rises.alone)) c.write_coverage.ensures.reads.begun

@@ -11,7 +11,7 @@ use Rattle.edr_chunk.specs.Tiles.{tiles, tile_of}
 use Rattle.edr_select.specs.declared.plans.GridNode.{GridNode}
 use Rattle.edr_select.specs.declared.slots.Slot.{Slot}
 use Rattle.edr_select.specs.Samples.{ascending_once}
-use Rattle.edr_select.specs.Plans.{place_at, tiles_of_range}
+use Rattle.edr_select.specs.Listings.{place_at, tiles_of_range}
 use Rattle.edr_select.specs.Filling.{grid_of, IsSlot, slot_tile, slot_number, slots_from, value_of}
 use Rattle.edr_select.specs.Gathered.{places_of_range}
 use Rattle.edr_select.proofs.Additions.{adds_same}

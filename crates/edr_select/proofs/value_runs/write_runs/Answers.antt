@@ -10,7 +10,7 @@ use Rattle.edr_chunk.specs.Tiles.{tile_shape, tiles}
 use Rattle.edr_edition.specs.Stores.{Subject}
 use Rattle.edr_select.specs.declared.plans.GridNode.{GridNode}
 use Rattle.edr_select.specs.Samples.{ascending_once}
-use Rattle.edr_select.specs.Plans.{place_at, range_over, tiles_of_range}
+use Rattle.edr_select.specs.Listings.{place_at, range_over, tiles_of_range}
 use Rattle.edr_select.specs.Filling.{grid_of}
 use Rattle.edr_select.proofs.Additions.{adds_fault, added_on}
 use Rattle.edr_select.proofs.Ascending.{once_none}

@@ -4,7 +4,7 @@ use Rattle.covjson_write.specs.Pieces.{values_from}
 use Rattle.covjson_write.specs.Writers.{with_values}
 use Rattle.edr_chunk.specs.Tiles.{tiles}
 use Rattle.edr_select.specs.Samples.{ascending_once}
-use Rattle.edr_select.specs.Plans.{range_over, tiles_of_range}
+use Rattle.edr_select.specs.Listings.{range_over, tiles_of_range}
 use Rattle.edr_select.specs.Filling.{grid_of}
 use Rattle.edr_select.specs.Gathered.{AllBut}
 use Rattle.edr_select.proofs.RunSteps.{Cut}

@@ -5,7 +5,7 @@ use Rattle.std.proofs.lemmas.List.Elements.{All-get_or}
 use Rattle.edr_base.specs.Calls.{Front}
 use Rattle.serde_json.specs.Written.{comma_if}
 use Rattle.covjson_write.specs.Pieces.{coverage_begin, head_of, ranges_from, coverage_piece, coverages_from}
-use Rattle.edr_select.specs.Plans.{PlannedValue, IsPlanned}
+use Rattle.edr_select.specs.Listings.{PlannedValue, IsPlanned}
 use Rattle.edr_select.specs.Gathered.{ranges_cut, coverage_cut, coverages_cut, size_of, AllBut}
 use Rattle.edr_select.proofs.TextSteps.{all_but_same, all_but_on, all_but_front, writes_fault}
 use Rattle.edr_select.proofs.Cuts.{coverages_next, sizes_next, piece_is, later_next, rest_is}
@@ -13,8 +13,8 @@ use Rattle.edr_select.proofs.writing.write_coverages.Goals as goal
 
 pub returns-in-Err-clause-bytes : goal.returns-in-Err-clause-bytes
 returns-in-Err-clause-bytes g c =
-    let coverages : List PlannedValue = c.args.plan.now.coverages in
-    let k : ℕ = length c.args.plan.now.parameters in
+    let coverages : List PlannedValue = c.args.listing.now.coverages in
+    let k : ℕ = length c.args.listing.now.parameters in
     let values = c.args.values.now in
     let i : ℕ = c.loop-planned.planned-index in
     let from : ℕ = c.loop-planned.from in
@@ -22,8 +22,8 @@ returns-in-Err-clause-bytes g c =
     let written = g.K.Sink.written in
     let inside : i < length coverages = search rules in
     let is : planned ≡ get_or coverages i planned = search rules in
-    let one : IsPlanned c.args.plan.now.shape c.args.plan.now.parameters planned =
-    subst (λ (p : PlannedValue). IsPlanned c.args.plan.now.shape c.args.plan.now.parameters p) (sym is) (All-get_or (IsPlanned c.args.plan.now.shape c.args.plan.now.parameters) coverages i planned inside c.plan_stands.ensures.is.coverages) in
+    let one : IsPlanned c.args.listing.now.shape c.args.listing.now.parameters planned =
+    subst (λ (p : PlannedValue). IsPlanned c.args.listing.now.shape c.args.listing.now.parameters p) (sym is) (All-get_or (IsPlanned c.args.listing.now.shape c.args.listing.now.parameters) coverages i planned inside c.listing_stands.ensures.is.coverages) in
     let whole = coverages_from 0 (coverages_cut k coverages values) in
     let piece = coverage_piece i (coverage_cut k (drop from values) planned) in
     let rest = coverages_from (i + 1) (coverages_cut k (drop (i + 1) coverages) (drop (from + size_of k planned) values)) in
@@ -40,8 +40,8 @@ returns-in-Err-clause-bytes g c =
 
 pub loop-planned-preserved : goal.loop-planned-preserved
 loop-planned-preserved g c =
-    let coverages : List PlannedValue = c.args.plan.now.coverages in
-    let k : ℕ = length c.args.plan.now.parameters in
+    let coverages : List PlannedValue = c.args.listing.now.coverages in
+    let k : ℕ = length c.args.listing.now.parameters in
     let values = c.args.values.now in
     let i : ℕ = c.loop-planned.planned-index in
     let from : ℕ = c.loop-planned.from in
@@ -50,8 +50,8 @@ loop-planned-preserved g c =
     let inside : i < length coverages = search rules in
     let is : planned ≡ get_or coverages i planned = search rules in
     let size : length c.items-parameters.result.now * length c.items.result.now ≡ size_of k planned = search rules in
-    let one : IsPlanned c.args.plan.now.shape c.args.plan.now.parameters planned =
-    subst (λ (p : PlannedValue). IsPlanned c.args.plan.now.shape c.args.plan.now.parameters p) (sym is) (All-get_or (IsPlanned c.args.plan.now.shape c.args.plan.now.parameters) coverages i planned inside c.plan_stands.ensures.is.coverages) in
+    let one : IsPlanned c.args.listing.now.shape c.args.listing.now.parameters planned =
+    subst (λ (p : PlannedValue). IsPlanned c.args.listing.now.shape c.args.listing.now.parameters p) (sym is) (All-get_or (IsPlanned c.args.listing.now.shape c.args.listing.now.parameters) coverages i planned inside c.listing_stands.ensures.is.coverages) in
     let whole = coverages_from 0 (coverages_cut k coverages values) in
     let piece = coverage_piece i (coverage_cut k (drop from values) planned) in
     let next : ℕ = from + size_of k planned in

@@ -10,8 +10,8 @@ invariant-loop-planned g l = record {
   many : l.writer.many ≡ l.fn.writer.many;
   begun : l.writer.begun ≡ is_later l.planned-index;
   stage : l.writer.stage ≡ Ready;
-  size : l.from + sizes_of (length l.plan.parameters) (drop l.planned-index l.plan.coverages) ≡ length l.values;
-  text : AllBut (coverages_from l.planned-index (coverages_cut (length l.plan.parameters) (drop l.planned-index l.plan.coverages) (drop l.from l.values)))
-      (coverages_from 0 (coverages_cut (length l.plan.parameters) l.plan.coverages l.values)) (g.K.Sink.written l.fn.sink) (g.K.Sink.written l.sink);
+  size : l.from + sizes_of (length l.listing.parameters) (drop l.planned-index l.listing.coverages) ≡ length l.values;
+  text : AllBut (coverages_from l.planned-index (coverages_cut (length l.listing.parameters) (drop l.planned-index l.listing.coverages) (drop l.from l.values)))
+      (coverages_from 0 (coverages_cut (length l.listing.parameters) l.listing.coverages l.values)) (g.K.Sink.written l.fn.sink) (g.K.Sink.written l.sink);
   lent : SinkLent (g.K.Sink.beside l.fn.sink) (g.K.Sink.beside l.sink) (g.K.Faults.faults l.fn.sink) (g.K.Faults.faults l.sink);
 }

@@ -1,0 +1,6 @@
+use Rattle.edr_select.proofs.MaskReach.{has_polygons}
+use Rattle.edr_select.proofs.row_ranges.polygons_of.Goals as goal
+
+pub returns : goal.returns
+returns c =
+    has_polygons c.args.geometry.now c.in-Polygons.multi c.in-Polygons.has_z c.in-Polygons.has_m c.in-Polygons.polygons c.items.result.now c.in-Polygons.is c.items.ensures c.geometries_are_placed.ensures c.requires.0

@@ -1,0 +1,79 @@
+//! Frames of what queries take.
+ghost use Rattle.std.specs.Prelude.{◌≡◌, ◌↔◌, IfOk, IfErr, IsTrue, MatchOption};
+ghost use Rattle.edr_edition.specs.Instances.{HasGrid};
+ghost use Rattle.edr_query.specs.Queries.{IsShape};
+ghost use Rattle.edr_select.specs.AreaPlans.{IsFrameOf, IsFramed, TakesSome};
+ghost use Rattle.edr_select.specs.Checks.{refused_query};
+ghost use Rattle.edr_select.specs.Masks.{IsArea, NoneTaken};
+ghost use Rattle.edr_select.specs.Steps.{IsAsked, IsFaultOf};
+
+use crate::choices::levels_of_query;
+use crate::chosen_times::times_taken;
+use crate::frames::Frame;
+use crate::masks::mask_of;
+use crate::planning::PlanFault;
+use crate::steps::{names_taken, refused_asking};
+use edr_base::{Items, OutOfMemory, Refusal};
+use edr_edition::{CollectionData, GridInstance};
+use edr_query::Query;
+use std::alloc::Global;
+
+// The times, the levels and the nodes of a plane that a query takes of an instance, or None where it takes no node.
+fn frame_of(
+    alloc: Global,
+    query: &Query,
+    instance: &GridInstance,
+) -> Result<Option<Frame>, OutOfMemory>
+    requires instance { HasGrid instance.now }
+    requires area { IsArea query.now.shape }
+    requires shape { IsShape query.now.shape }
+    ensures { IfOk result (λ found. MatchOption found (NoneTaken instance.now query.now.shape) (IsFrameOf instance.now query.now)) }
+{
+    let times = times_taken(alloc, &query.times, instance.times())?;
+    let levels = levels_of_query(alloc, query, instance.levels())?;
+    let Some(mask) = mask_of(alloc, instance, &query.shape)? else {
+        return Ok(None);
+    };
+    Ok(Some(Frame {
+        times: Items::of(times),
+        levels: Items::of(levels),
+        row: mask.row,
+        rows: mask.rows,
+        column: mask.column,
+        columns: mask.columns,
+        width: instance.grid().shape().columns,
+        mask: Items::of(mask.bits),
+    }))
+}
+
+// Whether some parameters are taken, at some times and levels.
+fn takes_some(parameters: &[u64], frame: &Frame) -> bool
+    ensures { IsTrue result ↔ TakesSome parameters.now frame.now }
+{
+    !parameters.is_empty() && !frame.times.items().is_empty() && !frame.levels.items().is_empty()
+}
+
+// The parameters and the frame that a query takes, or the first refusal that applies but for that of its size.
+pub(crate) fn frame_taken(
+    alloc: Global,
+    query: &Query,
+    collection: &CollectionData,
+    instance: &GridInstance,
+) -> Result<(Vec<u64>, Frame), PlanFault>
+    requires asked { IsAsked collection.now query.now instance.now }
+    requires area { IsArea query.now.shape }
+    ensures taken { IfOk result (λ taken. IsFramed collection.now query.now instance.now taken.0.items taken.1) }
+    ensures refused { IfErr result (IsFaultOf (refused_query collection.now query.now)) }
+{
+    let parameters = names_taken(alloc, query, collection, instance)?;
+    if let Some(refusal) = refused_asking(query, collection, instance) {
+        return Err(PlanFault::Refused(refusal));
+    }
+    let Some(frame) = frame_of(alloc, query, instance)? else {
+        return Err(PlanFault::Refused(Refusal::NoSamples));
+    };
+    if !takes_some(&parameters, &frame) {
+        return Err(PlanFault::Refused(Refusal::NoSamples));
+    }
+    Ok((parameters, frame))
+}
