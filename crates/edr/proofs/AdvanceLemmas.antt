@@ -4,12 +4,12 @@ use Rattle.std.specs.declared.option.Option.{Option}
 use Rattle.std.specs.Prelude.{is_some, unwrap_or, option_to_list, IfSome, IsSome}
 use Rattle.std.specs.Io.KnownBytes.{append_known, prepend_known}
 use mathlib.Core.List.{append_assoc}
-use Rattle.edr_base.specs.Calls.{Begins, Front, IsFlushed, WrittenWhole, WrittenInPart}
+use Rattle.edr_base.specs.Calls.{Begins, Front, IsFlushed, ReadsAtMost, WrittenWhole, WrittenInPart}
 use Rattle.edr_base.specs.KnownBytes.{append_nothing, prepend_nothing, grew_on, took_on, front_on, front_whole}
 use Rattle.edr_base.specs.declared.refusals.Refusal.{Refusal}
 use Rattle.edr_edition.specs.Values.{EditionValue}
 use Rattle.edr_edition.specs.Shelves.{EndsWith, AreNumberedFrom, IsLog, IsNext, no_edition}
-use Rattle.edr_http.specs.Heads.{Told, IsBehind}
+use Rattle.edr_http.specs.Heads.{Told, IsBehind, most_held}
 use Rattle.edr_query.specs.declared.pages.Page.{Page}
 use Rattle.edr_serve.specs.declared.ends.End.{End}
 use Rattle.edr_serve.specs.declared.ends.End.TheVariants.{EndOfInput}
@@ -18,7 +18,8 @@ use Rattle.edr_serve.specs.Requests.{Request, IsFirst, Requests, Begun, session_
 use Rattle.edr_serve.specs.Replies.{readers, count_if_page, output}
 use Rattle.edr_serve.specs.Sessions.{State, IfTold, Uses, Served, Exchanged, BrokenAtOne}
 use Rattle.edr_serve.specs.SessionLaws.{OutputGoesOn}
-use Rattle.edr.specs.Replays.{edition_at, if_page, editions_read, replayed, AreReplies, AreBegun, IsServed}
+use Rattle.edr_serve.specs.AheadLaws.{Ahead, ahead_on, ahead_held, ahead_read, few_held}
+use Rattle.edr.specs.Replays.{edition_at, if_page, editions_read, replayed, AreReplies, AreBegun, IsServed, IsReadFor}
 use Rattle.edr.proofs.ReplayLemmas.{AreFirst, uses_same, begins_step, read_step, front_of_more, same_shelf, are_begun, at_end}
 
 -- ---- the shelf
@@ -173,11 +174,12 @@ pub record Going (editions : List EditionValue) (turn : ℕ) (rest behind before
   pub count : length done ≡ turn - 1
   pub goes : (rs : List Request) → IfTold (λ bytes. Requests (1001 - turn) bytes rs) behind → IfTold (λ bytes. Requests request_limit bytes (done ++ rs)) rest
   pub begins : (rs : List Request) → IfTold (λ bytes. Begun (1001 - turn) bytes rs) behind → IfTold (λ bytes. Begun request_limit bytes (done ++ rs)) rest
+  pub ahead : (rs : List Request) (left : Option (List ℕ)) → Ahead (1001 - turn) rs behind left → Ahead request_limit (done ++ rs) rest left
   pub ends : (rs : List Request) → session_end (done ++ rs) ≡ session_end rs
   pub bytes : now ≡ append_known before (replayed true editions done)
 
 going_start : (editions : List EditionValue) (rest a : Option (List ℕ)) → Going editions 1 rest rest a a
-going_start editions rest a = record { done = []; count = refl; goes = λ rs k. k; begins = λ rs k. k; ends = λ rs. refl; bytes = append_nothing a }
+going_start editions rest a = record { done = []; count = refl; goes = λ rs k. k; begins = λ rs k. k; ahead = λ rs left t. t; ends = λ rs. refl; bytes = append_nothing a }
 
 pub going_begins : (editions : List EditionValue) (rest behind a : Option (List ℕ)) → behind ≡ prepend_known [] rest → Going editions 1 rest behind a a
 going_begins editions rest behind a e = subst (λ (z : Option (List ℕ)). Going editions 1 rest z a a) (prepend_nothing rest ∙ sym e) (going_start editions rest a)
@@ -213,34 +215,40 @@ going_more law editions turn rest b c a x y report one most last g e none =
           (g.goes (r ∷ rs) (goes_on (1001 - turn) b c r rs e.first still (subst (λ (m : ℕ). IfTold (λ bytes. Requests m bytes rs) c) fewer k)));
       begins = λ rs k. subst (λ (z : List Request). IfTold (λ bytes. Begun request_limit bytes z) rest) (sym (snoc g.done r rs))
           (g.begins (r ∷ rs) (begins_on (1001 - turn) b c r rs e.first still (subst (λ (m : ℕ). IfTold (λ bytes. Begun m bytes rs) c) fewer k)));
+      ahead = λ rs left t. subst (λ (z : List Request). Ahead request_limit z rest left) (sym (snoc g.done r rs))
+          (g.ahead (r ∷ rs) left (ahead_on (1001 - turn) b c left r rs e.first (subst (λ (m : ℕ). Ahead m rs c left) fewer t)));
       ends = λ rs. ap session_end (snoc g.done r rs) ∙ (g.ends (r ∷ rs) ∙ ap (λ (o : Option End). unwrap_or o (session_end rs)) still);
       bytes = more_written law editions y.seen turn g.done r e.replied.editions a x.written y.written g.count last e.replied.answered.full e.replied.newest g.bytes e.replied.answered.bytes;
     }
 
--- ---- a session that is over: its requests, and what was written for them
-pub record Over (editions : List EditionValue) (rest before now : Option (List ℕ)) (end : End) : Type 0 where
+-- ---- a session that is over: its requests, what is left behind them, and what was written for them
+pub record Over (editions : List EditionValue) (rest left before now : Option (List ℕ)) (end : End) : Type 0 where
   pub requests : List Request
   pub all : IfTold (λ bytes. Requests request_limit bytes requests) rest
+  pub ahead : Ahead request_limit requests rest left
   pub ends : end ≡ session_end requests
   pub bytes : now ≡ append_known before (replayed true editions requests)
 
-going_last : OutputGoesOn → (editions : List EditionValue) (turn : ℕ) (rest b c a : Option (List ℕ)) (x y : State) (report : OneReport) (end : End)
+going_last : OutputGoesOn → (editions : List EditionValue) (turn : ℕ) (rest b c left a : Option (List ℕ)) (x y : State) (report : OneReport) (end : End)
     → 1 ≤ turn → ((e : EditionValue) → EndsWith y.seen e → e ≡ at editions (turn - 1))
-    → Going editions turn rest b a x.written → Exchanged (1001 - turn) b c x y report → report.end ≡ Some end → Over editions rest a y.written end
-going_last law editions turn rest b c a x y report end one last g e ends =
+    → Going editions turn rest b a x.written → Exchanged (1001 - turn) b c x y report → Ahead (1001 - turn - 1) [] c left → report.end ≡ Some end → Over editions rest left a y.written end
+going_last law editions turn rest b c left a x y report end one last g e ahead ends =
     let r = e.request in
     let closed : r.end ≡ Some end = sym e.replied.end ∙ ends in
     record {
       requests = g.done ++ r ∷ [];
       all = g.goes (r ∷ []) (closes_with (1001 - turn) b c r end e.first closed);
+      ahead = g.ahead (r ∷ []) left (ahead_on (1001 - turn) b c left r [] e.first ahead);
       ends = sym (g.ends (r ∷ []) ∙ ap (λ (o : Option End). unwrap_or o EndOfInput) closed);
       bytes = more_written law editions y.seen turn g.done r e.replied.editions a x.written y.written g.count last e.replied.answered.full e.replied.newest g.bytes e.replied.answered.bytes;
     }
 
-going_stop : (editions : List EditionValue) (turn : ℕ) (rest b c a now : Option (List ℕ)) → Going editions turn rest b a now → Told (λ u v. (u ≡ []) × (v ≡ [])) b c → Over editions rest a now EndOfInput
-going_stop editions turn rest b c a now g t = record {
+going_stop : (editions : List EditionValue) (turn : ℕ) (rest b c left a now : Option (List ℕ)) → Going editions turn rest b a now → Told (λ u v. (u ≡ []) × (v ≡ [])) b c → Ahead (1001 - turn) [] b left
+    → Over editions rest left a now EndOfInput
+going_stop editions turn rest b c left a now g t ahead = record {
   requests = g.done;
   all = subst (λ (z : List Request). IfTold (λ bytes. Requests request_limit bytes z) rest) (append-nil g.done) (g.goes [] (none_left (1001 - turn) b c t));
+  ahead = subst (λ (z : List Request). Ahead request_limit z rest left) (append-nil g.done) (g.ahead [] left ahead);
   ends = sym (ap session_end (sym (append-nil g.done)) ∙ g.ends []);
   bytes = g.bytes;
 }
@@ -255,16 +263,18 @@ session_goes law editions turn rest b c a x y report one most last same g (inl e
 session_goes law editions turn rest b c a x y report one most last same g (inr e) none =
     going_more law editions turn rest b c a x y report one most (kept_last x.seen y.seen (at editions (turn - 1)) same last) g e none
 
-pub session_ends : OutputGoesOn → (editions : List EditionValue) (turn : ℕ) (rest b c a : Option (List ℕ)) (x y : State) (report : OneReport) (end : End)
+pub session_ends : OutputGoesOn → (editions : List EditionValue) (turn m : ℕ) (held : List ℕ) (rest b left a : Option (List ℕ)) (x y : State) (report : OneReport) (end : End)
     → 1 ≤ turn → ((e : EditionValue) → EndsWith x.seen e → e ≡ at editions (turn - 1)) → Some y.seen ≡ Some x.seen
-    → Going editions turn rest b a x.written → Served (1001 - turn) b c x y report → report.end ≡ Some end → Over editions rest a y.written end
-session_ends law editions turn rest b c a x y report end one last same g (inl e) ends =
+    → m ≤ most_held 0 → length held ≤ most_held m → ReadsAtMost (most_held m) b left
+    → Going editions turn rest b a x.written → Served (1001 - turn) b (prepend_known held left) x y report → report.end ≡ Some end → Over editions rest left a y.written end
+session_ends law editions turn m held rest b left a x y report end one last same few more read g (inl e) ends =
     let told : Some EndOfInput ≡ Some end = sym (ap (λ (o : OneReport). o.end) e.report_is) ∙ ends in
     let last_is : EndOfInput ≡ end = cc in
-    subst (λ (z : End). Over editions rest a y.written z) last_is
-    (going_stop editions turn rest b c a y.written (subst (λ (z : State). Going editions turn rest b a z.written) (sym e.same) g) e.at_end)
-session_ends law editions turn rest b c a x y report end one last same g (inr e) ends =
-    going_last law editions turn rest b c a x y report end one (kept_last x.seen y.seen (at editions (turn - 1)) same last) g e ends
+    subst (λ (z : End). Over editions rest left a y.written z) last_is
+    (going_stop editions turn rest b (prepend_known held left) left a y.written (subst (λ (z : State). Going editions turn rest b a z.written) (sym e.same) g) e.at_end (ahead_read (1001 - turn) m b left few read))
+session_ends law editions turn m held rest b left a x y report end one last same few more read g (inr e) ends =
+    going_last law editions turn rest b (prepend_known held left) left a x y report end one (kept_last x.seen y.seen (at editions (turn - 1)) same last) g e
+    (ahead_held (1001 - turn - 1) held left (few_held m (length held) few more)) ends
 
 -- ---- a session that broke off
 
@@ -308,24 +318,55 @@ going_broken editions turn rest b a now g = record {
 
 -- ---- the same of the ends of a run
 
-are_replies : (editions : List EditionValue) (rest a now : Option (List ℕ)) (end : End) (o : Over editions rest a now end) → AreReplies true editions rest (replayed true editions o.requests)
-are_replies editions rest a now end o = record { requests = o.requests; all = o.all; text_is = refl }
+are_replies : (editions : List EditionValue) (rest left a now : Option (List ℕ)) (end : End) (o : Over editions rest left a now end) → AreReplies true editions rest (replayed true editions o.requests)
+are_replies editions rest left a now end o = record { requests = o.requests; all = o.all; text_is = refl }
 
-pub whole_over : (editions : List EditionValue) (rest a now new : Option (List ℕ)) (flushed : Option ℕ) (end : End) → Over editions rest a now end → new ≡ now → IsFlushed new flushed
+pub whole_over : (editions : List EditionValue) (rest left a now new : Option (List ℕ)) (flushed : Option ℕ) (end : End) → Over editions rest left a now end → new ≡ now → IsFlushed new flushed
     → WrittenWhole (AreReplies true editions rest) a new flushed
-whole_over editions rest a now new flushed end o same settled =
-    record { text = replayed true editions o.requests; is = are_replies editions rest a now end o; grew = same ∙ o.bytes; settled = settled }
+whole_over editions rest left a now new flushed end o same settled =
+    record { text = replayed true editions o.requests; is = are_replies editions rest left a now end o; grew = same ∙ o.bytes; settled = settled }
 
-pub part_over : (editions : List EditionValue) (rest a now new : Option (List ℕ)) (end : End) → Over editions rest a now end → new ≡ now → WrittenInPart (AreBegun true editions rest) a new
-part_over editions rest a now new end o same = record {
+pub part_over : (editions : List EditionValue) (rest left a now new : Option (List ℕ)) (end : End) → Over editions rest left a now end → new ≡ now → WrittenInPart (AreBegun true editions rest) a new
+part_over editions rest left a now new end o same = record {
   text = replayed true editions o.requests;
-  is = are_begun true editions rest (replayed true editions o.requests) (are_replies editions rest a now end o);
+  is = are_begun true editions rest (replayed true editions o.requests) (are_replies editions rest left a now end o);
   front = front_whole a new (replayed true editions o.requests) (same ∙ o.bytes);
 }
 
-pub served_over : (editions : List EditionValue) (rest left a now : Option (List ℕ)) (end : End) → Over editions rest a now end → IsBehind rest left
+pub served_over : (editions : List EditionValue) (rest left a now : Option (List ℕ)) (end : End) → Over editions rest left a now end → IsBehind rest left
     → (end ≡ EndOfInput → Told (λ bytes others. others ≡ []) rest left) → IsServed rest left
-served_over editions rest left a now end o behind far = record { requests = o.requests; all = o.all; ended = λ ends. at_end rest left behind (far (o.ends ∙ ends)) }
+served_over editions rest left a now end o behind far = record { requests = o.requests; all = o.all; ahead = o.ahead; ended = λ ends. at_end rest left behind (far (o.ends ∙ ends)) }
+
+-- ---- how far the input was read
+
+pub read_over : (editions : List EditionValue) (rest left a now new : Option (List ℕ)) (end : End) → Over editions rest left a now end → new ≡ now → IsReadFor true editions rest left a new
+read_over editions rest left a now new end o same = record {
+  requests = o.requests;
+  ahead = o.ahead;
+  more = [];
+  whole = same ∙ o.bytes ∙ ap (append_known a) (sym (append-nil (replayed true editions o.requests)));
+}
+
+read_done : (editions : List EditionValue) (turn : ℕ) (rest b left a now new : Option (List ℕ)) (more : List ℕ) → Going editions turn rest b a now → Ahead (1001 - turn) [] b left → new ≡ append_known now more
+    → IsReadFor true editions rest left a new
+read_done editions turn rest b left a now new more g ahead grew = record {
+  requests = g.done;
+  ahead = subst (λ (z : List Request). Ahead request_limit z rest left) (append-nil g.done) (g.ahead [] left ahead);
+  more = more;
+  whole = grew_on a now new (replayed true editions g.done) more g.bytes grew;
+}
+
+-- one request wasn't served
+pub read_broken : (editions : List EditionValue) (turn m : ℕ) (rest b left a : Option (List ℕ)) (x y : State) → m ≤ most_held 0 → ReadsAtMost (most_held m) b left
+    → Going editions turn rest b a x.written → BrokenAtOne (1001 - turn) b x y → IsReadFor true editions rest left a y.written
+read_broken editions turn m rest b left a x y few read g e =
+    read_done editions turn rest b left a x.written y.written e.broke_off.bytes.bytes g (ahead_read (1001 - turn) m b left few read) e.broke_off.bytes.grew
+
+-- between two requests
+pub read_going : (editions : List EditionValue) (turn : ℕ) (held : List ℕ) (rest left a now : Option (List ℕ)) → length held ≤ most_held 0 → Going editions turn rest (prepend_known held left) a now
+    → IsReadFor true editions rest left a now
+read_going editions turn held rest left a now few g =
+    read_done editions turn rest (prepend_known held left) left a now now [] g (ahead_held (1001 - turn) held left few) (append_nothing now)
 
 -- ---- what is left of the source
 

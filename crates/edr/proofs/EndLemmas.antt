@@ -1,7 +1,9 @@
 -- How a run ends that serves a connection.
 use Rattle.std.proofs.Common.{◌≡◌, ℕ, ◌≤◌, Bool, true, List, Some, Ok, Err, IfSome, inl, inr, refl, arith}
 use Rattle.std.specs.declared.option.Option.{Option}
+use Rattle.std.specs.Prelude.{Result}
 use Rattle.edr_base.specs.Outside.{Rose}
+use Rattle.edr_base.specs.declared.refusals.Refusal.{Refusal}
 use Rattle.edr_base.specs.Calls.{IsFlushed, WrittenWhole, WrittenInPart}
 use Rattle.edr_edition.specs.Values.{EditionValue}
 use Rattle.edr_feed.specs.Feeds.{FeedStandsIn}
@@ -14,8 +16,9 @@ use Rattle.edr.specs.declared.endings.Ending.{Ending}
 use Rattle.edr.specs.declared.endings.Ending.TheVariants.{Done, Usage, NotFeed, ReadFault, WriteFault, OutOfMemory, Refused, OpenFault}
 use Rattle.edr.specs.Checking.{fault_ends}
 use Rattle.edr.specs.Replays.{IsReplayOf, IsReplayBegun, AreReplies, AreBegun}
-use Rattle.edr.specs.Ends.{OutputEnds, IsReadByEnd, Counts, FileFailed}
-use Rattle.edr.specs.Replaying.{ServeCause, ReplayCause, IsBefore, session_ends, Settles}
+use Rattle.edr.specs.Asking.{AnswerCause}
+use Rattle.edr.specs.Ends.{OutputEnds, IsReadByEnd, Settles, Counts, FileFailed}
+use Rattle.edr.specs.Replaying.{ServeCause, ReplayCause, IsBefore, session_ends}
 use Rattle.edr.proofs.ReplayLemmas.{stands_opened}
 
 -- ---- a session broke off
@@ -43,16 +46,16 @@ broken_read faults.OutOfMemory Far = tt
 
 -- ---- all was written
 
-pub settled_output : (ending : Ending) (before after : ℕ) (Whole Begun : List ℕ → Type 0) (old new : Option (List ℕ)) (flushed : Option ℕ) → Settles ending before after new flushed
-    → (IsFlushed new flushed → WrittenWhole Whole old new flushed) → WrittenInPart Begun old new → OutputEnds ending true Whole Begun old new flushed
-settled_output Done before after Whole Begun old new flushed s whole part = whole s
-settled_output Usage before after Whole Begun old new flushed s whole part = absurd s
-settled_output (NotFeed refusal) before after Whole Begun old new flushed s whole part = absurd s
-settled_output ReadFault before after Whole Begun old new flushed s whole part = absurd s
-settled_output WriteFault before after Whole Begun old new flushed s whole part = part
-settled_output OutOfMemory before after Whole Begun old new flushed s whole part = inr part
-settled_output (Refused refusal) before after Whole Begun old new flushed s whole part = absurd s
-settled_output OpenFault before after Whole Begun old new flushed s whole part = absurd s
+pub settled_output : (ending : Ending) (early : Bool) (before after : ℕ) (Whole Begun : List ℕ → Type 0) (old new : Option (List ℕ)) (flushed : Option ℕ) → Settles ending before after new flushed
+    → (IsFlushed new flushed → WrittenWhole Whole old new flushed) → WrittenInPart Begun old new → OutputEnds ending early Whole Begun old new flushed
+settled_output Done early before after Whole Begun old new flushed s whole part = whole s
+settled_output Usage early before after Whole Begun old new flushed s whole part = absurd s
+settled_output (NotFeed refusal) early before after Whole Begun old new flushed s whole part = absurd s
+settled_output ReadFault early before after Whole Begun old new flushed s whole part = absurd s
+settled_output WriteFault early before after Whole Begun old new flushed s whole part = part
+settled_output OutOfMemory early before after Whole Begun old new flushed s whole part = inr part
+settled_output (Refused refusal) early before after Whole Begun old new flushed s whole part = absurd s
+settled_output OpenFault early before after Whole Begun old new flushed s whole part = absurd s
 
 pub rose_earlier : (first before after : ℕ) → first ≤ before → Rose before after → Rose first after
 rose_earlier first before after h x = omega (arith, h, x)
@@ -66,6 +69,17 @@ settled_cause WriteFault r r' first before after new flushed h s = rose_earlier 
 settled_cause OutOfMemory r r' first before after new flushed h s = tt
 settled_cause (Refused refusal) r r' first before after new flushed h s = s
 settled_cause OpenFault r r' first before after new flushed h s = s
+
+pub settled_answer : (ending : Ending) (IsThe : Result (List ℕ) Refusal → Type 0) (first before after : ℕ) (new : Option (List ℕ)) (flushed : Option ℕ) → first ≤ before
+    → Settles ending before after new flushed → AnswerCause ending IsThe first after
+settled_answer Done IsThe first before after new flushed h s = tt
+settled_answer Usage IsThe first before after new flushed h s = s
+settled_answer (NotFeed refusal) IsThe first before after new flushed h s = s
+settled_answer ReadFault IsThe first before after new flushed h s = s
+settled_answer WriteFault IsThe first before after new flushed h s = rose_earlier first before after h s
+settled_answer OutOfMemory IsThe first before after new flushed h s = tt
+settled_answer (Refused refusal) IsThe first before after new flushed h s = absurd s
+settled_answer OpenFault IsThe first before after new flushed h s = s
 
 pub settled_begun : (ending : Ending) (before after : ℕ) (new : Option (List ℕ)) (flushed : Option ℕ) → Settles ending before after new flushed → ¬ (IsBefore ending)
 settled_begun Done before after new flushed s x = x

@@ -1,11 +1,11 @@
 -- Editions that requests read, and what is written of them.
-use Rattle.std.proofs.Common.{◌≡◌, ℕ, suc, ◌+◌, ◌-◌, min, slice_index_or, Bool, false, List, [], ◌∷◌, ◌++◌, length, Result, Ok, Err, Some, None, IfSome, sym, ap, subst, ◌∙◌, refl, flat_map, length-append, append-nil, arith}
+use Rattle.std.proofs.Common.{◌≡◌, ℕ, suc, ◌+◌, ◌-◌, ◌≤◌, inl, inr, min, slice_index_or, Bool, false, List, [], ◌∷◌, ◌++◌, length, Result, Ok, Err, Some, None, IfSome, sym, ap, subst, ◌∙◌, refl, flat_map, length-append, append-nil, arith}
 use Rattle.std.specs.declared.option.Option.{Option}
 use Rattle.std.specs.Prelude.{⊤}
 use Rattle.std.specs.Io.KnownBytes.{append_known, IsAtEnd}
 use mathlib.Core.List.{append_assoc}
 use Rattle.edr_base.specs.Calls.{Begins, Front, IsFlushed, WrittenWhole, WrittenInPart}
-use Rattle.edr_base.specs.KnownBytes.{front_whole}
+use Rattle.edr_base.specs.KnownBytes.{append_nothing, prepend_nothing, front_whole}
 use Rattle.edr_base.specs.declared.refusals.Refusal.{Refusal}
 use Rattle.edr_edition.specs.Values.{EditionValue}
 use Rattle.edr_edition.specs.Shelves.{BeginsSeen, EndsWith, no_edition}
@@ -16,9 +16,10 @@ use Rattle.edr_query.specs.declared.pages.Page.{Page}
 use Rattle.edr_serve.specs.declared.ends.End.TheVariants.{EndOfInput}
 use Rattle.edr_serve.specs.declared.reports.SessionReport.{SessionReport}
 use Rattle.edr_serve.specs.Requests.{Request, Requests, Begun, request_limit}
-use Rattle.edr_serve.specs.Replies.{bytes_of, replies, first_reply, reply_without, reply_from, readers, count_if_page, output}
-use Rattle.edr_serve.specs.Sessions.{State, IfTold, Uses, Session, Broken}
-use Rattle.edr.specs.Replays.{edition_at, if_page, editions_read, replayed, AreReplies, AreBegun, IsServed}
+use Rattle.edr_serve.specs.Replies.{Reply, bytes_of, replies, first_reply, reply_without, reply_from, readers, count_if_page, output}
+use Rattle.edr_serve.specs.Sessions.{State, IfTold, Uses, Session, Broken, ReadsAhead}
+use Rattle.edr_serve.specs.AheadLaws.{Ahead, ahead_held}
+use Rattle.edr.specs.Replays.{edition_at, if_page, editions_read, replayed, AreReplies, AreBegun, IsServed, IsReadFor, IsReadFrom, ReplayReads}
 
 -- ---- a shelf that stays as it is
 
@@ -98,6 +99,22 @@ begins_first standing first h k [] es a = ([], refl)
 begins_first standing first h k (r ∷ rs) es a =
     begins_step (standing k) first r r.asked rs es (editions_read standing (k + 1) rs) (h k) (λ fs b. begins_first standing first h (k + 1) rs fs b) a
 
+-- or for more of them than there are
+enough_step : (standing first : EditionValue) (r : Request) (asked : Result Page Refusal) (n : ℕ) (es others : List EditionValue) (further : List EditionValue → List Reply) → standing ≡ first
+    → ((fs : List EditionValue) → n ≤ length fs → AreFirst first fs → flat_map bytes_of (further fs) ≡ flat_map bytes_of (further others)) → count_if_page asked n ≤ length es → AreFirst first es
+    → flat_map bytes_of (first_reply r asked es further) ≡ flat_map bytes_of (first_reply r asked (if_page asked standing others) further)
+enough_step standing first r (Err refusal) n es others further h ih p a = ap (λ w. bytes_of (reply_without r refusal) ++ w) (ih es p a)
+enough_step standing first r (Ok page) n [] others further h ih p a = absurd (omega (arith, p))
+enough_step standing first r (Ok page) n (e ∷ es) others further h ih p a =
+    ap (λ (z : EditionValue). bytes_of (reply_from r page z) ++ flat_map bytes_of (further es)) (a.0 ∙ sym h)
+    ∙ ap (λ w. bytes_of (reply_from r page standing) ++ w) (ih es (omega (arith, p)) a.1)
+
+enough_first : (standing : ℕ → EditionValue) (first : EditionValue) → ((n : ℕ) → standing n ≡ first) → (k : ℕ) (rs : List Request) (es : List EditionValue)
+    → readers rs ≤ length es → AreFirst first es → output rs es ≡ output rs (editions_read standing k rs)
+enough_first standing first h k [] es p a = refl
+enough_first standing first h k (r ∷ rs) es p a =
+    enough_step (standing k) first r r.asked (readers rs) es (editions_read standing (k + 1) rs) (replies rs) (h k) (λ fs q b. enough_first standing first h (k + 1) rs fs q b) p a
+
 pub front_of_more : (a b : List ℕ) (old new : Option (List ℕ)) → Begins a b → Front a old new → Front b old new
 front_of_more a b old new x f = record {
   bytes = f.bytes;
@@ -129,46 +146,55 @@ standing_first first others n = ap (λ k. slice_index_or (first ∷ others) k no
 pub same_shelf : (a b : List EditionValue) → Some a ≡ Some b → a ≡ b
 same_shelf a b e = cc
 
-pub replies_first : (first : EditionValue) (others editions : List EditionValue) (input : Option (List ℕ)) (x y : State) (report : SessionReport)
-    → editions ≡ first ∷ others → x.seen ≡ first ∷ [] → Some y.seen ≡ Some x.seen → Session input x y report
-    → (text : List ℕ) × AreReplies false editions input text × (y.written ≡ append_known x.written text)
-replies_first first others editions input x y report p q s e =
+text_first : (first : EditionValue) (others editions : List EditionValue) (input left : Option (List ℕ)) (x y : State) (report : SessionReport)
+    → editions ≡ first ∷ others → x.seen ≡ first ∷ [] → Some y.seen ≡ Some x.seen → (e : Session input left x y report)
+    → output e.requests e.editions ≡ replayed false editions e.requests
+text_first first others editions input left x y report p q s e =
     let after : y.seen ≡ first ∷ [] = same_shelf y.seen x.seen s ∙ q in
     let uses : Uses x.seen e.editions (first ∷ []) = subst (λ (z : List EditionValue). Uses x.seen e.editions z) after e.answered.uses in
     let read : e.editions ≡ editions_read (edition_at false (first ∷ others)) 0 e.requests =
     read_first (edition_at false (first ∷ others)) first (standing_first first others) 0 e.requests e.editions e.answered.full (uses_first first x.seen e.editions q uses) in
-    let text : output e.requests e.editions ≡ replayed false editions e.requests =
-    ap (λ w. output e.requests w) read ∙ ap (λ (w : List EditionValue). replayed false w e.requests) (sym p) in
-    (output e.requests e.editions, record { requests = e.requests; all = e.all; text_is = text }, e.answered.bytes)
+    ap (λ w. output e.requests w) read ∙ ap (λ (w : List EditionValue). replayed false w e.requests) (sym p)
 
-pub begun_first : (first : EditionValue) (others editions : List EditionValue) (input : Option (List ℕ)) (x y : State)
-    → editions ≡ first ∷ others → x.seen ≡ first ∷ [] → Some y.seen ≡ Some x.seen → Broken request_limit input x y
-    → WrittenInPart (AreBegun false editions input) x.written y.written
-begun_first first others editions input x y p q s e =
+replies_first : (first : EditionValue) (others editions : List EditionValue) (input left : Option (List ℕ)) (x y : State) (report : SessionReport)
+    → editions ≡ first ∷ others → x.seen ≡ first ∷ [] → Some y.seen ≡ Some x.seen → Session input left x y report
+    → (text : List ℕ) × AreReplies false editions input text × (y.written ≡ append_known x.written text)
+replies_first first others editions input left x y report p q s e =
+    (output e.requests e.editions, record { requests = e.requests; all = e.all; text_is = text_first first others editions input left x y report p q s e }, e.answered.bytes)
+
+first_used : (first : EditionValue) (input left : Option (List ℕ)) (x y : State) → x.seen ≡ first ∷ [] → Some y.seen ≡ Some x.seen → (e : Broken request_limit input left x y)
+    → AreFirst first e.broke_off.editions
+first_used first input left x y q s e =
     let after : y.seen ≡ first ∷ [] = same_shelf y.seen x.seen s ∙ q in
-    let uses : Uses x.seen e.broke_off.editions (first ∷ []) = subst (λ (z : List EditionValue). Uses x.seen e.broke_off.editions z) after e.broke_off.uses in
-    let more : Begins (output e.requests e.broke_off.editions) (replayed false (first ∷ others) e.requests) =
-    begins_first (edition_at false (first ∷ others)) first (standing_first first others) 0 e.requests e.broke_off.editions (uses_first first x.seen e.broke_off.editions q uses) in
+    uses_first first x.seen e.broke_off.editions q (subst (λ (z : List EditionValue). Uses x.seen e.broke_off.editions z) after e.broke_off.uses)
+
+pub begun_first : (first : EditionValue) (others editions : List EditionValue) (input left : Option (List ℕ)) (x y : State)
+    → editions ≡ first ∷ others → x.seen ≡ first ∷ [] → Some y.seen ≡ Some x.seen → Broken request_limit input left x y
+    → WrittenInPart (AreBegun false editions input) x.written y.written
+begun_first first others editions input left x y p q s e =
+    let requests = e.answered ++ e.last in
+    let more : Begins (output requests e.broke_off.editions) (replayed false (first ∷ others) requests) =
+    begins_first (edition_at false (first ∷ others)) first (standing_first first others) 0 requests e.broke_off.editions (first_used first input left x y q s e) in
     record {
-      text = replayed false (first ∷ others) e.requests;
-      is = record { requests = e.requests; begun = e.begun; text_is = ap (λ (w : List EditionValue). replayed false w e.requests) (sym p) };
-      front = front_of_more (output e.requests e.broke_off.editions) (replayed false (first ∷ others) e.requests) x.written y.written more e.broke_off.bytes;
+      text = replayed false (first ∷ others) requests;
+      is = record { requests = requests; begun = e.begun; text_is = ap (λ (w : List EditionValue). replayed false w requests) (sym p) };
+      front = front_of_more (output requests e.broke_off.editions) (replayed false (first ∷ others) requests) x.written y.written more e.broke_off.bytes;
     }
 
 -- ---- the same of the ends of a run
 
-pub whole_first : (first : EditionValue) (others editions : List EditionValue) (input : Option (List ℕ)) (x y : State) (report : SessionReport) (new : Option (List ℕ)) (flushed : Option ℕ)
-    → editions ≡ first ∷ others → x.seen ≡ first ∷ [] → Some y.seen ≡ Some x.seen → Session input x y report → new ≡ y.written → IsFlushed new flushed
+pub whole_first : (first : EditionValue) (others editions : List EditionValue) (input left : Option (List ℕ)) (x y : State) (report : SessionReport) (new : Option (List ℕ)) (flushed : Option ℕ)
+    → editions ≡ first ∷ others → x.seen ≡ first ∷ [] → Some y.seen ≡ Some x.seen → Session input left x y report → new ≡ y.written → IsFlushed new flushed
     → WrittenWhole (AreReplies false editions input) x.written new flushed
-whole_first first others editions input x y report new flushed p q s e same settled =
-    let text = replies_first first others editions input x y report p q s e in
+whole_first first others editions input left x y report new flushed p q s e same settled =
+    let text = replies_first first others editions input left x y report p q s e in
     record { text = text.0; is = text.1; grew = same ∙ text.2; settled = settled }
 
-pub part_first : (first : EditionValue) (others editions : List EditionValue) (input : Option (List ℕ)) (x y : State) (report : SessionReport) (new : Option (List ℕ))
-    → editions ≡ first ∷ others → x.seen ≡ first ∷ [] → Some y.seen ≡ Some x.seen → Session input x y report → new ≡ y.written
+pub part_first : (first : EditionValue) (others editions : List EditionValue) (input left : Option (List ℕ)) (x y : State) (report : SessionReport) (new : Option (List ℕ))
+    → editions ≡ first ∷ others → x.seen ≡ first ∷ [] → Some y.seen ≡ Some x.seen → Session input left x y report → new ≡ y.written
     → WrittenInPart (AreBegun false editions input) x.written new
-part_first first others editions input x y report new p q s e same =
-    let text = replies_first first others editions input x y report p q s e in
+part_first first others editions input left x y report new p q s e same =
+    let text = replies_first first others editions input left x y report p q s e in
     record { text = text.0; is = are_begun false editions input text.0 text.1; front = front_whole x.written new text.0 (same ∙ text.2) }
 
 pub at_end : (input left : Option (List ℕ)) → IsBehind input left → Told (λ bytes rest. rest ≡ []) input left → IsAtEnd left
@@ -177,10 +203,42 @@ at_end None (Some left) b t = absurd (cc b.1)
 at_end (Some input) None b t = absurd t
 at_end (Some input) (Some left) b t = t
 
--- how far the input was read
-pub served_first : (input left : Option (List ℕ)) (x y : State) (report : SessionReport) → Session input x y report → IsBehind input left
+-- ---- how far the input was read
+
+pub served_first : (input left : Option (List ℕ)) (x y : State) (report : SessionReport) → Session input left x y report → IsBehind input left
     → (report.end ≡ EndOfInput → Told (λ bytes rest. rest ≡ []) input left) → IsServed input left
-served_first input left x y report e behind far = record { requests = e.requests; all = e.all; ended = λ ends. at_end input left behind (far (e.end ∙ ends)) }
+served_first input left x y report e behind far =
+    record { requests = e.requests; all = e.all; ahead = e.ahead; ended = λ ends. at_end input left behind (far (e.end ∙ ends)) }
+
+pub read_all : (first : EditionValue) (others editions : List EditionValue) (input left : Option (List ℕ)) (x y : State) (report : SessionReport) (new : Option (List ℕ))
+    → editions ≡ first ∷ others → x.seen ≡ first ∷ [] → Some y.seen ≡ Some x.seen → Session input left x y report → new ≡ y.written
+    → IsReadFor false editions input left x.written new
+read_all first others editions input left x y report new p q s e same = record {
+  requests = e.requests;
+  ahead = e.ahead;
+  more = [];
+  whole = same ∙ e.answered.bytes ∙ ap (append_known x.written) (text_first first others editions input left x y report p q s e ∙ sym (append-nil (replayed false editions e.requests)));
+}
+
+pub read_some : (first : EditionValue) (others editions : List EditionValue) (input left : Option (List ℕ)) (x y : State)
+    → editions ≡ first ∷ others → x.seen ≡ first ∷ [] → Some y.seen ≡ Some x.seen → Broken request_limit input left x y
+    → IsReadFor false editions input left x.written y.written
+read_some first others editions input left x y p q s e =
+    let text : output e.answered e.broke_off.editions ≡ replayed false editions e.answered =
+    enough_first (edition_at false (first ∷ others)) first (standing_first first others) 0 e.answered e.broke_off.editions e.whole.full (first_used first input left x y q s e)
+    ∙ ap (λ (w : List EditionValue). replayed false w e.answered) (sym p) in
+    record { requests = e.answered; ahead = e.ahead; more = e.whole.more; whole = e.whole.bytes ∙ ap (λ w. append_known x.written (w ++ e.whole.more)) text }
+
+told_none : (input : Option (List ℕ)) → Ahead request_limit [] input input
+told_none None = tt
+told_none (Some bytes) = record { held = []; read = refl; few = omega arith }
+
+-- nothing was read
+pub read_none : (advances : Bool) (editions : List EditionValue) (input old : Option (List ℕ)) → IsReadFor advances editions input input old old
+read_none advances editions input old = record { requests = []; ahead = told_none input; more = []; whole = append_nothing old }
+
+pub replay_none : (advances : Bool) (feed input old : Option (List ℕ)) → ReplayReads advances feed input input old old
+replay_none advances feed input old = record { behind = ([], prepend_nothing input); ahead = inl refl }
 
 -- ---- the feed in a file
 
@@ -190,3 +248,8 @@ pub stands_opened : (content left : Option (List ℕ)) (answer : Result (List Ed
 stands_opened (Some told) left answer h x = subst (λ (z : Option (List ℕ)). FeedStandsIn z answer) h x
 stands_opened None None answer h x = x
 stands_opened None (Some told) answer h x = (told, x)
+
+pub replay_read : (advances : Bool) (editions : List EditionValue) (content left input after old new : Option (List ℕ)) → IfSome content (λ told. left ≡ Some told) → FeedStandsIn left (Ok editions)
+    → IsBehind input after → IsReadFor advances editions input after old new → ReplayReads advances content input after old new
+replay_read advances editions content left input after old new h x behind read =
+    record { behind = behind; ahead = inr (record { editions = editions; published = stands_opened content left (Ok editions) h x; read = read }) }

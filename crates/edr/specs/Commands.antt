@@ -4,17 +4,18 @@ use Rattle.std.specs.Prelude.{◌≡◌, ◌+◌, ℕ, true, false, bytes_eq, co
 use Rattle.std.specs.declared.option.Option.{Option}
 use Rattle.std.specs.Fmt.{decimal}
 use Rattle.std.specs.Str.{is_utf8}
-use Rattle.std.specs.List.{flat_map, slice_index_or}
+use Rattle.std.specs.List.{flat_map}
 use Rattle.edr_base.specs.Outside.{Asked as AskedOf}
 use Rattle.edr_base.specs.Limits.{feed_limit}
-use Rattle.edr_base.specs.Calls.{buffer_size}
+use Rattle.edr_base.specs.Calls.{ReadsAtMost, buffer_size}
 use Rattle.edr_base.specs.declared.refusals.Refusal.{Refusal}
 use Rattle.edr_edition.specs.Values.{EditionValue}
+use Rattle.edr_edition.specs.Shelves.{EndsWith}
 use Rattle.edr_feed.specs.Feeds.{FeedStandsIn}
 use Rattle.edr_feed.specs.Summaries.{summary_line}
 use Rattle.edr_feed.specs.declared.refusals.FeedRefusal.{FeedRefusal}
 use Rattle.edr_serve.specs.Answers.{IsAnswerTo}
-use Rattle.edr.specs.Replays.{IsReplayOf, IsReplayBegun}
+use Rattle.edr.specs.Replays.{IsReplayOf, IsReplayBegun, ReplayReads}
 use Rattle.edr.specs.declared.commands.Command.{Command}
 use Rattle.edr.specs.declared.commands.Command.TheVariants.{Ask, Replay, ReplayAdvance, Check, CheckSummary}
 
@@ -55,16 +56,6 @@ link_asked ReplayAdvance feed = None
 link_asked Check argument = None
 link_asked CheckSummary argument = None
 
--- ---- how many bytes each command takes from the input at most: what it reads, and what a read may have taken beside; None
--- where that goes by what the input holds
-
-abbrev pub read_at_most : Command → Option ℕ
-read_at_most Ask = Some (feed_limit + buffer_size)
-read_at_most Replay = None
-read_at_most ReplayAdvance = None
-read_at_most Check = Some (feed_limit + buffer_size)
-read_at_most CheckSummary = Some (feed_limit + buffer_size)
-
 -- ---- what each command gives from what the input holds, and from what the files of each name hold
 
 -- the line that tells how many editions there are
@@ -79,23 +70,28 @@ summary_lines editions = flat_map summary_line editions
 abbrev pub IsTextOfFeed : (List EditionValue → List ℕ) → Option (List ℕ) → List ℕ → Type 0
 IsTextOfFeed text_of input text = (editions : List EditionValue) × FeedStandsIn input (Ok editions) × (text ≡ text_of editions)
 
--- the last of some editions
-pub record IsLastOf (editions : List EditionValue) (edition : EditionValue) : Type 0 where
-  pub place : ℕ
-  pub last : length editions ≡ place + 1
-  pub is : (other : EditionValue) → edition ≡ slice_index_or editions place other
-
 -- the input is a feed, and this the answer of its last edition to the target
 pub record IsAnswerFrom (input : Option (List ℕ)) (target : List ℕ) (answer : Result (List ℕ) Refusal) : Type 0 where
   pub editions : List EditionValue
   pub feed : FeedStandsIn input (Ok editions)
   pub edition : EditionValue
-  pub last : IsLastOf editions edition
+  pub last : EndsWith editions edition
   pub answered : IsAnswerTo edition target answer
 
 -- what the files hold, by their names
 abbrev pub Contents : Type 0
 Contents = List ℕ → Option (List ℕ)
+
+-- ---- what each command takes from the input, however it ends: `left` is what it leaves there, and `new` what became of the
+-- output `old`. At most so much as it reads and as a read may have taken beside; of a connection no more than the requests that
+-- were answered and what a session holds behind them
+
+abbrev pub ReadsOf : Command → List ℕ → Contents → Option (List ℕ) → Option (List ℕ) → Option (List ℕ) → Option (List ℕ) → Type 0
+ReadsOf Ask target content input left old new = ReadsAtMost (feed_limit + buffer_size) input left
+ReadsOf Replay feed content input left old new = ReplayReads false (content feed) input left old new
+ReadsOf ReplayAdvance feed content input left old new = ReplayReads true (content feed) input left old new
+ReadsOf Check argument content input left old new = ReadsAtMost (feed_limit + buffer_size) input left
+ReadsOf CheckSummary argument content input left old new = ReadsAtMost (feed_limit + buffer_size) input left
 
 -- the text that is asked for: the answer to the target, what is told of the feed, or the replies to the requests of the input
 abbrev pub IsOutputOf : Command → List ℕ → Contents → Option (List ℕ) → List ℕ → Type 0

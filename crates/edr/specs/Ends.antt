@@ -3,10 +3,10 @@
 use Rattle.std.specs.Prelude.{◌≡◌, ◌⊎◌, ℕ, Bool, true, false, ◌++◌, ⊤, codes, List, [], Result, IsErrOf, IsNone, None, Some, option_map}
 use Rattle.std.specs.declared.option.Option.{Option}
 use Rattle.std.specs.Fmt.{decimal}
-use Rattle.std.specs.Io.KnownBytes.{IsAtEnd, prepend_known}
+use Rattle.std.specs.Io.KnownBytes.{IsAtEnd}
 use Rattle.edr_base.specs.RefusalTable.{body_of}
 use Rattle.edr_base.specs.Outside.{Aside, Asked as AskedOf, Rose}
-use Rattle.edr_base.specs.Calls.{Writes, WrittenWhole, WrittenInPart, ReadsAtMost}
+use Rattle.edr_base.specs.Calls.{Writes, WrittenWhole, WrittenInPart, IsFlushed}
 use Rattle.edr_base.specs.declared.sending.SendFault.{SendFault}
 use Rattle.edr_base.specs.declared.sending.SendFault.TheVariants.{WriteFault as ErrorsFault}
 use Rattle.edr_feed.specs.declared.refusals.FeedRefusal.{FeedRefusal}
@@ -15,7 +15,7 @@ use Rattle.edr.specs.declared.commands.Command.{Command}
 use Rattle.edr.specs.declared.commands.Command.TheVariants.{Ask, Replay, ReplayAdvance, Check, CheckSummary}
 use Rattle.edr.specs.declared.endings.Ending.{Ending}
 use Rattle.edr.specs.declared.endings.Ending.TheVariants.{Done, Usage, NotFeed, ReadFault, WriteFault, OutOfMemory, Refused, OpenFault}
-use Rattle.edr.specs.Commands.{Asked, Contents, IsOutput, IsBegun, IsNoInput, IsRefused, files_asked, link_asked, read_at_most}
+use Rattle.edr.specs.Commands.{Asked, Contents, IsOutput, IsBegun, IsNoInput, IsRefused, files_asked, link_asked, ReadsOf}
 use Rattle.edr.specs.Replays.{IsServed}
 
 abbrev pub status_of : Ending → ℕ
@@ -148,15 +148,10 @@ HasCause OpenFault asked content input before after = FailsIn OpenFailed asked b
 abbrev pub EndsByWords : Ending → Option Asked → Type 0
 EndsByWords ending asked = IsNone asked → ending ≡ Usage
 
--- some bytes were taken, at most so many where that is said
-abbrev pub ReadsWithin : Option ℕ → Option (List ℕ) → Option (List ℕ) → Type 0
-ReadsWithin None old new = (bytes : List ℕ) × (old ≡ prepend_known bytes new)
-ReadsWithin (Some most) old new = ReadsAtMost most old new
-
 -- what was taken from the input: nothing where the words ask for nothing
-abbrev pub ReadsBy : Option Asked → Option (List ℕ) → Option (List ℕ) → Type 0
-ReadsBy None old new = new ≡ old
-ReadsBy (Some asked) old new = ReadsWithin (read_at_most asked.command) old new
+abbrev pub ReadsBy : Option Asked → Contents → Option (List ℕ) → Option (List ℕ) → Option (List ℕ) → Option (List ℕ) → Type 0
+ReadsBy None content input left old new = left ≡ input
+ReadsBy (Some asked) content input left old new = ReadsOf asked.command asked.argument content input left old new
 
 -- how far each command reads the input where all was done
 abbrev pub IsReadBy : Command → Option (List ℕ) → Option (List ℕ) → Type 0
@@ -231,7 +226,7 @@ pub record Moment : Type 0 where
 pub record Ends (ending : Ending) (asked : Option Asked) (content : Contents) (status : ℕ) (before after : Moment) : Type 0 where
   pub number : status ≡ status_of ending
   pub words : EndsByWords ending asked
-  pub input : ReadsBy asked before.left after.left
+  pub input : ReadsBy asked content before.left after.left before.written after.written
   pub ended : IsReadByEnd ending (IsRead asked before.left after.left)
   pub output : OutputEnds ending (is_early asked) (IsOutput asked content before.left) (IsBegun asked content before.left)
       before.written after.written after.flushed
@@ -239,6 +234,17 @@ pub record Ends (ending : Ending) (asked : Option Asked) (content : Contents) (s
   pub line : Tells (line_of ending) before.told after.told before.errors after.errors
 
 -- ---- for private clauses
+
+-- how a run ends where all was written, and is flushed
+abbrev pub Settles : Ending → ℕ → ℕ → Option (List ℕ) → Option ℕ → Type 0
+Settles Done before after written flushed = IsFlushed written flushed
+Settles Usage before after written flushed = ⊥
+Settles (NotFeed refusal) before after written flushed = ⊥
+Settles ReadFault before after written flushed = ⊥
+Settles WriteFault before after written flushed = Rose before after
+Settles OutOfMemory before after written flushed = ⊤
+Settles (Refused refusal) before after written flushed = ⊥
+Settles OpenFault before after written flushed = ⊥
 
 -- a line of the feed, where one is named
 abbrev pub place_of : Option ℕ → List ℕ

@@ -2,7 +2,6 @@
 use Rattle.std.specs.Prelude.{◌≡◌, ◌⊎◌, ℕ, true, List, ⊤, Err}
 use Rattle.std.specs.declared.option.Option.{Option}
 use Rattle.edr_base.specs.Outside.{Rose}
-use Rattle.edr_base.specs.Calls.{IsFlushed}
 use Rattle.edr_feed.specs.Feeds.{FeedStandsIn}
 use Rattle.edr_serve.specs.declared.reports.SessionFault.{SessionFault}
 use Rattle.edr_serve.specs.declared.reports.SessionFault.TheVariants as faults
@@ -27,18 +26,7 @@ session_ends faults.ReadFault = ReadFault
 session_ends faults.WriteFault = WriteFault
 session_ends faults.OutOfMemory = OutOfMemory
 
--- how a run ends where all was written, and is flushed
-abbrev pub Settles : Ending → ℕ → ℕ → Option (List ℕ) → Option ℕ → Type 0
-Settles Done before after written flushed = IsFlushed written flushed
-Settles Usage before after written flushed = ⊥
-Settles (NotFeed refusal) before after written flushed = ⊥
-Settles ReadFault before after written flushed = ⊥
-Settles WriteFault before after written flushed = Rose before after
-Settles OutOfMemory before after written flushed = ⊤
-Settles (Refused refusal) before after written flushed = ⊥
-Settles OpenFault before after written flushed = ⊥
-
--- the same where the feed is read before: the file is no feed, or a count rose
+-- the cause of an ending where the feed is read before: the file is no feed, or a count rose
 abbrev pub ReplayCause : Ending → Option (List ℕ) → Counts → Counts → Type 0
 ReplayCause Done feed before after = ⊤
 ReplayCause Usage feed before after = ⊥

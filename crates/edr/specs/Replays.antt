@@ -1,16 +1,17 @@
 -- What a replay writes: the replies to the requests of a connection, from the editions of a feed.
-use Rattle.std.specs.Prelude.{◌≡◌, ℕ, ◌+◌, Bool, true, false, List, [], ◌∷◌, Result, Ok, Err}
+use Rattle.std.specs.Prelude.{◌≡◌, ◌⊎◌, ℕ, ◌+◌, ◌++◌, Bool, true, false, List, [], ◌∷◌, Result, Ok, Err}
 use Rattle.std.specs.declared.option.Option.{Option}
-use Rattle.std.specs.Io.KnownBytes.{IsAtEnd}
+use Rattle.std.specs.Io.KnownBytes.{append_known, IsAtEnd}
 use Rattle.edr_base.specs.declared.refusals.Refusal.{Refusal}
 use Rattle.edr_edition.specs.Values.{EditionValue}
 use Rattle.edr_edition.specs.Shelves.{edition_after}
 use Rattle.edr_feed.specs.Feeds.{FeedStandsIn}
+use Rattle.edr_http.specs.Heads.{Told, IsBehind}
 use Rattle.edr_query.specs.declared.pages.Page.{Page}
 use Rattle.edr_serve.specs.declared.ends.End.TheVariants.{EndOfInput}
 use Rattle.edr_serve.specs.Requests.{Request, Requests, Begun, session_end, request_limit}
 use Rattle.edr_serve.specs.Replies.{output}
-use Rattle.edr_serve.specs.Sessions.{IfTold}
+use Rattle.edr_serve.specs.Sessions.{IfTold, ReadsAhead}
 
 -- the edition that stands on the shelf after so many requests: the first for ever, or where each request advances the shelf
 -- the next, and the last where there are no more
@@ -56,8 +57,29 @@ pub record IsReplayBegun (advances : Bool) (feed input : Option (List ℕ)) (tex
   pub published : FeedStandsIn feed (Ok editions)
   pub replies : AreBegun advances editions input text
 
--- all requests of the input were read, and where none of them ends the session the input was read to its end
+-- all requests of the input were read, and behind them no more than a session holds; where none of them ends the session the
+-- input was read to its end
 pub record IsServed (input left : Option (List ℕ)) : Type 0 where
   pub requests : List Request
   pub all : IfTold (λ bytes. Requests request_limit bytes requests) input
+  pub ahead : Told (λ bytes others. ReadsAhead request_limit requests bytes others) input left
   pub ended : session_end requests ≡ EndOfInput → IsAtEnd left
+
+-- some requests of the input were read whose replies were written whole, and behind them no more than a session holds; `new` is
+-- what became of the output `old`
+pub record IsReadFor (advances : Bool) (editions : List EditionValue) (input left old new : Option (List ℕ)) : Type 0 where
+  pub requests : List Request
+  pub ahead : Told (λ bytes others. ReadsAhead request_limit requests bytes others) input left
+  pub more : List ℕ
+  pub whole : new ≡ append_known old (replayed advances editions requests ++ more)
+
+-- the file is a feed, and so much was read
+pub record IsReadFrom (advances : Bool) (feed input left old new : Option (List ℕ)) : Type 0 where
+  pub editions : List EditionValue
+  pub published : FeedStandsIn feed (Ok editions)
+  pub read : IsReadFor advances editions input left old new
+
+-- how far the input is read, however a replay ends
+pub record ReplayReads (advances : Bool) (feed input left old new : Option (List ℕ)) : Type 0 where
+  pub behind : IsBehind input left
+  pub ahead : (left ≡ input) ⊎ IsReadFrom advances feed input left old new

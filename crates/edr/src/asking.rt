@@ -4,13 +4,14 @@ ghost use Rattle.std.specs.Io.KnownBytes.{IsAtEnd};
 ghost use Rattle.edr_base.specs.Calls.{SourceLent, SinkLent, ReadsAtMost, buffer_size};
 ghost use Rattle.edr_base.specs.Limits.{feed_limit};
 ghost use Rattle.edr_serve.specs.Answers.{IsAnswerTo};
-ghost use Rattle.edr.specs.Commands.{IsLastOf, IsAnswerFrom};
+ghost use Rattle.edr_edition.specs.Shelves.{EndsWith};
+ghost use Rattle.edr.specs.Commands.{IsAnswerFrom};
 ghost use Rattle.edr.specs.Ends.{OutputEnds, IsReadByEnd};
 ghost use Rattle.edr.specs.Asking.{AnswerCause, AskCause};
 
 use crate::checking::ending_of;
-use crate::endings::Ending;
-use edr_base::{SendFault, Sink, Source, settle};
+use crate::endings::{Ending, settled};
+use edr_base::{Sink, Source};
 use edr_edition::Edition;
 use edr_feed::read_feed;
 use edr_serve::{AnswerFault, answer};
@@ -19,12 +20,13 @@ use std::alloc::Global;
 // The last of some editions.
 fn last_of(editions: &[Edition]) -> &Edition
     requires { 0 < length editions.now }
-    ensures { IsLastOf editions.now result.now }
+    ensures { EndsWith editions.now result.now }
 {
     &editions[editions.len() - 1]
 }
 
 // Writes what an edition answers to a target, and flushes.
+#[tactic(auto, using(crate::proofs::EndLemmas::settled_answer))]
 fn answered<K: Sink>(alloc: Global, target: &[u8], edition: &Edition, output: &mut K) -> Ending
     ensures output { OutputEnds result false (λ text. IsAnswerTo edition.now target.now (Ok text)) (λ text. IsAnswerTo edition.now target.now (Ok text))
         (K.written output.old) (K.written output.new) (K.flushed output.new) }
@@ -32,11 +34,7 @@ fn answered<K: Sink>(alloc: Global, target: &[u8], edition: &Edition, output: &m
     ensures lent { SinkLent (K.beside output.old) (K.beside output.new) (K.faults output.old) (K.faults output.new) }
 {
     match answer(alloc, target, edition, output) {
-        Ok(()) => match settle(output) {
-            Ok(()) => Ending::Done,
-            Err(SendFault::WriteFault) => Ending::WriteFault,
-            Err(SendFault::OutOfMemory) => Ending::OutOfMemory,
-        },
+        Ok(()) => settled(output),
         Err(AnswerFault::Refused(refusal)) => Ending::Refused(refusal),
         Err(AnswerFault::WriteFault) => Ending::WriteFault,
         Err(AnswerFault::OutOfMemory) => Ending::OutOfMemory,

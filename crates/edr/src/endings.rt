@@ -1,6 +1,6 @@
 //! How a run ends.
 ghost use Rattle.std.specs.Prelude.{◌≡◌, ◌++◌, codes, IsErrOf};
-ghost use Rattle.edr.specs.Ends.{status_of, said_of, line_of, place_of, Tells};
+ghost use Rattle.edr.specs.Ends.{status_of, said_of, line_of, place_of, Settles, Tells};
 ghost use Rattle.edr_base.specs.Calls.{SinkLent, Writes};
 ghost use Rattle.edr_base.specs.Outside.{Rose};
 
@@ -132,6 +132,19 @@ fn send_line<D: Sink>(sink: &mut D, text: &[u8], line: Option<usize>) -> Result<
     match send(sink, text) {
         Ok(()) => send_end(sink, line),
         Err(fault) => Err(fault),
+    }
+}
+
+/// Flushes, where all was written.
+pub fn settled<K: Sink>(output: &mut K) -> Ending
+    ensures written { K.written output.new ≡ K.written output.old }
+    ensures settles { Settles result (K.faults output.old) (K.faults output.new) (K.written output.new) (K.flushed output.new) }
+    ensures lent { SinkLent (K.beside output.old) (K.beside output.new) (K.faults output.old) (K.faults output.new) }
+{
+    match settle(output) {
+        Ok(()) => Ending::Done,
+        Err(SendFault::WriteFault) => Ending::WriteFault,
+        Err(SendFault::OutOfMemory) => Ending::OutOfMemory,
     }
 }
 

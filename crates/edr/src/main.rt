@@ -12,6 +12,7 @@ mod words;
 use edr_base::{MemoryLink, RealFiles, RealSink, RealSource};
 use endings::{Ending, tell};
 use running::run;
+use std::io::BufWriter;
 use std::process::ExitCode;
 use words::words_of;
 
@@ -23,7 +24,12 @@ fn main(rt: HostRuntime) -> ExitCode {
         return ExitCode::from(Ending::OutOfMemory.status());
     };
     let mut input = RealSource::of(rt.stdin());
-    let mut output = RealSink::of(rt.stdout());
+    // a reply goes out in one piece, when it is flushed
+    let Ok(buffered) = BufWriter::new(alloc, rt.stdout()) else {
+        tell(Ending::OutOfMemory, &mut errors);
+        return ExitCode::from(Ending::OutOfMemory.status());
+    };
+    let mut output = RealSink::of(buffered);
     let mut files = RealFiles::new(rt);
     let mut link = MemoryLink::of(alloc, Vec::new(alloc), 1, Vec::new(alloc));
     let status = run(

@@ -1,14 +1,15 @@
 //! Serves a connection from the editions of a feed.
-ghost use Rattle.std.specs.Prelude.{◌≡◌, ◌<◌, ◌++◌, [], ◌∷◌, length, None, true, false, IsUtf8, IfSome, OnOk, option_to_list};
+ghost use Rattle.std.specs.Prelude.{◌≡◌, ◌<◌, ◌++◌, [], ◌∷◌, length, true, false, IsUtf8, IfSome, OnOk, option_to_list};
 ghost use Rattle.edr_base.specs.Calls.{SourceLent, SinkLent};
 ghost use Rattle.edr_edition.specs.Shelves.{IsLog, IsNext};
-ghost use Rattle.edr.specs.Replays.{IsReplayOf, IsReplayBegun, AreReplies, AreBegun, IsServed};
-ghost use Rattle.edr.specs.Ends.{OutputEnds, IsReadByEnd, ReadsWithin, Asks, status_of};
-ghost use Rattle.edr.specs.Replaying.{ServeCause, ReplayCause, IsBefore, session_ends, Settles};
+ghost use Rattle.edr_http.specs.Heads.{IsBehind};
+ghost use Rattle.edr.specs.Replays.{IsReplayOf, IsReplayBegun, AreReplies, AreBegun, IsServed, IsReadFor, ReplayReads};
+ghost use Rattle.edr.specs.Ends.{OutputEnds, IsReadByEnd, Asks, status_of};
+ghost use Rattle.edr.specs.Replaying.{ServeCause, ReplayCause, IsBefore, session_ends};
 
 use crate::checking::ending_of;
-use crate::endings::Ending;
-use edr_base::{Files, OutOfMemory, SendFault, Sink, Source, Stop, settle};
+use crate::endings::{Ending, settled};
+use edr_base::{Files, OutOfMemory, Sink, Source, Stop};
 use edr_edition::{Edition, LocalShelf};
 use edr_feed::read_feed;
 use edr_http::Inbox;
@@ -26,21 +27,8 @@ fn broken(fault: SessionFault) -> Ending
     }
 }
 
-// Flushes, where all was written.
-fn settled<K: Sink>(output: &mut K) -> Ending
-    ensures written { K.written output.new ≡ K.written output.old }
-    ensures settles { Settles result (K.faults output.old) (K.faults output.new) (K.written output.new) (K.flushed output.new) }
-    ensures lent { SinkLent (K.beside output.old) (K.beside output.new) (K.faults output.old) (K.faults output.new) }
-{
-    match settle(output) {
-        Ok(()) => Ending::Done,
-        Err(SendFault::WriteFault) => Ending::WriteFault,
-        Err(SendFault::OutOfMemory) => Ending::OutOfMemory,
-    }
-}
-
 // Serves the input as one connection, each request from the first of some editions.
-#[tactic(auto, using(crate::proofs::EndLemmas::broken_cause, crate::proofs::EndLemmas::broken_begun, crate::proofs::EndLemmas::broken_read, crate::proofs::EndLemmas::settled_cause, crate::proofs::EndLemmas::settled_begun))]
+#[tactic(auto, using(crate::proofs::EndLemmas::broken_cause, crate::proofs::EndLemmas::broken_begun, crate::proofs::EndLemmas::broken_read, crate::proofs::EndLemmas::settled_cause, crate::proofs::EndLemmas::settled_begun, crate::proofs::ReplayLemmas::read_none))]
 fn served_from_first<S: Source, K: Sink>(
     alloc: Global,
     editions: Vec<Edition>,
@@ -53,7 +41,8 @@ fn served_from_first<S: Source, K: Sink>(
     ensures cause { ServeCause result (S.faults input.old) (S.faults input.new) (K.faults output.old) (K.faults output.new) }
     ensures begun { ¬ (IsBefore result) }
     ensures ended { IsReadByEnd result (IsServed (S.left input.old) (S.left input.new)) }
-    ensures read { ReadsWithin None (S.left input.old) (S.left input.new) }
+    ensures behind { IsBehind (S.left input.old) (S.left input.new) }
+    ensures read { IsReadFor false editions.items (S.left input.old) (S.left input.new) (K.written output.old) (K.written output.new) }
     ensures input { SourceLent (S.aside input.old) (S.aside input.new) (S.faults input.old) (S.faults input.new) }
     ensures lent { SinkLent (K.beside output.old) (K.beside output.new) (K.faults output.old) (K.faults output.new) }
 {
@@ -82,7 +71,7 @@ fn advanced(alloc: Global, shelf: &mut LocalShelf, next: Option<Edition>) -> Res
 }
 
 // Serves the input as one connection, the first request from the first of some editions and each further one from the next.
-#[tactic(auto, using(crate::proofs::EndLemmas::broken_cause, crate::proofs::EndLemmas::broken_begun, crate::proofs::EndLemmas::broken_read, crate::proofs::EndLemmas::settled_cause, crate::proofs::EndLemmas::settled_begun, crate::proofs::AdvanceLemmas::going_begins, crate::proofs::AdvanceLemmas::behind_begins))]
+#[tactic(auto, using(crate::proofs::EndLemmas::broken_cause, crate::proofs::EndLemmas::broken_begun, crate::proofs::EndLemmas::broken_read, crate::proofs::EndLemmas::settled_cause, crate::proofs::EndLemmas::settled_begun, crate::proofs::ReplayLemmas::read_none, crate::proofs::AdvanceLemmas::going_begins, crate::proofs::AdvanceLemmas::behind_begins))]
 fn served_advancing<S: Source, K: Sink>(
     alloc: Global,
     editions: Vec<Edition>,
@@ -96,7 +85,8 @@ fn served_advancing<S: Source, K: Sink>(
     ensures cause { ServeCause result (S.faults input.old) (S.faults input.new) (K.faults output.old) (K.faults output.new) }
     ensures begun { ¬ (IsBefore result) }
     ensures ended { IsReadByEnd result (IsServed (S.left input.old) (S.left input.new)) }
-    ensures read { ReadsWithin None (S.left input.old) (S.left input.new) }
+    ensures behind { IsBehind (S.left input.old) (S.left input.new) }
+    ensures read { IsReadFor true editions.items (S.left input.old) (S.left input.new) (K.written output.old) (K.written output.new) }
     ensures input { SourceLent (S.aside input.old) (S.aside input.new) (S.faults input.old) (S.faults input.new) }
     ensures lent { SinkLent (K.beside output.old) (K.beside output.new) (K.faults output.old) (K.faults output.new) }
 {
@@ -127,7 +117,9 @@ fn served_advancing<S: Source, K: Sink>(
 }
 
 /// Opens the file of a name, reads the feed in it, and serves the input as one connection to the output: each request from the
-/// feed's first edition, or where `advances` the first from the first and each further one from the next.
+/// feed's first edition, or where `advances` the first from the first and each further one from the next. However it ends, no more
+/// than 20,479 bytes of the input were read behind the requests that were answered.
+#[tactic(auto, using(crate::proofs::ReplayLemmas::replay_none))]
 pub fn replay<S: Source, K: Sink, F: Files>(
     alloc: Global,
     advances: bool,
@@ -144,7 +136,7 @@ pub fn replay<S: Source, K: Sink, F: Files>(
         (record { input = S.faults input.new; output = K.faults output.new; files = F.faults files.new; link = 0; closed = (F.aside files.new).idle }) }
     ensures unread { IsBefore result → (input.new ≡ input.old) × (output.new ≡ output.old) }
     ensures ended { IsReadByEnd result (IsServed (S.left input.old) (S.left input.new)) }
-    ensures read { ReadsWithin None (S.left input.old) (S.left input.new) }
+    ensures read { ReplayReads advances ((F.aside files.old).content feed.now) (S.left input.old) (S.left input.new) (K.written output.old) (K.written output.new) }
     ensures asked { Asks ((feed.now, 0) ∷ []) (status_of result) (F.aside files.old).asked (F.aside files.new).asked }
     ensures input { SourceLent (S.aside input.old) (S.aside input.new) (S.faults input.old) (S.faults input.new) }
     ensures lent { SinkLent (K.beside output.old) (K.beside output.new) (K.faults output.old) (K.faults output.new) }

@@ -29,7 +29,7 @@ fn carry_out<S: Source, K: Sink, F: Files, L: Link>(
         (record { input = S.faults input.new; output = K.faults output.new; files = F.faults files.new; link = L.faults link.new; closed = (F.aside files.new).idle }) }
     ensures unread { IsUnread (asked_by words.now) (status_of result) → (input.new ≡ input.old) × (output.new ≡ output.old) }
     ensures ended { IsReadByEnd result (IsRead (asked_by words.now) (S.left input.old) (S.left input.new)) }
-    ensures read { ReadsBy (asked_by words.now) (S.left input.old) (S.left input.new) }
+    ensures read { ReadsBy (asked_by words.now) (F.aside files.old).content (S.left input.old) (S.left input.new) (K.written output.old) (K.written output.new) }
     ensures input { SourceLent (S.aside input.old) (S.aside input.new) (S.faults input.old) (S.faults input.new) }
     ensures lent { SinkLent (K.beside output.old) (K.beside output.new) (K.faults output.old) (K.faults output.new) }
     ensures files { AskedBeside F.aside (of_files (asked_by words.now)) (status_of result) files.old files.new }

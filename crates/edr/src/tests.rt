@@ -2,6 +2,9 @@ ghost use Rattle.std.specs.Prelude.{◌<◌};
 
 use crate::running::run;
 use edr_base::{MemoryFiles, MemoryLink, MemorySink, MemorySource, OutOfMemory, Text};
+use edr_edition::SteppedShelf;
+use edr_feed::read_feed;
+use edr_serve::{End, serve_session};
 use std::alloc::Global;
 use std::test::Fail;
 
@@ -365,5 +368,25 @@ fn a_read_that_fails_gives_nothing(rt: HostRuntime) -> Result<(), Fail> {
     assert_eq!(rt; status, case.status);
     assert!(rt; output.written() == case.output);
     assert!(rt; errors.written() == case.errors);
+    Ok(())
+}
+
+// Three requests over a shelf that gives one edition after another, and then the last again.
+#[test]
+fn requests_find_ascending_editions(rt: HostRuntime) -> Result<(), Fail> {
+    let alloc = rt.alloc();
+    let mut file = MemorySource::of(Vec::from_slice(alloc, TWO_GRIDS)?, 4096, Vec::new(alloc));
+    let feed = read_feed(alloc, &mut file).expect(&rt, "a feed");
+    let mut shelf = SteppedShelf::of(alloc, feed.editions.into_vec())?;
+    let mut input = MemorySource::of(Vec::from_slice(alloc, THREE)?, 4096, Vec::new(alloc));
+    let mut output = MemorySink::of(alloc, 4096, Vec::new(alloc));
+    let report = serve_session(alloc, &mut input, &mut output, &mut shelf).expect(
+        &rt,
+        "a whole session",
+    );
+    assert!(rt; report.editions.items() == [1u64, 2, 2].as_slice());
+    assert_eq!(rt; report.requests, 3);
+    assert!(rt; report.end == End::EndOfInput);
+    assert!(rt; output.written() == FROM_EACH);
     Ok(())
 }

@@ -5,10 +5,10 @@ use Rattle.std.specs.Prelude.{is_some, unwrap_or, option_to_list}
 use Rattle.std.specs.Io.KnownBytes.{append_known, prepend_known}
 use Rattle.std.proofs.lemmas.List.{map-append}
 use mathlib.Core.List.{append_assoc}
-use Rattle.edr_base.specs.Calls.{Front}
+use Rattle.edr_base.specs.Calls.{Front, ReadsAtMost}
 use Rattle.edr_base.specs.KnownBytes.{append_nothing, prepend_nothing, grew_on, took_on, front_none, front_on, front_whole}
 use Rattle.edr_edition.specs.Values.{EditionValue}
-use Rattle.edr_http.specs.Heads.{Told, IsBehind}
+use Rattle.edr_http.specs.Heads.{Told, IsBehind, most_held}
 use Rattle.edr_edition.specs.Shelves.{TakenGrew}
 use Rattle.edr_serve.specs.declared.ends.End.{End}
 use Rattle.edr_serve.specs.declared.ends.End.TheVariants.{EndOfInput}
@@ -16,7 +16,8 @@ use Rattle.edr_serve.specs.declared.reports.OneReport.{OneReport}
 use Rattle.edr_serve.specs.declared.reports.SessionReport.{SessionReport}
 use Rattle.edr_serve.specs.Requests.{Request, IsFirst, Requests, Begun, session_end, request_limit}
 use Rattle.edr_serve.specs.Replies.{readers, number_of, output, opened}
-use Rattle.edr_serve.specs.Sessions.{State, IfTold, last_number, NeverFall, Answered, BrokeOff, Session, Broken, BrokenAtOne, chunks_in, Exchanged, Served}
+use Rattle.edr_serve.specs.Sessions.{State, IfTold, last_number, NeverFall, Answered, BrokeOff, Session, AreWhole, Broken, BrokenAtOne, chunks_in, Exchanged, Served}
+use Rattle.edr_serve.specs.AheadLaws.{Ahead, ahead_on, ahead_held, ahead_read, few_held}
 use Rattle.edr_serve.proofs.ReplyLaws.{output_on, opened_on, readers_on}
 use Rattle.edr_serve.proofs.Shelves.{seen_same, uses_on, taken_same, taken_on, never_on}
 use Rattle.edr_serve.proofs.OneRequest.{begun_none}
@@ -61,6 +62,31 @@ broke_whole rs a b es ns cs x = record {
   uses = x.uses;
   order = subst (λ (z : List ℕ). NeverFall (last_number a.seen) z (last_number b.seen)) x.numbers_are x.order;
   taken = subst (λ (z : List ℕ). TakenGrew a.taken b.taken z) x.numbers_are x.taken;
+}
+
+-- the replies to some requests were written whole, where those to the first were and those to the others
+whole_on : (rs ss : List Request) (a b c : State) (es fs : List EditionValue) (ns : List ℕ) (cs : List (List ℕ)) → Answered rs a b es ns cs → AreWhole ss fs b c → AreWhole (rs ++ ss) (es ++ fs) a c
+whole_on rs ss a b c es fs ns cs x y = record {
+  full = omega (arith, readers_on rs ss, length-append es fs, x.full, y.full);
+  more = y.more;
+  bytes = grew_on a.written b.written c.written (output rs es) (output ss fs ++ y.more) x.bytes y.bytes
+      ∙ ap (append_known a.written) (sym (append_assoc (output rs es) (output ss fs) y.more) ∙ ap (λ w. w ++ y.more) (sym (output_on rs ss es fs x.full)));
+}
+
+whole_none : (es : List EditionValue) (a b : State) (more : List ℕ) → b.written ≡ append_known a.written more → AreWhole [] es a b
+whole_none es a b more e = record { full = omega arith; more = more; bytes = e }
+
+whole_of : (rs : List Request) (a b : State) (es : List EditionValue) (ns : List ℕ) (cs : List (List ℕ)) → Answered rs a b es ns cs → AreWhole rs es a b
+whole_of rs a b es ns cs x = record { full = omega (arith, x.full); more = []; bytes = x.bytes ∙ ap (append_known a.written) (sym (append-nil (output rs es))) }
+
+-- the same of an equal list of requests
+broke_same : (rs ss : List Request) (a b : State) → rs ≡ ss → BrokeOff rs a b → BrokeOff ss a b
+broke_same rs ss a b e x = record {
+  editions = x.editions;
+  bytes = subst (λ (w : List Request). Front (output w x.editions) a.written b.written) e x.bytes;
+  uses = x.uses;
+  order = x.order;
+  taken = x.taken;
 }
 
 answered_none : (a : State) → Answered [] a a [] [] []
@@ -121,6 +147,7 @@ pub record Going (turns : ℕ) (rest behind : Option (List ℕ)) (before now : S
   pub editions : List EditionValue
   pub goes : (rs : List Request) → IfTold (λ bytes. Requests turns bytes rs) behind → IfTold (λ bytes. Requests request_limit bytes (done ++ rs)) rest
   pub begins : (rs : List Request) → IfTold (λ bytes. Begun turns bytes rs) behind → IfTold (λ bytes. Begun request_limit bytes (done ++ rs)) rest
+  pub ahead : (rs : List Request) (left : Option (List ℕ)) → Ahead turns rs behind left → Ahead request_limit (done ++ rs) rest left
   pub ends : (rs : List Request) → session_end (done ++ rs) ≡ session_end rs
   pub count : turns + length done ≡ request_limit
   pub answered : Answered done before now editions numbers chunks
@@ -131,6 +158,7 @@ going_start rest a = record {
   editions = [];
   goes = λ rs k. k;
   begins = λ rs k. k;
+  ahead = λ rs left t. t;
   ends = λ rs. refl;
   count = refl;
   answered = answered_none a;
@@ -150,17 +178,18 @@ going_more n rest b c x y z ns cs report some g e none =
       editions = g.editions ++ e.replied.editions;
       goes = λ rs k. subst (λ (z : List Request). IfTold (λ bytes. Requests request_limit bytes z) rest) (sym (snoc g.done r rs)) (g.goes (r ∷ rs) (goes_on n b c r rs e.first still k));
       begins = λ rs k. subst (λ (z : List Request). IfTold (λ bytes. Begun request_limit bytes z) rest) (sym (snoc g.done r rs)) (g.begins (r ∷ rs) (begins_on n b c r rs e.first still k));
+      ahead = λ rs left t. subst (λ (z : List Request). Ahead request_limit z rest left) (sym (snoc g.done r rs)) (g.ahead (r ∷ rs) left (ahead_on n b c left r rs e.first t));
       ends = λ rs. ap session_end (snoc g.done r rs) ∙ (g.ends (r ∷ rs) ∙ ap (λ (o : Option End). unwrap_or o (session_end rs)) still);
       count = omega (arith, g.count, length-append g.done (r ∷ []), some);
       answered = answered_on g.done (r ∷ []) x y z g.editions e.replied.editions ns (option_to_list report.edition) cs (chunks_in report) g.answered e.replied.answered;
     }
 
 -- a session that a request ended
-going_last : (n : ℕ) (rest b c : Option (List ℕ)) (x y z : State) (ns : List ℕ) (cs : List (List ℕ)) (one : OneReport) (end : End) (report : SessionReport)
-    → Going n rest b x y ns cs → Exchanged n b c y z one → one.end ≡ Some end
+going_last : (n : ℕ) (rest b c left : Option (List ℕ)) (x y z : State) (ns : List ℕ) (cs : List (List ℕ)) (one : OneReport) (end : End) (report : SessionReport)
+    → Going n rest b x y ns cs → Exchanged n b c y z one → Ahead (n - 1) [] c left → one.end ≡ Some end
     → report.requests + n ≡ 1001 → report.editions ≡ ns ++ option_to_list one.edition → report.reads ≡ cs ++ chunks_in one → report.end ≡ end
-    → Session rest x z report
-going_last n rest b c x y z ns cs one end report g e ends count numbers chunks end_is =
+    → Session rest left x z report
+going_last n rest b c left x y z ns cs one end report g e ahead ends count numbers chunks end_is =
     let r = e.request in
     let closed : r.end ≡ Some end = sym e.replied.end ∙ ends in
     let all = answered_on g.done (r ∷ []) x y z g.editions e.replied.editions ns (option_to_list one.edition) cs (chunks_in one) g.answered e.replied.answered in
@@ -168,6 +197,7 @@ going_last n rest b c x y z ns cs one end report g e ends count numbers chunks e
       requests = g.done ++ r ∷ [];
       editions = g.editions ++ e.replied.editions;
       all = g.goes (r ∷ []) (closes_with n b c r end e.first closed);
+      ahead = g.ahead (r ∷ []) left (ahead_on n b c left r [] e.first ahead);
       answered = subst (λ (ds : List (List ℕ)). Answered (g.done ++ r ∷ []) x z (g.editions ++ e.replied.editions) report.editions ds) (sym chunks)
           (subst (λ (ms : List ℕ). Answered (g.done ++ r ∷ []) x z (g.editions ++ e.replied.editions) ms (cs ++ chunks_in one)) (sym numbers) all);
       count = omega (arith, count, g.count, length-append g.done (r ∷ []));
@@ -175,45 +205,92 @@ going_last n rest b c x y z ns cs one end report g e ends count numbers chunks e
     }
 
 -- a session whose rest is empty
-going_stop : (n : ℕ) (rest b c : Option (List ℕ)) (x y : State) (ns : List ℕ) (cs : List (List ℕ)) (report : SessionReport)
-    → Going n rest b x y ns cs → Told (λ u v. (u ≡ []) × (v ≡ [])) b c → report.requests + n ≡ 1000 → report.editions ≡ ns → report.reads ≡ cs → report.end ≡ EndOfInput → Session rest x y report
-going_stop n rest b c x y ns cs report g e count numbers chunks end_is = record {
+going_stop : (n : ℕ) (rest b c left : Option (List ℕ)) (x y : State) (ns : List ℕ) (cs : List (List ℕ)) (report : SessionReport)
+    → Going n rest b x y ns cs → Told (λ u v. (u ≡ []) × (v ≡ [])) b c → Ahead n [] b left → report.requests + n ≡ 1000 → report.editions ≡ ns → report.reads ≡ cs → report.end ≡ EndOfInput → Session rest left x y report
+going_stop n rest b c left x y ns cs report g e ahead count numbers chunks end_is = record {
   requests = g.done;
   editions = g.editions;
   all = subst (λ (z : List Request). IfTold (λ bytes. Requests request_limit bytes z) rest) (append-nil g.done) (g.goes [] (at_end n b c e));
+  ahead = subst (λ (z : List Request). Ahead request_limit z rest left) (append-nil g.done) (g.ahead [] left ahead);
   answered = subst (λ (ds : List (List ℕ)). Answered g.done x y g.editions report.editions ds) (sym chunks) (subst (λ (ms : List ℕ). Answered g.done x y g.editions ms cs) (sym numbers) g.answered);
   count = omega (arith, count, g.count);
   end = end_is ∙ sym (ap session_end (sym (append-nil g.done)) ∙ g.ends []);
 }
 
-pub going_broken : (n : ℕ) (rest b : Option (List ℕ)) (x y z : State) (ns : List ℕ) (cs : List (List ℕ)) → Going n rest b x y ns cs → Broken n b y z → Broken request_limit rest x z
-going_broken n rest b x y z ns cs g e = record {
-  requests = g.done ++ e.requests;
-  begun = g.begins e.requests e.begun;
-  broke_off = broke_on g.done e.requests x y z g.editions ns cs g.answered e.broke_off;
-}
+-- a fault came behind those that were answered
+going_broken : (n : ℕ) (rest b left : Option (List ℕ)) (x y z : State) (ns : List ℕ) (cs : List (List ℕ)) → Going n rest b x y ns cs → Broken n b left y z → Broken request_limit rest left x z
+unfolding broke_same broke_on
+going_broken n rest b left x y z ns cs g e =
+    let all : g.done ++ (e.answered ++ e.last) ≡ (g.done ++ e.answered) ++ e.last = sym (append_assoc g.done e.answered e.last) in
+    let broke = broke_on g.done (e.answered ++ e.last) x y z g.editions ns cs g.answered e.broke_off in
+    record {
+      answered = g.done ++ e.answered;
+      last = e.last;
+      one = e.one;
+      begun = subst (λ (w : List Request). IfTold (λ bytes. Begun request_limit bytes w) rest) all (g.begins (e.answered ++ e.last) e.begun);
+      ahead = g.ahead e.answered left e.ahead;
+      broke_off = broke_same (g.done ++ (e.answered ++ e.last)) ((g.done ++ e.answered) ++ e.last) x z all broke;
+      whole = whole_on g.done e.answered x y z g.editions e.broke_off.editions ns cs g.answered e.whole;
+    }
 
 -- a fault at one request
-pub broken_of : (n : ℕ) (b : Option (List ℕ)) (y z : State) → BrokenAtOne n b y z → Broken n b y z
-broken_of n b y z e = record { requests = e.requests; begun = e.begun; broke_off = e.broke_off }
+broken_of : (n : ℕ) (b left : Option (List ℕ)) (y z : State) → Ahead n [] b left → BrokenAtOne n b y z → Broken n b left y z
+broken_of n b left y z ahead e = record {
+  answered = [];
+  last = e.requests;
+  one = e.one;
+  begun = e.begun;
+  ahead = ahead;
+  broke_off = e.broke_off;
+  whole = whole_none e.broke_off.editions y z e.broke_off.bytes.bytes e.broke_off.bytes.grew;
+}
 
-served_broken : (n : ℕ) (b c : Option (List ℕ)) (y z : State) (report : OneReport) → Served n b c y z report → Broken n b y z
-served_broken n b c y z report (inl e) = subst (λ (w : State). Broken n b y w) (sym e.same) (record { requests = []; begun = begun_none n b; broke_off = broke_none y })
-served_broken n b c y z report (inr e) = record {
-  requests = e.request ∷ [];
+-- a fault at none
+broken_none : (n : ℕ) (b left : Option (List ℕ)) (y : State) → Ahead n [] b left → Broken n b left y y
+unfolding broke_none
+broken_none n b left y ahead = record {
+  answered = [];
+  last = [];
+  one = omega arith;
+  begun = begun_none n b;
+  ahead = ahead;
+  broke_off = broke_none y;
+  whole = whole_none [] y y [] (append_nothing y.written);
+}
+
+served_broken : (n : ℕ) (b c left : Option (List ℕ)) (y z : State) (report : OneReport) → Ahead n [] b left → Ahead (n - 1) [] c left → Served n b c y z report → Broken n b left y z
+unfolding broke_whole
+served_broken n b c left y z report ahead behind (inl e) = subst (λ (w : State). Broken n b left y w) (sym e.same) (broken_none n b left y ahead)
+served_broken n b c left y z report ahead behind (inr e) = record {
+  answered = e.request ∷ [];
+  last = [];
+  one = omega arith;
   begun = begun_one n e.request b c e.first;
+  ahead = ahead_on n b c left e.request [] e.first behind;
   broke_off = broke_whole (e.request ∷ []) y z e.replied.editions (option_to_list report.edition) (chunks_in report) e.replied.answered;
+  whole = whole_of (e.request ∷ []) y z e.replied.editions (option_to_list report.edition) (chunks_in report) e.replied.answered;
 }
 
 -- ---- the steps of the loop
 
+-- one request wasn't served
+pub fault_broken : (n m : ℕ) (rest b left : Option (List ℕ)) (x y z : State) (ns : List ℕ) (cs : List (List ℕ)) → m ≤ most_held 0 → ReadsAtMost (most_held m) b left
+    → Going n rest b x y ns cs → BrokenAtOne n b y z → Broken request_limit rest left x z
+fault_broken n m rest b left x y z ns cs few read g e = going_broken n rest b left x y z ns cs g (broken_of n b left y z (ahead_read n m b left few read) e)
+
 -- a request was served, but what is reported of it couldn't be kept
-pub kept_broken : (n : ℕ) (rest b c : Option (List ℕ)) (x y z : State) (ns : List ℕ) (cs : List (List ℕ)) (report : OneReport) → Going n rest b x y ns cs → Served n b c y z report → Broken request_limit rest x z
-kept_broken n rest b c x y z ns cs report g e = going_broken n rest b x y z ns cs g (served_broken n b c y z report e)
+pub kept_broken : (n m : ℕ) (held : List ℕ) (rest b left : Option (List ℕ)) (x y z : State) (ns : List ℕ) (cs : List (List ℕ)) (report : OneReport)
+    → m ≤ most_held 0 → length held ≤ most_held m → ReadsAtMost (most_held m) b left
+    → Going n rest b x y ns cs → Served n b (prepend_known held left) y z report → Broken request_limit rest left x z
+kept_broken n m held rest b left x y z ns cs report few more read g e =
+    going_broken n rest b left x y z ns cs g
+    (served_broken n b (prepend_known held left) left y z report (ahead_read n m b left few read) (ahead_held (n - 1) held left (few_held m (length held) few more)) e)
 
 -- more requests than the limit
-pub limit_broken : (n : ℕ) (rest b : Option (List ℕ)) (x y : State) (ns : List ℕ) (cs : List (List ℕ)) → Going n rest b x y ns cs → Broken request_limit rest x y
-limit_broken n rest b x y ns cs g = going_broken n rest b x y y ns cs g (record { requests = []; begun = begun_none n b; broke_off = broke_none y })
+pub limit_broken : (n : ℕ) (held : List ℕ) (rest left : Option (List ℕ)) (x y : State) (ns : List ℕ) (cs : List (List ℕ)) → length held ≤ most_held 0 → Going n rest (prepend_known held left) x y ns cs
+    → Broken request_limit rest left x y
+limit_broken n held rest left x y ns cs few g =
+    going_broken n rest (prepend_known held left) left x y y ns cs g (broken_none n (prepend_known held left) left y (ahead_held n held left few))
 
 -- the session goes on
 pub session_goes : (n m : ℕ) (rest b c : Option (List ℕ)) (x y z : State) (ns ms : List ℕ) (cs ds : List (List ℕ)) (report : OneReport)
@@ -226,23 +303,24 @@ session_goes n m rest b c x y z ns ms cs ds report none some fewer numbers chunk
     (subst (λ (w : List ℕ). Going (n - 1) rest c x z w (cs ++ chunks_in report)) (sym numbers) (going_more n rest b c x y z ns cs report some g e none)))
 
 -- it is over
-pub session_ends : (n turn : ℕ) (rest b c : Option (List ℕ)) (x y z : State) (ns : List ℕ) (cs : List (List ℕ)) (one : OneReport) (end : End) (report : SessionReport)
+pub session_ends : (n turn m : ℕ) (held : List ℕ) (rest b left : Option (List ℕ)) (x y z : State) (ns : List ℕ) (cs : List (List ℕ)) (one : OneReport) (end : End) (report : SessionReport)
     → one.end ≡ Some end → turn + n ≡ 1001 → (end ≡ EndOfInput → report.requests ≡ turn - 1) → (end ≢ EndOfInput → report.requests ≡ turn) → 1 ≤ turn
     → report.editions ≡ ns ++ option_to_list one.edition → report.reads ≡ cs ++ chunks_in one → report.end ≡ end
-    → Going n rest b x y ns cs → Served n b c y z one → Session rest x z report
-session_ends n turn rest b c x y z ns cs one end report ends sum at_end closed some numbers chunks end_is g (inl e) =
+    → m ≤ most_held 0 → length held ≤ most_held m → ReadsAtMost (most_held m) b left
+    → Going n rest b x y ns cs → Served n b (prepend_known held left) y z one → Session rest left x z report
+session_ends n turn m held rest b left x y z ns cs one end report ends sum at_end closed some numbers chunks end_is few more read g (inl e) =
     let told : Some EndOfInput ≡ Some end = sym (ap (λ (o : OneReport). o.end) e.report_is) ∙ ends in
     let last : end ≡ EndOfInput = cc in
     let count : report.requests ≡ turn - 1 = at_end last in
     let edition : one.edition ≡ None = ap (λ (o : OneReport). o.edition) e.report_is in
     let none : option_to_list one.edition ≡ [] = ap option_to_list edition in
     let unread : chunks_in one ≡ [] = ap (λ (o : OneReport). chunks_in o) e.report_is in
-    subst (λ (w : State). Session rest x w report) (sym e.same)
-    (going_stop n rest b c x y ns cs report g e.at_end (omega (arith, count, sum, some)) (numbers ∙ ap (λ w. ns ++ w) none ∙ append-nil ns) (chunks ∙ ap (λ w. cs ++ w) unread ∙ append-nil cs) (end_is ∙ last))
-session_ends n turn rest b c x y z ns cs one end report ends sum at_end closed some numbers chunks end_is g (inr e) =
+    subst (λ (w : State). Session rest left x w report) (sym e.same)
+    (going_stop n rest b (prepend_known held left) left x y ns cs report g e.at_end (ahead_read n m b left few read) (omega (arith, count, sum, some)) (numbers ∙ ap (λ w. ns ++ w) none ∙ append-nil ns) (chunks ∙ ap (λ w. cs ++ w) unread ∙ append-nil cs) (end_is ∙ last))
+session_ends n turn m held rest b left x y z ns cs one end report ends sum at_end closed some numbers chunks end_is few more read g (inr e) =
     let other : end ≢ EndOfInput = λ same. e.ends (ends ∙ ap Some same) in
     let count : report.requests ≡ turn = closed other in
-    going_last n rest b c x y z ns cs one end report g e ends (omega (arith, count, sum)) numbers chunks end_is
+    going_last n rest b (prepend_known held left) left x y z ns cs one end report g e (ahead_held (n - 1) held left (few_held m (length held) few more)) ends (omega (arith, count, sum)) numbers chunks end_is
 
 -- ---- what is left of the source
 

@@ -1,14 +1,16 @@
 -- One request of a connection, by what was found at the front of the rest.
-use Rattle.std.proofs.Common.{◌≡◌, ◌≢◌, inl, inr, ℕ, false, List, [], ◌∷◌, sym, subst, refl, Some, None, arith}
+use Rattle.std.proofs.Common.{◌≡◌, ◌≢◌, ◌⊎◌, inl, inr, ⊎_elim, ℕ, ◌+◌, ◌≤◌, ◌<◌, false, length, length-append, List, [], ◌∷◌, ◌++◌, sym, ap, subst, ◌∙◌, refl, Some, None, arith}
 use Rattle.std.specs.declared.option.Option.{Option}
 use Rattle.std.specs.Prelude.{is_some}
-use Rattle.std.specs.Io.KnownBytes.{append_known}
-use Rattle.edr_base.specs.Calls.{Front}
+use Rattle.std.specs.Io.KnownBytes.{append_known, prepend_known}
+use mathlib.Core.List.{append_assoc}
+use Rattle.httparse.specs.Grammar.{print_request}
+use Rattle.edr_base.specs.Calls.{Front, ReadsAtMost}
 use Rattle.edr_base.specs.declared.refusals.Refusal.{Refusal}
 use Rattle.edr_base.specs.declared.refusals.Refusal.TheVariants.{BadHead}
 use Rattle.edr_edition.specs.Values.{EditionValue}
 use Rattle.edr_http.specs.declared.heads.Head.{Head}
-use Rattle.edr_http.specs.Heads.{Told, HeadOf, HasNoHead}
+use Rattle.edr_http.specs.Heads.{Told, HeadOf, HasHead, HasNoHead, IsBehind, block_size, most_held}
 use Rattle.edr_http.specs.Replies.{reply_text, refusal_body}
 use Rattle.edr_serve.specs.declared.ends.End.{End}
 use Rattle.edr_serve.specs.declared.ends.End.TheVariants.{EndOfInput, ClosedByRefusal}
@@ -86,3 +88,55 @@ pub served_refused : (n : ℕ) (refusal : Refusal) (b c w w' : Option (List ℕ)
     → Served n b c (state w s t) (state w' s t) report
 served_refused n refusal b c w w' s t report is told bytes report_is =
     subst (λ (x : OneReport). Served n b c (state w s t) (state w' s t) x) (sym report_is) (served_bad n refusal b c w w' s t is told bytes)
+
+-- ---- how much was read
+
+-- what was held and read is held
+pub held_ahead : (held held' : List ℕ) (left left' : Option (List ℕ)) → prepend_known held' left' ≡ prepend_known held left → length held' ≤ most_held (length held)
+    → ReadsAtMost (most_held (length held)) (prepend_known held left) left'
+held_ahead held held' left left' same few = record { bytes = held'; read = sym same; within = few }
+
+-- it is the rest as it was, where nothing was found in it or it is at its end
+same_bad : (b c : Option (List ℕ)) → IsBehind b c → Told (λ bytes rest. (bytes ≢ []) × HasNoHead bytes × (rest ≡ bytes)) b c → c ≡ b
+same_bad None None behind t = refl
+same_bad None (Some c) behind t = absurd (cc behind.1)
+same_bad (Some b) None behind t = absurd t
+same_bad (Some b) (Some c) behind t = ap Some t.2
+
+same_end : (b c : Option (List ℕ)) → IsBehind b c → Told (λ bytes rest. (bytes ≡ []) × (rest ≡ [])) b c → c ≡ b
+same_end None None behind t = refl
+same_end None (Some c) behind t = absurd (cc behind.1)
+same_end (Some b) None behind t = absurd t
+same_end (Some b) (Some c) behind t = ap Some (t.1 ∙ sym t.0)
+
+pub bad_ahead : (held held' : List ℕ) (left left' : Option (List ℕ)) → IsBehind (prepend_known held left) (prepend_known held' left')
+    → Told (λ bytes rest. (bytes ≢ []) × HasNoHead bytes × (rest ≡ bytes)) (prepend_known held left) (prepend_known held' left') → length held' ≤ most_held (length held)
+    → ReadsAtMost (most_held (length held)) (prepend_known held left) left'
+bad_ahead held held' left left' behind t few = held_ahead held held' left left' (same_bad (prepend_known held left) (prepend_known held' left') behind t) few
+
+pub end_ahead : (held held' : List ℕ) (left left' : Option (List ℕ)) → IsBehind (prepend_known held left) (prepend_known held' left')
+    → Told (λ bytes rest. (bytes ≡ []) × (rest ≡ [])) (prepend_known held left) (prepend_known held' left') → length held' ≤ most_held (length held)
+    → ReadsAtMost (most_held (length held)) (prepend_known held left) left'
+end_ahead held held' left left' behind t few = held_ahead held held' left left' (same_end (prepend_known held left) (prepend_known held' left') behind t) few
+
+-- a head was taken: nothing was read for it, or it ends in what was read last
+pub head_ahead : (head : Head) (held held' : List ℕ) (left left' : Option (List ℕ)) → IsBehind (prepend_known held left) (prepend_known held' left')
+    → Told (λ bytes rest. HeadOf bytes head rest) (prepend_known held left) (prepend_known held' left')
+    → HasHead held ⊎ (length held' < block_size) → (HasHead held → left' ≡ left) → ReadsAtMost (most_held (length held)) (prepend_known held left) left'
+head_ahead head held held' None None behind t short kept = record { bytes = []; read = refl; within = omega arith }
+head_ahead head held held' None (Some left') behind t short kept = absurd (cc behind.1)
+head_ahead head held held' (Some left) None behind t short kept = absurd t
+head_ahead head held held' (Some left) (Some left') behind t short kept =
+    let text = print_request t.tree in
+    let whole : held ++ left ≡ (text ++ held') ++ left' = t.begins.reads.1 ∙ sym (append_assoc text held' left') in
+    let sizes : length held + length left ≡ length (text ++ held') + length left' = omega (arith, ap length whole, length-append held left, length-append (text ++ held') left') in
+    record {
+      bytes = text ++ held';
+      read = ap Some whole;
+      within = ⊎_elim
+          (λ (has : HasHead held).
+          let same : left' ≡ left = let told : Some left' ≡ Some left = kept has in cc in
+          omega (arith, sizes, ap length same))
+          (λ (few : length held' < block_size). omega (arith, few, length-append text held', t.begins.short))
+          short;
+    }

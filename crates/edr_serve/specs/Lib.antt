@@ -3,4 +3,5 @@ pub mod Requests
 pub mod Replies
 pub mod Sessions
 pub mod SessionLaws
+pub mod AheadLaws
 pub mod Serving

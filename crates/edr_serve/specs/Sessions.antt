@@ -1,14 +1,14 @@
 -- What serving the requests of a connection does.
-use Rattle.std.specs.Prelude.{◌≡◌, ◌≢◌, ◌⊎◌, ℕ, ◌≤◌, List, [], ◌∷◌, length, map, All, Option, None, Some, option_map, option_to_list, ⊤}
+use Rattle.std.specs.Prelude.{◌≡◌, ◌≢◌, ◌⊎◌, ℕ, ◌≤◌, List, [], ◌∷◌, ◌++◌, length, map, All, Option, None, Some, option_map, option_to_list, ⊤}
 use Rattle.std.specs.Io.KnownBytes.{append_known}
 use Rattle.edr_base.specs.Calls.{Front}
 use Rattle.edr_edition.specs.Values.{EditionValue}
-use Rattle.edr_http.specs.Heads.{Told}
+use Rattle.edr_http.specs.Heads.{Told, most_held}
 use Rattle.edr_edition.specs.Shelves.{BeginsSeen, EndsWith, TakenGrew}
 use Rattle.edr_serve.specs.declared.ends.End.TheVariants.{EndOfInput}
 use Rattle.edr_serve.specs.declared.reports.OneReport.{OneReport}
 use Rattle.edr_serve.specs.declared.reports.SessionReport.{SessionReport}
-use Rattle.edr_serve.specs.Requests.{Request, IsFirst, Requests, Begun, session_end, request_limit}
+use Rattle.edr_serve.specs.Requests.{Request, IsFirst, AreFirst, Requests, Begun, session_end, request_limit}
 use Rattle.edr_serve.specs.Replies.{readers, number_of, output, opened}
 
 -- what answering changes: the bytes that are written, the editions seen, and the numbers of those taken
@@ -64,22 +64,39 @@ pub record BrokeOff (requests : List Request) (before after : State) : Type 0 wh
   pub order : NeverFall (last_number before.seen) (map number_of editions) (last_number after.seen)
   pub taken : TakenGrew before.taken after.taken (map number_of editions)
 
--- ---- a session; `rest` is what is still to come
+-- ---- a session; `rest` is what is still to come, and `left` what the source still has of it when the session is over
+
+-- these requests were read, and behind them no more than is held at most: what the source still has follows that
+pub record ReadsAhead (turns : ℕ) (requests : List Request) (bytes left : List ℕ) : Type 0 where
+  pub held : List ℕ
+  pub read : AreFirst turns bytes requests (held ++ left)
+  pub few : length held ≤ most_held 0
 
 -- all requests of the rest were answered
-pub record Session (rest : Option (List ℕ)) (before after : State) (report : SessionReport) : Type 0 where
+pub record Session (rest left : Option (List ℕ)) (before after : State) (report : SessionReport) : Type 0 where
   pub requests : List Request
   pub all : IfTold (λ bytes. Requests request_limit bytes requests) rest
+  pub ahead : Told (λ bytes others. ReadsAhead request_limit requests bytes others) rest left
   pub editions : List EditionValue
   pub answered : Answered requests before after editions report.editions report.reads
   pub count : report.requests ≡ length requests
   pub end : report.end ≡ session_end requests
 
--- a fault came after some of them were begun
-pub record Broken (turns : ℕ) (rest : Option (List ℕ)) (before after : State) : Type 0 where
-  pub requests : List Request
-  pub begun : IfTold (λ bytes. Begun turns bytes requests) rest
-  pub broke_off : BrokeOff requests before after
+-- the replies to these requests, from the first of the editions, were written whole
+pub record AreWhole (requests : List Request) (editions : List EditionValue) (before after : State) : Type 0 where
+  pub full : readers requests ≤ length editions
+  pub more : List ℕ
+  pub bytes : after.written ≡ append_known before.written (output requests editions ++ more)
+
+-- a fault came: some of them were answered, and behind those one was begun, or none
+pub record Broken (turns : ℕ) (rest left : Option (List ℕ)) (before after : State) : Type 0 where
+  pub answered : List Request
+  pub last : List Request
+  pub one : length last ≤ 1
+  pub begun : IfTold (λ bytes. Begun turns bytes (answered ++ last)) rest
+  pub ahead : Told (λ bytes others. ReadsAhead turns answered bytes others) rest left
+  pub broke_off : BrokeOff (answered ++ last) before after
+  pub whole : AreWhole answered broke_off.editions before after
 
 -- ---- one request, which has so many turns left
 

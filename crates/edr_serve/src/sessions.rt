@@ -1,9 +1,9 @@
 //! Sessions: the requests of a connection, one after another (RFC 9112, section 9.3).
-ghost use Rattle.std.specs.Prelude.{◌≡◌, ◌≢◌, ◌⊎◌, ◌-◌, ◌≤◌, ◌++◌, [], ◌∷◌, None, Some, ℕ, option_map, option_to_list, IfOk, OnOk, OnErr, IsErrOf, IsTrue};
+ghost use Rattle.std.specs.Prelude.{◌≡◌, ◌≢◌, ◌⊎◌, ◌-◌, ◌≤◌, ◌++◌, [], ◌∷◌, None, Some, ℕ, length, option_map, option_to_list, IfOk, OnOk, OnErr, IsErrOf, IsTrue};
 ghost use Rattle.std.specs.Io.KnownBytes.{prepend_known};
 ghost use Rattle.edr_base.specs.Outside.{Rose};
-ghost use Rattle.edr_base.specs.Calls.{SourceLent, SinkLent, IsFlushed};
-ghost use Rattle.edr_http.specs.Heads.{Told, IsBehind};
+ghost use Rattle.edr_base.specs.Calls.{SourceLent, SinkLent, ReadsAtMost, IsFlushed};
+ghost use Rattle.edr_http.specs.Heads.{Told, IsBehind, most_held};
 ghost use Rattle.edr_serve.specs.Sessions.{state, chunks_in, Served, Broken, BrokenAtOne, Session};
 
 use crate::ends::End;
@@ -30,10 +30,11 @@ fn of_sending(fault: SendFault) -> SessionFault
 /// session, from 1; a reply to the 1,000th closes the connection.
 ///
 /// A request for a page is answered from the newest edition of the shelf, which it takes once, and any other request from
-/// none. Where the input is at its end, nothing is written or taken. `ReadFault` and `WriteFault` come only where the source
+/// none. Where the input is at its end, nothing is written or taken. Whatever is answered, `inbox` holds no more than before
+/// then, or no more than 20,479 bytes, and what it held and what was read are together no more than that either. `ReadFault` and `WriteFault` come only where the source
 /// or the sink counted a fault in this call, and a beginning of the reply, to this one request, may have been written after any
 /// fault. It puts no edition on the shelf.
-#[tactic(auto, using(crate::proofs::OneRequest::served_head, crate::proofs::OneRequest::served_bad, crate::proofs::OneRequest::served_end, crate::proofs::OneRequest::broken_head, crate::proofs::OneRequest::broken_bad, crate::proofs::OneRequest::broken_read))]
+#[tactic(auto, using(crate::proofs::OneRequest::served_head, crate::proofs::OneRequest::served_bad, crate::proofs::OneRequest::served_end, crate::proofs::OneRequest::broken_head, crate::proofs::OneRequest::broken_bad, crate::proofs::OneRequest::broken_read, crate::proofs::OneRequest::held_ahead, crate::proofs::OneRequest::bad_ahead, crate::proofs::OneRequest::end_ahead))]
 pub fn serve_one<S: Source, K: Sink, E: Editions>(
     alloc: Global,
     source: &mut S,
@@ -50,6 +51,8 @@ pub fn serve_one<S: Source, K: Sink, E: Editions>(
         (state (K.written sink.old) (E.seen shelf.old) (E.taken shelf.old)) (state (K.written sink.new) (E.seen shelf.new) (E.taken shelf.new))) }
     ensures stock { E.stock shelf.new ≡ E.stock shelf.old }
     ensures behind { IsBehind (prepend_known inbox.old (S.left source.old)) (prepend_known inbox.new (S.left source.new)) }
+    ensures bounded { length inbox.new ≤ most_held (length inbox.old) }
+    ensures ahead { ReadsAtMost (most_held (length inbox.old)) (prepend_known inbox.old (S.left source.old)) (S.left source.new) }
     ensures flushed { IfOk result (λ report. report.end ≢ Some End.EndOfInput → IsFlushed (K.written sink.new) (K.flushed sink.new)) }
     ensures untouched { IfOk result (λ report. report.end ≡ Some End.EndOfInput → (sink.new ≡ sink.old) × (shelf.new ≡ shelf.old)) }
     ensures source { SourceLent (S.aside source.old) (S.aside source.new) (S.faults source.old) (S.faults source.new) }
@@ -112,7 +115,7 @@ fn replies(turn: u32, end: End) -> u32
 /// Serves the requests of a connection, in their order, until one ends the session or the input is at its end.
 ///
 /// Each request for a page is answered from one edition, the newest when its turn comes, and every reply is flushed. It puts no
-/// edition on the shelf.
+/// edition on the shelf. Whatever is answered, no more than 20,479 bytes were read behind the requests that were answered.
 /// `ReadFault` and `WriteFault` come only where the source or the sink counted a fault in this call; a beginning of the
 /// replies was written then.
 #[tactic(auto, using(crate::proofs::Going::going_begins, crate::proofs::Going::behind_begins))]
@@ -122,9 +125,9 @@ pub fn serve_session<S: Source, K: Sink, E: Editions>(
     sink: &mut K,
     shelf: &mut E,
 ) -> Result<SessionReport, SessionFault>
-    ensures done { IfOk result (λ report. Session (S.left source.old)
+    ensures done { IfOk result (λ report. Session (S.left source.old) (S.left source.new)
         (state (K.written sink.old) (E.seen shelf.old) (E.taken shelf.old)) (state (K.written sink.new) (E.seen shelf.new) (E.taken shelf.new)) report) }
-    ensures fault { OnErr result (Broken 1000 (S.left source.old)
+    ensures fault { OnErr result (Broken 1000 (S.left source.old) (S.left source.new)
         (state (K.written sink.old) (E.seen shelf.old) (E.taken shelf.old)) (state (K.written sink.new) (E.seen shelf.new) (E.taken shelf.new))) }
     ensures stock { E.stock shelf.new ≡ E.stock shelf.old }
     ensures behind { IsBehind (S.left source.old) (S.left source.new) }

@@ -3,6 +3,7 @@ use Rattle.edr_base.specs.Outside.{Aside}
 use Rattle.edr_edition.specs.Values.{EditionValue}
 use Rattle.edr_feed.specs.Feeds.{FeedStandsIn}
 use Rattle.edr.proofs.EndLemmas.{replay_output, fault_cause, rose_earlier}
+use Rattle.edr.proofs.ReplayLemmas.{replay_read}
 use Rattle.edr.proofs.replaying.replay.Goals as goal
 
 pub returns-in-Ok-read_feed-clause-output : goal.returns-in-Ok-read_feed-clause-output
@@ -14,6 +15,16 @@ pub returns-in-Ok-2-clause-output : goal.returns-in-Ok-2-clause-output
 returns-in-Ok-2-clause-output g c =
     let stands = subst (λ (list : List EditionValue). FeedStandsIn (g.F.Source.left c.open.new.self) (Ok list)) (sym c.into_vec-in-Ok-2.ensures) c.in-Ok-read_feed.ensures.editions in
     rw c.if-advances.false (replay_output c.served_from_first.result false c.into_vec-in-Ok-2.result.items _ _ _ _ _ _ c.in-Ok.ensures.left stands c.served_from_first.ensures.output)
+
+pub returns-in-Ok-read_feed-clause-read : goal.returns-in-Ok-read_feed-clause-read
+returns-in-Ok-read_feed-clause-read g c =
+    let stands = subst (λ (list : List EditionValue). FeedStandsIn (g.F.Source.left c.open.new.self) (Ok list)) (sym c.into_vec.ensures) c.in-Ok-read_feed.ensures.editions in
+    rw c.if-advances.true (replay_read true c.into_vec.result.items _ _ _ _ _ _ c.in-Ok.ensures.left stands c.served_advancing.ensures.behind c.served_advancing.ensures.read)
+
+pub returns-in-Ok-2-clause-read : goal.returns-in-Ok-2-clause-read
+returns-in-Ok-2-clause-read g c =
+    let stands = subst (λ (list : List EditionValue). FeedStandsIn (g.F.Source.left c.open.new.self) (Ok list)) (sym c.into_vec-in-Ok-2.ensures) c.in-Ok-read_feed.ensures.editions in
+    rw c.if-advances.false (replay_read false c.into_vec-in-Ok-2.result.items _ _ _ _ _ _ c.in-Ok.ensures.left stands c.served_from_first.ensures.behind c.served_from_first.ensures.read)
 
 pub returns-in-Err-clause-cause : goal.returns-in-Err-clause-cause
 returns-in-Err-clause-cause g c =

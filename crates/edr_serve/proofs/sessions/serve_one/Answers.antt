@@ -1,5 +1,5 @@
-use Rattle.std.proofs.Common.{◌-◌}
-use Rattle.edr_serve.proofs.OneRequest.{served_head, served_refused, broken_bad}
+use Rattle.std.proofs.Common.{◌-◌, ap, rules}
+use Rattle.edr_serve.proofs.OneRequest.{served_head, served_refused, broken_bad, head_ahead, bad_ahead, end_ahead}
 use Rattle.edr_serve.proofs.sessions.serve_one.Goals as goal
 
 pub returns-in-Ok-clause-done : goal.returns-in-Ok-clause-done
@@ -16,3 +16,15 @@ pub returns-in-Ok-Refused-clause-fault : goal.returns-in-Ok-Refused-clause-fault
 returns-in-Ok-Refused-clause-fault g c =
     let found = rw c.in-Ok-Refused.field-0-is at c.in-Ok-Refused.ensures.done in
     broken_bad (1001 - c.args.turn) c.in-Ok-Refused.refusal _ _ _ _ _ _ found.0 found.1 c.in-Err-refuse.ensures.bytes.front
+
+pub returns-in-Ok-clause-ahead : goal.returns-in-Ok-clause-ahead
+returns-in-Ok-clause-ahead g c =
+    let found = rw c.in-Ok-Got.field-0-is at c.in-Ok-Got.ensures.done in
+    head_ahead c.in-Ok-Got.head c.args.inbox.now c.read_head.new.inbox (g.S.Source.left c.args.source.now) (g.S.Source.left c.read_head.new.source) c.read_head.ensures.behind found
+    (c.read_head.ensures.short (search rules)) (λ has. ap g.S.Source.left (c.read_head.ensures.kept has))
+
+pub returns-in-Ok-Got-clause-ahead : goal.returns-in-Ok-Got-clause-ahead
+returns-in-Ok-Got-clause-ahead g c =
+    let found = rw c.in-Ok-Got.field-0-is at c.in-Ok-Got.ensures.done in
+    head_ahead c.in-Ok-Got.head c.args.inbox.now c.read_head.new.inbox (g.S.Source.left c.args.source.now) (g.S.Source.left c.read_head.new.source) c.read_head.ensures.behind found
+    (c.read_head.ensures.short (search rules)) (λ has. ap g.S.Source.left (c.read_head.ensures.kept has))

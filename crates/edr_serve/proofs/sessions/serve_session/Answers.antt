@@ -1,10 +1,13 @@
-use Rattle.std.proofs.Common.{◌≡◌, ◌≤◌, ◌+◌, ◌-◌, ◌++◌, refl, rules, arith, option_to_list}
+use Rattle.std.proofs.Common.{◌≡◌, ◌≤◌, ◌+◌, ◌-◌, ◌++◌, length, refl, rules, arith, option_to_list}
 use Rattle.edr_serve.specs.Sessions.{chunks_in}
-use Rattle.edr_serve.proofs.Going.{kept_broken, going_broken, broken_of, limit_broken, session_ends, session_goes, behind_on, left_behind, left_now}
+use Rattle.edr_serve.specs.AheadLaws.{few_held}
+use Rattle.edr_serve.proofs.Going.{kept_broken, fault_broken, limit_broken, session_ends, session_goes, behind_on, left_behind, left_now}
 use Rattle.edr_serve.proofs.sessions.serve_session.Goals as goal
 
 pub returns-then-not-keep-clause-fault : goal.returns-then-not-keep-clause-fault
-returns-then-not-keep-clause-fault g c = kept_broken _ _ _ _ _ _ _ _ _ _ c.requests.invariant.going c.in-Ok.ensures.done
+returns-then-not-keep-clause-fault g c =
+    kept_broken (1001 - c.requests.turn) (length c.requests.inbox) c.serve_one.new.inbox _ _ _ _ _ _ _ _ c.in-Ok.report c.requests.invariant.few c.in-Ok.ensures.bounded c.in-Ok.ensures.ahead
+    c.requests.invariant.going c.in-Ok.ensures.done
 
 pub returns-then-not-keep-clause-behind : goal.returns-then-not-keep-clause-behind
 returns-then-not-keep-clause-behind g c = left_behind _ _ _ _ c.requests.invariant.behind c.in-Ok.ensures.behind
@@ -14,20 +17,22 @@ returns-in-Some-clause-done g c =
     let numbers : c.of.result ≡ c.requests.editions.items ++ option_to_list c.in-Ok.report.edition = search rules in
     let chunks : c.of-in-Some.result ≡ c.requests.reads.items ++ chunks_in c.in-Ok.report = search rules in
     let sum : c.requests.turn + (1001 - c.requests.turn) ≡ 1001 = omega (arith, c.requests.invariant.turn_in) in
-    session_ends (1001 - c.requests.turn) c.requests.turn _ _ _ _ _ _ _ _ c.in-Ok.report c.in-Some.end _ c.in-Some.is sum c.replies.ensures.at_end c.replies.ensures.closed
-    c.requests.invariant.turn_in.0 numbers chunks refl c.requests.invariant.going c.in-Ok.ensures.done
+    session_ends (1001 - c.requests.turn) c.requests.turn (length c.requests.inbox) c.serve_one.new.inbox _ _ _ _ _ _ _ _ c.in-Ok.report c.in-Some.end _ c.in-Some.is sum
+    c.replies.ensures.at_end c.replies.ensures.closed c.requests.invariant.turn_in.0 numbers chunks refl c.requests.invariant.few c.in-Ok.ensures.bounded c.in-Ok.ensures.ahead
+    c.requests.invariant.going c.in-Ok.ensures.done
 
 pub returns-in-Some-clause-behind : goal.returns-in-Some-clause-behind
 returns-in-Some-clause-behind g c = left_behind _ _ _ _ c.requests.invariant.behind c.in-Ok.ensures.behind
 
 pub returns-in-Err-clause-fault : goal.returns-in-Err-clause-fault
-returns-in-Err-clause-fault g c = going_broken _ _ _ _ _ _ _ _ c.requests.invariant.going (broken_of _ _ _ _ c.in-Err.ensures.fault)
+returns-in-Err-clause-fault g c =
+    fault_broken (1001 - c.requests.turn) (length c.requests.inbox) _ _ _ _ _ _ _ _ c.requests.invariant.few c.in-Err.ensures.ahead c.requests.invariant.going c.in-Err.ensures.fault
 
 pub returns-in-Err-clause-behind : goal.returns-in-Err-clause-behind
 returns-in-Err-clause-behind g c = left_behind _ _ _ _ c.requests.invariant.behind c.in-Err.ensures.behind
 
 pub returns-clause-fault : goal.returns-clause-fault
-returns-clause-fault g c = limit_broken _ _ _ _ _ _ _ c.requests.invariant.going
+returns-clause-fault g c = limit_broken (1001 - c.requests.turn) c.requests.inbox _ _ _ _ _ _ c.requests.invariant.few c.requests.invariant.going
 
 pub returns-clause-behind : goal.returns-clause-behind
 returns-clause-behind g c = left_now _ _ _ c.requests.invariant.behind
@@ -43,6 +48,7 @@ requests-preserved g c =
       going = session_goes _ _ _ _ _ _ _ _ _ _ _ _ c.in-Ok.report c.in-None.is some fewer numbers chunks c.requests.invariant.going c.in-Ok.ensures.done;
       stock = search rules;
       behind = behind_on _ _ _ c.requests.invariant.behind c.in-Ok.ensures.behind;
+      few = few_held _ _ c.requests.invariant.few c.in-Ok.ensures.bounded;
       flushed = search rules;
       source = search rules;
       sink = search rules;

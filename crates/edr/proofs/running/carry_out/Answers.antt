@@ -1,0 +1,14 @@
+use Rattle.std.proofs.Common.{rules, ◌≡◌, Some}
+use Rattle.edr.specs.Commands.{asked_by}
+use Rattle.edr.specs.declared.commands.Command.TheVariants.{Replay, ReplayAdvance}
+use Rattle.edr.proofs.running.carry_out.Goals as goal
+
+pub returns-in-Some-Replay-default-clause-read : goal.returns-in-Some-Replay-default-clause-read
+returns-in-Some-Replay-default-clause-read g c =
+    let asked : asked_by c.args.words.now ≡ Some (record { command = Replay; argument = c.in-Some-Replay-default.feed.now }) = search rules in
+    rw asked c.replay.ensures.read
+
+pub returns-in-Some-ReplayAdvance-default-clause-read : goal.returns-in-Some-ReplayAdvance-default-clause-read
+returns-in-Some-ReplayAdvance-default-clause-read g c =
+    let asked : asked_by c.args.words.now ≡ Some (record { command = ReplayAdvance; argument = c.in-Some-ReplayAdvance-default.feed.now }) = search rules in
+    rw asked c.replay-in-Some-ReplayAdvance-default.ensures.read
