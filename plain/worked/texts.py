@@ -3,7 +3,7 @@
 import json
 from dataclasses import dataclass
 
-FIRST, LAST = 6, 21  # from when to when the rows are answered so, unless they say another end
+FIRST, LAST = 7, 21  # from when to when the rows are answered so, unless they say another end
 NAMES = {
     6: "NoSuchPage", 7: "UnknownParameter", 8: "RepeatedParameter", 9: "BadFormat", 10: "MissingParameter", 11: "BadCoords",
     12: "WrongGeometry", 13: "BadBbox", 14: "BadDatetime", 15: "BadLevel", 16: "BadDistance", 17: "Conflict", 18: "UnknownCollection",

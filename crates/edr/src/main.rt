@@ -24,7 +24,7 @@ fn main(rt: HostRuntime) -> ExitCode {
         return ExitCode::from(Ending::OutOfMemory.status());
     };
     let mut input = RealSource::of(rt.stdin());
-    // a reply goes out in one piece, when it is flushed
+    // small writes are gathered until they are flushed
     let Ok(buffered) = BufWriter::new(alloc, rt.stdout()) else {
         tell(Ending::OutOfMemory, &mut errors);
         return ExitCode::from(Ending::OutOfMemory.status());

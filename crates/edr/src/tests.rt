@@ -27,6 +27,9 @@ const FEED: &[u8] =
 const SEVERAL: &[u8] =
     b"{\"domain\":{\"axes\":{\"composite\":{\"coordinates\":[\"x\",\"y\"],\"dataType\":\"tuple\",\"values\":[[0,0],[10,0]]},\"t\":{\"values\":[\"2024-01-01T00:00:00Z\"]}},\"domainType\":\"MultiPoint\",\"referencing\":[{\"coordinates\":[\"x\",\"y\"],\"system\":{\"id\":\"plane\",\"type\":\"ProjectedCRS\"}},{\"coordinates\":[\"t\"],\"system\":{\"calendar\":\"Gregorian\",\"type\":\"TemporalRS\"}}],\"type\":\"Domain\"},\"parameters\":{\"temp\":{\"observedProperty\":{\"label\":{\"en\":\"Temperature\"}},\"type\":\"Parameter\"}},\"ranges\":{\"temp\":{\"axisNames\":[\"composite\"],\"dataType\":\"integer\",\"shape\":[2],\"type\":\"NdArray\",\"values\":[3,4]}},\"type\":\"Coverage\"}";
 
+const IN_POLYGON: &[u8] =
+    b"{\"domain\":{\"axes\":{\"t\":{\"values\":[\"2024-01-01T00:00:00Z\"]},\"x\":{\"values\":[0,10]},\"y\":{\"values\":[0]}},\"domainType\":\"Grid\",\"referencing\":[{\"coordinates\":[\"x\",\"y\"],\"system\":{\"id\":\"plane\",\"type\":\"ProjectedCRS\"}},{\"coordinates\":[\"t\"],\"system\":{\"calendar\":\"Gregorian\",\"type\":\"TemporalRS\"}}],\"type\":\"Domain\"},\"parameters\":{\"temp\":{\"observedProperty\":{\"label\":{\"en\":\"Temperature\"}},\"type\":\"Parameter\"}},\"ranges\":{\"temp\":{\"axisNames\":[\"t\",\"y\",\"x\"],\"dataType\":\"integer\",\"shape\":[1,1,2],\"type\":\"NdArray\",\"values\":[3,4]}},\"type\":\"Coverage\"}";
+
 const INSTANCE: &[u8] =
     b"{\"crs\":[\"plane\"],\"data_queries\":{\"area\":{\"link\":{\"href\":\"/collections/c/instances/2/area\",\"rel\":\"data\"}},\"corridor\":{\"link\":{\"href\":\"/collections/c/instances/2/corridor\",\"rel\":\"data\"}},\"cube\":{\"link\":{\"href\":\"/collections/c/instances/2/cube\",\"rel\":\"data\"}},\"position\":{\"link\":{\"href\":\"/collections/c/instances/2/position\",\"rel\":\"data\"}},\"radius\":{\"link\":{\"href\":\"/collections/c/instances/2/radius\",\"rel\":\"data\"}},\"trajectory\":{\"link\":{\"href\":\"/collections/c/instances/2/trajectory\",\"rel\":\"data\"}}},\"extent\":{\"spatial\":{\"bbox\":[[0,0,10,0]],\"crs\":\"plane\"},\"temporal\":{\"interval\":[[\"2024-01-01T00:00:00Z\",\"2024-01-01T00:00:00Z\"]]}},\"id\":\"2\",\"links\":[],\"output_formats\":[\"CoverageJSON\"],\"parameter_names\":{\"temp\":{\"observedProperty\":{\"label\":{\"en\":\"Temperature\"}},\"type\":\"Parameter\"}},\"title\":\"C\"}";
 
@@ -235,12 +238,12 @@ fn runs_end_as_they_have_to(rt: HostRuntime) -> Result<(), Fail> {
         Case {
             words: &[
                 b"ask",
-                b"/collections/c/area?coords=POLYGON((0 0,1 0,1 1,0 0))",
+                b"/collections/c/area?coords=POLYGON((0 0,10 0,5 5,0 0))",
             ],
             input: FEED,
-            status: 6,
-            output: b"",
-            errors: b"{\"code\":\"QueryNotOffered\",\"number\":21}\n",
+            status: 0,
+            output: IN_POLYGON,
+            errors: b"",
         },
         Case {
             words: &[b"ask", b"/"],
