@@ -1,5 +1,5 @@
 -- What is written for a page.
-use Rattle.std.proofs.Common.{◌≡◌, inl, inr, ◌∙◌, ℕ, List, ap, sym, Some, Ok, Err}
+use Rattle.std.proofs.Common.{◌≡◌, inl, inr, ◌∙◌, ℕ, List, ap, sym, subst, arith, Some, Ok, Err}
 use Rattle.std.specs.Prelude.{Result, option_map}
 use Rattle.std.specs.declared.option.Option.{Option}
 use Rattle.edr_base.specs.declared.refusals.Refusal.{Refusal}
@@ -9,7 +9,7 @@ use Rattle.edr_edition.specs.Stores.{Subject, subject_of}
 use Rattle.edr_query.specs.Values.{QueryValue}
 use Rattle.edr_query.specs.declared.pages.Page.TheVariants.{Ask}
 use Rattle.edr_select.specs.Documents.{document}
-use Rattle.edr_select.specs.Plans.{PlanValue}
+use Rattle.edr_select.specs.Plans.{PlanValue, StandsFor}
 use Rattle.edr_select.specs.Planning.{IsPlanFor}
 use Rattle.edr_serve.specs.declared.answering.AnswerFault.{AnswerFault}
 use Rattle.edr_serve.specs.declared.answering.AnswerFault.TheVariants.{Refused, WriteFault, OutOfMemory}
@@ -26,6 +26,18 @@ text_planned edition query plan subject collection instance planned c i store = 
   text_is = ap (option_map (λ (s : Subject). document_text (document s query))) (ap (λ (id : List ℕ). subject_of edition id query.instance) (sym c) ∙ (ap (subject_of edition collection) (sym i) ∙ sym store))
       ∙ ap (λ (q : QueryValue). Some (document_text (document subject q))) (sym planned.query_is);
 }
+
+same_subject : {s t : Subject} → Some s ≡ Some t → s ≡ t
+same_subject e = grind (arith, e)
+
+-- the plan stands for its query in the subject of a store that is made with these ids
+pub stands_planned : (edition : EditionValue) (query : QueryValue) (plan : PlanValue) (subject : Subject) (collection : List ℕ) (instance : Option (List ℕ))
+    → IsPlanFor edition query plan → collection ≡ query.collection → instance ≡ query.instance → Some subject ≡ subject_of edition collection instance
+    → StandsFor plan subject
+stands_planned edition query plan subject collection instance planned c i store =
+    let named : Some subject ≡ Some planned.subject =
+    store ∙ (ap (λ (id : List ℕ). subject_of edition id instance) c ∙ (ap (subject_of edition query.collection) i ∙ planned.named)) in
+    subst (StandsFor plan) (sym (same_subject named)) planned.stands
 
 -- ---- targets
 

@@ -1,6 +1,11 @@
 use Rattle.std.proofs.Common.{◌≡◌, inr, rules}
-use Rattle.edr_serve.proofs.AnswerLemmas.{text_planned}
+use Rattle.edr_serve.proofs.AnswerLemmas.{text_planned, stands_planned}
 use Rattle.edr_serve.proofs.answering.answer_query.Goals as goal
+
+pub send-requires-clause-stands : goal.send-requires-clause-stands
+send-requires-clause-stands g c =
+    let id : c.bytes.result.now ≡ c.args.query.now.collection = search rules in
+    stands_planned c.args.edition.now c.args.query.now c.in-Ok.plan c.of-store.result.subject _ _ c.in-Ok.ensures id c.instance_named.ensures c.of-store.ensures.subject
 
 pub returns-in-Ok-send-clause-written : goal.returns-in-Ok-send-clause-written
 returns-in-Ok-send-clause-written g c =
