@@ -6,7 +6,7 @@ use Rattle.std.proofs.lemmas.Int.{ints}
 use Rattle.edr_axes.specs.Axes.{value_at, IsAxis}
 use Rattle.edr_axes.specs.AxisLaws.{ascending_at_most}
 use Rattle.edr_select.specs.Wanted.{is_along}
-use Rattle.edr_select.proofs.Lists.{both}
+use Rattle.edr_select.specs.ListLaws.{both}
 
 pub record At (t : ℤ → Bool) (values : List ℤ) : Type 0 where
   pub place : ℕ

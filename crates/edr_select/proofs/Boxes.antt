@@ -4,7 +4,7 @@ use Rattle.std.specs.Prelude.{map}
 use Rattle.std.specs.List.{flat_map, list_any, range_with_len, slice_index_or}
 use Rattle.std.proofs.lemmas.List.{length-map}
 use Rattle.std.proofs.lemmas.List.FromFn.{length-range_with_len, get_or-range_with_len}
-use Rattle.edr_select.proofs.Lists.{any-map, any-flat_map, flat_map_agree, map_agree_in, map-map, map-flat_map, member_here, member_later, Passing, passing, any_member}
+use Rattle.edr_select.specs.ListLaws.{any-map, any-flat_map, flat_map_agree, map_agree_in, map-map, map-flat_map, member_here, member_later, Passing, passing, any_member}
 
 -- ---- members
 

@@ -16,7 +16,7 @@ use Rattle.edr_select.specs.Samples.{Stored, chunks_in, ascending_once}
 use Rattle.edr_select.specs.Selections.{chunk_of, needed}
 use Rattle.edr_select.specs.Choices.{TakesEach, Chosen, chosen, node_of, cells_at, cells_along}
 use Rattle.edr_select.specs.Listings.{PlannedValue, ListingValue, place_at, tiles_of_range, tiles_of_coverage, listing_tiles}
-use Rattle.edr_select.proofs.Lists.{any-map, any-flat_map, any_agree, both, passing, any_member, member_here}
+use Rattle.edr_select.specs.ListLaws.{any-map, any-flat_map, any_agree, both, passing, any_member, member_here}
 use Rattle.edr_select.proofs.Grids.{IsGrid}
 use Rattle.edr_select.proofs.Picks.{picks_at, picked_is, pick_found}
 use Rattle.edr_select.proofs.ChosenLaws as laws

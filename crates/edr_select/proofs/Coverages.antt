@@ -20,7 +20,7 @@ use Rattle.edr_select.specs.Heads.{without_id, domain_at}
 use Rattle.edr_select.specs.Documents.{referencing_over, coverage_over, value_in}
 use Rattle.edr_select.specs.Choices.{TakesEach, Chosen, chosen, IsSome, level_at, node_of, cells_at, cells_along, times_of, levels_of, spot_of}
 use Rattle.edr_select.specs.Listings.{PlannedValue, place_at, range_over, coverage_of}
-use Rattle.edr_select.proofs.Lists.{Each, map-map, map_agree_in, map_agree_each, each-map_in, each-flat_map_in}
+use Rattle.edr_select.specs.ListLaws.{Each, map-map, map_agree_in, map_agree_each, each-map_in, each-flat_map_in}
 use Rattle.edr_select.proofs.Grids.{IsGrid}
 use Rattle.edr_select.proofs.Picks.{picks_at, picked_is}
 use Rattle.edr_select.proofs.ChosenLaws as laws

@@ -32,10 +32,10 @@ use Rattle.edr_select.specs.Choices.{TakesEach, Chosen, chosen, IsSome}
 use Rattle.edr_select.specs.Listings.{ListingValue}
 use Rattle.edr_select.specs.Masks.{IsArea}
 use Rattle.edr_select.specs.Steps.{IsAsked, IsForm, are_several, is_many, planned_in}
-use Rattle.edr_select.proofs.Lists.{all_member}
+use Rattle.edr_select.specs.ListLaws.{all_member}
 use Rattle.edr_select.proofs.Grids.{IsGrid}
 use Rattle.edr_select.proofs.Instances.{grid_from}
-use Rattle.edr_select.proofs.PositionLaws as position
+use Rattle.edr_select.proofs.PickLaws as picks
 use Rattle.edr_select.proofs.CheckLaws.{subject_is}
 use Rattle.edr_select.proofs.PlanSteps.{named_member, subject_found}
 use Rattle.edr_select.proofs.PlanForms.{spot_alone, listing_valid}
@@ -114,10 +114,10 @@ module _ (c : CollectionValue) (q : QueryValue) (i : InstanceValue) (asked : IsA
   some_taken n =
       let g : IsGrid i = grid_from i asked.grid in
       record {
-        parameters = λ e. n (ap not (position.none_without_parameters (grid_of c i) q i refl asked.each g e));
-        times = λ e. n (ap not (position.none_without_times (grid_of c i) q i refl asked.each g e));
-        levels = λ e. n (ap not (position.none_without_levels (grid_of c i) q i refl asked.each g e));
-        spots = λ e. n (ap not (position.none_without_spots (grid_of c i) q i refl asked.each g e));
+        parameters = λ e. n (ap not (picks.none_without_parameters (grid_of c i) q i refl asked.each g e));
+        times = λ e. n (ap not (picks.none_without_times (grid_of c i) q i refl asked.each g e));
+        levels = λ e. n (ap not (picks.none_without_levels (grid_of c i) q i refl asked.each g e));
+        spots = λ e. n (ap not (picks.none_without_spots (grid_of c i) q i refl asked.each g e));
       }
 
   -- of a position

@@ -22,7 +22,7 @@ use Rattle.edr_select.specs.Choices.{TakesEach, Chosen, chosen, IsSome, level_at
 use Rattle.edr_select.specs.Framings.{FrameValue, FramingValue, cell_at, cell_value, framed_range, framed_coverage}
 use Rattle.edr_select.specs.Masks.{IsArea, MaskValue, IsMask, frame_with}
 use Rattle.edr_select.specs.AreaPlans.{domain_over}
-use Rattle.edr_select.proofs.Lists.{flat_map_agree, map-map, map_agree_in}
+use Rattle.edr_select.specs.ListLaws.{flat_map_agree, map-map, map_agree_in}
 use Rattle.edr_select.proofs.Boxes.{rows_of, planes_of, boxed, boxed_agree, map_boxed}
 use Rattle.edr_select.proofs.Grids.{IsGrid}
 use Rattle.edr_select.proofs.Picks.{picks_at, picked_is}

@@ -9,7 +9,7 @@ use Rattle.edr_edition.specs.Values.{InstanceValue}
 use Rattle.edr_query.specs.declared.shapes.Shape.{Shape}
 use Rattle.edr_select.specs.Choices.{takes_node}
 use Rattle.edr_select.specs.Masks.{MaskValue, TakesInRow, TakesInColumn, IsMask}
-use Rattle.edr_select.proofs.Lists.{any_range, passes_at}
+use Rattle.edr_select.specs.ListLaws.{any_range, passes_at}
 
 -- the first and the last number below a count that pass
 record Ends (t : ℕ → Bool) (n : ℕ) : Type 0 where

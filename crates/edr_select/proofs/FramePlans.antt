@@ -21,7 +21,7 @@ use Rattle.edr_select.specs.Masks.{IsArea, NoneTaken, MaskValue, IsMask}
 use Rattle.edr_select.specs.Plans.{IsReplyTo}
 use Rattle.edr_select.specs.Steps.{IsAsked, refused_sizes}
 use Rattle.edr_select.specs.AreaPlans.{domain_over, IsFrameOf, TakesSome, HasNodes, framed_count, IsFramed, IsFramingIn}
-use Rattle.edr_select.proofs.Lists.{some_member}
+use Rattle.edr_select.specs.ListLaws.{some_member}
 use Rattle.edr_select.proofs.Kept.{kept_below, kept_passes}
 use Rattle.edr_select.proofs.Grids.{IsGrid}
 use Rattle.edr_select.proofs.Instances.{grid_from}
@@ -34,7 +34,7 @@ use Rattle.edr_select.proofs.FrameCoverages as coverages
 use Rattle.edr_select.proofs.FrameCounts as counts
 use Rattle.edr_select.proofs.FrameChunks.{frame_chunks}
 use Rattle.edr_select.proofs.FrameValid as valid
-use Rattle.edr_select.proofs.FramingTexts.{framed_valid}
+use Rattle.edr_select.specs.ReplyLaws.{framed_valid}
 
 or_false : (b : Bool) → (b || false) ≡ b
 or_false true = refl

@@ -21,7 +21,7 @@ use Rattle.edr_select.specs.Samples.{Stored, id_at}
 use Rattle.edr_select.specs.Wanted.{takes_time, takes_level, levels_asked}
 use Rattle.edr_select.specs.Selections.{is_asked}
 use Rattle.edr_select.specs.Choices.{TakesEach, Chosen, chosen, IsSome, level_at}
-use Rattle.edr_select.specs.Bands.{NumbersRise}
+use Rattle.edr_select.specs.Listings.{NumbersRise}
 use Rattle.edr_select.specs.Framings.{FrameValue, node_count, IsFrame, IsFraming}
 use Rattle.edr_select.specs.Masks.{MaskValue, IsMask, frame_with}
 use Rattle.edr_select.specs.AreaPlans.{domain_over}

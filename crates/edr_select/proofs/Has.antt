@@ -14,7 +14,7 @@ use Rattle.edr_axes.specs.declared.levels.Levels.TheVariants as levels
 use Rattle.edr_axes.specs.Times.{HasTime, IsFrom, IsUntil}
 use Rattle.edr_axes.specs.Levels.{HasLevel, IsInSeries}
 use Rattle.edr_select.specs.Wanted.{is_from, is_until, has_time, has_level}
-use Rattle.edr_select.proofs.Lists.{both, passes_at, any_range}
+use Rattle.edr_select.specs.ListLaws.{both, passes_at, any_range}
 
 le_true : (a b : ℤ) → a ≤ℤ b → int_le a b ≡ true
 le_true a b h = grind (arith, ints)

@@ -24,7 +24,7 @@ use Rattle.covjson_write.specs.Writers.{IsHead}
 use Rattle.edr_edition.specs.Stores.{Subject}
 use Rattle.edr_select.specs.Selections.{is_asked}
 use Rattle.edr_select.specs.Choices.{parameter_places}
-use Rattle.edr_select.proofs.Lists.{Each, each-filter, filter-map}
+use Rattle.edr_select.specs.ListLaws.{Each, each-filter, filter-map}
 use Rattle.edr_select.proofs.Parameters.{parameter_at, asked_by_places}
 use Rattle.edr_select.proofs.Coverages.{coverage_with}
 

@@ -8,7 +8,7 @@ use Rattle.std.proofs.lemmas.List.FromFn.{length-range_with_len, get_or-range_wi
 use Rattle.std.proofs.lemmas.List.Folds.{flat_map-map}
 use Rattle.std.proofs.lemmas.Nat.{div-mul-add, mod-mul-add}
 use Rattle.edr_axes.specs.Axes.{value_at}
-use Rattle.edr_select.proofs.Lists.{range-append, flat_map_agree, map-map, filter-map, member_later, all_member}
+use Rattle.edr_select.specs.ListLaws.{range-append, flat_map_agree, map-map, filter-map, member_later, all_member}
 
 pub contains_filter : {X : Type 0} (t : X → Bool) (xs : List X) (x : X) → Contains xs x → t x ≡ true → Contains (filter t xs) x
 contains_filter t [] x c h = absurd (omega (arith, c.1))

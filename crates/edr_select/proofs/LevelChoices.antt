@@ -8,7 +8,7 @@ use Rattle.edr_axes.specs.declared.levels.Levels.TheVariants as levels
 use Rattle.std.proofs.lemmas.Bool.Decides.{nat_tests, Decides-int_eq}
 use Rattle.std.proofs.lemmas.List.Folds.{list_any_more}
 use Rattle.edr_axes.specs.Axes.{value_at, IsAscending}
-use Rattle.edr_select.proofs.Lists.{both}
+use Rattle.edr_select.specs.ListLaws.{both}
 use Rattle.edr_select.proofs.AxisPlaces.{value_told, value_lacks}
 use Rattle.edr_select.specs.Choices.{level_places}
 use Rattle.edr_select.proofs.FoundPlaces.{Found, found_more, found_same, all_taken}

@@ -24,7 +24,7 @@ use Rattle.edr_select.specs.declared.row_ranges.Reach.{Reach}
 use Rattle.edr_select.specs.Wanted.{in_areas}
 use Rattle.edr_select.specs.Choices.{takes_node, spot_at}
 use Rattle.edr_select.specs.Masks.{IsArea, takes_spot, IsCentre, HasPolygons, LiesIn, IsReached, IsReachedRing, IsReachedPolygon, IsWider, LiesInRows}
-use Rattle.edr_select.proofs.Lists.{any-map}
+use Rattle.edr_select.specs.ListLaws.{any-map}
 
 -- a node is taken where its place is
 pub takes_is : (i : InstanceValue) (shape : Shape) → IsArea shape → (y x : ℕ) → takes_node i shape y x ≡ takes_spot shape (spot_at i y x)

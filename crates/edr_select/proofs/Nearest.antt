@@ -16,7 +16,7 @@ use Rattle.edr_query.specs.declared.shapes.Shape.TheVariants as at
 use Rattle.edr_query.specs.Values.{QueryValue}
 use Rattle.edr_select.specs.Wanted.{is_along, is_nearest}
 use Rattle.edr_select.specs.Choices.{TakesEach, takes_node, Chosen, chosen, is_nearest_place, row_of, column_of}
-use Rattle.edr_select.proofs.Lists.{some_member}
+use Rattle.edr_select.specs.ListLaws.{some_member}
 use Rattle.edr_select.proofs.Grids.{IsGrid}
 use Rattle.edr_select.proofs.Picks.{takes_position}
 use Rattle.edr_select.proofs.ChosenLaws as laws

@@ -16,7 +16,7 @@ use Rattle.edr_select.specs.Wanted.{takes_level}
 use Rattle.edr_select.specs.Heads.{Spot, domain_at, position_at}
 use Rattle.edr_select.specs.Choices.{Chosen, level_at, level_places, node_of, cells_at, cells_along, times_of, levels_of, spot_of}
 use Rattle.edr_select.specs.Listings.{place_at}
-use Rattle.edr_select.proofs.Lists.{map-map, map-flat_map, flat_map_agree}
+use Rattle.edr_select.specs.ListLaws.{map-map, map-flat_map, flat_map_agree}
 
 -- the nodes of one place, at each time and level
 abbrev pub place_nodes : List ℤ → List (Option ℤ) → Spot → List Node

@@ -14,7 +14,7 @@ use Rattle.covjson_value.specs.Coverages.{ids_of}
 use Rattle.edr_edition.specs.Parameters.{parameter_id}
 use Rattle.edr_select.specs.Samples.{id_at, ascending_once}
 use Rattle.edr_select.specs.Refusals.{names_other}
-use Rattle.edr_select.proofs.Lists.{both}
+use Rattle.edr_select.specs.ListLaws.{both}
 use Rattle.edr_select.specs.Choices.{parameter_places}
 use Rattle.edr_select.proofs.FoundPlaces.{Found, found_none, found_more, found_is, all_taken}
 

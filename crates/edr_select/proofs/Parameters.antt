@@ -12,7 +12,7 @@ use Rattle.edr_select.specs.Samples.{id_at, parameters_in}
 use Rattle.edr_select.specs.Selections.{is_asked}
 use Rattle.edr_select.specs.Documents.{parameters_asked}
 use Rattle.edr_select.specs.Choices.{parameter_places}
-use Rattle.edr_select.proofs.Lists.{filter-map}
+use Rattle.edr_select.specs.ListLaws.{filter-map}
 
 abbrev pub no_parameter : Parameter
 no_parameter = record { id = []; lang = []; label = []; unit = None }

@@ -17,7 +17,7 @@ use Rattle.edr_select.specs.Samples.{Stored, id_at, stored_at, grid_samples, sam
 use Rattle.edr_select.specs.Wanted.{takes_time, takes_level, levels_asked, takes_place}
 use Rattle.edr_select.specs.Selections.{is_asked, takes_each, takes, wants, picked}
 use Rattle.edr_select.specs.Choices.{TakesEach, takes_node, level_at}
-use Rattle.edr_select.proofs.Lists.{any-filter, any-map, Each, each-filter, each-map}
+use Rattle.edr_select.specs.ListLaws.{any-filter, any-map, Each, each-filter, each-map}
 use Rattle.edr_select.proofs.AllPlaces.{found_place, place_found, each_place}
 
 -- such a query takes a sample by its time, its level and its place

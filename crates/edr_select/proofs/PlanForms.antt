@@ -40,7 +40,7 @@ use Rattle.edr_select.specs.Planned.{IsInside, IsSmall, AreAxes}
 use Rattle.edr_select.specs.Listings.{PlannedValue, ListingValue, IsListing}
 use Rattle.edr_select.specs.Plans.{IsReplyTo}
 use Rattle.edr_select.specs.Steps.{IsAsked, IsForm, IsPlanIn, are_several, is_many, value_count, coverage_count, planned_in, refused_large}
-use Rattle.edr_select.proofs.Lists.{all_member, member_here}
+use Rattle.edr_select.specs.ListLaws.{all_member, member_here}
 use Rattle.edr_select.proofs.Grids.{IsGrid}
 use Rattle.edr_select.proofs.Instances.{grid_from}
 use Rattle.edr_select.proofs.ChosenLaws as laws
@@ -52,7 +52,7 @@ use Rattle.edr_select.proofs.PlanLaws as plans
 use Rattle.edr_select.proofs.PlannedLaws as valid
 use Rattle.edr_select.proofs.Positions.{ArePoints, one, several, position_points}
 use Rattle.edr_select.proofs.PlanSteps.{known_size, refused_size}
-use Rattle.edr_select.proofs.ReplyTexts.{document_valid}
+use Rattle.edr_select.specs.ReplyLaws.{document_valid}
 
 -- ---- points
 

@@ -22,9 +22,9 @@ use Rattle.edr_select.specs.Documents.{document, coverages_in, values_in}
 use Rattle.edr_select.specs.Checks.{of_data, refused_data, refused_query, grid_of}
 use Rattle.edr_select.specs.Choices.{Chosen, chosen, IsSome}
 use Rattle.edr_select.specs.Steps.{IsAsked, refused_known, refused_sizes, refused_large, lacks_levels}
-use Rattle.edr_select.proofs.Lists.{all_member, member_here, member_later}
+use Rattle.edr_select.specs.ListLaws.{all_member, member_here, member_later}
 use Rattle.edr_select.proofs.Instances.{grid_from}
-use Rattle.edr_select.proofs.PositionLaws as position
+use Rattle.edr_select.proofs.PickLaws as picks
 
 -- ---- the instance is one of its collection's
 
@@ -124,10 +124,10 @@ module _ (c : CollectionValue) (q : QueryValue) (i : InstanceValue) (asked : IsA
   none_picked none =
       let g = grid_from i asked.grid in
       false_from_ne_true (is_some_stored (picked s q)) (λ h. none (record {
-        parameters = λ e. false≢true (sym (position.none_without_parameters s q i refl asked.each g e) ∙ h);
-        times = λ e. false≢true (sym (position.none_without_times s q i refl asked.each g e) ∙ h);
-        levels = λ e. false≢true (sym (position.none_without_levels s q i refl asked.each g e) ∙ h);
-        spots = λ e. false≢true (sym (position.none_without_spots s q i refl asked.each g e) ∙ h);
+        parameters = λ e. false≢true (sym (picks.none_without_parameters s q i refl asked.each g e) ∙ h);
+        times = λ e. false≢true (sym (picks.none_without_times s q i refl asked.each g e) ∙ h);
+        levels = λ e. false≢true (sym (picks.none_without_levels s q i refl asked.each g e) ∙ h);
+        spots = λ e. false≢true (sym (picks.none_without_spots s q i refl asked.each g e) ∙ h);
       }))
 
   pub refused_samples : (¬ (IsSome (chosen i q))) → refused_sizes q s ≡ Some NoSamples
@@ -136,7 +136,7 @@ module _ (c : CollectionValue) (q : QueryValue) (i : InstanceValue) (asked : IsA
   pub known_samples : IsSome (chosen i q) → refused_sizes q s ≡ refused_large q s
   known_samples some =
       passes (not (is_some_stored (picked s q))) NoSamples (refused_large q s)
-      (ap not (position.some_picked s q i refl asked.each (grid_from i asked.grid) some))
+      (ap not (picks.some_picked s q i refl asked.each (grid_from i asked.grid) some))
 
   -- ---- sizes
 

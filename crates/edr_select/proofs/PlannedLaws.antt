@@ -21,7 +21,7 @@ use Rattle.edr_select.specs.Wanted.{takes_time, takes_level, levels_asked}
 use Rattle.edr_select.specs.Heads.{domain_at}
 use Rattle.edr_select.specs.Choices.{TakesEach, takes_node, Chosen, chosen, IsSome, level_at, level_places, node_of, cells_at, cells_along, times_of, levels_of, row_of, column_of, spot_of}
 use Rattle.edr_select.specs.Listings.{PlannedValue, ListingValue, place_at, IsPlanned, IsListing}
-use Rattle.edr_select.proofs.Lists.{Each, each-map_in, each-flat_map_in}
+use Rattle.edr_select.specs.ListLaws.{Each, each-map_in, each-flat_map_in}
 use Rattle.edr_select.proofs.Kept.{filter_by_places}
 use Rattle.edr_select.proofs.Grids.{IsGrid}
 use Rattle.edr_select.proofs.Instances.{grid_from}

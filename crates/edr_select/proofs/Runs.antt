@@ -1,7 +1,7 @@
 -- Runs of numbers.
 use Rattle.std.proofs.Common.{◌≡◌, ℕ, zero, suc, ◌+◌, ◌-◌, ◌≤◌, Bool, true, false, cond, List, [], ◌∷◌, ◌++◌, ap, ap₂, ◌∙◌, sym, arith, append-nil}
 use Rattle.std.specs.List.{range_with_len, filter}
-use Rattle.edr_select.proofs.Lists.{kept_more}
+use Rattle.edr_select.specs.ListLaws.{kept_more}
 
 range_more : (first n : ℕ) → range_with_len first (n + 1) ≡ range_with_len first n ++ (first + n) ∷ []
 range_more first zero = ap (λ k. k ∷ []) (none first)

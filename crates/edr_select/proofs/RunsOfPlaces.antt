@@ -4,7 +4,7 @@ use Rattle.std.specs.Prelude.{◌||◌, ◌⊎◌}
 use Rattle.std.specs.List.{filter, range_with_len}
 use Rattle.std.proofs.lemmas.Bool.{or_cases}
 use Rattle.std.proofs.lemmas.Bool.Decides.{nat_tests}
-use Rattle.edr_select.proofs.Lists.{both}
+use Rattle.edr_select.specs.ListLaws.{both}
 use Rattle.edr_select.proofs.AscendingOnce.{Rises, Below, among, once_is, filter_range_agree}
 
 rises_run : (low first n : ℕ) → low ≤ first → Rises low (range_with_len first n)

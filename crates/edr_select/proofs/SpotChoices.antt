@@ -15,7 +15,7 @@ use Rattle.edr_query.specs.declared.shapes.Shape.TheVariants as at
 use Rattle.edr_query.specs.Values.{QueryValue}
 use Rattle.edr_select.specs.Wanted.{is_along, is_nearest}
 use Rattle.edr_select.specs.Choices.{is_nearest_place, is_number, row_of, column_of, spot_places, spots_in}
-use Rattle.edr_select.proofs.Lists.{both}
+use Rattle.edr_select.specs.ListLaws.{both}
 use Rattle.edr_select.proofs.FoundPlaces.{Found, found_more, found_same}
 use Rattle.edr_select.proofs.NearestTests.{test_from_nearest, only_nearest}
 

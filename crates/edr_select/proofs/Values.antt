@@ -10,7 +10,7 @@ use Rattle.edr_query.specs.Values.{QueryValue}
 use Rattle.edr_select.specs.Samples.{Stored, id_at, node_at}
 use Rattle.edr_select.specs.Documents.{same_station, value_in}
 use Rattle.edr_select.specs.Choices.{TakesEach}
-use Rattle.edr_select.proofs.Lists.{find_each}
+use Rattle.edr_select.specs.ListLaws.{find_each}
 use Rattle.edr_select.proofs.Picks.{picks_at, Taken, found_pick, each_pick}
 use Rattle.edr_select.proofs.Grids.{IsGrid, same_stored, stored_itself}
 

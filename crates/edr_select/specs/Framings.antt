@@ -11,7 +11,7 @@ use Rattle.edr_chunk.specs.Grids as chunk
 use Rattle.edr_chunk.specs.Grids.{value}
 use Rattle.edr_select.specs.declared.plans.GridNode.{GridNode}
 use Rattle.edr_select.specs.Listings.{place_at, tiles_of_range}
-use Rattle.edr_select.specs.Bands.{NumbersRise}
+use Rattle.edr_select.specs.Listings.{NumbersRise}
 
 -- some times and levels of a grid, and a box of its nodes; for each row of the box a truth value for each column of the grid
 pub record FrameValue : Type 0 where

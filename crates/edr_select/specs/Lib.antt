@@ -1,3 +1,4 @@
+pub mod ListLaws
 pub mod Limits
 pub mod Samples
 pub mod Wanted
@@ -9,19 +10,14 @@ pub mod Documents
 pub mod Refusals
 pub mod Choices
 pub mod Listings
-pub mod Bands
 pub mod Framings
+pub mod ReplyLaws
 pub mod Plans
 pub mod Planned
 pub mod Planning
 pub mod DocumentLaws
-pub mod Sending
 pub mod Checks
 pub mod Steps
 pub mod PlacesOfIds
-pub mod Filling
-pub mod Gathered
 pub mod Masks
-pub mod FrameTexts
-pub mod Strips
 pub mod AreaPlans

@@ -1,6 +1,6 @@
 -- Coverages whose values are read from listed nodes of a grid.
 use Rattle.std.specs.Prelude.{◌≡◌, ℕ, ◌<◌, Bool, true, false, List, [], ◌∷◌, length, map, All, Option, None, Some}
-use Rattle.std.specs.List.{flat_map}
+use Rattle.std.specs.List.{flat_map, slice_index_or}
 use Rattle.covjson_value.specs.declared.coverages.NdArray.{NdArray}
 use Rattle.covjson_value.specs.declared.coverages.Coverage.{Coverage}
 use Rattle.covjson_value.specs.declared.coverages.Document.{Document}
@@ -58,6 +58,12 @@ tiles_of_coverage shape parameters planned = flat_map (tiles_of_range shape plan
 
 abbrev pub listing_tiles : ListingValue → List ℕ
 listing_tiles plan = flat_map (tiles_of_coverage plan.shape plan.parameters) plan.coverages
+
+-- ---- numbers
+
+-- each number is above those before it
+abbrev pub NumbersRise : List ℕ → Type 0
+NumbersRise numbers = (i j : ℕ) (d : ℕ) → i < j → j < length numbers → slice_index_or numbers i d < slice_index_or numbers j d
 
 -- ---- every listing
 

@@ -5,7 +5,7 @@ ghost use Rattle.edr_axes.specs.Axes.{value_at, IsAscending};
 ghost use Rattle.covjson_value.specs.Domains.{axis_length};
 ghost use Rattle.edr_edition.specs.Instances.{HasGrid};
 ghost use Rattle.edr_select.specs.AreaPlans.{HasNodes, domain_over};
-ghost use Rattle.edr_select.specs.Bands.{NumbersRise};
+ghost use Rattle.edr_select.specs.Listings.{NumbersRise};
 ghost use Rattle.edr_select.specs.Framings.{IsFrame};
 
 use crate::frames::Frame;

@@ -12,14 +12,22 @@ use std::marker::Model;
 /// grid: whether the node there is taken.
 #[derive(Drop)]
 pub struct Frame {
-    pub(crate) times: Items<u64>,
-    pub(crate) levels: Items<u64>,
-    pub(crate) row: u32,
-    pub(crate) rows: u32,
-    pub(crate) column: u32,
-    pub(crate) columns: u32,
-    pub(crate) width: u32,
-    pub(crate) mask: Items<bool>,
+    /// The places of its times on the grid's axis, ascending.
+    pub times: Items<u64>,
+    /// Those of its levels; 0 alone where the grid has no levels.
+    pub levels: Items<u64>,
+    /// Its first row.
+    pub row: u32,
+    /// How many rows it has.
+    pub rows: u32,
+    /// Its first column.
+    pub column: u32,
+    /// How many columns it has.
+    pub columns: u32,
+    /// How many columns the grid has.
+    pub width: u32,
+    /// The truth values, row by row.
+    pub mask: Items<bool>,
 }
 
 impl Model for Frame {
@@ -42,10 +50,14 @@ impl Model for Frame {
 /// The one coverage of a reply but for its values, and the frame that these are read from.
 #[derive(Drop)]
 pub struct Framing {
-    pub(crate) shape: GridShape,
-    pub(crate) parameters: Items<u64>,
-    pub(crate) head: Coverage,
-    pub(crate) frame: Frame,
+    /// The shape of the grid that they are read from.
+    pub shape: GridShape,
+    /// The places of the parameters that are asked, among the grid's.
+    pub parameters: Items<u64>,
+    /// The coverage without its ranges.
+    pub head: Coverage,
+    /// The frame.
+    pub frame: Frame,
 }
 
 impl Model for Framing {
@@ -70,8 +82,8 @@ impl Model for Framing {
     }) × (count f.shape < 2 ^ 64) };
 }
 
-// A framing is one, and the values of its grid can be counted.
-pub(crate) fn framing_stands(framing: &Framing)
+/// Each framing is one: its frame lies in the shape of a grid whose values can be counted.
+pub fn framing_stands(framing: &Framing)
     ensures is { IsFraming framing.now }
     ensures fits { count framing.now.shape < 2 ^ 64 }
 {

@@ -1,9 +1,8 @@
-//! Plans of replies to queries, and the replies that are sent.
+//! What queries select, and plans of the replies to them.
 #![tactic(auto)]
 
 mod area_plans;
 mod axis_places;
-mod bands;
 mod cells;
 mod checks;
 mod choices;
@@ -11,13 +10,10 @@ mod chosen_levels;
 mod chosen_parameters;
 mod chosen_spots;
 mod chosen_times;
-mod filling;
 mod forms;
 mod frame_domains;
 mod frame_sizes;
-mod frame_streams;
 mod frames;
-mod gathering;
 mod heads;
 mod laws;
 mod mask_rows;
@@ -30,17 +26,11 @@ mod point_domains;
 mod position_plans;
 mod reply_coverages;
 mod row_ranges;
-mod sending;
 mod sizes;
-mod slots;
 mod steps;
-mod streaming;
-mod strips;
 mod taken_frames;
-mod value_runs;
-mod writing;
 
 pub use laws::{documents_are_valid, refusal_is_least, selections_go_by_axes};
+pub use frames::{Frame, Framing, framing_stands};
 pub use planning::{PlanFault, plan};
-pub use plans::{GridNode, Plan};
-pub use sending::send;
+pub use plans::{GridNode, Listing, Plan, Planned, Reply, listing_stands};

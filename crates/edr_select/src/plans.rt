@@ -1,6 +1,8 @@
 //! Plans.
 
-ghost use Rattle.std.specs.Prelude.{◌≡◌};
+ghost use Rattle.std.specs.Prelude.{◌≡◌, ◌<◌, ◌^◌};
+ghost use Rattle.edr_chunk.specs.Places.{count};
+ghost use Rattle.edr_select.specs.Listings.{IsListing};
 
 use crate::frames::Framing;
 use covjson_value::Coverage;
@@ -22,11 +24,13 @@ pub struct GridNode {
     pub x: u32,
 }
 
-// A coverage of the reply without its ranges, and the node that each value of a range is read from, in their order.
+/// A coverage of a reply but for its values.
 #[derive(Drop)]
-pub(crate) struct Planned {
-    pub(crate) head: Coverage,
-    pub(crate) cells: Items<GridNode>,
+pub struct Planned {
+    /// The coverage without its ranges.
+    pub head: Coverage,
+    /// The node that each value of a range is read from, in their order.
+    pub cells: Items<GridNode>,
 }
 
 impl Model for Planned {
@@ -40,10 +44,14 @@ impl Model for Planned {
 /// The coverages of a reply but for their values, each with the nodes that these are read from.
 #[derive(Drop)]
 pub struct Listing {
-    pub(crate) shape: GridShape,
-    pub(crate) parameters: Items<u64>,
-    pub(crate) many: bool,
-    pub(crate) coverages: Items<Planned>,
+    /// The shape of the grid that they are read from.
+    pub shape: GridShape,
+    /// The places of the parameters that are asked, among the grid's.
+    pub parameters: Items<u64>,
+    /// Whether the reply is a collection of coverages; else it has one coverage.
+    pub many: bool,
+    /// The coverages.
+    pub coverages: Items<Planned>,
 }
 
 impl Model for Listing {
@@ -101,4 +109,19 @@ impl Plan {
     {
         &self.query
     }
+
+    /// How the values of its reply are read.
+    pub fn reply(&self) -> &Reply
+        ensures { result.now ≡ self.now.reply }
+    {
+        &self.reply
+    }
+}
+
+/// Each listing is one: it lies in the shape of a grid whose values can be counted.
+pub fn listing_stands(listing: &Listing)
+    ensures is { IsListing listing.now }
+    ensures fits { count listing.now.shape < 2 ^ 64 }
+{
+    let _ = &listing.shape;
 }

@@ -19,7 +19,7 @@ use edr_wkt::Geometry;
 use std::alloc::Global;
 
 // The values of the levels that are taken, where there is an axis of levels.
-fn levels_at(
+fn level_values(
     alloc: Global,
     instance: &GridInstance,
     choice: &Choice,
@@ -70,7 +70,7 @@ fn planned_apart(
     ensures { IfOk result (λ coverages. coverages.items ≡ map (planned.planned_at referencing.now instance.now choice.now) choice.now.spots) }
 {
     let times = values_at(alloc, instance.times(), &choice.times)?;
-    match levels_at(alloc, instance, choice)? {
+    match level_values(alloc, instance, choice)? {
         None => planned_over(alloc, referencing, instance, choice, &times, None),
         Some(levels) => planned_over(alloc, referencing, instance, choice, &times, Some(&levels)),
     }

@@ -1,7 +1,7 @@
 use Rattle.std.proofs.Common.{◌≡◌, ◌∙◌, ap, rules, w64, of_z, to_z}
 use Rattle.edr_axes.specs.Axes.{value_at}
 use Rattle.edr_select.specs.Wanted.{has_level}
-use Rattle.edr_select.proofs.Lists.{keep_step}
+use Rattle.edr_select.specs.ListLaws.{keep_step}
 use Rattle.edr_select.proofs.chosen_levels.places_had.Goals as goal
 
 pub loop-place-preserved : goal.loop-place-preserved

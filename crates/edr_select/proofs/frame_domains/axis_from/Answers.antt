@@ -1,5 +1,5 @@
 use Rattle.std.proofs.Common.{◌<◌, ◌∙◌, length, sym, subst, All}
-use Rattle.edr_select.specs.Bands.{NumbersRise}
+use Rattle.edr_select.specs.Listings.{NumbersRise}
 use Rattle.edr_select.proofs.FrameDomains.{run_is, run_inside, run_rises}
 use Rattle.edr_select.proofs.frame_domains.axis_from.Goals as goal
 

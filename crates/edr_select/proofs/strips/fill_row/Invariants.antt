@@ -1,5 +1,0 @@
-use Rattle.edr_select.proofs.StripValues.{RowFilled}
-use Rattle.edr_select.proofs.strips.fill_row.Given as goal
-
-abbrev pub invariant-loop-x : goal.invariant-loop-x
-invariant-loop-x l = RowFilled l.tile l.frame l.y l.left l.x l.first l.fn.values l.values

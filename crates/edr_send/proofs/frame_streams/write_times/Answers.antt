@@ -1,0 +1,163 @@
+use Rattle.std.proofs.Common.{rules, ◌≡◌, ◌+◌, ◌<◌, ◌≤◌, ℕ, List, [], length, take, drop, get_or, ap, sym, subst, ◌∙◌, refl, arith}
+use Rattle.std.specs.List.{flat_map}
+use Rattle.std.proofs.lemmas.List.{drop_all}
+use Rattle.std.proofs.lemmas.List.Elements.{All-get_or}
+use Rattle.edr_chunk.specs.declared.shapes.GridShape.{GridShape}
+use Rattle.edr_edition.specs.Stores.{Subject}
+use Rattle.edr_select.specs.Framings.{FrameValue, plane_cells}
+use Rattle.edr_send.proofs.TextSteps.{writes_fault}
+use Rattle.edr_send.proofs.FrameSteps.{Cells, text_from, sent_none, sent_room, sent_more, sent_front, sent_begun, sent_text, sent_writer, sent_reads}
+use Rattle.edr_send.proofs.FrameTiles.{flat_take, flat_drop, times_apart}
+use Rattle.edr_send.proofs.frame_streams.write_times.Goals as goal
+
+pub overflow_cast-t : goal.overflow_cast-t
+overflow_cast-t g c =
+    let shape : GridShape = c.args.framing.now.shape in
+    let xs : List ℕ = c.args.framing.now.frame.times in
+    let k : ℕ = c.loop-place.place in
+    let listed : c.items-times.result.now ≡ xs = search rules in
+    let inside : k < length xs = search rules in
+    let low : get_or c.items-times.result.now k 0 < shape.times = subst (λ (ys : List ℕ). get_or ys k 0 < shape.times) (sym listed) (All-get_or (λ x. x < shape.times) xs k 0 inside c.framing_stands.ensures.is.frame.times) in
+    let small = (c.sides_are_small.ensures shape c.framing_stands.ensures.is.shape).times in
+    omega (arith, low, small)
+
+pub loop-place-init : goal.loop-place-init
+loop-place-init g c =
+    let shape : GridShape = c.args.framing.now.shape in
+    let subject : Subject = c.args.store.now.subject in
+    let p : ℕ = c.args.parameter in
+    let frame : FrameValue = c.args.framing.now.frame in
+    let xs : List ℕ = frame.times in
+    let cells_of : ℕ → Cells = λ (t : ℕ). flat_map (plane_cells frame t) frame.levels in
+    let whole : Cells = flat_map cells_of xs in
+    record {
+      sent = sent_none shape subject p whole c.args.writer.now (g.K.Sink.written c.args.sink.now) c.args.store.now.numbers [] whole refl refl;
+      subject = refl;
+      lent = search rules;
+    }
+
+pub write_levels-requires-clause-room : goal.write_levels-requires-clause-room
+write_levels-requires-clause-room g c =
+    let shape : GridShape = c.args.framing.now.shape in
+    let subject : Subject = c.args.store.now.subject in
+    let p : ℕ = c.args.parameter in
+    let frame : FrameValue = c.args.framing.now.frame in
+    let xs : List ℕ = frame.times in
+    let cells_of : ℕ → Cells = λ (t : ℕ). flat_map (plane_cells frame t) frame.levels in
+    let whole : Cells = flat_map cells_of xs in
+    let k : ℕ = c.loop-place.place in
+    let done : Cells = flat_map cells_of (take k xs) in
+    let rest : Cells = flat_map cells_of (drop k xs) in
+    let listed : c.items-times.result.now ≡ xs = search rules in
+    let inside : k < length xs = search rules in
+    let piece : Cells = cells_of (get_or c.items-times.result.now k 0) in
+    let later : Cells = flat_map cells_of (drop (k + 1) xs) in
+    sent_room shape subject p whole c.args.writer.now (g.K.Sink.written c.args.sink.now) c.args.store.now.numbers done rest piece later c.loop-place.writer (g.K.Sink.written c.loop-place.sink) c.loop-place.store.numbers c.loop-place.invariant.sent (flat_drop cells_of xs c.items-times.result.now k 0 listed inside) c.requires.room
+
+pub loop-place-preserved : goal.loop-place-preserved
+loop-place-preserved g c =
+    let shape : GridShape = c.args.framing.now.shape in
+    let subject : Subject = c.args.store.now.subject in
+    let p : ℕ = c.args.parameter in
+    let frame : FrameValue = c.args.framing.now.frame in
+    let xs : List ℕ = frame.times in
+    let cells_of : ℕ → Cells = λ (t : ℕ). flat_map (plane_cells frame t) frame.levels in
+    let whole : Cells = flat_map cells_of xs in
+    let k : ℕ = c.loop-place.place in
+    let done : Cells = flat_map cells_of (take k xs) in
+    let rest : Cells = flat_map cells_of (drop k xs) in
+    let listed : c.items-times.result.now ≡ xs = search rules in
+    let inside : k < length xs = search rules in
+    let piece : Cells = cells_of (get_or c.items-times.result.now k 0) in
+    let later : Cells = flat_map cells_of (drop (k + 1) xs) in
+    let next : Cells = flat_map cells_of (take (k + 1) xs) in
+    record {
+      sent = sent_more shape subject p whole c.args.writer.now (g.K.Sink.written c.args.sink.now) c.args.store.now.numbers done next rest piece later c.loop-place.writer c.write_levels.new.writer (g.K.Sink.written c.loop-place.sink) (g.K.Sink.written c.write_levels.new.sink) c.loop-place.store.numbers c.write_levels.new.store.numbers c.loop-place.store.subject
+          c.loop-place.invariant.sent (flat_drop cells_of xs c.items-times.result.now k 0 listed inside) (flat_take cells_of xs c.items-times.result.now k 0 listed inside) (times_apart shape (c.tiles_are_numbered.ensures shape) frame c.framing_stands.ensures.is.frame p c.requires.parameter k) c.loop-place.invariant.subject c.in-Ok.ensures.bytes.whole c.in-Ok.ensures.writer c.in-Ok.ensures.reads.all;
+      subject = c.write_levels.ensures.subject ∙ c.loop-place.invariant.subject;
+      lent = search rules;
+    }
+
+pub returns-in-Err-clause-bytes : goal.returns-in-Err-clause-bytes
+returns-in-Err-clause-bytes g c =
+    let shape : GridShape = c.args.framing.now.shape in
+    let subject : Subject = c.args.store.now.subject in
+    let p : ℕ = c.args.parameter in
+    let frame : FrameValue = c.args.framing.now.frame in
+    let xs : List ℕ = frame.times in
+    let cells_of : ℕ → Cells = λ (t : ℕ). flat_map (plane_cells frame t) frame.levels in
+    let whole : Cells = flat_map cells_of xs in
+    let k : ℕ = c.loop-place.place in
+    let done : Cells = flat_map cells_of (take k xs) in
+    let rest : Cells = flat_map cells_of (drop k xs) in
+    let listed : c.items-times.result.now ≡ xs = search rules in
+    let inside : k < length xs = search rules in
+    let piece : Cells = cells_of (get_or c.items-times.result.now k 0) in
+    let later : Cells = flat_map cells_of (drop (k + 1) xs) in
+    writes_fault (Unit {0}) c.in-Err.fault (text_from c.args.writer.now.values subject p whole) (g.K.Sink.written c.args.sink.now) (g.K.Sink.written c.write_levels.new.sink)
+    (sent_front shape subject p whole c.args.writer.now (g.K.Sink.written c.args.sink.now) c.args.store.now.numbers done rest piece later c.loop-place.writer (g.K.Sink.written c.loop-place.sink) (g.K.Sink.written c.write_levels.new.sink) c.loop-place.store.numbers c.loop-place.store.subject c.loop-place.invariant.sent (flat_drop cells_of xs c.items-times.result.now k 0 listed inside) c.loop-place.invariant.subject c.write_levels.ensures.bytes.front)
+
+pub returns-in-Err-clause-reads : goal.returns-in-Err-clause-reads
+returns-in-Err-clause-reads g c =
+    let shape : GridShape = c.args.framing.now.shape in
+    let subject : Subject = c.args.store.now.subject in
+    let p : ℕ = c.args.parameter in
+    let frame : FrameValue = c.args.framing.now.frame in
+    let xs : List ℕ = frame.times in
+    let cells_of : ℕ → Cells = λ (t : ℕ). flat_map (plane_cells frame t) frame.levels in
+    let whole : Cells = flat_map cells_of xs in
+    let k : ℕ = c.loop-place.place in
+    let done : Cells = flat_map cells_of (take k xs) in
+    let rest : Cells = flat_map cells_of (drop k xs) in
+    let listed : c.items-times.result.now ≡ xs = search rules in
+    let inside : k < length xs = search rules in
+    let piece : Cells = cells_of (get_or c.items-times.result.now k 0) in
+    let later : Cells = flat_map cells_of (drop (k + 1) xs) in
+    let next : Cells = flat_map cells_of (take (k + 1) xs) in
+    sent_begun shape subject p whole c.args.writer.now (g.K.Sink.written c.args.sink.now) c.args.store.now.numbers c.in-Err.fault done next rest piece later c.loop-place.writer (g.K.Sink.written c.loop-place.sink) c.loop-place.store.numbers c.write_levels.new.store.numbers
+    c.loop-place.invariant.sent (flat_drop cells_of xs c.items-times.result.now k 0 listed inside) (flat_take cells_of xs c.items-times.result.now k 0 listed inside) (times_apart shape (c.tiles_are_numbered.ensures shape) frame c.framing_stands.ensures.is.frame p c.requires.parameter k) (times_apart shape (c.tiles_are_numbered.ensures shape) frame c.framing_stands.ensures.is.frame p c.requires.parameter (k + 1)) c.write_levels.ensures.reads.begun
+
+pub returns-clause-bytes : goal.returns-clause-bytes
+returns-clause-bytes g c =
+    let shape : GridShape = c.args.framing.now.shape in
+    let subject : Subject = c.args.store.now.subject in
+    let p : ℕ = c.args.parameter in
+    let frame : FrameValue = c.args.framing.now.frame in
+    let xs : List ℕ = frame.times in
+    let cells_of : ℕ → Cells = λ (t : ℕ). flat_map (plane_cells frame t) frame.levels in
+    let whole : Cells = flat_map cells_of xs in
+    let k : ℕ = c.loop-place.place in
+    let done : Cells = flat_map cells_of (take k xs) in
+    let rest : Cells = flat_map cells_of (drop k xs) in
+    let past : length xs ≤ k = search rules in
+    sent_text shape subject p whole c.args.writer.now (g.K.Sink.written c.args.sink.now) c.args.store.now.numbers _ done rest c.loop-place.writer (g.K.Sink.written c.loop-place.sink) c.loop-place.store.numbers c.loop-place.invariant.sent (ap (flat_map cells_of) (drop_all k xs past))
+
+pub returns-clause-writer : goal.returns-clause-writer
+returns-clause-writer g c =
+    let shape : GridShape = c.args.framing.now.shape in
+    let subject : Subject = c.args.store.now.subject in
+    let p : ℕ = c.args.parameter in
+    let frame : FrameValue = c.args.framing.now.frame in
+    let xs : List ℕ = frame.times in
+    let cells_of : ℕ → Cells = λ (t : ℕ). flat_map (plane_cells frame t) frame.levels in
+    let whole : Cells = flat_map cells_of xs in
+    let k : ℕ = c.loop-place.place in
+    let done : Cells = flat_map cells_of (take k xs) in
+    let rest : Cells = flat_map cells_of (drop k xs) in
+    let past : length xs ≤ k = search rules in
+    sent_writer shape subject p whole c.args.writer.now (g.K.Sink.written c.args.sink.now) c.args.store.now.numbers done rest c.loop-place.writer (g.K.Sink.written c.loop-place.sink) c.loop-place.store.numbers c.loop-place.invariant.sent (ap (flat_map cells_of) (drop_all k xs past))
+
+pub returns-clause-reads : goal.returns-clause-reads
+returns-clause-reads g c =
+    let shape : GridShape = c.args.framing.now.shape in
+    let subject : Subject = c.args.store.now.subject in
+    let p : ℕ = c.args.parameter in
+    let frame : FrameValue = c.args.framing.now.frame in
+    let xs : List ℕ = frame.times in
+    let cells_of : ℕ → Cells = λ (t : ℕ). flat_map (plane_cells frame t) frame.levels in
+    let whole : Cells = flat_map cells_of xs in
+    let k : ℕ = c.loop-place.place in
+    let done : Cells = flat_map cells_of (take k xs) in
+    let rest : Cells = flat_map cells_of (drop k xs) in
+    let past : length xs ≤ k = search rules in
+    sent_reads shape subject p whole c.args.writer.now (g.K.Sink.written c.args.sink.now) c.args.store.now.numbers _ done rest c.loop-place.writer (g.K.Sink.written c.loop-place.sink) c.loop-place.store.numbers c.loop-place.invariant.sent (ap (flat_map cells_of) (drop_all k xs past))

@@ -1,0 +1,33 @@
+-- Bands of tiles, and texts whose values' tiles rise band by band; for private clauses.
+use Rattle.std.specs.Prelude.{◌≡◌, ℕ, ◌<◌, ◌++◌, List, [], ◌∷◌, length, map}
+use Rattle.std.specs.List.{slice_index_or}
+use Rattle.std.specs.List.Sorted.{IsNonDecreasingBy}
+use Rattle.covjson_write.specs.Pieces.{coverages_from, document_begin, document_end}
+use Rattle.edr_chunk.specs.declared.shapes.GridShape.{GridShape}
+use Rattle.edr_chunk.specs.AllPlaces.{at}
+use Rattle.edr_chunk.specs.Grids as chunk
+use Rattle.edr_chunk.specs.Tiles.{tile_of}
+use Rattle.edr_select.specs.declared.plans.GridNode.{GridNode}
+use Rattle.edr_select.specs.Listings.{PlannedValue, ListingValue, coverage_of}
+
+-- the first tile of a node's band, which is the row of tiles of a parameter at a time and a level
+abbrev pub first_tile : GridShape → ℕ → GridNode → ℕ
+first_tile shape parameter cell = tile_of shape (at parameter cell.t cell.z cell.y 0)
+
+-- the bands of one parameter are told by their first tiles
+abbrev pub band_of : GridShape → GridNode → ℕ
+band_of shape cell = first_tile shape 0 cell
+
+-- no band stands below one before it
+abbrev pub BandsRise : GridShape → List GridNode → Type 0
+BandsRise shape cells = IsNonDecreasingBy (band_of shape) cells
+
+-- a plan has one coverage, and the tiles of its values rise band by band in the order of the text
+pub record Rises (plan : ListingValue) (planned : PlannedValue) : Type 0 where
+  pub alone : plan.coverages ≡ planned ∷ []
+  pub parameters : NumbersRise plan.parameters
+  pub bands : BandsRise plan.shape planned.cells
+
+-- the text of the document that a plan gives over a grid
+abbrev pub listing_text : chunk.Values → ListingValue → List ℕ
+listing_text grid plan = document_begin plan.many ++ (coverages_from 0 (map (coverage_of grid plan.parameters) plan.coverages) ++ document_end plan.many)

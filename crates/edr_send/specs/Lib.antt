@@ -1,0 +1,6 @@
+pub mod Bands
+pub mod Filling
+pub mod Gathered
+pub mod Strips
+pub mod FrameTexts
+pub mod Sending

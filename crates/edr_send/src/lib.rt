@@ -1,0 +1,15 @@
+//! Replies that are sent: the text of the document that is planned, with the values of the chunks that it opens.
+#![tactic(auto)]
+
+mod bands;
+mod filling;
+mod frame_streams;
+mod gathering;
+mod sending;
+mod slots;
+mod streaming;
+mod strips;
+mod value_runs;
+mod writing;
+
+pub use sending::send;

@@ -1,0 +1,237 @@
+//! Strips: the values of the rows of a frame in one row of tiles, which are read tile by tile.
+ghost use Rattle.std.specs.Prelude.{◌≡◌, ◌≢◌, ◌<◌, ◌≤◌, ◌+◌, ◌-◌, ◌*◌, ◌/◌, ◌++◌, ◌⊎◌, ℕ, None, if◌then◌else◌, length, map, slice_index_or, OnOk, OnErr};
+ghost use Rattle.std.specs.List.{list_any, range_with_len};
+ghost use Rattle.edr_chunk.specs.Tiles.{LiesIn, value_in, tiles};
+ghost use Rattle.edr_select.specs.Samples.{ascending_once};
+ghost use Rattle.edr_select.specs.Listings.{tiles_of_range};
+ghost use Rattle.edr_send.specs.Filling.{grid_of, Adds};
+ghost use Rattle.edr_select.specs.Framings.{is_set, cell_at, strip_cells, taken, cell_value};
+ghost use Rattle.edr_send.specs.Strips.{HasMask, HasRows, HasColumns, some_taken, shown, tile_read};
+
+use crate::slots::tile_number;
+use edr_base::OutOfMemory;
+use edr_chunk::{GridPlace, Tile, sides_are_small, tiles_are_numbered};
+use edr_edition::Store;
+use edr_select::{Frame, Framing, framing_stands};
+use std::alloc::Global;
+
+// Where the truth values of a row of a frame begin.
+fn row_start(frame: &Frame, y: u32) -> usize
+    requires mask { HasMask frame.now }
+    requires low { frame.now.row ≤ y }
+    requires high { y < frame.now.row + frame.now.rows }
+    ensures start { result ≡ (y - frame.now.row) * frame.now.width }
+    ensures end { result + frame.now.width ≤ length frame.now.mask }
+{
+    (y - frame.row) as usize * frame.width as usize
+}
+
+// Whether a node of a row is taken, from one column up to another.
+fn row_has_taken(frame: &Frame, y: u32, left: u32, right: u32) -> bool
+    requires mask { HasMask frame.now }
+    requires low { frame.now.row ≤ y }
+    requires high { y < frame.now.row + frame.now.rows }
+    requires columns { HasColumns frame.now left right }
+    ensures { result ≡ list_any (is_set frame.now y) (range_with_len left (right - left)) }
+{
+    let bits = frame.mask.items();
+    let start = row_start(frame, y);
+    for x in left..right {
+        if bits[start + x as usize] {
+            return true;
+        }
+    }
+    false
+}
+
+// Whether a node of some rows and columns is taken.
+fn has_taken(frame: &Frame, from: u32, to: u32, left: u32, right: u32) -> bool
+    requires mask { HasMask frame.now }
+    requires rows { HasRows frame.now from to }
+    requires columns { HasColumns frame.now left right }
+    ensures { result ≡ some_taken frame.now from to left right }
+{
+    for y in from..to {
+        if row_has_taken(frame, y, left, right) {
+            return true;
+        }
+    }
+    false
+}
+
+// Puts the values of a tile at the nodes of a row that are taken, from one column up to another. The value of the frame's
+// first column stands at a place of the values.
+fn fill_row(
+    tile: &Tile,
+    frame: &Frame,
+    y: u32,
+    left: u32,
+    right: u32,
+    first: usize,
+    values: &mut [Option<i64>],
+)
+    requires mask { HasMask frame.now }
+    requires low { frame.now.row ≤ y }
+    requires high { y < frame.now.row + frame.now.rows }
+    requires columns { HasColumns frame.now left right }
+    requires inside { first + frame.now.columns ≤ length values.old }
+    requires lies { (x : ℕ) → left ≤ x → x < right → LiesIn tile.now y x }
+    ensures long { length values.new ≡ length values.old }
+    ensures here { (x : ℕ) → left ≤ x → x < right → slice_index_or values.new (first + (x - frame.now.column)) None ≡ (if is_set frame.now y x then value_in tile.now y x else slice_index_or values.old (first + (x - frame.now.column)) None) }
+    ensures before { (k : ℕ) → k + frame.now.column < first + left → slice_index_or values.new k None ≡ slice_index_or values.old k None }
+    ensures behind { (k : ℕ) → first + right ≤ k + frame.now.column → slice_index_or values.new k None ≡ slice_index_or values.old k None }
+{
+    let bits = frame.mask.items();
+    let start = row_start(frame, y);
+    for x in left..right {
+        if bits[start + x as usize] {
+            values[first + (x - frame.column) as usize] = tile.get(y, x);
+        }
+    }
+}
+
+// Puts the values of a tile at the nodes of some rows and columns that are taken.
+fn fill_tile(
+    tile: &Tile,
+    frame: &Frame,
+    from: u32,
+    to: u32,
+    left: u32,
+    right: u32,
+    values: &mut [Option<i64>],
+)
+    requires mask { HasMask frame.now }
+    requires rows { HasRows frame.now from to }
+    requires columns { HasColumns frame.now left right }
+    requires long { length values.old ≡ (to - from) * frame.now.columns }
+    requires lies { (y x : ℕ) → from ≤ y → y < to → left ≤ x → x < right → LiesIn tile.now y x }
+    ensures long { length values.new ≡ length values.old }
+    ensures here { (y x : ℕ) → from ≤ y → y < to → left ≤ x → x < right → shown frame.now from values.new y x ≡ (if is_set frame.now y x then value_in tile.now y x else shown frame.now from values.old y x) }
+    ensures other { (y x : ℕ) → from ≤ y → y < to → frame.now.column ≤ x → x < frame.now.column + frame.now.columns → (x < left) ⊎ (right ≤ x) → shown frame.now from values.new y x ≡ shown frame.now from values.old y x }
+{
+    for y in from..to {
+        let first = (y - from) as usize * frame.columns as usize;
+        fill_row(tile, frame, y, left, right, first, values);
+    }
+}
+
+// Reads the tile of some rows in a column of tiles, and puts its values at the nodes that are taken. It isn't opened where
+// none is.
+fn read_tile(
+    alloc: Global,
+    store: &mut Store<'_>,
+    framing: &Framing,
+    parameter: u64,
+    t: u32,
+    z: u32,
+    from: u32,
+    to: u32,
+    across: u32,
+    values: &mut [Option<i64>],
+) -> Result<(), OutOfMemory>
+    requires grid { framing.now.shape ≡ (grid_of store.old.subject.held).shape }
+    requires parameter { parameter < framing.now.shape.parameters }
+    requires t { t < framing.now.shape.times }
+    requires z { z < framing.now.shape.levels }
+    requires rows { HasRows framing.now.frame from to }
+    requires one { to ≤ from / 64 * 64 + 64 }
+    requires low { framing.now.frame.column < across * 64 + 64 }
+    requires high { across * 64 < framing.now.frame.column + framing.now.frame.columns }
+    requires long { length values.old ≡ (to - from) * framing.now.frame.columns }
+    requires blank { (y x : ℕ) → from ≤ y → y < to → framing.now.frame.column ≤ x → x < framing.now.frame.column + framing.now.frame.columns → x / 64 ≡ across → shown framing.now.frame from values.old y x ≡ None }
+    ensures long { length values.new ≡ length values.old }
+    ensures here { OnOk result ((y x : ℕ) → from ≤ y → y < to → framing.now.frame.column ≤ x → x < framing.now.frame.column + framing.now.frame.columns → x / 64 ≡ across → shown framing.now.frame from values.new y x ≡ cell_value (grid_of store.old.subject.held) parameter (cell_at framing.now.frame t z y x)) }
+    ensures other { (y x : ℕ) → from ≤ y → y < to → framing.now.frame.column ≤ x → x < framing.now.frame.column + framing.now.frame.columns → x / 64 ≢ across → shown framing.now.frame from values.new y x ≡ shown framing.now.frame from values.old y x }
+    ensures read { OnOk result (store.new.numbers ≡ store.old.numbers ++ tile_read framing.now.shape framing.now.frame parameter t z from to across) }
+    ensures unread { OnErr result (store.new.numbers ≡ store.old.numbers) }
+    ensures subject { store.new.subject ≡ store.old.subject }
+{
+    framing_stands(framing);
+    sides_are_small();
+    tiles_are_numbered();
+    let frame = &framing.frame;
+    let left = (across * 64).max(frame.column);
+    let right = (across * 64 + 64).min(frame.column + frame.columns);
+    if !has_taken(frame, from, to, left, right) {
+        return Ok(());
+    }
+    let number = tile_number(
+        framing.shape,
+        GridPlace {
+            parameter,
+            t,
+            z,
+            y: from,
+            x: across * 64,
+        },
+    );
+    let tile = store.tile(alloc, number)?;
+    fill_tile(&tile, frame, from, to, left, right, values);
+    Ok(())
+}
+
+// Reads the values of a strip, tile by tile. None of them was read before.
+fn read_tiles(
+    alloc: Global,
+    store: &mut Store<'_>,
+    framing: &Framing,
+    parameter: u64,
+    t: u32,
+    z: u32,
+    from: u32,
+    to: u32,
+    values: &mut [Option<i64>],
+) -> Result<(), OutOfMemory>
+    requires grid { framing.now.shape ≡ (grid_of store.old.subject.held).shape }
+    requires parameter { parameter < framing.now.shape.parameters }
+    requires t { t < framing.now.shape.times }
+    requires z { z < framing.now.shape.levels }
+    requires rows { HasRows framing.now.frame from to }
+    requires one { to ≤ from / 64 * 64 + 64 }
+    requires long { length values.old ≡ (to - from) * framing.now.frame.columns }
+    requires blank { (k : ℕ) → k < length values.old → slice_index_or values.old k None ≡ None }
+    ensures long { length values.new ≡ length values.old }
+    ensures values { OnOk result (values.new ≡ map (cell_value (grid_of store.old.subject.held) parameter) (strip_cells framing.now.frame t z from (to - from))) }
+    ensures reads { Adds result (ascending_once (tiles framing.now.shape) (tiles_of_range framing.now.shape (taken (strip_cells framing.now.frame t z from (to - from))) parameter)) store.old.numbers store.new.numbers }
+    ensures subject { store.new.subject ≡ store.old.subject }
+{
+    framing_stands(framing);
+    sides_are_small();
+    tiles_are_numbered();
+    let frame = &framing.frame;
+    for across in frame.column / 64..(frame.column + frame.columns + 63) / 64 {
+        read_tile(
+            alloc, store, framing, parameter, t, z, from, to, across, values,
+        )?;
+    }
+    Ok(())
+}
+
+// The values of a parameter, time and level in some rows of a frame, in the order of the text. The rows stand in one row of
+// tiles, of which those are opened that have a node which is taken, in ascending order.
+pub(crate) fn fill_strip(
+    alloc: Global,
+    store: &mut Store<'_>,
+    framing: &Framing,
+    parameter: u64,
+    t: u32,
+    z: u32,
+    from: u32,
+    to: u32,
+    values: &mut Vec<Option<i64>>,
+) -> Result<(), OutOfMemory>
+    requires grid { framing.now.shape ≡ (grid_of store.old.subject.held).shape }
+    requires parameter { parameter < framing.now.shape.parameters }
+    requires t { t < framing.now.shape.times }
+    requires z { z < framing.now.shape.levels }
+    requires rows { HasRows framing.now.frame from to }
+    requires one { to ≤ from / 64 * 64 + 64 }
+    ensures values { OnOk result (values.new.items ≡ map (cell_value (grid_of store.old.subject.held) parameter) (strip_cells framing.now.frame t z from (to - from))) }
+    ensures reads { Adds result (ascending_once (tiles framing.now.shape) (tiles_of_range framing.now.shape (taken (strip_cells framing.now.frame t z from (to - from))) parameter)) store.old.numbers store.new.numbers }
+    ensures subject { store.new.subject ≡ store.old.subject }
+{
+    let count = (to - from) as usize * framing.frame.columns as usize;
+    values.clear();
+    values.resize(count, None)?;
+    read_tiles(alloc, store, framing, parameter, t, z, from, to, values)
+}
