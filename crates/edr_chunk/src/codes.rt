@@ -1,5 +1,5 @@
 //! Codes of samples, many at once.
-ghost use Rattle.std.specs.Prelude.{◌≡◌, ◌<◌, map, length, All, None, IfOk};
+ghost use Rattle.std.specs.Prelude.{◌≡◌, ◌<◌, ◌≤◌, ◌+◌, ℕ, map, length, All, None, IfOk};
 ghost use Rattle.std.specs.List.{slice_index_or};
 ghost use Rattle.edr_chunk.specs.Samples.{AreSamples};
 ghost use Rattle.edr_chunk.specs.Codes.{IsFloor};
@@ -40,6 +40,18 @@ pub fn samples_of<W: Width>(
         values.push(code.sample(floor))?;
     }
     Ok(values)
+}
+
+/// Puts the samples of codes, from a place on, into a list, as many as it has. It takes no memory.
+pub fn samples_to<W: Width>(codes: &[W], place: usize, floor: i64, into: &mut [Option<i64>])
+    requires floor { IsFloor floor }
+    requires inside { place + length into.old ≤ length codes.now }
+    ensures long { length into.new ≡ length into.old }
+    ensures samples { (k : ℕ) → k < length into.old → slice_index_or into.new k None ≡ slice_index_or (map (W.sample floor) codes.now) (place + k) None }
+{
+    for number in 0..into.len() {
+        into[number] = sample_in(codes, place + number, floor);
+    }
 }
 
 /// The sample of one of some codes. It takes no memory.

@@ -1,11 +1,11 @@
 //! A list of samples that is kept in as few bytes a sample as its values allow.
-ghost use Rattle.std.specs.Prelude.{◌≡◌, ◌<◌, IfOk, None, length, pos, ◌+ℤ◌};
+ghost use Rattle.std.specs.Prelude.{◌≡◌, ◌<◌, ◌≤◌, ◌+◌, ℕ, IfOk, None, length, pos, ◌+ℤ◌};
 ghost use Rattle.std.specs.List.{slice_index_or};
 ghost use Rattle.edr_chunk.specs.Samples.{IsSample, AreSamples};
 ghost use Rattle.edr_chunk.specs.Codes.{IsFloor, AreBetween};
 ghost use Rattle.edr_chunk.specs.KeptCodes.{samples};
 
-use crate::codes::{codes_of, sample_in, samples_of};
+use crate::codes::{codes_of, sample_in, samples_of, samples_to};
 use crate::spans::{Span, are_all, span_of};
 use edr_base::OutOfMemory;
 use std::alloc::Global;
@@ -96,6 +96,22 @@ impl Packed {
             floor: self.floor,
             codes: copy_codes(alloc, &self.codes, self.floor)?,
         })
+    }
+
+    /// Puts the samples from a place on into a list, as many as it has. It takes no memory.
+    pub(crate) fn copy_to(&self, place: usize, into: &mut [Option<i64>])
+        requires { place + length into.old ≤ length self.now }
+        ensures long { length into.new ≡ length into.old }
+        ensures samples { (k : ℕ) → k < length into.old → slice_index_or into.new k None ≡ slice_index_or self.now (place + k) None }
+    {
+        match &self.codes {
+            Codes::Same { value, count: _ } => into.fill(*value),
+            Codes::Bytes(codes) => samples_to(codes, place, self.floor, into),
+            Codes::Pairs(codes) => samples_to(codes, place, self.floor, into),
+            Codes::Triples(codes) => samples_to(codes, place, self.floor, into),
+            Codes::Words(codes) => samples_to(codes, place, self.floor, into),
+            Codes::Whole(numbers) => samples_to(numbers, place, self.floor, into),
+        }
     }
 
     /// The sample at a place of the list. It takes no memory.

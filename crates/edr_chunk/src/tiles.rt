@@ -1,5 +1,6 @@
 //! A tile that was opened.
-ghost use Rattle.std.specs.Prelude.{◌≡◌, ◌*◌};
+ghost use Rattle.std.specs.Prelude.{◌≡◌, ◌*◌, ◌+◌, ◌<◌, ℕ, None, length};
+ghost use Rattle.std.specs.List.{slice_index_or};
 ghost use Rattle.edr_chunk.specs.Places.{Within};
 ghost use Rattle.edr_chunk.specs.Tiles.{tile_shape, tile_width, value_in, LiesIn};
 
@@ -32,6 +33,20 @@ impl Tile {
     {
         let place = (row - self.row) as u64 * self.width as u64 + (column - self.column) as u64;
         self.samples.sample_at(place as usize)
+    }
+
+    /// Puts the samples of a row of the grid, from a column on, into a list, as many as it has; None for a missing one. It
+    /// takes no memory.
+    pub fn copy_row(&self, row: u32, column: u32, into: &mut [Option<i64>])
+        requires { (k : ℕ) → k < length into.old → LiesIn self.now row (column + k) }
+        ensures long { length into.new ≡ length into.old }
+        ensures samples { (k : ℕ) → k < length into.old → slice_index_or into.new k None ≡ value_in self.now row (column + k) }
+    {
+        if into.is_empty() {
+            return;
+        }
+        let place = (row - self.row) as u64 * self.width as u64 + (column - self.column) as u64;
+        self.samples.copy_to(place as usize, into);
     }
 }
 
