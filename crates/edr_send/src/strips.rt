@@ -74,6 +74,7 @@ fn fill_row(
     requires low { frame.now.row ≤ y }
     requires high { y < frame.now.row + frame.now.rows }
     requires columns { HasColumns frame.now left right }
+    requires narrow { right ≤ left + 64 }
     requires inside { first + frame.now.columns ≤ length values.old }
     requires lies { (x : ℕ) → left ≤ x → x < right → LiesIn tile.now y x }
     ensures long { length values.new ≡ length values.old }
@@ -83,9 +84,11 @@ fn fill_row(
 {
     let bits = frame.mask.items();
     let start = row_start(frame, y);
+    let mut samples = [None; 64];
+    tile.copy_row(y, left, &mut samples[..(right - left) as usize]);
     for x in left..right {
         if bits[start + x as usize] {
-            values[first + (x - frame.column) as usize] = tile.get(y, x);
+            values[first + (x - frame.column) as usize] = samples[(x - left) as usize];
         }
     }
 }
@@ -103,6 +106,7 @@ fn fill_tile(
     requires mask { HasMask frame.now }
     requires rows { HasRows frame.now from to }
     requires columns { HasColumns frame.now left right }
+    requires narrow { right ≤ left + 64 }
     requires long { length values.old ≡ (to - from) * frame.now.columns }
     requires lies { (y x : ℕ) → from ≤ y → y < to → left ≤ x → x < right → LiesIn tile.now y x }
     ensures long { length values.new ≡ length values.old }
