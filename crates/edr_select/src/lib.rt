@@ -30,7 +30,7 @@ mod sizes;
 mod steps;
 mod taken_frames;
 
-pub use laws::{documents_are_valid, refusal_is_least, selections_go_by_axes};
 pub use frames::{Frame, Framing, framing_stands};
+pub use laws::{documents_are_valid, refusal_is_least, selections_go_by_axes};
 pub use planning::{PlanFault, plan};
 pub use plans::{GridNode, Listing, Plan, Planned, Reply, listing_stands};

@@ -3,8 +3,8 @@ use Rattle.std.proofs.Common.{◌≡◌, ◌≢◌, ℕ, ◌+◌, ◌-◌, ◌<�
 use Rattle.std.proofs.lemmas.Bool.{cases_lt}
 use Rattle.edr_chunk.specs.declared.shapes.GridShape.{GridShape}
 use Rattle.edr_select.specs.declared.plans.GridNode.{GridNode}
-use Rattle.edr_select.specs.Listings.{PlannedValue, ListingValue}
-use Rattle.edr_send.specs.Bands.{band_of, BandsRise, NumbersRise, Rises}
+use Rattle.edr_select.specs.Listings.{PlannedValue, ListingValue, NumbersRise}
+use Rattle.edr_send.specs.Bands.{band_of, BandsRise, Rises}
 
 -- a cell whose band stands below that of the one before it
 pub bands_fall : (shape : GridShape) (cells : List GridNode) (k greatest : ℕ) (cell : GridNode) → k < length cells → (k ≡ 0 → greatest ≡ 0) → ((i : ℕ) (d : GridNode) → i + 1 ≡ k → band_of shape (get_or cells i d) ≡ greatest)

@@ -1,13 +1,12 @@
 -- The tiles of a frame's strips, levels and times: each of these stands behind those before it.
-use Rattle.std.proofs.Common.{◌≡◌, ℕ, suc, ◌+◌, ◌-◌, ◌*◌, ◌/◌, ◌<◌, ◌≤◌, Bool, true, false, List, [], ◌∷◌, ◌++◌, length, take, drop, get_or, All, Contains, Option, None, Some, ap, sym, ◌∙◌, arith, inl, inr, append-nil, length-append, length-take, length-drop, get_or-take, get_or-drop}
+use Rattle.std.proofs.Common.{◌≡◌, ℕ, ◌+◌, ◌-◌, ◌*◌, ◌/◌, ◌<◌, ◌≤◌, Bool, true, false, List, [], ◌∷◌, ◌++◌, length, take, drop, get_or, All, Contains, Option, None, Some, ap, sym, ◌∙◌, arith, inl, inr, append-nil, length-take, length-drop, get_or-take, get_or-drop}
 use Rattle.std.specs.Prelude.{if◌then◌else◌, min, max, IfSome}
 use Rattle.std.specs.List.{flat_map, range_with_len}
 use Rattle.std.proofs.Math.Nat.{mul-le-mul_right}
 use Rattle.std.proofs.lemmas.Bool.{cases_lt}
 use Rattle.std.proofs.lemmas.Grind.{flat_map-append}
-use Rattle.std.proofs.lemmas.List.{take_more, drop_more, length-map, get_or_default}
+use Rattle.std.proofs.lemmas.List.{take_more, drop_more, get_or_default}
 use Rattle.std.proofs.lemmas.List.Elements.{All-nil, All-cons}
-use Rattle.std.proofs.lemmas.List.FromFn.{length-range_with_len}
 use Rattle.edr_chunk.specs.declared.shapes.GridShape.{GridShape}
 use Rattle.edr_chunk.specs.AllPlaces.{at}
 use Rattle.edr_chunk.specs.Places.{Within}
@@ -16,7 +15,7 @@ use Rattle.edr_chunk.specs.LawsOfPlaces.{TilesAreNumbered}
 use Rattle.edr_select.specs.declared.plans.GridNode.{GridNode}
 use Rattle.edr_select.specs.Listings.{place_at}
 use Rattle.edr_select.specs.Listings.{NumbersRise}
-use Rattle.edr_select.specs.Framings.{FrameValue, IsFrame, is_set, cell_at, row_cells, strip_cells, plane_cells, frame_cells, taken, node_count}
+use Rattle.edr_select.specs.Framings.{FrameValue, IsFrame, is_set, cell_at, row_cells, strip_cells, plane_cells, frame_cells, taken}
 use Rattle.edr_send.proofs.BandLaws.{row_above}
 use Rattle.edr_send.proofs.FrameSteps.{Cells, tiles_in, Apart}
 use Rattle.edr_select.specs.ListLaws.{Each, each-flat_map_range, each-map_range, each-flat_map_in, all_member, range-append}

@@ -1,21 +1,15 @@
 -- The document over a frame is valid, and its text is that of its pieces.
-use Rattle.std.proofs.Common.{◌≡◌, ℕ, List, [], ◌∷◌, ◌++◌, All, Option, None, Some, false, ap, sym, ◌∙◌, append-nil}
-use Rattle.std.specs.Prelude.{map, IfSome}
-use Rattle.std.proofs.lemmas.List.{length-map}
-use Rattle.std.proofs.lemmas.List.Elements.{All-nil, All-cons}
+use Rattle.std.proofs.Common.{◌≡◌, ℕ, List, ◌++◌, All, false, ap, sym, ◌∙◌, append-nil}
+use Rattle.std.specs.Prelude.{IfSome}
 use Rattle.covjson_value.specs.declared.coverages.Document.TheVariants.{One}
-use Rattle.covjson_value.specs.Coverages.{IsSample, IsRange, IsValid}
+use Rattle.covjson_value.specs.Coverages.{IsSample}
 use Rattle.covjson_value.specs.Trees.{document_text}
 use Rattle.covjson_write.specs.Laws.{DocumentOfPieces}
 use Rattle.covjson_write.specs.Pieces.{document_begin, document_end}
-use Rattle.edr_chunk.specs.Places.{number}
 use Rattle.edr_chunk.specs.Grids as chunk
-use Rattle.edr_select.specs.declared.plans.GridNode.{GridNode}
-use Rattle.edr_select.specs.Listings.{place_at}
-use Rattle.edr_select.specs.Framings.{FramingValue, IsFraming, frame_cells, cell_value, framed_range, framed_coverage}
+use Rattle.edr_select.specs.Framings.{FramingValue, IsFraming, framed_coverage}
 use Rattle.edr_send.specs.FrameTexts.{framed_coverage_text, framed_text}
-use Rattle.edr_send.proofs.FrameTiles.{cells_count}
-use Rattle.edr_send.proofs.ReplyTexts.{sample_at}
+use Rattle.edr_select.specs.ReplyLaws.{framed_valid}
 
 -- its text is that of its pieces
 pub framed_text_is : DocumentOfPieces → (grid : chunk.Values) (framing : FramingValue) → IsFraming framing → All (λ v. IfSome v IsSample) grid.values → framed_text grid framing ≡ document_text (One (framed_coverage grid framing))

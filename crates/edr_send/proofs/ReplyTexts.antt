@@ -1,35 +1,29 @@
 -- The document of a listing, from all its values.
-use Rattle.std.proofs.Common.{◌≡◌, ℕ, suc, ◌+◌, ◌-◌, ◌*◌, Bool, true, false, List, [], ◌∷◌, ◌++◌, length, take, drop, get_or, All, ℤ, Option, None, Some, refl, ap, sym, ◌∙◌, subst, arith, inl, inr, append_assoc, length-append}
+use Rattle.std.proofs.Common.{◌≡◌, ℕ, suc, ◌+◌, ◌-◌, ◌*◌, Bool, List, [], ◌∷◌, ◌++◌, length, take, drop, All, ℤ, Option, Some, refl, ap, sym, ◌∙◌, subst, arith, append_assoc, length-append}
 use Rattle.std.specs.Prelude.{map, IfSome}
 use Rattle.std.specs.List.{flat_map, slice_range}
 use Rattle.std.proofs.Math.Seq.{take-append_seam, drop-append_seam}
-use Rattle.std.proofs.lemmas.Bool.{cases_lt}
 use Rattle.std.proofs.lemmas.Simd.{map-map}
-use Rattle.std.proofs.lemmas.List.{length-map, map-append, drop-drop, get_or_past}
-use Rattle.std.proofs.lemmas.List.Elements.{All-nil, All-cons, All-head, All-tail, All-append, All-get_or}
+use Rattle.std.proofs.lemmas.List.{length-map, map-append, drop-drop}
 use Rattle.covjson_value.specs.declared.coverages.NdArray.{NdArray}
 use Rattle.covjson_value.specs.declared.coverages.Coverage.{Coverage}
 use Rattle.covjson_value.specs.declared.coverages.Document.{Document}
-use Rattle.covjson_value.specs.declared.coverages.Document.TheVariants.{One, Many}
-use Rattle.covjson_value.specs.Coverages.{IsSample, IsRange, IsValid, IsValidDocument}
-use Rattle.covjson_value.specs.Domains.{count_of}
+use Rattle.covjson_value.specs.Coverages.{IsSample}
 use Rattle.covjson_value.specs.Trees.{document_text}
 use Rattle.covjson_write.specs.Laws.{DocumentOfPieces}
-use Rattle.covjson_write.specs.Pieces.{coverages_from, is_many, coverages_of, document_begin, document_end}
+use Rattle.covjson_write.specs.Pieces.{coverages_from, coverages_of, document_begin, document_end}
 use Rattle.covjson_write.specs.Writers.{with_ranges}
 use Rattle.edr_chunk.specs.declared.shapes.GridShape.{GridShape}
-use Rattle.edr_chunk.specs.Places.{number}
 use Rattle.edr_chunk.specs.Grids as chunk
 use Rattle.edr_chunk.specs.Grids.{value}
 use Rattle.edr_chunk.specs.Tiles.{tile_of}
-use Rattle.edr_edition.specs.Values.{InstanceValue}
-use Rattle.edr_edition.specs.Instances.{IsInstance, values_of}
 use Rattle.edr_edition.specs.Stores.{Subject}
 use Rattle.edr_select.specs.declared.plans.GridNode.{GridNode}
 use Rattle.edr_select.specs.declared.plans.Reply.{Reply}
 use Rattle.edr_select.specs.declared.plans.Reply.TheVariants.{Listed}
-use Rattle.edr_select.specs.Listings.{PlannedValue, ListingValue, IsPlanned, IsListing, place_at, range_over, coverage_of, document_of, listing_document, tiles_of_range, tiles_of_coverage, listing_tiles}
+use Rattle.edr_select.specs.Listings.{PlannedValue, ListingValue, IsListing, place_at, range_over, coverage_of, listing_document, tiles_of_range, tiles_of_coverage, listing_tiles}
 use Rattle.edr_select.specs.Plans.{PlanValue, IsReplyTo, StandsFor}
+use Rattle.edr_select.specs.ReplyLaws.{told_of, document_valid}
 use Rattle.edr_send.specs.Bands.{listing_text}
 use Rattle.edr_send.specs.Gathered.{places_of_range, places_of_coverage, places_of_coverages, ranges_cut, coverages_cut, size_of, sizes_of}
 

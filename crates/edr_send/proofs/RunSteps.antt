@@ -17,8 +17,8 @@ use Rattle.edr_chunk.specs.Tiles.{tile_shape, tiles, tile_of}
 use Rattle.edr_chunk.specs.LawsOfPlaces.{TilesAreNumbered}
 use Rattle.edr_select.specs.declared.plans.GridNode.{GridNode}
 use Rattle.edr_select.specs.Samples.{ascending_once}
-use Rattle.edr_select.specs.Listings.{place_at, tiles_of_range}
-use Rattle.edr_send.specs.Bands.{first_tile, band_of, BandsRise, NumbersRise}
+use Rattle.edr_select.specs.Listings.{place_at, tiles_of_range, NumbersRise}
+use Rattle.edr_send.specs.Bands.{first_tile, band_of, BandsRise}
 use Rattle.edr_send.proofs.Ascending.{once_append, once_none}
 use Rattle.edr_send.proofs.TileSteps.{take_on, get_or-range, length-range}
 use Rattle.edr_send.proofs.BandLaws.{behind, below_band, from_band, band_inside, below_parameter, from_parameter, parameter_inside}

@@ -1,6 +1,5 @@
 -- Bands of tiles, and texts whose values' tiles rise band by band; for private clauses.
-use Rattle.std.specs.Prelude.{◌≡◌, ℕ, ◌<◌, ◌++◌, List, [], ◌∷◌, length, map}
-use Rattle.std.specs.List.{slice_index_or}
+use Rattle.std.specs.Prelude.{◌≡◌, ℕ, ◌++◌, List, [], ◌∷◌, map}
 use Rattle.std.specs.List.Sorted.{IsNonDecreasingBy}
 use Rattle.covjson_write.specs.Pieces.{coverages_from, document_begin, document_end}
 use Rattle.edr_chunk.specs.declared.shapes.GridShape.{GridShape}
@@ -8,7 +7,7 @@ use Rattle.edr_chunk.specs.AllPlaces.{at}
 use Rattle.edr_chunk.specs.Grids as chunk
 use Rattle.edr_chunk.specs.Tiles.{tile_of}
 use Rattle.edr_select.specs.declared.plans.GridNode.{GridNode}
-use Rattle.edr_select.specs.Listings.{PlannedValue, ListingValue, coverage_of}
+use Rattle.edr_select.specs.Listings.{PlannedValue, ListingValue, coverage_of, NumbersRise}
 
 -- the first tile of a node's band, which is the row of tiles of a parameter at a time and a level
 abbrev pub first_tile : GridShape → ℕ → GridNode → ℕ

@@ -1,8 +1,8 @@
 //! Bands of tiles: the tiles of one parameter, time, level and row of tiles.
 ghost use Rattle.std.specs.Prelude.{◌≡◌, ◌<◌, ◌^◌, ◌↔◌, All, IsTrue, MatchOption};
 ghost use Rattle.edr_chunk.specs.Places.{Within, IsShape, count};
-ghost use Rattle.edr_select.specs.Listings.{PlannedValue, place_at};
-ghost use Rattle.edr_send.specs.Bands.{band_of, BandsRise, NumbersRise, Rises};
+ghost use Rattle.edr_select.specs.Listings.{PlannedValue, place_at, NumbersRise};
+ghost use Rattle.edr_send.specs.Bands.{band_of, BandsRise, Rises};
 
 use crate::slots::tile_number;
 use edr_chunk::{GridPlace, GridShape};

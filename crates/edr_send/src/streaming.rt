@@ -8,9 +8,9 @@ ghost use Rattle.covjson_write.specs.Pieces.{values_from, range_end, range_piece
 ghost use Rattle.covjson_write.specs.Writers.{without_range};
 ghost use Rattle.edr_chunk.specs.Tiles.{tiles};
 ghost use Rattle.edr_select.specs.Samples.{ascending_once};
-ghost use Rattle.edr_select.specs.Listings.{range_over, coverage_of, tiles_of_range, tiles_of_coverage, listing_tiles, IsPlanned};
+ghost use Rattle.edr_select.specs.Listings.{range_over, coverage_of, tiles_of_range, tiles_of_coverage, listing_tiles, IsPlanned, NumbersRise};
 ghost use Rattle.edr_send.specs.Filling.{grid_of, Adds};
-ghost use Rattle.edr_send.specs.Bands.{BandsRise, NumbersRise, Rises, listing_text};
+ghost use Rattle.edr_send.specs.Bands.{BandsRise, Rises, listing_text};
 
 use crate::value_runs::{Run, write_runs};
 use covjson_write::Writer;

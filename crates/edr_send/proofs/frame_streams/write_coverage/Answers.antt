@@ -10,7 +10,7 @@ use Rattle.covjson_write.specs.Pieces.{coverage_begin, head_of, ranges_from}
 use Rattle.covjson_write.specs.Writers.{WriterValue, with_coverage}
 use Rattle.edr_select.specs.Framings.{framed_range}
 use Rattle.edr_send.specs.Filling.{grid_of}
-use Rattle.edr_send.proofs.FrameTiles.{cells_count}
+use Rattle.edr_select.specs.ReplyLaws.{cells_count}
 use Rattle.edr_send.proofs.TextSteps.{writes_third, writes_two}
 use Rattle.edr_send.proofs.frame_streams.write_coverage.Goals as goal
 

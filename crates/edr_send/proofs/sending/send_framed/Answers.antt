@@ -18,7 +18,7 @@ use Rattle.edr_send.specs.FrameTexts.{framed_text}
 use Rattle.edr_send.specs.Filling.{grid_of}
 use Rattle.edr_send.proofs.Additions.{opens_adds}
 use Rattle.edr_send.proofs.FramingTexts.{framed_text_is}
-use Rattle.edr_send.proofs.ReplyTexts.{instance_samples}
+use Rattle.edr_select.specs.ReplyLaws.{instance_samples}
 use Rattle.edr_send.proofs.sending.send_framed.Goals as goal
 
 some_is : {a b : Document} → Some a ≡ Some b → a ≡ b

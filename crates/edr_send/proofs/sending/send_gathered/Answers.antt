@@ -16,7 +16,8 @@ use Rattle.edr_select.specs.Listings.{ListingValue}
 use Rattle.edr_send.specs.Filling.{grid_of}
 use Rattle.edr_send.specs.Gathered.{places_of_coverages}
 use Rattle.edr_send.proofs.Additions.{opens_all, opens_begun}
-use Rattle.edr_send.proofs.ReplyTexts.{tiles_are, values_size, instance_samples, listed_stands, text_is}
+use Rattle.edr_send.proofs.ReplyTexts.{tiles_are, values_size, listed_stands, text_is}
+use Rattle.edr_select.specs.ReplyLaws.{instance_samples}
 use Rattle.edr_send.proofs.sending.send_gathered.Goals as goal
 
 pub write_document-requires : goal.write_document-requires

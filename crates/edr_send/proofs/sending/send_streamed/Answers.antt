@@ -12,7 +12,8 @@ use Rattle.edr_select.specs.Listings.{ListingValue, listing_tiles}
 use Rattle.edr_send.specs.Bands.{listing_text}
 use Rattle.edr_send.specs.Filling.{grid_of}
 use Rattle.edr_send.proofs.Additions.{opens_adds}
-use Rattle.edr_send.proofs.ReplyTexts.{instance_samples, listed_stands, plan_text_is}
+use Rattle.edr_send.proofs.ReplyTexts.{listed_stands, plan_text_is}
+use Rattle.edr_select.specs.ReplyLaws.{instance_samples}
 use Rattle.edr_send.proofs.sending.send_streamed.Goals as goal
 
 pub returns-clause-text : goal.returns-clause-text
