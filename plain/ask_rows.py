@@ -13,7 +13,7 @@ import subprocess
 import sys
 from pathlib import Path
 
-from worked import editions, levels, pages, parameters, places, refusals, several, targets, times
+from worked import areas, editions, frames, levels, pages, parameters, places, refusals, several, targets, times
 from worked import large as large_replies
 from worked.texts import FIRST, Row
 
@@ -21,7 +21,7 @@ from worked.texts import FIRST, Row
 def all_rows(large: bool) -> list[Row]:
     """All rows, with the large ones where they are asked for."""
     found = refusals.rows() + targets.rows() + places.rows() + levels.rows() + several.rows() + times.rows()
-    found += parameters.rows() + pages.rows() + editions.rows()
+    found += parameters.rows() + pages.rows() + editions.rows() + areas.rows() + frames.rows()
     return found + (large_replies.rows() if large else [])
 
 

@@ -5,12 +5,15 @@ from dataclasses import replace
 from worked.grids import POLYGON, WIDE_COUNT, WIDE_FEED, answered, deep, refused, row_of_points
 from worked.texts import (
     A,
+    AREA,
     AT_T0,
     COMPOSITE,
+    CUBE,
     DEEP,
     LEVEL,
     POSITION,
     PUBLISH,
+    RADIUS,
     Row,
     T0,
     T1,
@@ -47,9 +50,24 @@ def many_ranges(count: int, values_: str, along: tuple[str, str]) -> str:
     return ",".join(f'"{number:04}":{range_along(*along, values_)}' for number in range(count))
 
 
+def line(last: int) -> str:
+    """A target of a polygon without area, along the x axis."""
+    return f"{AREA}POLYGON((0 0,{last} 0,0 0,0 0))"
+
+
+def ends(last: int) -> str:
+    """A target of two polygons, which take the nodes at the ends alone."""
+    return f"{AREA}MULTIPOLYGON(((0 0,0 0,0 0,0 0)),(({last} 0,{last} 0,{last} 0,{last} 0)))"
+
+
+def disc(x: int, within: int) -> str:
+    """A target of a disc around a point of the x axis."""
+    return f"{RADIUS}POINT({x} 0)&within={within}&within-units=m"
+
+
 def rows() -> list[Row]:
     """Replies of 2,000,000 values and of 5,000 coverages, and of one more."""
-    found = many_parameter_rows() + many_node_rows() + many_level_rows() + many_coverage_rows()
+    found = many_parameter_rows() + many_node_rows() + many_level_rows() + many_coverage_rows() + long_frame_rows()
     return [replace(row, large=True) for row in found]
 
 
@@ -83,15 +101,40 @@ def many_parameter_rows() -> list[Row]:
 
 
 def many_node_rows() -> list[Row]:
-    """1,000 parameters at 2,001 nodes, over one time."""
+    """1,000 parameters at 2,001 nodes, over one time; nodes of a frame that aren't taken count too."""
     samples = dict.fromkeys([f"{number:04}" for number in range(1000)], ",".join("7" * 2001))
     wide = grid(f'"x":{steps(0, 2000, 2001)},"y":{values(0)},"t":{values(T0)}', TYX, "1,1,2001", samples, many_parameters(1000))
     of_wide = feed(collection("g"), instance("g", "1", wide), PUBLISH)
     axes = tuples(values(T0), ",".join(f"[{x},0]" for x in range(2000)))
     exact = covered("MultiPoint", axes, many_ranges(1000, ",".join("7" * 2000), (COMPOSITE, "2000")), many_parameters(1000))
+    grid_axes = f'{{"t":{values(T0)},"x":{steps(0, 1999, 2000)},"y":{values(0)}}}'
+    all_nodes, two_nodes = (
+        covered("Grid", grid_axes, many_ranges(1000, some, (TYX, "1,1,2000")), many_parameters(1000))
+        for some in (",".join("7" * 2000), f"7,{'null,' * 1998}7")
+    )
     return [
         *answered(exact, POSITION + row_of_points(2000), feed=of_wide),
-        *refused(26, POSITION + row_of_points(2001), feed=of_wide),
+        *answered(all_nodes, CUBE + "0,0,1999,0", line(1999), disc(999, 1000), feed=of_wide) + answered(two_nodes, ends(1999), feed=of_wide),
+        *refused(26, POSITION + row_of_points(2001), CUBE + "0,0,2000,0", line(2000), disc(1000, 1000), ends(2000), feed=of_wide),
+    ]
+
+
+def long_frame_rows() -> list[Row]:
+    """2,000,001 nodes of one parameter, beside each other."""
+    count = 2_000_001
+    some = f"6,{'7,' * (count - 2)}8"
+    long = grid(f'"x":{steps(0, count - 1, count)},"y":{values(0)},"t":{values(T0)}', TYX, f"1,1,{count}", {"a": some}, A)
+    of_long = feed(collection("g"), instance("g", "1", long), PUBLISH)
+
+    def reply(first: int, written: str) -> str:
+        axes = f'{{"t":{values(T0)},"x":{steps(first, first + count - 2, count - 1)},"y":{values(0)}}}'
+        return covered("Grid", axes, f'"a":{range_along(TYX, f"1,1,{count - 1}", written)}', A)
+
+    return [
+        *answered(reply(0, some[:-2]), CUBE + "0,0,1999999,0", line(1_999_999), disc(999_999, 1_000_000), feed=of_long),
+        *answered(reply(1, some[2:]), CUBE + "1,-5,2000001,0", disc(1_000_001, 1_000_000), feed=of_long),
+        *answered(reply(0, f"6,{'null,' * (count - 3)}7"), ends(1_999_999), feed=of_long),
+        *refused(26, CUBE + "0,0,2000000,0", line(2_000_000), disc(1_000_000, 1_000_000), ends(2_000_000), feed=of_long),
     ]
 
 

@@ -1,5 +1,6 @@
 """Points: on borders, outside, at equal distances, on tiles, and where samples are missing."""
 
+from worked.fields import BOTH, digits, tiled_feed
 from worked.grids import EAST, NORTH, TWO_TIMES, USUAL, alone, answered, point, refused, series
 from worked.texts import (
     A,
@@ -90,26 +91,16 @@ def axis_rows() -> list[Row]:
 
 def tiled_rows() -> list[Row]:
     """A grid of 130 by 66 nodes, two parameters, times and levels, of which each sample says in digits where it stands."""
-
-    def digits(name: int, t: int, z: int, y: int, x: int) -> str:
-        return f"{name}{t}{z}{y:03}{x:03}"
-
-    both = (1, 2)
-    samples = {
-        name: ",".join(digits(number, t, z, y, x) for t in both for z in both for y in range(66) for x in range(130))
-        for number, name in enumerate("ab", 1)
-    }
-    axes = f'"x":{steps(0, 1290, 130)},"y":{steps(0, 650, 66)},"z":{values(0, 10)},{TWO_TIMES}'
-    of_tiles = feed(collection("g", vertical="depth"), instance("g", "1", grid(axes, TZYX, "2,2,66,130", samples, referencing=DEEP)), PUBLISH)
+    of_tiles = tiled_feed()
     nodes = [(0, 0), (63, 0), (64, 0), (127, 0), (128, 0), (129, 0), (0, 63), (63, 63), (64, 63), (0, 64), (64, 64), (128, 64), (129, 65)]
 
     def reply(x: int, y: int) -> str:
-        ranges = [range_along(TZYX, "2,2,1,1", ",".join(digits(number, t, z, y, x) for t in both for z in both)) for number in both]
+        ranges = [range_along(TZYX, "2,2,1,1", ",".join(digits(number, t, z, y, x) for t in BOTH for z in BOTH)) for number in BOTH]
         grid_axes = axes_of(10 * x, 10 * y, values(T0, T1), values(0, 10))
         return covered("Grid", grid_axes, f'"a":{ranges[0]},"b":{ranges[1]}', referencing=DEEP)
 
     several = tuples(values(T1), ",".join(f"[{10 * x},{10 * y},0]" for x, y in nodes), '"x","y","z"')
-    some = [range_along(COMPOSITE, str(len(nodes)), ",".join(digits(number, 2, 1, y, x) for x, y in nodes)) for number in both]
+    some = [range_along(COMPOSITE, str(len(nodes)), ",".join(digits(number, 2, 1, y, x) for x, y in nodes)) for number in BOTH]
     points = ",".join(f"{10 * x} {10 * y}" for x, y in reversed(nodes))
     document = covered("MultiPoint", several, f'"a":{some[0]},"b":{some[1]}', referencing=DEEP)
     return [

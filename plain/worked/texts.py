@@ -121,4 +121,5 @@ def collected(*coverages: str) -> str:
 
 TIME, LEVEL, COMPOSITE = '"t"', '"z"', '"composite"'
 POSITION = "/collections/g/position?coords="
+RADIUS, AREA, CUBE = "/collections/g/radius?coords=", "/collections/g/area?coords=", "/collections/g/cube?bbox="
 AT_T0 = f"&datetime={T0}"
