@@ -30,6 +30,13 @@ const SEVERAL: &[u8] =
 const IN_POLYGON: &[u8] =
     b"{\"domain\":{\"axes\":{\"t\":{\"values\":[\"2024-01-01T00:00:00Z\"]},\"x\":{\"values\":[0,10]},\"y\":{\"values\":[0]}},\"domainType\":\"Grid\",\"referencing\":[{\"coordinates\":[\"x\",\"y\"],\"system\":{\"id\":\"plane\",\"type\":\"ProjectedCRS\"}},{\"coordinates\":[\"t\"],\"system\":{\"calendar\":\"Gregorian\",\"type\":\"TemporalRS\"}}],\"type\":\"Domain\"},\"parameters\":{\"temp\":{\"observedProperty\":{\"label\":{\"en\":\"Temperature\"}},\"type\":\"Parameter\"}},\"ranges\":{\"temp\":{\"axisNames\":[\"t\",\"y\",\"x\"],\"dataType\":\"integer\",\"shape\":[1,1,2],\"type\":\"NdArray\",\"values\":[3,4]}},\"type\":\"Coverage\"}";
 
+// A row of 70 nodes, which is more than a tile has, each value being its node's x.
+const WIDE: &[u8] =
+    b"{\"domain\":{\"axes\":{\"t\":{\"values\":[\"2024-01-01T00:00:00Z\"]},\"x\":{\"num\":70,\"start\":0,\"stop\":69},\"y\":{\"values\":[0]}},\"domainType\":\"Grid\",\"referencing\":[{\"coordinates\":[\"x\",\"y\"],\"system\":{\"id\":\"plane\",\"type\":\"ProjectedCRS\"}},{\"coordinates\":[\"t\"],\"system\":{\"calendar\":\"Gregorian\",\"type\":\"TemporalRS\"}}],\"type\":\"Domain\"},\"parameters\":{\"temp\":{\"observedProperty\":{\"label\":{\"en\":\"Temperature\"}},\"type\":\"Parameter\"}},\"ranges\":{\"temp\":{\"axisNames\":[\"t\",\"y\",\"x\"],\"dataType\":\"integer\",\"shape\":[1,1,70],\"type\":\"NdArray\",\"values\":[0,1,2,3,4,5,6,7,8,9,10,11,12,13,14,15,16,17,18,19,20,21,22,23,24,25,26,27,28,29,30,31,32,33,34,35,36,37,38,39,40,41,42,43,44,45,46,47,48,49,50,51,52,53,54,55,56,57,58,59,60,61,62,63,64,65,66,67,68,69]}},\"type\":\"Coverage\"}";
+
+const OVER_TWO_TILES: &[u8] =
+    b"{\"domain\":{\"axes\":{\"t\":{\"values\":[\"2024-01-01T00:00:00Z\"]},\"x\":{\"num\":7,\"start\":60,\"stop\":66},\"y\":{\"values\":[0]}},\"domainType\":\"Grid\",\"referencing\":[{\"coordinates\":[\"x\",\"y\"],\"system\":{\"id\":\"plane\",\"type\":\"ProjectedCRS\"}},{\"coordinates\":[\"t\"],\"system\":{\"calendar\":\"Gregorian\",\"type\":\"TemporalRS\"}}],\"type\":\"Domain\"},\"parameters\":{\"temp\":{\"observedProperty\":{\"label\":{\"en\":\"Temperature\"}},\"type\":\"Parameter\"}},\"ranges\":{\"temp\":{\"axisNames\":[\"t\",\"y\",\"x\"],\"dataType\":\"integer\",\"shape\":[1,1,7],\"type\":\"NdArray\",\"values\":[60,61,62,63,64,65,66]}},\"type\":\"Coverage\"}";
+
 const INSTANCE: &[u8] =
     b"{\"crs\":[\"plane\"],\"data_queries\":{\"area\":{\"link\":{\"href\":\"/collections/c/instances/2/area\",\"rel\":\"data\"}},\"corridor\":{\"link\":{\"href\":\"/collections/c/instances/2/corridor\",\"rel\":\"data\"}},\"cube\":{\"link\":{\"href\":\"/collections/c/instances/2/cube\",\"rel\":\"data\"}},\"position\":{\"link\":{\"href\":\"/collections/c/instances/2/position\",\"rel\":\"data\"}},\"radius\":{\"link\":{\"href\":\"/collections/c/instances/2/radius\",\"rel\":\"data\"}},\"trajectory\":{\"link\":{\"href\":\"/collections/c/instances/2/trajectory\",\"rel\":\"data\"}}},\"extent\":{\"spatial\":{\"bbox\":[[0,0,10,0]],\"crs\":\"plane\"},\"temporal\":{\"interval\":[[\"2024-01-01T00:00:00Z\",\"2024-01-01T00:00:00Z\"]]}},\"id\":\"2\",\"links\":[],\"output_formats\":[\"CoverageJSON\"],\"parameter_names\":{\"temp\":{\"observedProperty\":{\"label\":{\"en\":\"Temperature\"}},\"type\":\"Parameter\"}},\"title\":\"C\"}";
 
@@ -243,6 +250,13 @@ fn runs_end_as_they_have_to(rt: HostRuntime) -> Result<(), Fail> {
             input: FEED,
             status: 0,
             output: IN_POLYGON,
+            errors: b"",
+        },
+        Case {
+            words: &[b"ask", b"/collections/grid/cube?bbox=60,0,66,0"],
+            input: WIDE,
+            status: 0,
+            output: OVER_TWO_TILES,
             errors: b"",
         },
         Case {
