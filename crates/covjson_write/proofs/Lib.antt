@@ -1,3 +1,4 @@
 pub mod HeadLemmas
+pub mod HeadTextLemmas
 pub mod ValueLemmas
 pub mod SendLemmas

@@ -1,4 +1,5 @@
 pub mod Pieces
+pub mod HeadTexts
 pub mod Writers
 pub mod PieceLaws
 pub mod Laws

@@ -1,135 +1,132 @@
 //! The beginnings of ranges.
-ghost use Rattle.std.specs.Prelude.{◌≡◌, ◌++◌, IfOk, OnOk, codes, map, [], false};
-ghost use Rattle.serde_json.specs.View.{view, items_of};
-ghost use Rattle.serde_json.specs.Written.{items_have_float};
-ghost use Rattle.covjson_value.specs.Domains.{composite_alone, range_axis_of, range_tuples_of, range_axes};
+ghost use Rattle.std.specs.Prelude.{◌≡◌, ◌++◌, ◌||◌, IfOk, OnOk, codes, map, option_map, is_some, []};
+ghost use Rattle.json.specs.Print.{quoted};
+ghost use Rattle.covjson_value.specs.declared.axis_names.AxisName.TheVariants.{Composite};
+ghost use Rattle.covjson_value.specs.AxisNames.{axis_key};
+ghost use Rattle.covjson_value.specs.Domains.{coordinate_key, range_axis_of, range_tuples_of, range_axes};
 ghost use Rattle.covjson_value.specs.Trees.{name_data, length_data};
-ghost use Rattle.covjson_value.specs.Puts.{axis_alone};
 ghost use Rattle.covjson_write.specs.Pieces.{list_text, array_begin};
+ghost use Rattle.covjson_write.specs.HeadTexts.{item_before, item_text, end_if, length_text};
 
-use covjson_value::{AxisName, CoordinateName, Domain, axis_key};
+use crate::leaves::{push_number, quoted_name};
+use covjson_value::{CoordinateName, Domain};
 use edr_base::{OutOfMemory, Text};
-use serde_json::Value;
 use std::alloc::Global;
 
-// The name of an axis, where it is one of the domain's ranges.
+// The text of a small range as far as its values has fewer bytes.
+const OPENING_SIZE: usize = 128;
+
+// What stands before an item of a list that is begun with its first one.
+fn push_before(text: &mut Vec<u8>, later: bool, begin: &[u8]) -> Result<(), OutOfMemory>
+    ensures { OnOk result (text.new.items ≡ text.old.items ++ item_before later begin.now) }
+{
+    let before = if later { b"," } else { begin };
+    text.extend_from_slice(before)?;
+    Ok(())
+}
+
+// The name of an axis, where it is one of the domain's ranges. The answer is whether some stand by now.
 fn push_name(
-    names: &mut Vec<Value>,
-    alloc: Global,
+    text: &mut Vec<u8>,
+    later: bool,
     domain: &Domain,
     name: CoordinateName,
-) -> Result<(), OutOfMemory>
-    ensures { OnOk result (map view names.new.items
-        ≡ map view names.old.items ++ map name_data (axis_alone name (range_axis_of domain.now name))) }
+) -> Result<bool, OutOfMemory>
+    ensures text { OnOk result (text.new.items ≡ text.old.items
+        ++ item_text later (codes "\"axisNames\":[") (option_map (λ _. quoted (coordinate_key name)) (range_axis_of domain.now name))) }
+    ensures later { IfOk result (λ more. more ≡ later || is_some (range_axis_of domain.now name)) }
 {
-    if domain.range_axis(name).is_some() {
-        names.push(Value::try_from_str(alloc, name.letter())?)?;
+    if domain.range_axis(name).is_none() {
+        return Ok(later);
     }
-    Ok(())
+    push_before(text, later, b"\"axisNames\":[")?;
+    text.extend_from_slice(quoted_name(name))?;
+    Ok(true)
 }
 
 // Its length, there.
 fn push_length(
-    lengths: &mut Vec<Value>,
+    text: &mut Vec<u8>,
+    later: bool,
     domain: &Domain,
     name: CoordinateName,
-) -> Result<(), OutOfMemory>
-    ensures { OnOk result (map view lengths.new.items
-        ≡ map view lengths.old.items ++ map length_data (axis_alone name (range_axis_of domain.now name))) }
+) -> Result<bool, OutOfMemory>
+    ensures text { OnOk result (text.new.items ≡ text.old.items
+        ++ item_text later (codes ",\"shape\":[") (option_map length_text (range_axis_of domain.now name))) }
+    ensures later { IfOk result (λ more. more ≡ later || is_some (range_axis_of domain.now name)) }
 {
-    if let Some(values) = domain.range_axis(name) {
-        lengths.push(Value::from(values.len()))?;
-    }
-    Ok(())
+    let Some(values) = domain.range_axis(name) else {
+        return Ok(later);
+    };
+    push_before(text, later, b",\"shape\":[")?;
+    push_number(text, values.len())?;
+    Ok(true)
 }
 
 // The name of the composite axis, where that is one.
-fn push_composite(names: &mut Vec<Value>, alloc: Global, domain: &Domain) -> Result<(), OutOfMemory>
-    ensures { OnOk result (map view names.new.items
-        ≡ map view names.old.items ++ map name_data (composite_alone (range_tuples_of domain.now))) }
+#[tactic(auto, using(crate::proofs::HeadTextLemmas::composite_item_put))]
+fn push_composite(text: &mut Vec<u8>, later: bool, domain: &Domain) -> Result<bool, OutOfMemory>
+    ensures text { OnOk result (text.new.items ≡ text.old.items
+        ++ item_text later (codes "\"axisNames\":[") (option_map (λ _. quoted (axis_key Composite)) (range_tuples_of domain.now))) }
+    ensures later { IfOk result (λ more. more ≡ later || is_some (range_tuples_of domain.now)) }
 {
-    if domain.range_tuples().is_some() {
-        names.push(Value::try_from_str(alloc, axis_key(AxisName::Composite))?)?;
+    if domain.range_tuples().is_none() {
+        return Ok(later);
     }
-    Ok(())
+    push_before(text, later, b"\"axisNames\":[")?;
+    text.extend_from_slice(b"\"composite\"")?;
+    Ok(true)
 }
 
 // Its length, there.
-fn push_tuples(lengths: &mut Vec<Value>, domain: &Domain) -> Result<(), OutOfMemory>
-    ensures { OnOk result (map view lengths.new.items
-        ≡ map view lengths.old.items ++ map length_data (composite_alone (range_tuples_of domain.now))) }
+fn push_tuples(text: &mut Vec<u8>, later: bool, domain: &Domain) -> Result<bool, OutOfMemory>
+    ensures text { OnOk result (text.new.items ≡ text.old.items
+        ++ item_text later (codes ",\"shape\":[") (option_map length_text (range_tuples_of domain.now))) }
+    ensures later { IfOk result (λ more. more ≡ later || is_some (range_tuples_of domain.now)) }
 {
-    if let Some(tuples) = domain.range_tuples() {
-        lengths.push(Value::from(tuples.len()))?;
+    let Some(tuples) = domain.range_tuples() else {
+        return Ok(later);
+    };
+    push_before(text, later, b",\"shape\":[")?;
+    push_number(text, tuples.len())?;
+    Ok(true)
+}
+
+fn push_end(text: &mut Vec<u8>, later: bool, end: &[u8]) -> Result<(), OutOfMemory>
+    ensures { OnOk result (text.new.items ≡ text.old.items ++ end_if later end.now) }
+{
+    if later {
+        text.extend_from_slice(end)?;
     }
-    Ok(())
-}
-
-fn axis_names(alloc: Global, domain: &Domain) -> Result<Vec<Value>, OutOfMemory>
-    ensures { IfOk result (λ names. map view names.items ≡ map name_data (range_axes domain.now)) }
-{
-    let mut names = Vec::new(alloc);
-    push_name(&mut names, alloc, domain, CoordinateName::T)?;
-    push_name(&mut names, alloc, domain, CoordinateName::Z)?;
-    push_name(&mut names, alloc, domain, CoordinateName::Y)?;
-    push_name(&mut names, alloc, domain, CoordinateName::X)?;
-    push_composite(&mut names, alloc, domain)?;
-    Ok(names)
-}
-
-fn shape(alloc: Global, domain: &Domain) -> Result<Vec<Value>, OutOfMemory>
-    ensures { IfOk result (λ lengths. map view lengths.items ≡ map length_data (range_axes domain.now)) }
-{
-    let mut lengths = Vec::new(alloc);
-    push_length(&mut lengths, domain, CoordinateName::T)?;
-    push_length(&mut lengths, domain, CoordinateName::Z)?;
-    push_length(&mut lengths, domain, CoordinateName::Y)?;
-    push_length(&mut lengths, domain, CoordinateName::X)?;
-    push_tuples(&mut lengths, domain)?;
-    Ok(lengths)
-}
-
-// Puts a list between two texts behind a text, unless it is empty.
-#[tactic(auto, using(crate::proofs::HeadLemmas::list_none, crate::proofs::HeadLemmas::list_some, crate::proofs::HeadLemmas::list_added))]
-fn push_list(
-    text: &mut Vec<u8>,
-    alloc: Global,
-    before: &[u8],
-    list: Vec<Value>,
-    behind: &[u8],
-) -> Result<(), OutOfMemory>
-    requires { items_have_float (items_of (map view list.items)) ≡ false }
-    ensures { OnOk result (text.new.items ≡ text.old.items ++ list_text before.now (map view list.items) behind.now) }
-{
-    if list.is_empty() {
-        return Ok(());
-    }
-    let tree = Value::Array(list);
-    let list = tree.to_vec(alloc)?;
-    text.extend_from_slice(before)?;
-    text.extend_from_slice(&list)?;
-    text.extend_from_slice(behind)?;
     Ok(())
 }
 
 // The names of the axes of a domain's ranges, where they have some.
-#[tactic(auto, using(crate::proofs::HeadLemmas::names_no_float))]
-fn push_names(text: &mut Vec<u8>, alloc: Global, domain: &Domain) -> Result<(), OutOfMemory>
+fn push_names(text: &mut Vec<u8>, domain: &Domain) -> Result<(), OutOfMemory>
     ensures { OnOk result (text.new.items
         ≡ text.old.items ++ list_text (codes "\"axisNames\":") (map name_data (range_axes domain.now)) (codes ",")) }
 {
-    let names = axis_names(alloc, domain)?;
-    push_list(text, alloc, b"\"axisNames\":", names, b",")
+    let times = push_name(text, false, domain, CoordinateName::T)?;
+    let levels = push_name(text, times, domain, CoordinateName::Z)?;
+    let rows = push_name(text, levels, domain, CoordinateName::Y)?;
+    let columns = push_name(text, rows, domain, CoordinateName::X)?;
+    let some = push_composite(text, columns, domain)?;
+    push_end(text, some, b"],")?;
+    Ok(())
 }
 
 // Their lengths, there.
-#[tactic(auto, using(crate::proofs::HeadLemmas::lengths_no_float))]
-fn push_shape(text: &mut Vec<u8>, alloc: Global, domain: &Domain) -> Result<(), OutOfMemory>
+fn push_shape(text: &mut Vec<u8>, domain: &Domain) -> Result<(), OutOfMemory>
     ensures { OnOk result (text.new.items
         ≡ text.old.items ++ list_text (codes ",\"shape\":") (map length_data (range_axes domain.now)) []) }
 {
-    let lengths = shape(alloc, domain)?;
-    push_list(text, alloc, b",\"shape\":", lengths, b"")
+    let times = push_length(text, false, domain, CoordinateName::T)?;
+    let levels = push_length(text, times, domain, CoordinateName::Z)?;
+    let rows = push_length(text, levels, domain, CoordinateName::Y)?;
+    let columns = push_length(text, rows, domain, CoordinateName::X)?;
+    let some = push_tuples(text, columns, domain)?;
+    push_end(text, some, b"]")?;
+    Ok(())
 }
 
 /// What stands between the key of a range over a domain and its values (OGC 21-069r2, NdArray objects). Want of memory is
@@ -137,11 +134,11 @@ fn push_shape(text: &mut Vec<u8>, alloc: Global, domain: &Domain) -> Result<(), 
 pub fn opening_text(alloc: Global, domain: &Domain) -> Result<Text, OutOfMemory>
     ensures { IfOk result (λ text. text ≡ codes ":" ++ array_begin (range_axes domain.now)) }
 {
-    let mut text = Vec::new(alloc);
+    let mut text = Vec::with_capacity(alloc, OPENING_SIZE)?;
     text.extend_from_slice(b":{")?;
-    push_names(&mut text, alloc, domain)?;
+    push_names(&mut text, domain)?;
     text.extend_from_slice(b"\"dataType\":\"integer\"")?;
-    push_shape(&mut text, alloc, domain)?;
+    push_shape(&mut text, domain)?;
     text.extend_from_slice(b",\"type\":\"NdArray\",\"values\":[")?;
     Ok(Text::from_vec(text))
 }

@@ -2,12 +2,17 @@
 #![tactic(auto)]
 
 mod axis_texts;
+mod domain_texts;
 mod heads;
 mod laws;
+mod leaves;
+mod parameter_texts;
 mod pieces;
 mod range_heads;
+mod regular_axes;
 mod sending;
 mod stages;
+mod system_texts;
 mod values;
 mod whole;
 mod writer;

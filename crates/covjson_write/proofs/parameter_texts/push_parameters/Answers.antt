@@ -1,0 +1,14 @@
+use Rattle.std.proofs.Common.{◌++◌, codes, ap, ◌∙◌}
+use Rattle.covjson_value.specs.declared.coverages.Parameter.{Parameter}
+use Rattle.covjson_write.specs.HeadTexts.{keyed_parameter}
+use Rattle.covjson_write.proofs.HeadTextLemmas.{item_put, parameters_put}
+use Rattle.covjson_write.proofs.parameter_texts.push_parameters.Goals as goal
+
+pub loop-place-preserved : goal.loop-place-preserved
+loop-place-preserved c =
+    item_put keyed_parameter c.args.parameters.now c.loop-place.place _ (c.args.text.now.items ++ codes "{") c.loop-place.text.items c.push_comma.new.text.items _ c.loop-place-test.true c.loop-place.invariant c.in_ok-push_comma.ensures
+    (c.in_ok-push_parameter.ensures ∙ ap (λ (p : Parameter). c.push_comma.new.text.items ++ keyed_parameter p) c.index-parameters-place.is)
+
+pub returns : goal.returns
+returns c =
+    parameters_put c.args.parameters.now c.loop-place.place c.args.text.now.items c.loop-place.text.items _ c.loop-place-test.false c.loop-place.invariant c.in_ok-push-2.ensures.items

@@ -1,0 +1,124 @@
+//! The texts of the systems of a domain's coordinates.
+ghost use Rattle.std.specs.Prelude.{◌≡◌, ◌++◌, OnOk, IfSome, IsUtf8, codes};
+ghost use Rattle.json.specs.Print.{quoted};
+ghost use Rattle.serde_json.specs.Written.{compact_text};
+ghost use Rattle.covjson_value.specs.declared.domains.CoordinateName.TheVariants.{T, Z};
+ghost use Rattle.covjson_value.specs.Domains.{has_coordinate};
+ghost use Rattle.covjson_value.specs.Coverages.{IsReferencing};
+ghost use Rattle.covjson_value.specs.Trees.{text_if_some, horizontal_data, vertical_data, temporal_data, referencing_data};
+ghost use Rattle.covjson_write.specs.HeadTexts.{name_member, later_if};
+
+use crate::leaves::push_quoted;
+use covjson_value::{CoordinateName, Domain, Referencing};
+use edr_base::{OutOfMemory, Text};
+use std::alloc::Global;
+
+fn push_name(text: &mut Vec<u8>, alloc: Global, name: &Text) -> Result<(), OutOfMemory>
+    requires { IsUtf8 name.now }
+    ensures { OnOk result (text.new.items ≡ text.old.items ++ (codes "\"id\":" ++ (quoted name.now ++ codes ","))) }
+{
+    text.extend_from_slice(b"\"id\":")?;
+    push_quoted(text, alloc, name.bytes())?;
+    text.push(b',')?;
+    Ok(())
+}
+
+// The name of the system of x and y, unless it is empty.
+fn push_horizontal_name(text: &mut Vec<u8>, alloc: Global, crs: &Text) -> Result<(), OutOfMemory>
+    requires { IsUtf8 crs.now }
+    ensures { OnOk result (text.new.items ≡ text.old.items ++ name_member (text_if_some crs.now)) }
+{
+    if crs.bytes().is_empty() {
+        return Ok(());
+    }
+    push_name(text, alloc, crs)
+}
+
+fn push_horizontal(text: &mut Vec<u8>, alloc: Global, crs: &Text) -> Result<(), OutOfMemory>
+    requires { IsUtf8 crs.now }
+    ensures { OnOk result (text.new.items ≡ text.old.items ++ compact_text (horizontal_data crs.now)) }
+{
+    text.extend_from_slice(b"{\"coordinates\":[\"x\",\"y\"],\"system\":{")?;
+    push_horizontal_name(text, alloc, crs)?;
+    text.extend_from_slice(b"\"type\":\"ProjectedCRS\"}}")?;
+    Ok(())
+}
+
+// The name of the system of z, where it is known.
+fn push_vertical_name(
+    text: &mut Vec<u8>,
+    alloc: Global,
+    vertical: &Option<Text>,
+) -> Result<(), OutOfMemory>
+    requires { IfSome vertical.now IsUtf8 }
+    ensures { OnOk result (text.new.items ≡ text.old.items ++ name_member vertical.now) }
+{
+    match vertical {
+        Some(name) => push_name(text, alloc, name),
+        None => Ok(()),
+    }
+}
+
+fn push_vertical(
+    text: &mut Vec<u8>,
+    alloc: Global,
+    vertical: &Option<Text>,
+) -> Result<(), OutOfMemory>
+    requires { IfSome vertical.now IsUtf8 }
+    ensures { OnOk result (text.new.items ≡ text.old.items ++ compact_text (vertical_data vertical.now)) }
+{
+    text.extend_from_slice(b"{\"coordinates\":[\"z\"],\"system\":{")?;
+    push_vertical_name(text, alloc, vertical)?;
+    text.extend_from_slice(b"\"type\":\"VerticalCRS\"}}")?;
+    Ok(())
+}
+
+// The system of the levels, where the domain has some.
+fn push_levels(
+    text: &mut Vec<u8>,
+    alloc: Global,
+    domain: &Domain,
+    vertical: &Option<Text>,
+) -> Result<(), OutOfMemory>
+    requires { IfSome vertical.now IsUtf8 }
+    ensures { OnOk result (text.new.items
+        ≡ text.old.items ++ later_if (has_coordinate domain.now Z) (compact_text (vertical_data vertical.now))) }
+{
+    if domain.has(CoordinateName::Z) {
+        text.push(b',')?;
+        push_vertical(text, alloc, vertical)?;
+    }
+    Ok(())
+}
+
+// The system of the times, where the domain has some.
+#[tactic(auto, using(crate::proofs::HeadTextLemmas::temporal_put))]
+fn push_times(text: &mut Vec<u8>, domain: &Domain) -> Result<(), OutOfMemory>
+    ensures { OnOk result (text.new.items
+        ≡ text.old.items ++ later_if (has_coordinate domain.now T) (compact_text temporal_data)) }
+{
+    if domain.has(CoordinateName::T) {
+        text.extend_from_slice(
+            b",{\"coordinates\":[\"t\"],\"system\":{\"calendar\":\"Gregorian\",\"type\":\"TemporalRS\"}}",
+        )?;
+    }
+    Ok(())
+}
+
+/// Puts the systems of a domain's coordinates.
+pub fn push_referencing(
+    text: &mut Vec<u8>,
+    alloc: Global,
+    domain: &Domain,
+    referencing: &Referencing,
+) -> Result<(), OutOfMemory>
+    requires { IsReferencing referencing.now }
+    ensures { OnOk result (text.new.items ≡ text.old.items ++ compact_text (referencing_data domain.now referencing.now)) }
+{
+    text.push(b'[')?;
+    push_horizontal(text, alloc, &referencing.crs)?;
+    push_levels(text, alloc, domain, &referencing.vertical)?;
+    push_times(text, domain)?;
+    text.push(b']')?;
+    Ok(())
+}
