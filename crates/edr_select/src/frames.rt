@@ -8,8 +8,8 @@ use edr_base::Items;
 use edr_chunk::GridShape;
 use std::marker::Model;
 
-/// Some times and levels of a grid, and a box of its nodes. For each row of the box it has a truth value for each column of the
-/// grid: whether the node there is taken.
+/// Some times and levels of a grid, and a box of its nodes. For each row of the box it has truth values for so many columns of
+/// the grid from one on, those of the box among them: whether the node there is taken.
 #[derive(Drop)]
 pub struct Frame {
     pub(crate) times: Items<u64>,
@@ -18,6 +18,7 @@ pub struct Frame {
     pub(crate) rows: u32,
     pub(crate) column: u32,
     pub(crate) columns: u32,
+    pub(crate) left: u32,
     pub(crate) width: u32,
     pub(crate) mask: Items<bool>,
 }
@@ -34,6 +35,7 @@ impl Model for Frame {
       rows = f.rows;
       column = f.column;
       columns = f.columns;
+      left = f.left;
       width = f.width;
       mask = f.mask;
     } };
