@@ -104,14 +104,17 @@ module _ (i : InstanceValue) (shape : Shape) where
       let c = ends_of takes_in_column (length i.xs) x hx (in_column y x hy h) in
       let rows : ℕ = r.last + 1 - r.first in
       let columns : ℕ = c.last + 1 - c.first in (
-        record { row = r.first; rows = rows; column = c.first; columns = columns; bits = bits_from r.first rows },
+        record { row = r.first; rows = rows; column = c.first; columns = columns; left = 0; width = length i.xs; bits = bits_from r.first rows },
         record {
           rows = omega (arith, r.ordered, r.inside);
           columns = omega (arith, c.ordered, c.inside);
           some_rows = omega (arith, r.ordered);
           some_columns = omega (arith, c.ordered);
           full = length-map-range_with_len (λ k. takes_node i shape (r.first + k / length i.xs) (k % length i.xs)) 0 (rows * length i.xs);
-          bits = λ y x low high inside. bit_is r.first rows y x low high inside;
+          left = omega arith;
+          right = omega (arith, c.ordered, c.inside);
+          bits = λ y x low high from to.
+              ap (λ n. slice_index_or (bits_from r.first rows) ((y - r.first) * length i.xs + n) false) (whole x) ∙ bit_is r.first rows y x low high (omega (arith, to));
           outside = λ y x hy hx h. record {
             low = r.low y hy (in_row y x hx h);
             high = omega (arith, r.ordered, r.high y hy (in_row y x hx h));
@@ -125,6 +128,9 @@ module _ (i : InstanceValue) (shape : Shape) where
         },
       )
     where
+      whole : (x : ℕ) → x - 0 ≡ x
+      whole x = omega arith
+
       row_at : (y z : ℕ) → z ≡ y → takes_in_row z ≡ true → TakesInRow i shape y
       row_at y z same h =
           let f = passes_at (λ x. takes_node i shape y x) 0 (length i.xs) (ap takes_in_row (sym same) ∙ h) in

@@ -100,7 +100,8 @@ module _ (s : Subject) (q : QueryValue) (i : InstanceValue) (each : TakesEach q.
     levels_rise = numbers_rise (λ z. takes_level (levels_asked q) (level_at i.zs z)) 0 (axis_length i.zs);
     rows = omega (arith, m.rows, g.rows);
     columns = omega (arith, m.columns, g.columns);
-    width = sym g.columns;
+    left = m.left;
+    right = m.right;
     mask = m.full;
   }
 

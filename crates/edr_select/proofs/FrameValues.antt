@@ -58,7 +58,8 @@ module _ (i : InstanceValue) (q : QueryValue) (each : TakesEach q.shape) (g : Is
   pub set_is : (y x : ℕ) → Contains rows y → Contains columns x → is_set frame y x ≡ takes_node i q.shape y x
   set_is y x my mx =
       let b = from_contains mask.row mask.rows y my in
-      m.bits y x b.0 b.1 (column_below x mx)
+      let a = from_contains mask.column mask.columns x mx in
+      m.bits y x b.0 b.1 (omega (arith, m.left, a.0)) (omega (arith, m.right, a.1))
 
   pub node_within : (p t z y x : ℕ) → Contains c.parameters p → Contains c.times t → Contains c.levels z → Contains rows y → Contains columns x
       → Within i.grid.shape (at p t z y x)

@@ -54,6 +54,7 @@ mod MastRows
 mod ChunkRows
 mod RefusalRows
 mod MaskReach
+mod PolygonReach
 mod MaskBits
 mod MaskSizes
 mod MaskSteps

@@ -1,29 +1,25 @@
--- Between which rows a disc, some polygons or a box lies.
-use Rattle.std.proofs.Common.{◌≡◌, ℕ, suc, ◌+◌, ◌*◌, ◌<◌, ◌≤◌, arith, Bool, true, false, List, [], ◌∷◌, ◌++◌, length, get_or, take, refl, ap, subst, sym, ◌∙◌, inl, inr, All, count_by, ℤ, pos, negsuc, ◌+ℤ◌, ◌-ℤ◌, ◌*ℤ◌, ◌<ℤ◌, ◌≤ℤ◌, int_lt, int_le, mul-le-mul}
-use Rattle.std.specs.Prelude.{◌&&◌, ◌||◌, ◌⊎◌, max, Option}
-use Rattle.std.specs.List.{list_any, flat_map}
-use Rattle.std.specs.Ordering.{int_eq}
+-- Between which rows and columns a disc or a box lies, and reaches that grow.
+use Rattle.std.proofs.Common.{◌≡◌, ℕ, suc, ◌+◌, ◌-◌, ◌*◌, ◌<◌, ◌≤◌, arith, Bool, true, false, List, ◌∷◌, length, get_or, take, drop, refl, ap, subst, sym, ◌∙◌, inl, inr, All, count_by, ℤ, pos, negsuc, ◌+ℤ◌, ◌-ℤ◌, ◌*ℤ◌, ◌<ℤ◌, ◌≤ℤ◌, int_lt, int_le, mul-le-mul, length-drop}
+use Rattle.std.specs.Prelude.{◌&&◌, ◌||◌, max, Option}
+use Rattle.std.specs.List.{list_any}
+use Rattle.std.proofs.lemmas.Bool.{cases_lt}
 use Rattle.std.proofs.lemmas.Int.{ints, by_lt_z}
-use Rattle.std.proofs.lemmas.List.Elements.{All-head, All-tail, All-weaker, All-more}
-use Rattle.std.proofs.lemmas.List.{take_all}
+use Rattle.std.proofs.lemmas.List.Elements.{All-weaker, All-more}
+use Rattle.std.proofs.lemmas.List.{take_all, length-take-le}
 use Rattle.std.proofs.lemmas.List.Sums.{count_by-le-length}
 use Rattle.edr_base.specs.declared.places.Position.{Position}
 use Rattle.edr_base.specs.declared.places.Spot.{Spot}
 use Rattle.edr_axes.specs.Axes.{value_at, SplitsValues}
 use Rattle.edr_wkt.specs.declared.geometry.Geometry.{Geometry}
-use Rattle.edr_wkt.specs.declared.geometry.Geometry.TheVariants.{Polygons}
 use Rattle.edr_wkt.specs.declared.geometry.Polygon.{Polygon}
-use Rattle.edr_wkt.specs.Faults.{IsGeometry}
 use Rattle.edr_wkt.specs.Geometries.{positions_of}
-use Rattle.edr_geometry.specs.Limits.{IsPlacedPolygon, GeometriesArePlaced}
-use Rattle.edr_geometry.specs.Planar.{Edge, spot_of, between, in_disc, in_polygon, in_polygons, on_segment, crosses, edges_along, edges_of, is_among, is_odd, cross}
+use Rattle.edr_geometry.specs.Planar.{spot_of, between, in_disc}
 use Rattle.edr_edition.specs.Values.{InstanceValue}
 use Rattle.edr_query.specs.declared.shapes.Shape.{Shape}
 use Rattle.edr_query.specs.declared.shapes.Shape.TheVariants as at
-use Rattle.edr_select.specs.declared.row_ranges.Reach.{Reach}
-use Rattle.edr_select.specs.Wanted.{in_areas}
+use Rattle.edr_select.specs.declared.reaches.Reach.{Reach}
 use Rattle.edr_select.specs.Choices.{takes_node, spot_at}
-use Rattle.edr_select.specs.Masks.{IsArea, takes_spot, IsCentre, HasPolygons, LiesIn, IsReached, IsReachedRing, IsReachedPolygon, IsWider, LiesInRows}
+use Rattle.edr_select.specs.Masks.{IsArea, NoneTaken, takes_spot, IsCentre, LiesIn, IsReached, IsReachedRing, IsReachedPolygon, IsWider, LiesInRows, LiesInColumns}
 use Rattle.edr_select.specs.ListLaws.{any-map}
 
 -- a node is taken where its place is
@@ -66,6 +62,9 @@ square_not_negative (negsuc d) = omega (arith, ints)
 above_all : (one other limit : ℤ) → limit <ℤ other → pos 0 ≤ℤ one → int_le (one +ℤ other) limit ≡ false
 above_all one other limit h k = grind (arith, ints)
 
+above_either : (one other limit : ℤ) → limit <ℤ one → pos 0 ≤ℤ other → int_le (one +ℤ other) limit ≡ false
+above_either one other limit h k = grind (arith, ints)
+
 outside : (spot centre : Spot) (r : ℤ) → (r *ℤ r) <ℤ ((spot.y -ℤ centre.y) *ℤ (spot.y -ℤ centre.y)) → in_disc spot centre r ≡ false
 outside spot centre r h =
     above_all ((spot.x -ℤ centre.x) *ℤ (spot.x -ℤ centre.x)) ((spot.y -ℤ centre.y) *ℤ (spot.y -ℤ centre.y)) (r *ℤ r) h (square_not_negative (spot.x -ℤ centre.x))
@@ -76,11 +75,29 @@ below_disc spot centre r h k = outside spot centre r (square_below (spot.y -ℤ 
 above_disc : (spot centre : Spot) (r : ℤ) → pos 0 ≤ℤ r → (centre.y +ℤ r) <ℤ spot.y → in_disc spot centre r ≡ false
 above_disc spot centre r h k = outside spot centre r (square_above (spot.y -ℤ centre.y) r h (omega (arith, ints, h, k)))
 
-pub disc_lies : (geometry : Geometry) (within : ℤ) (centre : Spot) (reach : Reach) → IsCentre geometry centre → pos 0 ≤ℤ within → reach.low ≡ centre.y -ℤ within → reach.high ≡ centre.y +ℤ within
-    → LiesIn (at.Radius geometry within) reach
-disc_lies geometry within centre reach c h low high = record {
-  below = λ spot k. of_disc geometry within centre c spot ∙ below_disc spot centre within h (omega (arith, ints, k, low));
-  above = λ spot k. of_disc geometry within centre c spot ∙ above_disc spot centre within h (omega (arith, ints, k, high));
+beside : (spot centre : Spot) (r : ℤ) → (r *ℤ r) <ℤ ((spot.x -ℤ centre.x) *ℤ (spot.x -ℤ centre.x)) → in_disc spot centre r ≡ false
+beside spot centre r h =
+    above_either ((spot.x -ℤ centre.x) *ℤ (spot.x -ℤ centre.x)) ((spot.y -ℤ centre.y) *ℤ (spot.y -ℤ centre.y)) (r *ℤ r) h (square_not_negative (spot.y -ℤ centre.y))
+
+before_disc : (spot centre : Spot) (r : ℤ) → pos 0 ≤ℤ r → spot.x <ℤ (centre.x -ℤ r) → in_disc spot centre r ≡ false
+before_disc spot centre r h k = beside spot centre r (square_below (spot.x -ℤ centre.x) r h (omega (arith, ints, h, k)))
+
+behind_disc : (spot centre : Spot) (r : ℤ) → pos 0 ≤ℤ r → (centre.x +ℤ r) <ℤ spot.x → in_disc spot centre r ≡ false
+behind_disc spot centre r h k = beside spot centre r (square_above (spot.x -ℤ centre.x) r h (omega (arith, ints, h, k)))
+
+-- from the centre's x and y less the radius to these and the radius
+pub record IsAround (reach : Reach) (centre : Spot) (within : ℤ) : Type 0 where
+  pub left : reach.left ≡ centre.x -ℤ within
+  pub right : reach.right ≡ centre.x +ℤ within
+  pub low : reach.low ≡ centre.y -ℤ within
+  pub high : reach.high ≡ centre.y +ℤ within
+
+pub disc_lies : (geometry : Geometry) (within : ℤ) (centre : Spot) (reach : Reach) → IsCentre geometry centre → pos 0 ≤ℤ within → IsAround reach centre within → LiesIn (at.Radius geometry within) reach
+disc_lies geometry within centre reach c h a = record {
+  before = λ spot k. of_disc geometry within centre c spot ∙ before_disc spot centre within h (omega (arith, ints, k, a.left));
+  behind = λ spot k. of_disc geometry within centre c spot ∙ behind_disc spot centre within h (omega (arith, ints, k, a.right));
+  below = λ spot k. of_disc geometry within centre c spot ∙ below_disc spot centre within h (omega (arith, ints, k, a.low));
+  above = λ spot k. of_disc geometry within centre c spot ∙ above_disc spot centre within h (omega (arith, ints, k, a.high));
 }
 
 -- ---- boxes
@@ -91,93 +108,29 @@ below_box columns low high y h = grind (arith, ints)
 above_box : (columns : Bool) (low high y : ℤ) → high <ℤ y → (columns && between low high y) ≡ false
 above_box columns low high y h = grind (arith, ints)
 
-pub box_lies : (lo hi : Spot) (levels : Option (ℤ × ℤ)) (reach : Reach) → reach.low ≡ lo.y → reach.high ≡ hi.y → LiesIn (at.Cube lo hi levels) reach
-box_lies lo hi levels reach low high = record {
-  below = λ spot k. below_box (between lo.x hi.x spot.x) lo.y hi.y spot.y (omega (arith, ints, k, low));
-  above = λ spot k. above_box (between lo.x hi.x spot.x) lo.y hi.y spot.y (omega (arith, ints, k, high));
-}
+before_box : (rows : Bool) (low high x : ℤ) → x <ℤ low → (between low high x && rows) ≡ false
+before_box rows low high x h = grind (arith, ints)
 
--- ---- polygons
+behind_box : (rows : Bool) (low high x : ℤ) → high <ℤ x → (between low high x && rows) ≡ false
+behind_box rows low high x h = grind (arith, ints)
 
--- a y is below the low one or above the high one
-abbrev IsBeyond : Reach → ℤ → Type 0
-IsBeyond reach y = (y <ℤ reach.low) ⊎ (reach.high <ℤ y)
-
-beside_edge : (a b y low high : ℤ) → low ≤ℤ a → a ≤ℤ high → low ≤ℤ b → b ≤ℤ high → (y <ℤ low) ⊎ (high <ℤ y) → is_among a b y ≡ false
-beside_edge a b y low high la ah lb bh out = grind (arith, ints)
-
-and_last : (a b c : Bool) → c ≡ false → (a && (b && c)) ≡ false
-and_last true true c h = h
-and_last true false c h = refl
-and_last false b c h = refl
-
-not_on : (p a b : Spot) → is_among a.y b.y p.y ≡ false → on_segment p a b ≡ false
-not_on p a b h = and_last (int_eq (cross p a b) (pos 0)) (is_among a.x b.x p.x) (is_among a.y b.y p.y) h
-
-unpassed : (ay by y : ℤ) (left right : Bool) → is_among ay by y ≡ false → (((int_le ay y && int_lt y by) && left) || ((int_le by y && int_lt y ay) && right)) ≡ false
-unpassed ay by y left right h = grind (arith, ints)
-
-not_crossed : (p a b : Spot) → is_among a.y b.y p.y ≡ false → crosses p a b ≡ false
-not_crossed p a b h = unpassed a.y b.y p.y (int_lt (pos 0) (cross p a b)) (int_lt (cross p a b) (pos 0)) h
-
--- no edge has a place in the row of a y
-abbrev AreBeside : ℤ → List Edge → Type 0
-AreBeside y [] = Unit {0}
-AreBeside y (e ∷ es) = (is_among e.start.y e.end.y y ≡ false) × AreBeside y es
-
-beside_on : (p : Spot) (edges : List Edge) → AreBeside p.y edges → list_any (λ e. on_segment p e.start e.end) edges ≡ false
-beside_on p [] h = refl
-beside_on p (e ∷ es) h = rw (not_on p e.start e.end h.0) (beside_on p es h.1)
-
-beside_crossed : (p : Spot) (edges : List Edge) → AreBeside p.y edges → count_by (λ e. crosses p e.start e.end) edges ≡ 0
-beside_crossed p [] h = refl
-beside_crossed p (e ∷ es) h = rw (not_crossed p e.start e.end h.0) (beside_crossed p es h.1)
-
-beside-append : (y : ℤ) (one other : List Edge) → AreBeside y one → AreBeside y other → AreBeside y (one ++ other)
-beside-append y [] other h k = k
-beside-append y (e ∷ es) other h k = (h.0, beside-append y es other h.1 k)
-
-module _ (reach : Reach) (y : ℤ) (out : IsBeyond reach y) where
-  beside_ring : (ring : List Position) → IsReachedRing reach ring → AreBeside y (edges_along ring)
-  beside_ring [] h = tt
-  beside_ring (p ∷ []) h = tt
-  beside_ring (p ∷ (q ∷ ps)) h =
-      let one = All-head (IsReached reach) p (q ∷ ps) h in
-      let rest = All-tail (IsReached reach) p (q ∷ ps) h in
-      let other = All-head (IsReached reach) q ps rest in
-      (beside_edge p.y q.y y reach.low reach.high one.low one.high other.low other.high out, beside_ring (q ∷ ps) rest)
-
-  beside_rings : (rings : List (List Position)) → All (IsReachedRing reach) rings → AreBeside y (flat_map edges_along rings)
-  beside_rings [] h = tt
-  beside_rings (r ∷ rs) h =
-      beside-append y (edges_along r) (flat_map edges_along rs) (beside_ring r (All-head (IsReachedRing reach) r rs h)) (beside_rings rs (All-tail (IsReachedRing reach) r rs h))
-
-not_in : (p : Spot) (edges : List Edge) → AreBeside p.y edges → (list_any (λ e. on_segment p e.start e.end) edges || is_odd (count_by (λ e. crosses p e.start e.end) edges)) ≡ false
-not_in p edges h = rw (beside_on p edges h, beside_crossed p edges h) refl
-
-beyond_polygons : (reach : Reach) (p : Spot) → IsBeyond reach p.y → (polygons : List Polygon) → All (IsReachedPolygon reach) polygons → in_polygons p polygons ≡ false
-beyond_polygons reach p out [] h = refl
-beyond_polygons reach p out (g ∷ gs) h =
-    let here : in_polygon p g ≡ false = not_in p (edges_of g) (beside_rings reach p.y out g.rings (All-head (IsReachedPolygon reach) g gs h)) in
-    rw here (beyond_polygons reach p out gs (All-tail (IsReachedPolygon reach) g gs h))
-
-pub has_polygons : (geometry : Geometry) (multi has_z has_m : Bool) (polygons items : List Polygon) → geometry ≡ Polygons multi has_z has_m polygons → items ≡ polygons → GeometriesArePlaced
-    → IsGeometry geometry → HasPolygons geometry items
-has_polygons geometry multi has_z has_m polygons items is same placed g = record {
-  in_each = λ spot. ap (λ a. in_areas a spot) is ∙ ap (in_polygons spot) (sym same);
-  placed = subst (All IsPlacedPolygon) (sym same) (placed multi has_z has_m polygons (subst IsGeometry is g));
-}
-
-pub polygons_lie : (geometry : Geometry) (polygons : List Polygon) (reach : Reach) → HasPolygons geometry polygons → All (IsReachedPolygon reach) polygons → LiesIn (at.Area geometry) reach
-polygons_lie geometry polygons reach has h = record {
-  below = λ spot k. has.in_each spot ∙ beyond_polygons reach spot (inl k) polygons h;
-  above = λ spot k. has.in_each spot ∙ beyond_polygons reach spot (inr k) polygons h;
+pub box_lies : (lo hi : Spot) (levels : Option (ℤ × ℤ)) → LiesIn (at.Cube lo hi levels) (record { left = lo.x; right = hi.x; low = lo.y; high = hi.y })
+box_lies lo hi levels = record {
+  before = λ spot k. before_box (between lo.y hi.y spot.y) lo.x hi.x spot.x k;
+  behind = λ spot k. behind_box (between lo.y hi.y spot.y) lo.x hi.x spot.x k;
+  below = λ spot k. below_box (between lo.x hi.x spot.x) lo.y hi.y spot.y k;
+  above = λ spot k. above_box (between lo.x hi.x spot.x) lo.y hi.y spot.y k;
 }
 
 -- ---- a reach that grows
 
 pub wider_reached : (old new : Reach) → IsWider old new → (p : Position) → IsReached old p → IsReached new p
-wider_reached old new w p h = record { low = omega (arith, ints, w.low, h.low); high = omega (arith, ints, w.high, h.high) }
+wider_reached old new w p h = record {
+  left = omega (arith, ints, w.left, h.left);
+  right = omega (arith, ints, w.right, h.right);
+  low = omega (arith, ints, w.low, h.low);
+  high = omega (arith, ints, w.high, h.high);
+}
 
 pub wider_ring : (old new : Reach) → IsWider old new → (ring : List Position) → IsReachedRing old ring → IsReachedRing new ring
 wider_ring old new w ring h = All-weaker (IsReached old) (IsReached new) (wider_reached old new w) ring h
@@ -186,7 +139,12 @@ pub wider_polygon : (old new : Reach) → IsWider old new → (polygon : Polygon
 wider_polygon old new w polygon h = All-weaker (IsReachedRing old) (IsReachedRing new) (wider_ring old new w) polygon.rings h
 
 pub wider_still : (a b c : Reach) → IsWider a b → IsWider b c → IsWider a c
-wider_still a b c h k = record { low = omega (arith, ints, h.low, k.low); high = omega (arith, ints, h.high, k.high) }
+wider_still a b c h k = record {
+  left = omega (arith, ints, h.left, k.left);
+  right = omega (arith, ints, h.right, k.right);
+  low = omega (arith, ints, h.low, k.low);
+  high = omega (arith, ints, h.high, k.high);
+}
 
 -- what holds of each of the first ones, and of the next, in another way
 pub more_reached : {X : Type 0} (P Q : X → Type 0) → ((x : X) → P x → Q x) → (xs : List X) (k : ℕ) (x : X) → k < length xs → get_or xs k x ≡ x → All P (take k xs) → Q x
@@ -210,3 +168,40 @@ rows_lie i shape reach area lies low high first end first_is end_is = record {
       ∙ by_lt_z reach.high (value_at i.ys y) (λ above. lies.above (spot_at i y x) above)
       (λ within. absurd (let counted = (high.at_most y).0 (before, within) in omega (arith, counted, from, end_is)));
 }
+
+-- ---- columns
+
+module _ (i : InstanceValue) (shape : Shape) (reach : Reach) (area : IsArea shape) (lies : LiesIn shape reach) (left : SplitsValues i.xs reach.left) (right : SplitsValues i.xs reach.right) (first end : ℕ)
+    (first_is : first ≡ count_by (λ v. int_lt v reach.left) i.xs) (end_is : end ≡ max first (count_by (λ v. int_le v reach.right) i.xs)) where
+  none_before : (y x : ℕ) → x < first → takes_node i shape y x ≡ false
+  none_before y x before = takes_is i shape area y x ∙ lies.before (spot_at i y x) ((left.below x).1 (omega (arith, before, first_is))).1
+
+  none_behind : (y x : ℕ) → end ≤ x → x < length i.xs → takes_node i shape y x ≡ false
+  none_behind y x from inner =
+      takes_is i shape area y x
+      ∙ by_lt_z reach.right (value_at i.xs x) (λ above. lies.behind (spot_at i y x) above)
+      (λ within. absurd (let counted = (right.at_most x).0 (inner, within) in omega (arith, counted, from, end_is)))
+
+  -- there are as many columns as stand between
+  pub columns_ordered : first ≤ end
+  columns_ordered = omega (arith, end_is)
+
+  pub columns_inside : end ≤ length i.xs
+  columns_inside = omega (arith, first_is, end_is, count_by-le-length (λ v. int_lt v reach.left) i.xs, count_by-le-length (λ v. int_le v reach.right) i.xs)
+
+  pub columns_lie : (xs : List ℤ) → xs ≡ take (end - first) (drop first i.xs) → LiesInColumns i shape (record { left = first; xs = xs })
+  columns_lie xs is =
+      let many : length xs ≡ end - first = ap length is ∙ length-take-le (end - first) (drop first i.xs) (omega (arith, length-drop first i.xs, columns_inside)) in
+      record {
+        inside = omega (arith, many, columns_ordered, columns_inside);
+        values = is ∙ ap (λ n. take n (drop first i.xs)) (sym many);
+        before = none_before;
+        behind = λ y x from inner. none_behind y x (omega (arith, many, from)) inner;
+      }
+
+  pub no_columns : first ≡ end → NoneTaken i shape
+  no_columns none y x inside inner =
+      elim (cases_lt x first) [
+        | inl lt ↦ none_before y x lt
+        | inr ge ↦ none_behind y x (omega (arith, none, ge)) inner
+      ]

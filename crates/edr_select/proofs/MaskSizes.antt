@@ -1,5 +1,5 @@
 -- The rows and the columns of a grid are few.
-use Rattle.std.proofs.Common.{◌≡◌, ℕ, ◌+◌, ◌*◌, ◌<◌, ◌≤◌, length, ap, ap₂, arith, mul-le-mul_right, mul_assoc, mul_comm, mul-pos, one-mul}
+use Rattle.std.proofs.Common.{◌≡◌, ℕ, ◌+◌, ◌*◌, ◌<◌, ◌≤◌, length, ap, ap₂, arith, mul-le-mul, mul-le-mul_right, mul_assoc, mul_comm, mul-pos, one-mul}
 use Rattle.edr_base.specs.Limits.{node_limit}
 use Rattle.edr_chunk.specs.declared.shapes.GridShape.{GridShape}
 use Rattle.edr_chunk.specs.Places.{IsShape}
@@ -24,7 +24,7 @@ module _ (i : InstanceValue) (h : HasGrid i) where
       omega (arith, same, plane_few i.grid.shape h.is_shape)
 
   -- the nodes of the rows up to one
-  pub nodes_to_few : (y : ℕ) → y < length i.ys → (y + 1) * length i.xs ≤ node_limit
+  nodes_to_few : (y : ℕ) → y < length i.ys → (y + 1) * length i.xs ≤ node_limit
   nodes_to_few y inside =
       let part : (y + 1) * length i.xs ≤ length i.ys * length i.xs = mul-le-mul_right (length i.xs) (rise y (length i.ys) inside) in
       omega (arith, part, nodes_few)
@@ -44,3 +44,9 @@ module _ (i : InstanceValue) (h : HasGrid i) where
   columns_few =
       let part : 1 * length i.xs ≤ length i.ys * length i.xs = mul-le-mul_right (length i.xs) h.ys.ascending.some in
       omega (arith, part, one-mul (length i.xs), nodes_few)
+
+  -- the nodes of some rows and columns
+  pub part_few : (rows columns : ℕ) → rows ≤ length i.ys → columns ≤ length i.xs → rows * columns ≤ node_limit
+  part_few rows columns few_rows few_columns =
+      let part : rows * columns ≤ length i.ys * length i.xs = mul-le-mul few_rows few_columns in
+      omega (arith, part, nodes_few)

@@ -13,7 +13,8 @@ use Rattle.edr_select.specs.declared.plans.GridNode.{GridNode}
 use Rattle.edr_select.specs.Listings.{place_at, tiles_of_range}
 use Rattle.edr_select.specs.Listings.{NumbersRise}
 
--- some times and levels of a grid, and a box of its nodes; for each row of the box a truth value for each column of the grid
+-- some times and levels of a grid, and a box of its nodes; for each row of the box a truth value for each of some columns of the
+-- grid, which are those of the box and maybe more
 pub record FrameValue : Type 0 where
   pub times : List ℕ
   pub levels : List ℕ
@@ -21,7 +22,8 @@ pub record FrameValue : Type 0 where
   pub rows : ℕ
   pub column : ℕ  -- the first column, and how many there are
   pub columns : ℕ
-  pub width : ℕ  -- how many columns the grid has
+  pub left : ℕ  -- the first column with a truth value, and how many there are
+  pub width : ℕ
   pub mask : List Bool
 
 pub record FramingValue : Type 0 where
@@ -34,7 +36,7 @@ pub record FramingValue : Type 0 where
 
 -- the node of a row and a column is taken
 abbrev pub is_set : FrameValue → ℕ → ℕ → Bool
-is_set frame y x = slice_index_or frame.mask ((y - frame.row) * frame.width + x) false
+is_set frame y x = slice_index_or frame.mask ((y - frame.row) * frame.width + (x - frame.left)) false
 
 -- a node, where it is taken
 abbrev pub cell_at : FrameValue → ℕ → ℕ → ℕ → ℕ → Option GridNode
@@ -85,7 +87,8 @@ pub record IsFrame (shape : GridShape) (frame : FrameValue) : Type 0 where
   pub levels_rise : NumbersRise frame.levels
   pub rows : frame.row + frame.rows ≤ shape.rows
   pub columns : frame.column + frame.columns ≤ shape.columns
-  pub width : frame.width ≡ shape.columns
+  pub left : frame.left ≤ frame.column
+  pub right : frame.column + frame.columns ≤ frame.left + frame.width
   pub mask : length frame.mask ≡ frame.rows * frame.width
 
 -- how many nodes it has

@@ -1,19 +1,23 @@
 -- Which nodes of a plane a shape takes, as a box with a truth value a node; for private clauses.
-use Rattle.std.specs.Prelude.{◌≡◌, ⊤, ℕ, ◌+◌, ◌-◌, ◌*◌, ◌<◌, ◌≤◌, min, max, Bool, true, false, ◌<ℤ◌, ◌≤ℤ◌, List, [], ◌∷◌, ◌++◌, length, map, replicate}
-use Rattle.std.specs.List.{All, list_any, slice_index_or}
+use Rattle.std.specs.Prelude.{◌≡◌, ⊤, ℕ, ◌+◌, ◌-◌, ◌*◌, ◌<◌, ◌≤◌, min, max, Bool, true, false, ℤ, ◌<ℤ◌, ◌≤ℤ◌, List, [], ◌∷◌, ◌++◌, length, map, take, drop}
+use Rattle.std.specs.List.{All, AllByRecursion, list_any, slice_index_or}
 use Rattle.edr_base.specs.declared.places.Position.{Position}
 use Rattle.edr_base.specs.declared.places.Spot.{Spot}
 use Rattle.edr_wkt.specs.declared.geometry.Geometry.{Geometry}
 use Rattle.edr_wkt.specs.declared.geometry.Polygon.{Polygon}
 use Rattle.edr_wkt.specs.Geometries.{positions_of}
+use Rattle.edr_wkt.specs.Faults.{IsClosed}
+use Rattle.edr_axes.specs.Axes.{value_at}
 use Rattle.edr_geometry.specs.Planar as plane
 use Rattle.edr_geometry.specs.Planar.{in_disc, in_polygons}
 use Rattle.edr_geometry.specs.Limits.{IsSpot, IsPlacedPolygon}
+use Rattle.edr_geometry.specs.Masks.{row_of}
 use Rattle.edr_edition.specs.Values.{InstanceValue}
 use Rattle.edr_query.specs.declared.shapes.Shape.{Shape}
 use Rattle.edr_query.specs.declared.shapes.Shape.TheVariants as at
 use Rattle.edr_query.specs.Values.{QueryValue}
-use Rattle.edr_select.specs.declared.row_ranges.Reach.{Reach}
+use Rattle.edr_select.specs.declared.reaches.Reach.{Reach}
+use Rattle.edr_select.specs.declared.mask_rows.RowEnds.{RowEnds}
 use Rattle.edr_select.specs.Choices.{takes_node, time_places, level_places}
 use Rattle.edr_select.specs.Wanted.{levels_asked, in_areas, in_box}
 use Rattle.edr_select.specs.Framings.{FrameValue}
@@ -28,12 +32,14 @@ IsArea (at.Trajectory geometry) = ⊥
 IsArea (at.Corridor geometry width height) = ⊥
 IsArea (at.Location id) = ⊥
 
--- a box of rows and columns, and for each of its rows a truth value for each column of the grid
+-- a box of rows and columns, and for each of its rows a truth value for each of some columns of the grid
 pub record MaskValue : Type 0 where
   pub row : ℕ  -- the first row, and how many there are
   pub rows : ℕ
   pub column : ℕ  -- the first column, and how many there are
   pub columns : ℕ
+  pub left : ℕ  -- the first column with a truth value, and how many there are
+  pub width : ℕ
   pub bits : List Bool
 
 -- no node is taken
@@ -65,8 +71,11 @@ pub record IsMask (i : InstanceValue) (shape : Shape) (mask : MaskValue) : Type 
   pub columns : mask.column + mask.columns ≤ length i.xs
   pub some_rows : 1 ≤ mask.rows
   pub some_columns : 1 ≤ mask.columns
-  pub full : length mask.bits ≡ mask.rows * length i.xs
-  pub bits : (y x : ℕ) → mask.row ≤ y → y < mask.row + mask.rows → x < length i.xs → slice_index_or mask.bits ((y - mask.row) * length i.xs + x) false ≡ takes_node i shape y x
+  pub left : mask.left ≤ mask.column
+  pub right : mask.column + mask.columns ≤ mask.left + mask.width
+  pub full : length mask.bits ≡ mask.rows * mask.width
+  pub bits : (y x : ℕ) → mask.row ≤ y → y < mask.row + mask.rows → mask.left ≤ x → x < mask.left + mask.width
+      → slice_index_or mask.bits ((y - mask.row) * mask.width + (x - mask.left)) false ≡ takes_node i shape y x
   pub outside : (y x : ℕ) → y < length i.ys → x < length i.xs → takes_node i shape y x ≡ true → InBox mask y x
   pub first_row : TakesInRow i shape mask.row
   pub last_row : TakesInRow i shape (mask.row + mask.rows - 1)
@@ -82,7 +91,8 @@ frame_with i q mask = record {
   rows = mask.rows;
   column = mask.column;
   columns = mask.columns;
-  width = length i.xs;
+  left = mask.left;
+  width = mask.width;
   mask = mask.bits;
 }
 
@@ -100,18 +110,27 @@ pub record IsCentre (geometry : Geometry) (centre : Spot) : Type 0 where
   pub alone : map plane.spot_of (positions_of geometry) ≡ centre ∷ []
   pub placed : IsSpot centre
 
--- the geometry is some polygons
+-- its rings are closed
+abbrev pub IsClosedPolygon : Polygon → Type 0
+IsClosedPolygon polygon = AllByRecursion IsClosed polygon.rings
+
+-- the geometry is some polygons, whose rings are closed
 pub record HasPolygons (geometry : Geometry) (polygons : List Polygon) : Type 0 where
   pub in_each : (spot : Spot) → in_areas geometry spot ≡ in_polygons spot polygons
   pub placed : All IsPlacedPolygon polygons
+  pub closed : AllByRecursion IsClosedPolygon polygons
 
--- no place below the low y or above the high one is taken
+-- no place left of the left x, right of the right one, below the low y or above the high one is taken
 pub record LiesIn (shape : Shape) (reach : Reach) : Type 0 where
+  pub before : (spot : Spot) → spot.x <ℤ reach.left → takes_spot shape spot ≡ false
+  pub behind : (spot : Spot) → reach.right <ℤ spot.x → takes_spot shape spot ≡ false
   pub below : (spot : Spot) → spot.y <ℤ reach.low → takes_spot shape spot ≡ false
   pub above : (spot : Spot) → reach.high <ℤ spot.y → takes_spot shape spot ≡ false
 
--- a y is from the low one to the high one
+-- an x is from the left one to the right one, and a y from the low one to the high one
 pub record IsReached (reach : Reach) (p : Position) : Type 0 where
+  pub left : reach.left ≤ℤ p.x
+  pub right : p.x ≤ℤ reach.right
   pub low : reach.low ≤ℤ p.y
   pub high : p.y ≤ℤ reach.high
 
@@ -123,6 +142,8 @@ IsReachedPolygon reach polygon = All (IsReachedRing reach) polygon.rings
 
 -- it reaches as far, and maybe farther
 pub record IsWider (old new : Reach) : Type 0 where
+  pub left : new.left ≤ℤ old.left
+  pub right : old.right ≤ℤ new.right
   pub low : new.low ≤ℤ old.low
   pub high : old.high ≤ℤ new.high
 
@@ -137,53 +158,86 @@ pub record LiesInRows (i : InstanceValue) (shape : Shape) (from end : ℕ) : Typ
   pub before : NoneIn i shape 0 from
   pub behind : NoneIn i shape end (length i.ys)
 
--- a truth value for each column, and the first and the last column that is taken
-pub record RowValue : Type 0 where
-  pub bits : List Bool
-  pub first : ℕ
-  pub last : ℕ
+-- some columns of a grid: the first, and the x of each
+pub record ColumnsValue : Type 0 where
+  pub left : ℕ
+  pub xs : List ℤ
+
+-- only nodes of these columns can be taken
+pub record LiesInColumns (i : InstanceValue) (shape : Shape) (columns : ColumnsValue) : Type 0 where
+  pub inside : columns.left + length columns.xs ≤ length i.xs
+  pub values : columns.xs ≡ take (length columns.xs) (drop columns.left i.xs)
+  pub before : (y x : ℕ) → x < columns.left → takes_node i shape y x ≡ false
+  pub behind : (y x : ℕ) → columns.left + length columns.xs ≤ x → x < length i.xs → takes_node i shape y x ≡ false
 
 -- a node of the row is taken
 pub record Takes (i : InstanceValue) (shape : Shape) (y x : ℕ) : Type 0 where
   pub inside : x < length i.xs
   pub takes : takes_node i shape y x ≡ true
 
--- the row is that of a place, and some of its nodes are taken
-pub record IsTakenRow (i : InstanceValue) (shape : Shape) (y : ℕ) (row : RowValue) : Type 0 where
-  pub full : length row.bits ≡ length i.xs
-  pub bits : (x : ℕ) → x < length i.xs → slice_index_or row.bits x false ≡ takes_node i shape y x
-  pub first : Takes i shape y row.first
-  pub last : Takes i shape y row.last
-  pub least : (x : ℕ) → Takes i shape y x → row.first ≤ x
-  pub greatest : (x : ℕ) → Takes i shape y x → x ≤ row.last
+-- some nodes of the row are taken, and these are the first and the last
+pub record IsTakenRow (i : InstanceValue) (shape : Shape) (y : ℕ) (ends : RowEnds) : Type 0 where
+  pub first : Takes i shape y ends.first
+  pub last : Takes i shape y ends.last
+  pub least : (x : ℕ) → Takes i shape y x → ends.first ≤ x
+  pub greatest : (x : ℕ) → Takes i shape y x → x ≤ ends.last
+
+-- the truth values of a row
+abbrev pub bits_at : InstanceValue → Shape → ColumnsValue → ℕ → List Bool
+bits_at i shape columns y = row_of (takes_spot shape) (value_at i.ys y) columns.xs
 
 -- the box of one row
-abbrev pub mask_of_row : ℕ → RowValue → MaskValue
-mask_of_row y row = record { row = y; rows = 1; column = row.first; columns = row.last + 1 - row.first; bits = row.bits }
+abbrev pub mask_of_row : ColumnsValue → ℕ → RowEnds → List Bool → MaskValue
+mask_of_row columns y ends bits = record {
+  row = y;
+  rows = 1;
+  column = ends.first;
+  columns = ends.last + 1 - ends.first;
+  left = columns.left;
+  width = length columns.xs;
+  bits = bits;
+}
 
 -- how many columns lie left of the right side
 abbrev pub right_of : MaskValue → ℕ
 right_of mask = mask.column + mask.columns
 
--- the box that goes on to a row, no node being taken between
-abbrev pub with_row : MaskValue → ℕ → RowValue → MaskValue
-with_row mask y row = record {
+-- the box with other truth values
+abbrev pub with_bits : MaskValue → List Bool → MaskValue
+with_bits mask bits = record {
   row = mask.row;
-  rows = y + 1 - mask.row;
-  column = min mask.column row.first;
-  columns = max (right_of mask) (row.last + 1) - min mask.column row.first;
-  bits = (mask.bits ++ replicate ((y - (mask.row + mask.rows)) * length row.bits) false) ++ row.bits;
+  rows = mask.rows;
+  column = mask.column;
+  columns = mask.columns;
+  left = mask.left;
+  width = mask.width;
+  bits = bits;
 }
 
--- the box is the least one with all nodes that are taken of the rows before one
-pub record IsMaskBefore (i : InstanceValue) (shape : Shape) (end : ℕ) (mask : MaskValue) : Type 0 where
+-- the box that goes on to a row
+abbrev pub with_row : MaskValue → ℕ → RowEnds → MaskValue
+with_row mask y ends = record {
+  row = mask.row;
+  rows = y + 1 - mask.row;
+  column = min mask.column ends.first;
+  columns = max (right_of mask) (ends.last + 1) - min mask.column ends.first;
+  left = mask.left;
+  width = mask.width;
+  bits = mask.bits;
+}
+
+-- the box is the least one with all nodes that are taken of the rows before one, up to which there are truth values
+pub record IsMaskBefore (i : InstanceValue) (shape : Shape) (columns : ColumnsValue) (end : ℕ) (mask : MaskValue) : Type 0 where
   pub inside : end ≤ length i.ys
   pub rows : mask.row + mask.rows ≤ end
-  pub columns : right_of mask ≤ length i.xs
+  pub left_is : mask.left ≡ columns.left
+  pub width_is : mask.width ≡ length columns.xs
+  pub left : columns.left ≤ mask.column
+  pub right : right_of mask ≤ columns.left + length columns.xs
   pub some_rows : 1 ≤ mask.rows
   pub some_columns : 1 ≤ mask.columns
-  pub full : length mask.bits ≡ mask.rows * length i.xs
-  pub bits : (k x : ℕ) → k < mask.rows → x < length i.xs → slice_index_or mask.bits (k * length i.xs + x) false ≡ takes_node i shape (mask.row + k) x
+  pub full : length mask.bits ≡ (end - mask.row) * length columns.xs
+  pub bits : (k x : ℕ) → k < end - mask.row → x < length columns.xs → slice_index_or mask.bits (k * length columns.xs + x) false ≡ takes_node i shape (mask.row + k) (columns.left + x)
   pub outside : (y x : ℕ) → y < end → x < length i.xs → takes_node i shape y x ≡ true → InBox mask y x
   pub first_row : TakesInRow i shape mask.row
   pub last_row : TakesInRow i shape (mask.row + mask.rows - 1)

@@ -8,8 +8,8 @@ use edr_base::Items;
 use edr_chunk::GridShape;
 use std::marker::Model;
 
-/// Some times and levels of a grid, and a box of its nodes. For each row of the box it has a truth value for each column of the
-/// grid: whether the node there is taken.
+/// Some times and levels of a grid, and a box of its nodes. For each row of the box it has truth values for so many columns of
+/// the grid from one on, those of the box among them: whether the node there is taken.
 #[derive(Drop)]
 pub struct Frame {
     /// The places of its times on the grid's axis, ascending.
@@ -24,7 +24,9 @@ pub struct Frame {
     pub column: u32,
     /// How many columns it has.
     pub columns: u32,
-    /// How many columns the grid has.
+    /// The first column that truth values stand for.
+    pub left: u32,
+    /// How many columns they stand for in a row.
     pub width: u32,
     /// The truth values, row by row.
     pub mask: Items<bool>,
@@ -42,6 +44,7 @@ impl Model for Frame {
       rows = f.rows;
       column = f.column;
       columns = f.columns;
+      left = f.left;
       width = f.width;
       mask = f.mask;
     } };

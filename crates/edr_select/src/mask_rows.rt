@@ -1,40 +1,29 @@
 //! Which nodes of a row a disc, some polygons or a box takes.
-ghost use Rattle.std.specs.Prelude.{◌≡◌, ◌<◌, ◌+◌, length, All, IfOk, MatchOption};
+ghost use Rattle.std.specs.Prelude.{◌≡◌, ◌<◌, ◌≤◌, ◌+◌, ◌++◌, length, All, IfOk, OnOk, MatchOption};
+ghost use Rattle.edr_axes.specs.Axes.{value_at};
+ghost use Rattle.edr_base.specs.Limits.{node_limit};
 ghost use Rattle.edr_edition.specs.Instances.{HasGrid};
 ghost use Rattle.edr_geometry.specs.Limits.{IsCoordinate};
 ghost use Rattle.edr_geometry.specs.Masks.{row_of, spot_at, IsSet, NoneSet};
 ghost use Rattle.edr_geometry.specs.Planar as plane;
 ghost use Rattle.edr_query.specs.Queries.{IsShape};
-ghost use Rattle.edr_select.specs.Masks.{IsArea, NoneIn, IsTakenRow, takes_spot};
+ghost use Rattle.edr_select.specs.Masks.{IsArea, LiesInColumns, NoneIn, IsTakenRow, bits_at, takes_spot};
 ghost use Rattle.edr_select.specs.Wanted.{in_box};
 
-use crate::row_ranges::{centre_of, polygons_of};
+use crate::grid_ranges::Columns;
+use crate::reaches::{centre_of, polygons_of};
 use edr_axes::Axis;
 use edr_base::{OutOfMemory, Spot};
 use edr_edition::GridInstance;
 use edr_geometry::RowMask;
 use edr_query::Shape;
 use std::alloc::Global;
-use std::marker::Model;
 
-// A truth value for each column of a row, and the first and the last column that is taken.
-#[derive(Drop)]
-pub(crate) struct TakenRow {
-    pub(crate) bits: Vec<bool>,
-    pub(crate) first: usize,
-    pub(crate) last: usize,
-}
-
-impl Model for TakenRow {
-    ghost use Rattle.edr_select.specs.Masks.{RowValue};
-
-    ghost Value = { RowValue };
-
-    ghost view = { λ row. record {
-      bits = row.bits.items;
-      first = row.first;
-      last = row.last;
-    } };
+/// The first and the last column of a grid that is taken of a row.
+#[derive(Clone, Copy)]
+pub struct RowEnds {
+    pub first: usize,
+    pub last: usize,
 }
 
 // Whether a number is from a low one to a high one, both included.
@@ -61,44 +50,72 @@ impl BoxRow {
     }
 }
 
-// The truth values of the nodes of a row in a box.
-fn bits_of_box(alloc: Global, row: &BoxRow, xs: &Axis) -> Result<Vec<bool>, OutOfMemory>
-    ensures { IfOk result (λ bits. bits.items ≡ row_of (λ p. in_box p row.now.lo row.now.hi) row.now.y xs.now) }
+// Adds the truth values of the nodes of a row in a box, one by one.
+fn add_each(bits: &mut Vec<bool>, row: &BoxRow, xs: &[i64]) -> Result<(), OutOfMemory>
+    ensures { OnOk result (bits.new.items ≡ bits.old.items ++ row_of (λ p. in_box p row.now.lo row.now.hi) row.now.y xs.now) }
 {
-    let mut bits = Vec::with_capacity(alloc, xs.len())?;
-    for x in xs.values() {
+    for x in xs {
         bits.push(row.has(*x))?;
     }
-    Ok(bits)
+    Ok(())
 }
 
-// The truth values of a mask.
-fn bits_of_mask(alloc: Global, mask: &RowMask) -> Result<Vec<bool>, OutOfMemory>
-    ensures { IfOk result (λ bits. bits.items ≡ mask.now) }
+// Adds the truth values of the nodes of a row in a box. Where the first and the last are in it, all are.
+fn add_box(bits: &mut Vec<bool>, row: &BoxRow, xs: &Axis) -> Result<(), OutOfMemory>
+    ensures { OnOk result (bits.new.items ≡ bits.old.items ++ row_of (λ p. in_box p row.now.lo row.now.hi) row.now.y xs.now) }
 {
-    let mut bits = Vec::with_capacity(alloc, mask.len())?;
-    for column in 0..mask.len() {
-        bits.push(mask.is_set(column))?;
+    let xs = xs.values();
+    if row.has(xs[0]) && row.has(xs[xs.len() - 1]) {
+        bits.resize(bits.len() + xs.len(), true)?;
+        return Ok(());
     }
-    Ok(bits)
+    add_each(bits, row, xs)
 }
 
-// The truth values of the nodes of a row.
-fn bits_of(alloc: Global, shape: &Shape, y: i64, xs: &Axis) -> Result<Vec<bool>, OutOfMemory>
+// Puts the truth values of a mask in place of as many others.
+fn copy_mask(row: &mut [bool], mask: &RowMask)
+    requires { length row.old ≡ length mask.now }
+    ensures { row.new ≡ mask.now }
+{
+    for column in 0..row.len() {
+        row[column] = mask.is_set(column);
+    }
+}
+
+// Adds the truth values of a mask.
+fn add_mask(bits: &mut Vec<bool>, mask: &RowMask) -> Result<(), OutOfMemory>
+    requires { length mask.now ≤ node_limit }
+    ensures { OnOk result (bits.new.items ≡ bits.old.items ++ mask.now) }
+{
+    let start = bits.len();
+    bits.resize(start + mask.len(), false)?;
+    copy_mask(&mut bits[start..], mask);
+    Ok(())
+}
+
+// Adds the truth values of the nodes of a row.
+fn add_bits(
+    alloc: Global,
+    bits: &mut Vec<bool>,
+    shape: &Shape,
+    y: i64,
+    xs: &Axis,
+) -> Result<(), OutOfMemory>
     requires area { IsArea shape.now }
     requires shape { IsShape shape.now }
     requires y_in { IsCoordinate y }
     requires xs_in { All IsCoordinate xs.now }
-    ensures { IfOk result (λ bits. bits.items ≡ row_of (takes_spot shape.now) y xs.now) }
+    requires few { length xs.now ≤ node_limit }
+    ensures { OnOk result (bits.new.items ≡ bits.old.items ++ row_of (takes_spot shape.now) y xs.now) }
 {
     match shape {
         Shape::Radius { geometry, within } => {
             let mask = RowMask::of_disc(alloc, centre_of(geometry), *within, y, xs)?;
-            bits_of_mask(alloc, &mask)
+            add_mask(bits, &mask)
         }
         Shape::Area(geometry) => {
             let mask = RowMask::of_polygons(alloc, polygons_of(geometry), y, xs)?;
-            bits_of_mask(alloc, &mask)
+            add_mask(bits, &mask)
         }
         Shape::Cube { lo, hi, .. } => {
             let row = BoxRow {
@@ -106,7 +123,7 @@ fn bits_of(alloc: Global, shape: &Shape, y: i64, xs: &Axis) -> Result<Vec<bool>,
                 hi: *hi,
                 y,
             };
-            bits_of_box(alloc, &row, xs)
+            add_box(bits, &row, xs)
         }
         _ => unreachable!(),
     }
@@ -138,25 +155,35 @@ fn last_taken(bits: &[bool]) -> Option<usize>
     None
 }
 
-// The row of a place, or None where none of its nodes is taken.
-pub(crate) fn taken_row(
+// Adds the truth values of a row, for so many columns as can have nodes that are taken. Its ends, or None where none of its
+// nodes is taken.
+pub(crate) fn add_row(
     alloc: Global,
+    bits: &mut Vec<bool>,
     instance: &GridInstance,
     shape: &Shape,
+    columns: &Columns,
     y: usize,
-) -> Result<Option<TakenRow>, OutOfMemory>
+) -> Result<Option<RowEnds>, OutOfMemory>
     requires instance { HasGrid instance.now }
     requires area { IsArea shape.now }
     requires shape { IsShape shape.now }
+    requires columns { LiesInColumns instance.now shape.now columns.now }
     requires inside { y < length instance.now.ys }
-    ensures { IfOk result (λ found. MatchOption found (NoneIn instance.now shape.now y (y + 1)) (λ row. IsTakenRow instance.now shape.now y row)) }
+    ensures added { OnOk result (bits.new.items ≡ bits.old.items ++ bits_at instance.now shape.now columns.now y) }
+    ensures found { IfOk result (λ found. MatchOption found (NoneIn instance.now shape.now y (y + 1)) (λ ends. IsTakenRow instance.now shape.now y ends)) }
 {
-    let bits = bits_of(alloc, shape, instance.ys().value(y), instance.xs())?;
-    let Some(first) = first_taken(&bits) else {
+    let start = bits.len();
+    add_bits(alloc, bits, shape, instance.ys().value(y), &columns.xs)?;
+    let row = &bits[start..];
+    let Some(first) = first_taken(row) else {
         return Ok(None);
     };
-    let Some(last) = last_taken(&bits) else {
+    let Some(last) = last_taken(row) else {
         return Ok(None);
     };
-    Ok(Some(TakenRow { bits, first, last }))
+    Ok(Some(RowEnds {
+        first: columns.left + first,
+        last: columns.left + last,
+    }))
 }

@@ -3,23 +3,25 @@ ghost use Rattle.std.specs.Prelude.{◌≡◌, ◌+◌, ◌*◌, ◌<◌, ◌≤
 ghost use Rattle.edr_base.specs.Limits.{node_limit};
 ghost use Rattle.edr_edition.specs.Instances.{HasGrid};
 ghost use Rattle.edr_query.specs.Queries.{IsShape};
-ghost use Rattle.edr_select.specs.Masks.{IsArea, NoneTaken, IsMask, NoneIn, IsMaskBefore, mask_of_row, with_row, right_of};
+ghost use Rattle.edr_select.specs.Masks.{IsArea, NoneTaken, IsMask, NoneIn, LiesInRows, LiesInColumns, IsMaskBefore, mask_of_row, with_row, right_of};
 
-use crate::mask_rows::{TakenRow, taken_row};
-use crate::row_ranges::rows_of;
+use crate::grid_ranges::{Columns, ranges_of};
+use crate::mask_rows::{RowEnds, add_row};
 use edr_base::OutOfMemory;
 use edr_edition::GridInstance;
 use edr_query::Shape;
 use std::alloc::Global;
 use std::marker::Model;
 
-// The least box with all nodes that are taken: for each of its rows a truth value for each column of the grid.
+// The least box with all nodes that are taken: for each of its rows truth values for so many columns of the grid from one on.
 #[derive(Drop)]
 pub(crate) struct Mask {
     pub(crate) row: u32,
     pub(crate) rows: u32,
     pub(crate) column: u32,
     pub(crate) columns: u32,
+    pub(crate) left: u32,
+    pub(crate) width: u32,
     pub(crate) bits: Vec<bool>,
 }
 
@@ -33,47 +35,45 @@ impl Model for Mask {
       rows = m.rows;
       column = m.column;
       columns = m.columns;
+      left = m.left;
+      width = m.width;
       bits = m.bits.items;
     } };
 }
 
 impl Mask {
     // The box of one row.
-    fn of_row(y: usize, row: TakenRow) -> Mask
+    fn of_row(columns: &Columns, y: usize, ends: RowEnds, bits: Vec<bool>) -> Mask
         requires y_in { y < node_limit }
-        requires ordered { row.first ≤ row.last }
-        requires last_in { row.last < node_limit }
-        ensures { result ≡ mask_of_row y row }
+        requires ordered { ends.first ≤ ends.last }
+        requires last_in { ends.last < node_limit }
+        requires columns_in { columns.now.left + length columns.now.xs ≤ node_limit }
+        ensures { result ≡ mask_of_row columns.now y ends bits.items }
     {
         Mask {
             row: y as u32,
             rows: 1,
-            column: row.first as u32,
-            columns: (row.last + 1 - row.first) as u32,
-            bits: row.bits,
+            column: ends.first as u32,
+            columns: (ends.last + 1 - ends.first) as u32,
+            left: columns.left as u32,
+            width: columns.xs.len() as u32,
+            bits,
         }
     }
 
     // Goes on to a row behind it. No node between is taken.
-    fn add_row(&mut self, y: usize, row: &TakenRow) -> Result<(), OutOfMemory>
-        requires behind { self.old.row + self.old.rows ≤ y }
+    fn reach_row(&mut self, y: usize, ends: RowEnds)
+        requires behind { self.old.row ≤ y }
         requires y_in { y < node_limit }
-        requires last_in { row.now.last < node_limit }
-        requires ordered { row.now.first ≤ row.now.last }
+        requires last_in { ends.last < node_limit }
+        requires ordered { ends.first ≤ ends.last }
         requires right_in { right_of self.old ≤ node_limit }
-        requires few { (y + 1) * length row.now.bits ≤ node_limit }
-        requires full { length self.old.bits ≡ self.old.rows * length row.now.bits }
-        ensures { OnOk result (self.new ≡ with_row self.old y row.now) }
+        ensures { self.new ≡ with_row self.old y ends }
     {
-        let behind = self.row as usize + self.rows as usize;
-        let empty = (y - behind) * row.bits.len();
-        self.bits.resize(self.bits.len() + empty, false)?;
-        self.bits.extend_from_slice(&row.bits)?;
-        let right = (self.column + self.columns).max(row.last as u32 + 1);
+        let right = (self.column + self.columns).max(ends.last as u32 + 1);
         self.rows = y as u32 + 1 - self.row;
-        self.column = self.column.min(row.first as u32);
+        self.column = self.column.min(ends.first as u32);
         self.columns = right - self.column;
-        Ok(())
     }
 }
 
@@ -82,20 +82,25 @@ fn first_row(
     alloc: Global,
     instance: &GridInstance,
     shape: &Shape,
+    columns: &Columns,
     from: usize,
     end: usize,
 ) -> Result<Option<Mask>, OutOfMemory>
     requires instance { HasGrid instance.now }
     requires area { IsArea shape.now }
     requires shape { IsShape shape.now }
+    requires columns { LiesInColumns instance.now shape.now columns.now }
+    requires ordered { from ≤ end }
     requires inside { end ≤ length instance.now.ys }
     requires before { NoneIn instance.now shape.now 0 from }
-    ensures { IfOk result (λ found. MatchOption found (NoneIn instance.now shape.now 0 end) (λ mask. (mask.row < end) × IsMaskBefore instance.now shape.now (mask.row + 1) mask)) }
+    ensures { IfOk result (λ found. MatchOption found (NoneIn instance.now shape.now 0 end) (λ mask. (mask.row < end) × IsMaskBefore instance.now shape.now columns.now (mask.row + 1) mask)) }
 {
+    let mut bits = Vec::with_capacity(alloc, (end - from) * columns.xs.len())?;
     for y in from..end {
-        if let Some(row) = taken_row(alloc, instance, shape, y)? {
-            return Ok(Some(Mask::of_row(y, row)));
+        if let Some(ends) = add_row(alloc, &mut bits, instance, shape, columns, y)? {
+            return Ok(Some(Mask::of_row(columns, y, ends, bits)));
         }
+        bits.clear();
     }
     Ok(None)
 }
@@ -106,26 +111,53 @@ fn add_rows(
     mask: &mut Mask,
     instance: &GridInstance,
     shape: &Shape,
+    columns: &Columns,
     from: usize,
     end: usize,
 ) -> Result<(), OutOfMemory>
     requires instance { HasGrid instance.now }
     requires area { IsArea shape.now }
     requires shape { IsShape shape.now }
+    requires columns { LiesInColumns instance.now shape.now columns.now }
     requires ordered { from ≤ end }
     requires inside { end ≤ length instance.now.ys }
-    requires mask { IsMaskBefore instance.now shape.now from mask.old }
-    ensures { OnOk result (IsMaskBefore instance.now shape.now end mask.new) }
+    requires mask { IsMaskBefore instance.now shape.now columns.now from mask.old }
+    ensures { OnOk result (IsMaskBefore instance.now shape.now columns.now end mask.new) }
 {
     for y in from..end {
-        if let Some(row) = taken_row(alloc, instance, shape, y)? {
-            mask.add_row(y, &row)?;
+        if let Some(ends) = add_row(alloc, &mut mask.bits, instance, shape, columns, y)? {
+            mask.reach_row(y, ends);
         }
     }
     Ok(())
 }
 
-// The nodes that a shape takes, or None where it takes none. Only rows that can have such a node are looked at.
+// The nodes of some columns that a shape takes, from one row to before another, or None where it takes none.
+fn mask_over(
+    alloc: Global,
+    instance: &GridInstance,
+    shape: &Shape,
+    columns: &Columns,
+    from: usize,
+    end: usize,
+) -> Result<Option<Mask>, OutOfMemory>
+    requires instance { HasGrid instance.now }
+    requires area { IsArea shape.now }
+    requires shape { IsShape shape.now }
+    requires columns { LiesInColumns instance.now shape.now columns.now }
+    requires rows { LiesInRows instance.now shape.now from end }
+    ensures { IfOk result (λ found. MatchOption found (NoneTaken instance.now shape.now) (λ mask. IsMask instance.now shape.now mask)) }
+{
+    let Some(mut mask) = first_row(alloc, instance, shape, columns, from, end)? else {
+        return Ok(None);
+    };
+    let next = mask.row as usize + 1;
+    add_rows(alloc, &mut mask, instance, shape, columns, next, end)?;
+    mask.bits.truncate(mask.rows as usize * mask.width as usize);
+    Ok(Some(mask))
+}
+
+// The nodes that a shape takes, or None where it takes none. Only rows and columns that can have such a node are looked at.
 pub(crate) fn mask_of(
     alloc: Global,
     instance: &GridInstance,
@@ -136,11 +168,8 @@ pub(crate) fn mask_of(
     requires shape { IsShape shape.now }
     ensures { IfOk result (λ found. MatchOption found (NoneTaken instance.now shape.now) (λ mask. IsMask instance.now shape.now mask)) }
 {
-    let (from, end) = rows_of(instance, shape);
-    let Some(mut mask) = first_row(alloc, instance, shape, from, end)? else {
+    let Some((from, end, columns)) = ranges_of(alloc, instance, shape)? else {
         return Ok(None);
     };
-    let next = mask.row as usize + 1;
-    add_rows(alloc, &mut mask, instance, shape, next, end)?;
-    Ok(Some(mask))
+    mask_over(alloc, instance, shape, &columns, from, end)
 }

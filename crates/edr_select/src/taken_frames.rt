@@ -41,7 +41,8 @@ fn frame_of(
         rows: mask.rows,
         column: mask.column,
         columns: mask.columns,
-        width: instance.grid().shape().columns,
+        left: mask.left,
+        width: mask.width,
         mask: Items::of(mask.bits),
     }))
 }

@@ -6,9 +6,10 @@ use Rattle.edr_chunk.specs.AllPlaces.{at}
 use Rattle.edr_chunk.specs.Tiles.{tile_of}
 use Rattle.edr_select.specs.Framings.{FrameValue, is_set}
 
--- the truth values of a frame are those of its rows, and its columns are among the grid's
+-- the truth values of a frame are those of its rows, and its columns have them
 pub record HasMask (frame : FrameValue) : Type 0 where
-  pub columns : frame.column + frame.columns ≤ frame.width
+  pub left : frame.left ≤ frame.column
+  pub right : frame.column + frame.columns ≤ frame.left + frame.width
   pub mask : length frame.mask ≡ frame.rows * frame.width
 
 -- the rows from one up to another are among those of a frame

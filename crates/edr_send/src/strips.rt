@@ -37,7 +37,7 @@ fn row_has_taken(frame: &Frame, y: u32, left: u32, right: u32) -> bool
     let bits = frame.mask.items();
     let start = row_start(frame, y);
     for x in left..right {
-        if bits[start + x as usize] {
+        if bits[start + (x - frame.left) as usize] {
             return true;
         }
     }
@@ -87,7 +87,7 @@ fn fill_row(
     let mut samples = [None; 64];
     tile.copy_row(y, left, &mut samples[..(right - left) as usize]);
     for x in left..right {
-        if bits[start + x as usize] {
+        if bits[start + (x - frame.left) as usize] {
             values[first + (x - frame.column) as usize] = samples[(x - left) as usize];
         }
     }

@@ -1,7 +1,7 @@
 use Rattle.std.proofs.Common.{sym}
 use Rattle.edr_select.specs.Masks.{IsReachedPolygon}
 use Rattle.edr_select.proofs.MaskReach.{more_reached, all_reached, wider_polygon}
-use Rattle.edr_select.proofs.row_ranges.reach_of_polygons.Goals as goal
+use Rattle.edr_select.proofs.reaches.reach_of_polygons.Goals as goal
 
 pub loop-polygon-preserved : goal.loop-polygon-preserved
 loop-polygon-preserved c =

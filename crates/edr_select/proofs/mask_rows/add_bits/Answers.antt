@@ -1,11 +1,11 @@
-use Rattle.std.proofs.Common.{◌≡◌, ◌∙◌, sym, ap, ap₂, rules, to_z, of_z, w64}
-use Rattle.std.proofs.lemmas.Result.{IfOk-weaker}
+use Rattle.std.proofs.Common.{◌≡◌, ◌∙◌, ◌++◌, sym, ap, ap₂, rules, to_z, of_z, w64}
+use Rattle.std.proofs.lemmas.Result.{on_ok_weaker}
 use Rattle.edr_geometry.specs.Planar.{in_disc}
 use Rattle.edr_geometry.specs.Masks.{row_of}
 use Rattle.edr_select.specs.Masks.{takes_spot}
 use Rattle.edr_select.proofs.MaskReach.{of_disc}
 use Rattle.edr_select.proofs.MaskBits.{row_agrees}
-use Rattle.edr_select.proofs.mask_rows.bits_of.Goals as goal
+use Rattle.edr_select.proofs.mask_rows.add_bits.Goals as goal
 
 pub returns-in_ok-mask-in-Radius : goal.returns-in_ok-mask-in-Radius
 returns-in_ok-mask-in-Radius c =
@@ -16,5 +16,5 @@ returns-in_ok-mask-in-Radius c =
     row_agrees (λ p. in_disc p centre within) (takes_spot c.args.shape.now) c.args.y c.args.xs.now
     (λ spot. sym (of_disc c.in-Radius.geometry within centre c.centre_of.ensures spot) ∙ ap (λ s. takes_spot s spot) (sym c.in-Radius.is)) in
     let is = c.in_ok-mask-in-Radius.ensures in
-    IfOk-weaker c.bits_of_mask.result _ (λ bits. bits.items ≡ row_of (takes_spot c.args.shape.now) c.args.y c.args.xs.now)
-    (λ bits e. e ∙ is ∙ ap₂ (λ w v. row_of (λ p. in_disc p centre w) v c.args.xs.now) whole level ∙ same) c.bits_of_mask.ensures
+    on_ok_weaker c.add_mask.result
+    (λ e. e ∙ ap (λ l. c.args.bits.now.items ++ l) (is ∙ ap₂ (λ w v. row_of (λ p. in_disc p centre w) v c.args.xs.now) whole level ∙ same)) c.add_mask.ensures

@@ -2,7 +2,7 @@ use Rattle.std.proofs.Common.{◌∙◌, ◌<◌, ◌≤◌, List, sym, ap, subs
 use Rattle.edr_base.specs.declared.places.Position.{Position}
 use Rattle.edr_select.specs.Masks.{IsReachedRing}
 use Rattle.edr_select.proofs.MaskReach.{more_reached, all_reached, wider_ring, wider_still}
-use Rattle.edr_select.proofs.row_ranges.reach_polygon.Goals as goal
+use Rattle.edr_select.proofs.reaches.reach_polygon.Goals as goal
 
 pub loop-ring-preserved : goal.loop-ring-preserved
 loop-ring-preserved c =

@@ -1,5 +1,5 @@
-use Rattle.edr_select.proofs.MaskReach.{has_polygons}
-use Rattle.edr_select.proofs.row_ranges.polygons_of.Goals as goal
+use Rattle.edr_select.proofs.PolygonReach.{has_polygons}
+use Rattle.edr_select.proofs.reaches.polygons_of.Goals as goal
 
 pub returns : goal.returns
 returns c =

@@ -1,6 +1,6 @@
 use Rattle.std.proofs.Common.{All, take}
 use Rattle.edr_select.specs.Masks.{IsReachedRing, IsWider}
-use Rattle.edr_select.proofs.row_ranges.reach_polygon.Given as goal
+use Rattle.edr_select.proofs.reaches.reach_polygon.Given as goal
 
 abbrev pub invariant-loop-ring : goal.invariant-loop-ring
 invariant-loop-ring l = record {

@@ -1,6 +1,6 @@
 use Rattle.std.proofs.Common.{take}
 use Rattle.edr_select.specs.Masks.{IsReachedRing, IsWider}
-use Rattle.edr_select.proofs.row_ranges.reach_ring.Given as goal
+use Rattle.edr_select.proofs.reaches.reach_ring.Given as goal
 
 abbrev pub invariant-loop-position : goal.invariant-loop-position
 invariant-loop-position l = record {

@@ -1,21 +1,20 @@
-//! The rows of a plane that can have nodes which a disc, some polygons or a box takes.
+//! How far a disc, some polygons or a box reaches.
 ghost use Rattle.std.specs.Prelude.{◌≡◌, All};
-ghost use Rattle.edr_edition.specs.Instances.{HasGrid};
 ghost use Rattle.edr_geometry.specs.Limits.{IsPlacedPolygon};
 ghost use Rattle.edr_query.specs.Queries.{IsShape, IsTaken};
 ghost use Rattle.edr_query.specs.declared.addresses.QueryKind.TheVariants.{Radius, Area};
-ghost use Rattle.edr_select.specs.Masks.{IsArea, IsCentre, HasPolygons, IsReachedRing, IsReachedPolygon, IsWider, LiesIn, LiesInRows};
+ghost use Rattle.edr_select.specs.Masks.{IsArea, IsCentre, HasPolygons, IsReachedRing, IsReachedPolygon, IsWider, LiesIn};
 
-use edr_axes::bounds_split_axes;
 use edr_base::{Position, Spot};
-use edr_edition::GridInstance;
 use edr_geometry::geometries_are_placed;
 use edr_query::Shape;
 use edr_wkt::{Geometry, Polygon};
 
-/// The least and the greatest y of some places, in metres.
+/// The least and the greatest x of some places, and the least and the greatest y, in metres.
 #[derive(Clone, Copy)]
 pub struct Reach {
+    pub left: i64,
+    pub right: i64,
     pub low: i64,
     pub high: i64,
 }
@@ -55,6 +54,8 @@ fn reach_ring(reach: Reach, ring: &[Position]) -> Reach
     let mut reach = reach;
     for position in ring {
         reach = Reach {
+            left: reach.left.min(position.x),
+            right: reach.right.max(position.x),
             low: reach.low.min(position.y),
             high: reach.high.max(position.y),
         };
@@ -74,11 +75,13 @@ fn reach_polygon(reach: Reach, polygon: &Polygon) -> Reach
     reach
 }
 
-// From the least to the greatest y of polygons.
+// How far polygons reach.
 fn reach_of_polygons(polygons: &[Polygon]) -> Reach
     ensures { All (IsReachedPolygon result) polygons.now }
 {
     let mut reach = Reach {
+        left: i64::MAX,
+        right: i64::MIN,
         low: i64::MAX,
         high: i64::MIN,
     };
@@ -88,8 +91,8 @@ fn reach_of_polygons(polygons: &[Polygon]) -> Reach
     reach
 }
 
-// From the least to the greatest y that a shape takes.
-fn reach_of(shape: &Shape) -> Reach
+// How far a shape reaches.
+pub(crate) fn reach_of(shape: &Shape) -> Reach
     requires area { IsArea shape.now }
     requires shape { IsShape shape.now }
     ensures { LiesIn shape.now result }
@@ -98,27 +101,19 @@ fn reach_of(shape: &Shape) -> Reach
         Shape::Radius { geometry, within } => {
             let centre = centre_of(geometry);
             Reach {
+                left: centre.x - *within,
+                right: centre.x + *within,
                 low: centre.y - *within,
                 high: centre.y + *within,
             }
         }
         Shape::Area(geometry) => reach_of_polygons(polygons_of(geometry)),
         Shape::Cube { lo, hi, .. } => Reach {
+            left: lo.x,
+            right: hi.x,
             low: lo.y,
             high: hi.y,
         },
         _ => unreachable!(),
     }
-}
-
-// The rows that can have nodes which a shape takes: the first, and the one behind the last.
-pub(crate) fn rows_of(instance: &GridInstance, shape: &Shape) -> (usize, usize)
-    requires instance { HasGrid instance.now }
-    requires area { IsArea shape.now }
-    requires shape { IsShape shape.now }
-    ensures { LiesInRows instance.now shape.now result.0 result.1 }
-{
-    bounds_split_axes();
-    let reach = reach_of(shape);
-    instance.ys().range(reach.low, reach.high)
 }
