@@ -1,10 +1,10 @@
 //! Reading until it is known what is at the front of the rest.
-ghost use Rattle.std.specs.Prelude.{◌≡◌, ◌≤◌, ◌<◌, ◌+◌, ◌-◌, ◌⊎◌, ℕ, length, IfOk, Ok, IsErrOf};
+ghost use Rattle.std.specs.Prelude.{◌≡◌, ◌≤◌, ◌<◌, ◌+◌, ◌-◌, ◌⊎◌, ℕ, length, IfOk, Ok, OnErr, IsErrOf};
 ghost use Rattle.std.specs.Io.KnownBytes.{prepend_known};
 ghost use Rattle.edr_base.specs.Outside.{Rose};
 ghost use Rattle.edr_base.specs.Calls.{SourceLent};
 ghost use Rattle.edr_http.specs.Heads.{block_size, most_held};
-ghost use Rattle.edr_http.specs.Finding.{Grew, IsFront, HasTree};
+ghost use Rattle.edr_http.specs.Finding.{Grew, IsFront, HasTree, HasNoTree};
 
 use crate::finding::{Found, HEAD_LIMIT, look};
 use crate::heads::HeadFault;
@@ -27,6 +27,7 @@ fn read_more<S: Source>(source: &mut S, held: &mut Vec<u8>) -> Result<usize, Hea
     ensures rest { prepend_known held.new.items (S.left source.new) ≡ prepend_known held.old.items (S.left source.old) }
     ensures grew { IfOk result (λ n. (n ≤ block_size) × Grew held.old.items held.new.items n (S.left source.new)) }
     ensures bounded { length held.new.items ≤ length held.old.items + block_size }
+    ensures unread { OnErr result (held.new.items ≡ held.old.items) }
     ensures lent { SourceLent (S.aside source.old) (S.aside source.new) (S.faults source.old) (S.faults source.new) }
     ensures cause { IsErrOf result HeadFault.ReadFault → Rose (S.faults source.old) (S.faults source.new) }
 {
@@ -49,6 +50,8 @@ pub(crate) fn fill<S: Source>(source: &mut S, held: &mut Vec<u8>) -> Result<Fron
     ensures rest { prepend_known held.new.items (S.left source.new) ≡ prepend_known held.old.items (S.left source.old) }
     ensures front { IfOk result (λ front. IsFront front held.new.items (S.left source.new)) }
     ensures kept { (n : ℕ) → HasTree held.old.items n → source.new ≡ source.old }
+    ensures same { (n : ℕ) → HasTree held.old.items n → held.new.items ≡ held.old.items }
+    ensures none { IsErrOf result HeadFault.ReadFault → HasNoTree held.new.items }
     ensures short { (n : ℕ) → result ≡ Ok (Front.Got n) → HasTree held.old.items n ⊎ (length held.new.items - n < block_size) }
     ensures bounded { length held.new.items ≤ most_held (length held.old.items) }
     ensures lent { SourceLent (S.aside source.old) (S.aside source.new) (S.faults source.old) (S.faults source.new) }

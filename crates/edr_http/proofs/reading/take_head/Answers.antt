@@ -1,6 +1,6 @@
 use Rattle.std.proofs.Common.{ℕ, List, subst, sym, rules}
 use Rattle.edr_http.specs.Heads.{BeginsWith}
-use Rattle.edr_http.proofs.RestLemmas.{finds_got, rest_after, head_or_short}
+use Rattle.edr_http.proofs.RestLemmas.{finds_got, rest_after, head_or_short, no_more, fewer}
 use Rattle.edr_http.proofs.reading.take_head.Goals as goal
 
 pub returns-in-Ok-clause-done : goal.returns-in-Ok-clause-done
@@ -16,3 +16,18 @@ pub returns-in-Ok-clause-short : goal.returns-in-Ok-clause-short
 returns-in-Ok-clause-short g c got =
     let told = c.fill.ensures.short c.in-Ok-Got.n (search rules) in
     head_or_short c.args.held.now.items c.fill.new.held.items c.remove_front.new.held.items c.in-Ok-Got.n told c.remove_front.ensures
+
+pub returns-in-Ok-clause-less : goal.returns-in-Ok-clause-less
+returns-in-Ok-clause-less g c n has = fewer _ _ _ c.in-Ok-Got.n (c.fill.ensures.same n has) c.remove_front.ensures
+
+pub returns-in-Err-copy_head-clause-less : goal.returns-in-Err-copy_head-clause-less
+returns-in-Err-copy_head-clause-less g c n has = no_more _ _ (c.fill.ensures.same n has)
+
+pub returns-in-Ok-EndOfInput-clause-less : goal.returns-in-Ok-EndOfInput-clause-less
+returns-in-Ok-EndOfInput-clause-less g c n has = no_more _ _ (c.fill.ensures.same n has)
+
+pub returns-in-Ok-BadHead-clause-less : goal.returns-in-Ok-BadHead-clause-less
+returns-in-Ok-BadHead-clause-less g c n has = no_more _ _ (c.fill.ensures.same n has)
+
+pub returns-in-Err-clause-less : goal.returns-in-Err-clause-less
+returns-in-Err-clause-less g c n has = no_more _ _ (c.fill.ensures.same n has)
