@@ -8,9 +8,11 @@ ghost use Rattle.edr_http.specs.Finding.{HasTree, HasNoTree};
 
 use crate::copying::copy_head;
 use crate::filling::{Front, fill};
+use crate::finding::{FIELD_LIMIT, window};
 use crate::heads::{HeadFault, HeadOutcome};
 use crate::inbox::Inbox;
 use edr_base::{Refusal, Source};
+use httparse::spans::EMPTY_HEADER_SPAN;
 use std::alloc::Global;
 
 // Takes the first bytes away.
@@ -40,10 +42,11 @@ fn take_head<S: Source>(
     ensures lent { SourceLent (S.aside source.old) (S.aside source.new) (S.faults source.old) (S.faults source.new) }
     ensures cause { IsErrOf result HeadFault.ReadFault → Rose (S.faults source.old) (S.faults source.new) }
 {
-    match fill(source, held) {
-        Ok(Front::Got(n)) => match copy_head(alloc, held) {
+    let mut fields = [EMPTY_HEADER_SPAN; FIELD_LIMIT];
+    match fill(source, held, &mut fields) {
+        Ok(Front::Got(spans)) => match copy_head(alloc, window(held), &fields, spans) {
             Ok(head) => {
-                remove_front(held, n);
+                remove_front(held, spans.len);
                 Ok(HeadOutcome::Got(head))
             }
             Err(_) => Err(HeadFault::OutOfMemory),
