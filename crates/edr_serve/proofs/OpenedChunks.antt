@@ -2,7 +2,7 @@
 use Rattle.std.proofs.Common.{◌≡◌, ℕ, List}
 use Rattle.std.specs.Prelude.{Result, OnOk}
 use Rattle.edr_base.specs.declared.sending.SendFault.{SendFault}
-use Rattle.edr_select.specs.Sending.{Opens}
+use Rattle.edr_send.specs.Sending.{Opens}
 
 -- the chunks were opened for the text, whether or not its end could be sent; where the text couldn't be, nothing more is answered
 pub opens_as : {T U : Type 0} (outcome : Result T SendFault) (result : Result U SendFault) (wanted numbers : List ℕ)

@@ -78,17 +78,21 @@ most_behind (Some ClosedByPeer) = block_size - 1
 most_behind (Some (ClosedByRefusal number)) = if number == 1 then most_held 0 else block_size - 1
 most_behind (Some RequestLimit) = block_size - 1
 
--- these requests were read, and behind them no more than so much: what the source still has follows that
-pub record ReadsAhead (most turns : ℕ) (requests : List Request) (bytes left : List ℕ) : Type 0 where
+-- no more bytes than so many
+abbrev pub AtMost : ℕ → List ℕ → Type 0
+AtMost most held = length held ≤ most
+
+-- these requests were read, and behind them some bytes that are so: what the source still has follows those
+pub record ReadsAhead (IsSo : List ℕ → Type 0) (turns : ℕ) (requests : List Request) (bytes left : List ℕ) : Type 0 where
   pub held : List ℕ
   pub read : AreFirst turns bytes requests (held ++ left)
-  pub few : length held ≤ most
+  pub is : IsSo held
 
 -- all requests of the rest were answered
 pub record Session (rest left : Option (List ℕ)) (before after : State) (report : SessionReport) : Type 0 where
   pub requests : List Request
   pub all : IfTold (λ bytes. Requests request_limit bytes requests) rest
-  pub ahead : Told (λ bytes others. ReadsAhead (most_behind (Some report.end)) request_limit requests bytes others) rest left
+  pub ahead : Told (λ bytes others. ReadsAhead (AtMost (most_behind (Some report.end))) request_limit requests bytes others) rest left
   pub editions : List EditionValue
   pub answered : Answered requests before after editions report.editions report.reads
   pub count : report.requests ≡ length requests
@@ -100,7 +104,7 @@ pub record Broken (rest left : Option (List ℕ)) (before after : State) : Type 
   pub last : List Request
   pub one : length last ≤ 1
   pub begun : IfTold (λ bytes. Begun request_limit bytes (requests ++ last)) rest
-  pub ahead : Told (λ bytes others. ReadsAhead (most_held 0) request_limit requests bytes others) rest left
+  pub ahead : Told (λ bytes others. ReadsAhead (AtMost (most_held 0)) request_limit requests bytes others) rest left
   pub editions : List EditionValue
   pub between : State
   pub answered : Answered requests before between editions (map number_of editions) (opened requests editions)
@@ -111,7 +115,7 @@ pub record Waits (rest left : Option (List ℕ)) (before after : State) : Type 0
   pub requests : List Request
   pub begun : IfTold (λ bytes. Begun request_limit bytes requests) rest
   pub open_ : session_end requests ≡ EndOfInput
-  pub ahead : Told (λ bytes others. (read : ReadsAhead (most_held 0) request_limit requests bytes others) × HasNoHead read.held) rest left
+  pub ahead : Told (λ bytes others. ReadsAhead (λ held. AtMost (most_held 0) held × HasNoHead held) request_limit requests bytes others) rest left
   pub editions : List EditionValue
   pub answered : Answered requests before after editions (map number_of editions) (opened requests editions)
 

@@ -10,7 +10,8 @@ use edr_base::{Refusal, SendFault, Sink};
 use edr_describe::{DescribeFault, describe};
 use edr_edition::{Edition, Store};
 use edr_query::{Page, Query, TargetFault, read_target};
-use edr_select::{PlanFault, plan, send};
+use edr_select::{PlanFault, plan};
+use edr_send::send;
 use std::alloc::Global;
 
 /// Why a target isn't answered with a text.

@@ -6,13 +6,14 @@ ghost use Rattle.covjson_value.specs.Trees.{document_text};
 ghost use Rattle.edr_select.specs.Selections.{needed};
 ghost use Rattle.edr_select.specs.Documents.{document};
 ghost use Rattle.edr_select.specs.Plans.{StandsFor};
-ghost use Rattle.edr_select.specs.Sending.{Opens};
+ghost use Rattle.edr_send.specs.Sending.{Opens};
 ghost use Rattle.edr_http.specs.Chunks.{chunked};
 
 use edr_base::{Lent, SendFault, Sink};
 use edr_edition::Store;
 use edr_http::ChunkedSink;
-use edr_select::{Plan, send};
+use edr_select::Plan;
+use edr_send::send;
 use std::alloc::Global;
 
 /// Writes the document that is planned as a whole body in chunks (RFC 9112, section 7.1), with the values of the store.
