@@ -1,5 +1,5 @@
 -- A session in which each request but the first finds the next edition.
-use Rattle.std.proofs.Common.{◌≡◌, ℕ, zero, suc, ◌+◌, ◌-◌, ◌≤◌, ◌<◌, min, Bool, true, false, List, [], ◌∷◌, ◌++◌, length, length-append, append-nil, Result, Ok, Err, Some, None, All, sym, ap, subst, ◌∙◌, refl, inl, inr, arith, slice_index_or}
+use Rattle.std.proofs.Common.{◌≡◌, ℕ, zero, suc, ◌+◌, ◌-◌, ◌≤◌, ◌<◌, min, max, ◌⊎◌, Bool, true, false, List, [], ◌∷◌, ◌++◌, length, length-append, append-nil, Result, Ok, Err, Some, None, All, sym, ap, subst, ◌∙◌, refl, inl, inr, arith, slice_index_or}
 use Rattle.std.specs.declared.option.Option.{Option}
 use Rattle.std.specs.Prelude.{is_some, unwrap_or, option_to_list, IfSome, IsSome}
 use Rattle.std.specs.Io.KnownBytes.{append_known, prepend_known}
@@ -9,18 +9,18 @@ use Rattle.edr_base.specs.KnownBytes.{append_nothing, prepend_nothing, grew_on, 
 use Rattle.edr_base.specs.declared.refusals.Refusal.{Refusal}
 use Rattle.edr_edition.specs.Values.{EditionValue}
 use Rattle.edr_edition.specs.Shelves.{EndsWith, AreNumberedFrom, IsLog, IsNext, no_edition}
-use Rattle.edr_http.specs.Heads.{Told, IsBehind, most_held}
+use Rattle.edr_http.specs.Heads.{Told, IsBehind, HasNoHead, most_held}
 use Rattle.edr_query.specs.declared.pages.Page.{Page}
 use Rattle.edr_serve.specs.declared.ends.End.{End}
 use Rattle.edr_serve.specs.declared.ends.End.TheVariants.{EndOfInput}
 use Rattle.edr_serve.specs.declared.reports.OneReport.{OneReport}
 use Rattle.edr_serve.specs.Requests.{Request, IsFirst, Requests, Begun, session_end, request_limit}
 use Rattle.edr_serve.specs.Replies.{readers, count_if_page, output}
-use Rattle.edr_serve.specs.Sessions.{State, IfTold, Uses, Served, Exchanged, BrokenAtOne}
+use Rattle.edr_serve.specs.Sessions.{State, IfTold, Uses, Served, Exchanged, BrokenAtOne, AtMost, most_behind, ReadsAhead}
 use Rattle.edr_serve.specs.SessionLaws.{OutputGoesOn}
-use Rattle.edr_serve.specs.AheadLaws.{Ahead, ahead_on, ahead_held, ahead_read, few_held}
-use Rattle.edr.specs.Replays.{edition_at, if_page, editions_read, replayed, AreReplies, AreBegun, IsServed, IsReadFor}
-use Rattle.edr.proofs.ReplayLemmas.{AreFirst, uses_same, begins_step, read_step, front_of_more, same_shelf, are_begun, at_end}
+use Rattle.edr_serve.specs.AheadLaws.{HeldBehind, held_on, held_none, held_read, held_end, ahead_of, ahead_more, most_behind_held, held_behind}
+use Rattle.edr.specs.Replays.{edition_at, editions_read, replayed, AreReplies, AreBegun, IsServed, IsReadFor, Waits}
+use Rattle.edr.proofs.ReplayLemmas.{AreFirst, uses_same, begins_step, read_step, replayed_on, front_of_more, same_shelf, are_begun, at_end}
 
 -- ---- the shelf
 
@@ -96,35 +96,6 @@ last_stands editions shelf behind turn stands h e ends =
 abbrev at : List EditionValue → ℕ → EditionValue
 at editions = edition_at true editions
 
-full_step : (asked : Result Page Refusal) (e : EditionValue) (es : List EditionValue) (n : ℕ) → length es ≡ n → length (if_page asked e es) ≡ count_if_page asked n
-full_step (Ok page) e es n h = omega (arith, h)
-full_step (Err refusal) e es n h = h
-
-full_read : (standing : ℕ → EditionValue) (k : ℕ) (rs : List Request) → length (editions_read standing k rs) ≡ readers rs
-full_read standing k [] = refl
-full_read standing k (r ∷ rs) = full_step r.asked (standing k) (editions_read standing (k + 1) rs) (readers rs) (full_read standing (k + 1) rs)
-
-read_on_step : (asked : Result Page Refusal) (e : EditionValue) (es fs gs : List EditionValue) → es ≡ fs ++ gs → if_page asked e es ≡ if_page asked e fs ++ gs
-read_on_step (Ok page) e es fs gs h = ap (λ w. e ∷ w) h
-read_on_step (Err refusal) e es fs gs h = h
-
-zero_more : (k : ℕ) → k ≡ 0 + k
-zero_more k = omega arith
-
-read_on : (standing : ℕ → EditionValue) (k : ℕ) (rs ss : List Request) → editions_read standing k (rs ++ ss) ≡ editions_read standing k rs ++ editions_read standing (length rs + k) ss
-read_on standing k [] ss = ap (λ m. editions_read standing m ss) (zero_more k)
-read_on standing k (r ∷ rs) ss =
-    let further : length rs + (k + 1) ≡ suc (length rs) + k = omega arith in
-    read_on_step r.asked (standing k) (editions_read standing (k + 1) (rs ++ ss)) (editions_read standing (k + 1) rs) (editions_read standing (suc (length rs) + k) ss)
-    (read_on standing (k + 1) rs ss ∙ ap (λ m. editions_read standing (k + 1) rs ++ editions_read standing m ss) further)
-
--- the replies to more requests
-replayed_on : OutputGoesOn → (editions : List EditionValue) (rs ss : List Request) → replayed true editions (rs ++ ss) ≡ replayed true editions rs ++ output ss (editions_read (at editions) (length rs) ss)
-replayed_on law editions rs ss =
-    let none : length rs + 0 ≡ length rs = omega arith in
-    ap (λ w. output (rs ++ ss) w) (read_on (at editions) 0 rs ss ∙ ap (λ m. editions_read (at editions) 0 rs ++ editions_read (at editions) m ss) none)
-    ∙ law rs ss (editions_read (at editions) 0 rs) (editions_read (at editions) (length rs) ss) (full_read (at editions) 0 rs)
-
 are_first : (a es : List EditionValue) (last : EditionValue) → ((e : EditionValue) → EndsWith a e → e ≡ last) → All (EndsWith a) es → AreFirst last es
 are_first a [] last h x = tt
 are_first a (e ∷ es) last h x = (h e (x 0 no_edition (omega arith)), are_first a es last h (λ k d p. x (suc k) d (omega (arith, p))))
@@ -174,12 +145,12 @@ pub record Going (editions : List EditionValue) (turn : ℕ) (rest behind before
   pub count : length done ≡ turn - 1
   pub goes : (rs : List Request) → IfTold (λ bytes. Requests (1001 - turn) bytes rs) behind → IfTold (λ bytes. Requests request_limit bytes (done ++ rs)) rest
   pub begins : (rs : List Request) → IfTold (λ bytes. Begun (1001 - turn) bytes rs) behind → IfTold (λ bytes. Begun request_limit bytes (done ++ rs)) rest
-  pub ahead : (rs : List Request) (left : Option (List ℕ)) → Ahead (1001 - turn) rs behind left → Ahead request_limit (done ++ rs) rest left
+  pub ahead : (rs : List Request) (held : List ℕ) (left : Option (List ℕ)) → HeldBehind (1001 - turn) rs held behind left → HeldBehind request_limit (done ++ rs) held rest left
   pub ends : (rs : List Request) → session_end (done ++ rs) ≡ session_end rs
   pub bytes : now ≡ append_known before (replayed true editions done)
 
 going_start : (editions : List EditionValue) (rest a : Option (List ℕ)) → Going editions 1 rest rest a a
-going_start editions rest a = record { done = []; count = refl; goes = λ rs k. k; begins = λ rs k. k; ahead = λ rs left t. t; ends = λ rs. refl; bytes = append_nothing a }
+going_start editions rest a = record { done = []; count = refl; goes = λ rs k. k; begins = λ rs k. k; ahead = λ rs held left t. t; ends = λ rs. refl; bytes = append_nothing a }
 
 pub going_begins : (editions : List EditionValue) (rest behind a : Option (List ℕ)) → behind ≡ prepend_known [] rest → Going editions 1 rest behind a a
 going_begins editions rest behind a e = subst (λ (z : Option (List ℕ)). Going editions 1 rest z a a) (prepend_nothing rest ∙ sym e) (going_start editions rest a)
@@ -197,7 +168,7 @@ more_written law editions shelf turn done r es a b c count last full newest p q 
     one_read (at editions) (turn - 1) (at editions (turn - 1)) r es refl full (are_first shelf es (at editions (turn - 1)) last newest) in
     let here : es ≡ editions_read (at editions) (length done) (r ∷ []) = read ∙ ap (λ k. editions_read (at editions) k (r ∷ [])) (sym count) in
     let text : replayed true editions done ++ output (r ∷ []) es ≡ replayed true editions (done ++ r ∷ []) =
-    ap (λ w. replayed true editions done ++ output (r ∷ []) w) here ∙ sym (replayed_on law editions done (r ∷ [])) in
+    ap (λ w. replayed true editions done ++ output (r ∷ []) w) here ∙ sym (replayed_on law true editions done (r ∷ [])) in
     grew_on a b c (replayed true editions done) (output (r ∷ []) es) p q ∙ ap (λ w. append_known a w) text
 
 -- the session goes on
@@ -215,8 +186,8 @@ going_more law editions turn rest b c a x y report one most last g e none =
           (g.goes (r ∷ rs) (goes_on (1001 - turn) b c r rs e.first still (subst (λ (m : ℕ). IfTold (λ bytes. Requests m bytes rs) c) fewer k)));
       begins = λ rs k. subst (λ (z : List Request). IfTold (λ bytes. Begun request_limit bytes z) rest) (sym (snoc g.done r rs))
           (g.begins (r ∷ rs) (begins_on (1001 - turn) b c r rs e.first still (subst (λ (m : ℕ). IfTold (λ bytes. Begun m bytes rs) c) fewer k)));
-      ahead = λ rs left t. subst (λ (z : List Request). Ahead request_limit z rest left) (sym (snoc g.done r rs))
-          (g.ahead (r ∷ rs) left (ahead_on (1001 - turn) b c left r rs e.first (subst (λ (m : ℕ). Ahead m rs c left) fewer t)));
+      ahead = λ rs held left t. subst (λ (z : List Request). HeldBehind request_limit z held rest left) (sym (snoc g.done r rs))
+          (g.ahead (r ∷ rs) held left (held_on (1001 - turn) b c left r rs held e.first (subst (λ (m : ℕ). HeldBehind m rs held c left) fewer t)));
       ends = λ rs. ap session_end (snoc g.done r rs) ∙ (g.ends (r ∷ rs) ∙ ap (λ (o : Option End). unwrap_or o (session_end rs)) still);
       bytes = more_written law editions y.seen turn g.done r e.replied.editions a x.written y.written g.count last e.replied.answered.full e.replied.newest g.bytes e.replied.answered.bytes;
     }
@@ -225,30 +196,40 @@ going_more law editions turn rest b c a x y report one most last g e none =
 pub record Over (editions : List EditionValue) (rest left before now : Option (List ℕ)) (end : End) : Type 0 where
   pub requests : List Request
   pub all : IfTold (λ bytes. Requests request_limit bytes requests) rest
-  pub ahead : Ahead request_limit requests rest left
+  pub ahead : Told (λ bytes others. ReadsAhead (AtMost (most_behind (Some end))) request_limit requests bytes others) rest left
   pub ends : end ≡ session_end requests
   pub bytes : now ≡ append_known before (replayed true editions requests)
 
-going_last : OutputGoesOn → (editions : List EditionValue) (turn : ℕ) (rest b c left a : Option (List ℕ)) (x y : State) (report : OneReport) (end : End)
+going_last : OutputGoesOn → (editions : List EditionValue) (turn : ℕ) (held : List ℕ) (rest b c left a : Option (List ℕ)) (x y : State) (report : OneReport) (end : End)
     → 1 ≤ turn → ((e : EditionValue) → EndsWith y.seen e → e ≡ at editions (turn - 1))
-    → Going editions turn rest b a x.written → Exchanged (1001 - turn) b c x y report → Ahead (1001 - turn - 1) [] c left → report.end ≡ Some end → Over editions rest left a y.written end
-going_last law editions turn rest b c left a x y report end one last g e ahead ends =
+    → Going editions turn rest b a x.written → Exchanged (1001 - turn) b c x y report → HeldBehind (1001 - turn - 1) [] held c left → length held ≤ most_behind (Some end) → report.end ≡ Some end → Over editions rest left a y.written end
+going_last law editions turn held rest b c left a x y report end one last g e ahead few ends =
     let r = e.request in
     let closed : r.end ≡ Some end = sym e.replied.end ∙ ends in
     record {
       requests = g.done ++ r ∷ [];
       all = g.goes (r ∷ []) (closes_with (1001 - turn) b c r end e.first closed);
-      ahead = g.ahead (r ∷ []) left (ahead_on (1001 - turn) b c left r [] e.first ahead);
+      ahead = ahead_of (AtMost (most_behind (Some end))) request_limit (g.done ++ r ∷ []) held rest left few (g.ahead (r ∷ []) held left (held_on (1001 - turn) b c left r [] held e.first ahead));
       ends = sym (g.ends (r ∷ []) ∙ ap (λ (o : Option End). unwrap_or o EndOfInput) closed);
       bytes = more_written law editions y.seen turn g.done r e.replied.editions a x.written y.written g.count last e.replied.answered.full e.replied.newest g.bytes e.replied.answered.bytes;
     }
 
-going_stop : (editions : List EditionValue) (turn : ℕ) (rest b c left a now : Option (List ℕ)) → Going editions turn rest b a now → Told (λ u v. (u ≡ []) × (v ≡ [])) b c → Ahead (1001 - turn) [] b left
+-- behind those that were answered
+ahead_done : (IsSo : List ℕ → Type 0) (editions : List EditionValue) (turn : ℕ) (held : List ℕ) (rest b left a now : Option (List ℕ)) (g : Going editions turn rest b a now) → IsSo held → HeldBehind (1001 - turn) [] held b left
+    → Told (λ bytes others. ReadsAhead IsSo request_limit g.done bytes others) rest left
+ahead_done IsSo editions turn held rest b left a now g is ahead =
+    ahead_of IsSo request_limit g.done held rest left is (subst (λ (z : List Request). HeldBehind request_limit z held rest left) (append-nil g.done) (g.ahead [] held left ahead))
+
+begun_done : (editions : List EditionValue) (turn : ℕ) (rest b a now : Option (List ℕ)) (g : Going editions turn rest b a now) → IfTold (λ bytes. Begun request_limit bytes g.done) rest
+begun_done editions turn rest b a now g =
+    subst (λ (z : List Request). IfTold (λ bytes. Begun request_limit bytes z) rest) (append-nil g.done) (g.begins [] (begun_none (1001 - turn) b))
+
+going_stop : (editions : List EditionValue) (turn : ℕ) (rest b c left a now : Option (List ℕ)) → Going editions turn rest b a now → Told (λ u v. (u ≡ []) × (v ≡ [])) b c → HeldBehind (1001 - turn) [] [] b left
     → Over editions rest left a now EndOfInput
 going_stop editions turn rest b c left a now g t ahead = record {
   requests = g.done;
   all = subst (λ (z : List Request). IfTold (λ bytes. Requests request_limit bytes z) rest) (append-nil g.done) (g.goes [] (none_left (1001 - turn) b c t));
-  ahead = subst (λ (z : List Request). Ahead request_limit z rest left) (append-nil g.done) (g.ahead [] left ahead);
+  ahead = ahead_done (AtMost 0) editions turn [] rest b left a now g (omega arith) ahead;
   ends = sym (ap session_end (sym (append-nil g.done)) ∙ g.ends []);
   bytes = g.bytes;
 }
@@ -265,16 +246,16 @@ session_goes law editions turn rest b c a x y report one most last same g (inr e
 
 pub session_ends : OutputGoesOn → (editions : List EditionValue) (turn m : ℕ) (held : List ℕ) (rest b left a : Option (List ℕ)) (x y : State) (report : OneReport) (end : End)
     → 1 ≤ turn → ((e : EditionValue) → EndsWith x.seen e → e ≡ at editions (turn - 1)) → Some y.seen ≡ Some x.seen
-    → m ≤ most_held 0 → length held ≤ most_held m → ReadsAtMost (most_held m) b left
+    → m ≤ most_behind None → length held ≤ max m (most_behind report.end)
     → Going editions turn rest b a x.written → Served (1001 - turn) b (prepend_known held left) x y report → report.end ≡ Some end → Over editions rest left a y.written end
-session_ends law editions turn m held rest b left a x y report end one last same few more read g (inl e) ends =
+session_ends law editions turn m held rest b left a x y report end one last same few more g (inl e) ends =
     let told : Some EndOfInput ≡ Some end = sym (ap (λ (o : OneReport). o.end) e.report_is) ∙ ends in
     let last_is : EndOfInput ≡ end = cc in
     subst (λ (z : End). Over editions rest left a y.written z) last_is
-    (going_stop editions turn rest b (prepend_known held left) left a y.written (subst (λ (z : State). Going editions turn rest b a z.written) (sym e.same) g) e.at_end (ahead_read (1001 - turn) m b left few read))
-session_ends law editions turn m held rest b left a x y report end one last same few more read g (inr e) ends =
-    going_last law editions turn rest b (prepend_known held left) left a x y report end one (kept_last x.seen y.seen (at editions (turn - 1)) same last) g e
-    (ahead_held (1001 - turn - 1) held left (few_held m (length held) few more)) ends
+    (going_stop editions turn rest b (prepend_known held left) left a y.written (subst (λ (z : State). Going editions turn rest b a z.written) (sym e.same) g) e.at_end (held_end (1001 - turn) held b left e.at_end))
+session_ends law editions turn m held rest b left a x y report end one last same few more g (inr e) ends =
+    going_last law editions turn held rest b (prepend_known held left) left a x y report end one (kept_last x.seen y.seen (at editions (turn - 1)) same last) g e
+    (held_none (1001 - turn - 1) held left) (held_behind m held report.end end e.ends ends few more) ends
 
 -- ---- a session that broke off
 
@@ -300,7 +281,7 @@ session_broken law editions turn rest b a x y last same g e =
     record {
       text = replayed true editions (g.done ++ e.requests);
       is = record { requests = g.done ++ e.requests; begun = g.begins e.requests e.begun; text_is = refl };
-      front = subst (λ (t : List ℕ). Front t a y.written) (sym (replayed_on law editions g.done e.requests))
+      front = subst (λ (t : List ℕ). Front t a y.written) (sym (replayed_on law true editions g.done e.requests))
           (front_on a x.written y.written (replayed true editions g.done) (output e.requests (editions_read (at editions) (length g.done) e.requests)) g.bytes front);
     }
 
@@ -310,7 +291,7 @@ going_broken editions turn rest b a now g = record {
   text = replayed true editions g.done;
   is = record {
     requests = g.done;
-    begun = subst (λ (z : List Request). IfTold (λ bytes. Begun request_limit bytes z) rest) (append-nil g.done) (g.begins [] (begun_none (1001 - turn) b));
+    begun = begun_done editions turn rest b a now g;
     text_is = refl;
   };
   front = front_whole a now (replayed true editions g.done) g.bytes;
@@ -335,38 +316,55 @@ part_over editions rest left a now new end o same = record {
 
 pub served_over : (editions : List EditionValue) (rest left a now : Option (List ℕ)) (end : End) → Over editions rest left a now end → IsBehind rest left
     → (end ≡ EndOfInput → Told (λ bytes others. others ≡ []) rest left) → IsServed rest left
-served_over editions rest left a now end o behind far = record { requests = o.requests; all = o.all; ahead = o.ahead; ended = λ ends. at_end rest left behind (far (o.ends ∙ ends)) }
+served_over editions rest left a now end o behind far = record { requests = o.requests; all = o.all; ahead = subst (λ (z : End). Told (λ bytes others. ReadsAhead (AtMost (most_behind (Some z))) request_limit o.requests bytes others) rest left) o.ends o.ahead; ended = λ ends. at_end rest left behind (far (o.ends ∙ ends)) }
 
 -- ---- how far the input was read
 
 pub read_over : (editions : List EditionValue) (rest left a now new : Option (List ℕ)) (end : End) → Over editions rest left a now end → new ≡ now → IsReadFor true editions rest left a new
 read_over editions rest left a now new end o same = record {
   requests = o.requests;
-  ahead = o.ahead;
+  ahead = ahead_more (most_behind (Some end)) request_limit o.requests rest left (most_behind_held (Some end)) o.ahead;
   more = [];
   whole = same ∙ o.bytes ∙ ap (append_known a) (sym (append-nil (replayed true editions o.requests)));
 }
 
-read_done : (editions : List EditionValue) (turn : ℕ) (rest b left a now new : Option (List ℕ)) (more : List ℕ) → Going editions turn rest b a now → Ahead (1001 - turn) [] b left → new ≡ append_known now more
+read_done : (editions : List EditionValue) (turn : ℕ) (held : List ℕ) (rest b left a now new : Option (List ℕ)) (more : List ℕ) → Going editions turn rest b a now → length held ≤ most_held 0 → HeldBehind (1001 - turn) [] held b left → new ≡ append_known now more
     → IsReadFor true editions rest left a new
-read_done editions turn rest b left a now new more g ahead grew = record {
+read_done editions turn held rest b left a now new more g few ahead grew = record {
   requests = g.done;
-  ahead = subst (λ (z : List Request). Ahead request_limit z rest left) (append-nil g.done) (g.ahead [] left ahead);
+  ahead = ahead_done (AtMost (most_held 0)) editions turn held rest b left a now g few ahead;
   more = more;
   whole = grew_on a now new (replayed true editions g.done) more g.bytes grew;
 }
 
 -- one request wasn't served
-pub read_broken : (editions : List EditionValue) (turn m : ℕ) (rest b left a : Option (List ℕ)) (x y : State) → m ≤ most_held 0 → ReadsAtMost (most_held m) b left
+pub read_broken : (editions : List EditionValue) (turn m : ℕ) (rest b left a : Option (List ℕ)) (x y : State) → m ≤ most_behind None → ReadsAtMost (most_held m) b left
     → Going editions turn rest b a x.written → BrokenAtOne (1001 - turn) b x y → IsReadFor true editions rest left a y.written
 read_broken editions turn m rest b left a x y few read g e =
-    read_done editions turn rest b left a x.written y.written e.broke_off.bytes.bytes g (ahead_read (1001 - turn) m b left few read) e.broke_off.bytes.grew
+    read_done editions turn read.bytes rest b left a x.written y.written e.broke_off.bytes.bytes g (omega (arith, few, read.within)) (held_read (most_held m) (1001 - turn) b left read) e.broke_off.bytes.grew
 
 -- between two requests
-pub read_going : (editions : List EditionValue) (turn : ℕ) (held : List ℕ) (rest left a now : Option (List ℕ)) → length held ≤ most_held 0 → Going editions turn rest (prepend_known held left) a now
+pub read_going : (editions : List EditionValue) (turn : ℕ) (held : List ℕ) (rest left a now : Option (List ℕ)) → length held ≤ most_behind None → Going editions turn rest (prepend_known held left) a now
     → IsReadFor true editions rest left a now
 read_going editions turn held rest left a now few g =
-    read_done editions turn rest (prepend_known held left) left a now now [] g (ahead_held (1001 - turn) held left few) (append_nothing now)
+    read_done editions turn held rest (prepend_known held left) left a now now [] g (omega (arith, few)) (held_none (1001 - turn) held left) (append_nothing now)
+
+-- a read failed
+pub read_waits : (editions : List EditionValue) (turn m : ℕ) (held held' : List ℕ) (rest left left' a now new : Option (List ℕ)) (flushed : Option ℕ) → m ≤ most_behind None → length held' ≤ most_held m
+    → HasNoHead held' → prepend_known held' left' ≡ prepend_known held left → new ≡ now → (new ≡ a) ⊎ IsFlushed new flushed → Going editions turn rest (prepend_known held left) a now
+    → Waits true editions rest left' a new flushed
+read_waits editions turn m held held' rest left left' a now new flushed few more none again same settled g =
+    let b = prepend_known held left in
+    let P : List ℕ → Type 0 = λ bytes. AtMost (most_held 0) bytes × HasNoHead bytes in
+    let within : length held' ≤ most_held 0 = omega (arith, few, more) in
+    record {
+      requests = g.done;
+      begun = begun_done editions turn rest b a now g;
+      open_ = ap session_end (sym (append-nil g.done)) ∙ g.ends [];
+      ahead = ahead_done P editions turn held' rest b left' a now g (within, none) (subst (λ (w : Option (List ℕ)). HeldBehind (1001 - turn) [] held' w left') again (held_none (1001 - turn) held' left'));
+      whole = same ∙ g.bytes;
+      settled = settled;
+    }
 
 -- ---- what is left of the source
 

@@ -17,7 +17,7 @@ use Rattle.edr.specs.declared.endings.Ending.TheVariants.{Done, Usage, NotFeed, 
 use Rattle.edr.specs.Checking.{fault_ends}
 use Rattle.edr.specs.Replays.{IsReplayOf, IsReplayBegun, AreReplies, AreBegun}
 use Rattle.edr.specs.Asking.{AnswerCause}
-use Rattle.edr.specs.Ends.{OutputEnds, IsReadByEnd, Settles, Counts, FileFailed}
+use Rattle.edr.specs.Ends.{OutputEnds, IsReadByEnd, AtReadFault, Settles, Counts, FileFailed}
 use Rattle.edr.specs.Replaying.{ServeCause, ReplayCause, IsBefore, session_ends}
 use Rattle.edr.proofs.ReplayLemmas.{stands_opened}
 
@@ -100,6 +100,43 @@ read_so_far WriteFault Far x = tt
 read_so_far OutOfMemory Far x = tt
 read_so_far (Refused refusal) Far x = tt
 read_so_far OpenFault Far x = tt
+
+-- ---- a read failed
+
+pub broken_waits : (fault : SessionFault) (So : Type 0) → (fault ≡ faults.ReadFault → So) → AtReadFault (session_ends fault) So
+broken_waits faults.ReadFault So f = f refl
+broken_waits faults.WriteFault So f = tt
+broken_waits faults.OutOfMemory So f = tt
+
+pub settled_waits : (ending : Ending) (before after : ℕ) (new : Option (List ℕ)) (flushed : Option ℕ) (So : Type 0) → Settles ending before after new flushed → AtReadFault ending So
+settled_waits Done before after new flushed So s = tt
+settled_waits Usage before after new flushed So s = tt
+settled_waits (NotFeed refusal) before after new flushed So s = tt
+settled_waits ReadFault before after new flushed So s = absurd s
+settled_waits WriteFault before after new flushed So s = tt
+settled_waits OutOfMemory before after new flushed So s = tt
+settled_waits (Refused refusal) before after new flushed So s = tt
+settled_waits OpenFault before after new flushed So s = tt
+
+pub waits_more : (ending : Ending) (So More : Type 0) → (So → More) → AtReadFault ending So → AtReadFault ending More
+waits_more Done So More f x = tt
+waits_more Usage So More f x = tt
+waits_more (NotFeed refusal) So More f x = tt
+waits_more ReadFault So More f x = f x
+waits_more WriteFault So More f x = tt
+waits_more OutOfMemory So More f x = tt
+waits_more (Refused refusal) So More f x = tt
+waits_more OpenFault So More f x = tt
+
+pub waits_any : (ending : Ending) (So : Type 0) → So → AtReadFault ending So
+waits_any Done So x = tt
+waits_any Usage So x = tt
+waits_any (NotFeed refusal) So x = tt
+waits_any ReadFault So x = x
+waits_any WriteFault So x = tt
+waits_any OutOfMemory So x = tt
+waits_any (Refused refusal) So x = tt
+waits_any OpenFault So x = tt
 
 -- ---- the feed in the file
 

@@ -1,25 +1,28 @@
 -- Editions that requests read, and what is written of them.
-use Rattle.std.proofs.Common.{◌≡◌, ℕ, suc, ◌+◌, ◌-◌, ◌≤◌, inl, inr, min, slice_index_or, Bool, false, List, [], ◌∷◌, ◌++◌, length, Result, Ok, Err, Some, None, IfSome, sym, ap, subst, ◌∙◌, refl, flat_map, length-append, append-nil, arith}
+use Rattle.std.proofs.Common.{◌≡◌, ℕ, suc, ◌+◌, ◌-◌, ◌≤◌, inl, inr, ◌⊎◌, min, slice_index_or, Bool, false, List, [], ◌∷◌, ◌++◌, length, Result, Ok, Err, Some, None, IfSome, sym, ap, subst, ◌∙◌, refl, flat_map, length-append, append-nil, arith}
 use Rattle.std.specs.declared.option.Option.{Option}
 use Rattle.std.specs.Prelude.{⊤}
 use Rattle.std.specs.Io.KnownBytes.{append_known, IsAtEnd}
 use mathlib.Core.List.{append_assoc}
 use Rattle.edr_base.specs.Calls.{Begins, Front, IsFlushed, WrittenWhole, WrittenInPart}
-use Rattle.edr_base.specs.KnownBytes.{append_nothing, prepend_nothing, front_whole}
+use Rattle.edr_base.specs.KnownBytes.{append_nothing, prepend_nothing, grew_on, front_on, front_whole}
 use Rattle.edr_base.specs.declared.refusals.Refusal.{Refusal}
 use Rattle.edr_edition.specs.Values.{EditionValue}
 use Rattle.edr_edition.specs.Shelves.{BeginsSeen, EndsWith, no_edition}
 use Rattle.edr_feed.specs.Feeds.{FeedStandsIn}
 use Rattle.edr_feed.specs.declared.refusals.FeedRefusal.{FeedRefusal}
-use Rattle.edr_http.specs.Heads.{Told, IsBehind}
+use Rattle.edr_http.specs.Heads.{Told, IsBehind, most_held}
 use Rattle.edr_query.specs.declared.pages.Page.{Page}
+use Rattle.edr_serve.specs.declared.ends.End.{End}
 use Rattle.edr_serve.specs.declared.ends.End.TheVariants.{EndOfInput}
 use Rattle.edr_serve.specs.declared.reports.SessionReport.{SessionReport}
 use Rattle.edr_serve.specs.Requests.{Request, Requests, Begun, request_limit}
 use Rattle.edr_serve.specs.Replies.{Reply, bytes_of, replies, first_reply, reply_without, reply_from, readers, count_if_page, output}
-use Rattle.edr_serve.specs.Sessions.{State, IfTold, Uses, Session, Broken, ReadsAhead}
-use Rattle.edr_serve.specs.AheadLaws.{Ahead, ahead_held}
-use Rattle.edr.specs.Replays.{edition_at, if_page, editions_read, replayed, AreReplies, AreBegun, IsServed, IsReadFor, IsReadFrom, ReplayReads}
+use Rattle.edr_serve.specs.Sessions.{State, IfTold, Uses, Answered, Session, Broken, ReadsAhead, AtMost, most_behind}
+use Rattle.edr_serve.specs.Sessions as sessions
+use Rattle.edr_serve.specs.SessionLaws.{OutputGoesOn}
+use Rattle.edr_serve.specs.AheadLaws.{ahead_more, most_behind_held}
+use Rattle.edr.specs.Replays.{edition_at, if_page, editions_read, replayed, AreReplies, AreBegun, IsServed, IsReadFor, ReplayReads, Waits, ReplayWaits}
 
 -- ---- a shelf that stays as it is
 
@@ -99,21 +102,38 @@ begins_first standing first h k [] es a = ([], refl)
 begins_first standing first h k (r ∷ rs) es a =
     begins_step (standing k) first r r.asked rs es (editions_read standing (k + 1) rs) (h k) (λ fs b. begins_first standing first h (k + 1) rs fs b) a
 
--- or for more of them than there are
-enough_step : (standing first : EditionValue) (r : Request) (asked : Result Page Refusal) (n : ℕ) (es others : List EditionValue) (further : List EditionValue → List Reply) → standing ≡ first
-    → ((fs : List EditionValue) → n ≤ length fs → AreFirst first fs → flat_map bytes_of (further fs) ≡ flat_map bytes_of (further others)) → count_if_page asked n ≤ length es → AreFirst first es
-    → flat_map bytes_of (first_reply r asked es further) ≡ flat_map bytes_of (first_reply r asked (if_page asked standing others) further)
-enough_step standing first r (Err refusal) n es others further h ih p a = ap (λ w. bytes_of (reply_without r refusal) ++ w) (ih es p a)
-enough_step standing first r (Ok page) n [] others further h ih p a = absurd (omega (arith, p))
-enough_step standing first r (Ok page) n (e ∷ es) others further h ih p a =
-    ap (λ (z : EditionValue). bytes_of (reply_from r page z) ++ flat_map bytes_of (further es)) (a.0 ∙ sym h)
-    ∙ ap (λ w. bytes_of (reply_from r page standing) ++ w) (ih es (omega (arith, p)) a.1)
+-- ---- the replies to more requests
 
-enough_first : (standing : ℕ → EditionValue) (first : EditionValue) → ((n : ℕ) → standing n ≡ first) → (k : ℕ) (rs : List Request) (es : List EditionValue)
-    → readers rs ≤ length es → AreFirst first es → output rs es ≡ output rs (editions_read standing k rs)
-enough_first standing first h k [] es p a = refl
-enough_first standing first h k (r ∷ rs) es p a =
-    enough_step (standing k) first r r.asked (readers rs) es (editions_read standing (k + 1) rs) (replies rs) (h k) (λ fs q b. enough_first standing first h (k + 1) rs fs q b) p a
+full_step : (asked : Result Page Refusal) (e : EditionValue) (es : List EditionValue) (n : ℕ) → length es ≡ n → length (if_page asked e es) ≡ count_if_page asked n
+full_step (Ok page) e es n h = omega (arith, h)
+full_step (Err refusal) e es n h = h
+
+full_read : (standing : ℕ → EditionValue) (k : ℕ) (rs : List Request) → length (editions_read standing k rs) ≡ readers rs
+full_read standing k [] = refl
+full_read standing k (r ∷ rs) = full_step r.asked (standing k) (editions_read standing (k + 1) rs) (readers rs) (full_read standing (k + 1) rs)
+
+read_on_step : (asked : Result Page Refusal) (e : EditionValue) (es fs gs : List EditionValue) → es ≡ fs ++ gs → if_page asked e es ≡ if_page asked e fs ++ gs
+read_on_step (Ok page) e es fs gs h = ap (λ w. e ∷ w) h
+read_on_step (Err refusal) e es fs gs h = h
+
+zero_more : (k : ℕ) → k ≡ 0 + k
+zero_more k = omega arith
+
+read_on : (standing : ℕ → EditionValue) (k : ℕ) (rs ss : List Request) → editions_read standing k (rs ++ ss) ≡ editions_read standing k rs ++ editions_read standing (length rs + k) ss
+read_on standing k [] ss = ap (λ m. editions_read standing m ss) (zero_more k)
+read_on standing k (r ∷ rs) ss =
+    let further : length rs + (k + 1) ≡ suc (length rs) + k = omega arith in
+    read_on_step r.asked (standing k) (editions_read standing (k + 1) (rs ++ ss)) (editions_read standing (k + 1) rs) (editions_read standing (suc (length rs) + k) ss)
+    (read_on standing (k + 1) rs ss ∙ ap (λ m. editions_read standing (k + 1) rs ++ editions_read standing m ss) further)
+
+-- the replies to more requests
+pub replayed_on : OutputGoesOn → (advances : Bool) (editions : List EditionValue) (rs ss : List Request)
+    → replayed advances editions (rs ++ ss) ≡ replayed advances editions rs ++ output ss (editions_read (edition_at advances editions) (length rs) ss)
+replayed_on law advances editions rs ss =
+    let at = edition_at advances editions in
+    let none : length rs + 0 ≡ length rs = omega arith in
+    ap (λ w. output (rs ++ ss) w) (read_on at 0 rs ss ∙ ap (λ m. editions_read at 0 rs ++ editions_read at m ss) none)
+    ∙ law rs ss (editions_read at 0 rs) (editions_read at (length rs) ss) (full_read at 0 rs)
 
 pub front_of_more : (a b : List ℕ) (old new : Option (List ℕ)) → Begins a b → Front a old new → Front b old new
 front_of_more a b old new x f = record {
@@ -146,39 +166,52 @@ standing_first first others n = ap (λ k. slice_index_or (first ∷ others) k no
 pub same_shelf : (a b : List EditionValue) → Some a ≡ Some b → a ≡ b
 same_shelf a b e = cc
 
-text_first : (first : EditionValue) (others editions : List EditionValue) (input left : Option (List ℕ)) (x y : State) (report : SessionReport)
-    → editions ≡ first ∷ others → x.seen ≡ first ∷ [] → Some y.seen ≡ Some x.seen → (e : Session input left x y report)
-    → output e.requests e.editions ≡ replayed false editions e.requests
-text_first first others editions input left x y report p q s e =
-    let after : y.seen ≡ first ∷ [] = same_shelf y.seen x.seen s ∙ q in
-    let uses : Uses x.seen e.editions (first ∷ []) = subst (λ (z : List EditionValue). Uses x.seen e.editions z) after e.answered.uses in
-    let read : e.editions ≡ editions_read (edition_at false (first ∷ others)) 0 e.requests =
-    read_first (edition_at false (first ∷ others)) first (standing_first first others) 0 e.requests e.editions e.answered.full (uses_first first x.seen e.editions q uses) in
-    ap (λ w. output e.requests w) read ∙ ap (λ (w : List EditionValue). replayed false w e.requests) (sym p)
+-- what is written for requests that were answered while the shelf stood so
+answered_first : (first : EditionValue) (others editions : List EditionValue) (x y : State) (rs : List Request) (es : List EditionValue) (ns : List ℕ) (cs : List (List ℕ))
+    → editions ≡ first ∷ others → x.seen ≡ first ∷ [] → y.seen ≡ x.seen → Answered rs x y es ns cs → output rs es ≡ replayed false editions rs
+answered_first first others editions x y rs es ns cs p q s e =
+    let uses : Uses x.seen es (first ∷ []) = subst (λ (z : List EditionValue). Uses x.seen es z) (s ∙ q) e.uses in
+    let read : es ≡ editions_read (edition_at false (first ∷ others)) 0 rs =
+    read_first (edition_at false (first ∷ others)) first (standing_first first others) 0 rs es e.full (uses_first first x.seen es q uses) in
+    ap (λ w. output rs w) read ∙ ap (λ (w : List EditionValue). replayed false w rs) (sym p)
 
 replies_first : (first : EditionValue) (others editions : List EditionValue) (input left : Option (List ℕ)) (x y : State) (report : SessionReport)
     → editions ≡ first ∷ others → x.seen ≡ first ∷ [] → Some y.seen ≡ Some x.seen → Session input left x y report
     → (text : List ℕ) × AreReplies false editions input text × (y.written ≡ append_known x.written text)
 replies_first first others editions input left x y report p q s e =
-    (output e.requests e.editions, record { requests = e.requests; all = e.all; text_is = text_first first others editions input left x y report p q s e }, e.answered.bytes)
+    (output e.requests e.editions, record { requests = e.requests; all = e.all; text_is = answered_first first others editions x y e.requests e.editions report.editions report.reads p q (same_shelf y.seen x.seen s) e.answered }, e.answered.bytes)
 
-first_used : (first : EditionValue) (input left : Option (List ℕ)) (x y : State) → x.seen ≡ first ∷ [] → Some y.seen ≡ Some x.seen → (e : Broken request_limit input left x y)
-    → AreFirst first e.broke_off.editions
-first_used first input left x y q s e =
-    let after : y.seen ≡ first ∷ [] = same_shelf y.seen x.seen s ∙ q in
-    uses_first first x.seen e.broke_off.editions q (subst (λ (z : List EditionValue). Uses x.seen e.broke_off.editions z) after e.broke_off.uses)
+-- in the midst of a session that broke off the shelf stood so too
+between_first : (first : EditionValue) (input left : Option (List ℕ)) (x y : State) → Some y.seen ≡ Some x.seen → (e : Broken input left x y) → e.between.seen ≡ x.seen
+between_first first input left x y s e =
+    same_between x.seen e.between.seen (uses_begin x.seen e.editions e.between.seen e.answered.uses)
+    (subst (λ (z : List EditionValue). BeginsSeen e.between.seen z) (same_shelf y.seen x.seen s) (uses_begin e.between.seen e.broke_off.editions y.seen e.broke_off.uses))
 
-pub begun_first : (first : EditionValue) (others editions : List EditionValue) (input left : Option (List ℕ)) (x y : State)
-    → editions ≡ first ∷ others → x.seen ≡ first ∷ [] → Some y.seen ≡ Some x.seen → Broken request_limit input left x y
+whole_before : (first : EditionValue) (others editions : List EditionValue) (input left : Option (List ℕ)) (x y : State)
+    → editions ≡ first ∷ others → x.seen ≡ first ∷ [] → Some y.seen ≡ Some x.seen → (e : Broken input left x y) → e.between.written ≡ append_known x.written (replayed false editions e.requests)
+whole_before first others editions input left x y p q s e =
+    e.answered.bytes
+    ∙ ap (append_known x.written) (answered_first first others editions x e.between e.requests e.editions _ _ p q (between_first first input left x y s e) e.answered)
+
+pub begun_first : OutputGoesOn → (first : EditionValue) (others editions : List EditionValue) (input left : Option (List ℕ)) (x y : State)
+    → editions ≡ first ∷ others → x.seen ≡ first ∷ [] → Some y.seen ≡ Some x.seen → Broken input left x y
     → WrittenInPart (AreBegun false editions input) x.written y.written
-begun_first first others editions input left x y p q s e =
-    let requests = e.answered ++ e.last in
-    let more : Begins (output requests e.broke_off.editions) (replayed false (first ∷ others) requests) =
-    begins_first (edition_at false (first ∷ others)) first (standing_first first others) 0 requests e.broke_off.editions (first_used first input left x y q s e) in
+begun_first law first others editions input left x y p q s e =
+    let requests = e.requests ++ e.last in
+    let at = edition_at false editions in
+    let stands : (n : ℕ) → at n ≡ first = λ n. ap (λ (w : List EditionValue). edition_at false w n) p ∙ standing_first first others n in
+    let between : e.between.seen ≡ first ∷ [] = between_first first input left x y s e ∙ q in
+    let after : y.seen ≡ first ∷ [] = same_shelf y.seen x.seen s ∙ q in
+    let used : AreFirst first e.broke_off.editions =
+    uses_first first e.between.seen e.broke_off.editions between (subst (λ (z : List EditionValue). Uses e.between.seen e.broke_off.editions z) after e.broke_off.uses) in
+    let text = output e.last (editions_read at (length e.requests) e.last) in
+    let more : Begins (output e.last e.broke_off.editions) text = begins_first at first stands (length e.requests) e.last e.broke_off.editions used in
+    let part : Front text e.between.written y.written = front_of_more (output e.last e.broke_off.editions) text e.between.written y.written more e.broke_off.bytes in
     record {
-      text = replayed false (first ∷ others) requests;
-      is = record { requests = requests; begun = e.begun; text_is = ap (λ (w : List EditionValue). replayed false w requests) (sym p) };
-      front = front_of_more (output requests e.broke_off.editions) (replayed false (first ∷ others) requests) x.written y.written more e.broke_off.bytes;
+      text = replayed false editions requests;
+      is = record { requests = requests; begun = e.begun; text_is = refl };
+      front = subst (λ (t : List ℕ). Front t x.written y.written) (sym (replayed_on law false editions e.requests e.last))
+          (front_on x.written e.between.written y.written (replayed false editions e.requests) text (whole_before first others editions input left x y p q s e) part);
     }
 
 -- ---- the same of the ends of a run
@@ -208,30 +241,46 @@ at_end (Some input) (Some left) b t = t
 pub served_first : (input left : Option (List ℕ)) (x y : State) (report : SessionReport) → Session input left x y report → IsBehind input left
     → (report.end ≡ EndOfInput → Told (λ bytes rest. rest ≡ []) input left) → IsServed input left
 served_first input left x y report e behind far =
-    record { requests = e.requests; all = e.all; ahead = e.ahead; ended = λ ends. at_end input left behind (far (e.end ∙ ends)) }
+    record { requests = e.requests; all = e.all; ahead = subst (λ (end : End). Told (λ bytes others. ReadsAhead (AtMost (most_behind (Some end))) request_limit e.requests bytes others) input left) e.end e.ahead; ended = λ ends. at_end input left behind (far (e.end ∙ ends)) }
 
 pub read_all : (first : EditionValue) (others editions : List EditionValue) (input left : Option (List ℕ)) (x y : State) (report : SessionReport) (new : Option (List ℕ))
     → editions ≡ first ∷ others → x.seen ≡ first ∷ [] → Some y.seen ≡ Some x.seen → Session input left x y report → new ≡ y.written
     → IsReadFor false editions input left x.written new
 read_all first others editions input left x y report new p q s e same = record {
   requests = e.requests;
-  ahead = e.ahead;
+  ahead = ahead_more (most_behind (Some report.end)) request_limit e.requests input left (most_behind_held (Some report.end)) e.ahead;
   more = [];
-  whole = same ∙ e.answered.bytes ∙ ap (append_known x.written) (text_first first others editions input left x y report p q s e ∙ sym (append-nil (replayed false editions e.requests)));
+  whole = same ∙ e.answered.bytes
+      ∙ ap (append_known x.written) (answered_first first others editions x y e.requests e.editions report.editions report.reads p q (same_shelf y.seen x.seen s) e.answered ∙ sym (append-nil (replayed false editions e.requests)));
 }
 
 pub read_some : (first : EditionValue) (others editions : List EditionValue) (input left : Option (List ℕ)) (x y : State)
-    → editions ≡ first ∷ others → x.seen ≡ first ∷ [] → Some y.seen ≡ Some x.seen → Broken request_limit input left x y
+    → editions ≡ first ∷ others → x.seen ≡ first ∷ [] → Some y.seen ≡ Some x.seen → Broken input left x y
     → IsReadFor false editions input left x.written y.written
-read_some first others editions input left x y p q s e =
-    let text : output e.answered e.broke_off.editions ≡ replayed false editions e.answered =
-    enough_first (edition_at false (first ∷ others)) first (standing_first first others) 0 e.answered e.broke_off.editions e.whole.full (first_used first input left x y q s e)
-    ∙ ap (λ (w : List EditionValue). replayed false w e.answered) (sym p) in
-    record { requests = e.answered; ahead = e.ahead; more = e.whole.more; whole = e.whole.bytes ∙ ap (λ w. append_known x.written (w ++ e.whole.more)) text }
+read_some first others editions input left x y p q s e = record {
+  requests = e.requests;
+  ahead = e.ahead;
+  more = e.broke_off.bytes.bytes;
+  whole = grew_on x.written e.between.written y.written (replayed false editions e.requests) e.broke_off.bytes.bytes
+      (whole_before first others editions input left x y p q s e) e.broke_off.bytes.grew;
+}
 
-told_none : (input : Option (List ℕ)) → Ahead request_limit [] input input
+-- a read failed
+pub waits_first : (first : EditionValue) (others editions : List EditionValue) (input left : Option (List ℕ)) (x y : State) (flushed : Option ℕ)
+    → editions ≡ first ∷ others → x.seen ≡ first ∷ [] → Some y.seen ≡ Some x.seen → sessions.Waits input left x y → (y.written ≡ x.written) ⊎ IsFlushed y.written flushed
+    → Waits false editions input left x.written y.written flushed
+waits_first first others editions input left x y flushed p q s e settled = record {
+  requests = e.requests;
+  begun = e.begun;
+  open_ = e.open_;
+  ahead = e.ahead;
+  whole = e.answered.bytes ∙ ap (append_known x.written) (answered_first first others editions x y e.requests e.editions _ _ p q (same_shelf y.seen x.seen s) e.answered);
+  settled = settled;
+}
+
+told_none : (input : Option (List ℕ)) → Told (λ bytes others. ReadsAhead (AtMost (most_held 0)) request_limit [] bytes others) input input
 told_none None = tt
-told_none (Some bytes) = record { held = []; read = refl; few = omega arith }
+told_none (Some bytes) = record { held = []; read = refl; is = omega arith }
 
 -- nothing was read
 pub read_none : (advances : Bool) (editions : List EditionValue) (input old : Option (List ℕ)) → IsReadFor advances editions input input old old
@@ -253,3 +302,9 @@ pub replay_read : (advances : Bool) (editions : List EditionValue) (content left
     → IsBehind input after → IsReadFor advances editions input after old new → ReplayReads advances content input after old new
 replay_read advances editions content left input after old new h x behind read =
     record { behind = behind; ahead = inr (record { editions = editions; published = stands_opened content left (Ok editions) h x; read = read }) }
+
+-- where a read failed of the feed or of the input
+pub waits_feed : (advances : Bool) (editions : List EditionValue) (content left input after old new : Option (List ℕ)) (flushed : Option ℕ) → IfSome content (λ told. left ≡ Some told) → FeedStandsIn left (Ok editions)
+    → Waits advances editions input after old new flushed → ReplayWaits advances content input after old new flushed
+waits_feed advances editions content left input after old new flushed h x waits =
+    inr (record { editions = editions; published = stands_opened content left (Ok editions) h x; waits = waits })

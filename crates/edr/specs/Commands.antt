@@ -15,7 +15,7 @@ use Rattle.edr_feed.specs.Feeds.{FeedStandsIn}
 use Rattle.edr_feed.specs.Summaries.{summary_line}
 use Rattle.edr_feed.specs.declared.refusals.FeedRefusal.{FeedRefusal}
 use Rattle.edr_serve.specs.Answers.{IsAnswerTo}
-use Rattle.edr.specs.Replays.{IsReplayOf, IsReplayBegun, ReplayReads}
+use Rattle.edr.specs.Replays.{IsReplayOf, IsReplayBegun, ReplayReads, ReplayWaits}
 use Rattle.edr.specs.declared.commands.Command.{Command}
 use Rattle.edr.specs.declared.commands.Command.TheVariants.{Ask, Replay, ReplayAdvance, Check, CheckSummary}
 
@@ -93,6 +93,15 @@ ReadsOf ReplayAdvance feed content input left old new = ReplayReads true (conten
 ReadsOf Check argument content input left old new = ReadsAtMost (feed_limit + buffer_size) input left
 ReadsOf CheckSummary argument content input left old new = ReadsAtMost (feed_limit + buffer_size) input left
 
+-- where a read failed: of a connection all requests that had come were answered, and their replies are flushed
+
+abbrev pub WaitsOf : Command → List ℕ → Contents → Option (List ℕ) → Option (List ℕ) → Option (List ℕ) → Option (List ℕ) → Option ℕ → Type 0
+WaitsOf Ask target content input left old new flushed = ⊤
+WaitsOf Replay feed content input left old new flushed = ReplayWaits false (content feed) input left old new flushed
+WaitsOf ReplayAdvance feed content input left old new flushed = ReplayWaits true (content feed) input left old new flushed
+WaitsOf Check argument content input left old new flushed = ⊤
+WaitsOf CheckSummary argument content input left old new flushed = ⊤
+
 -- the text that is asked for: the answer to the target, what is told of the feed, or the replies to the requests of the input
 abbrev pub IsOutputOf : Command → List ℕ → Contents → Option (List ℕ) → List ℕ → Type 0
 IsOutputOf Ask target content input text = IsAnswerFrom input target (Ok text)
@@ -143,6 +152,10 @@ IsNoInput (Some asked) content input refusal = IsNoInputOf asked.command asked.a
 abbrev pub IsRefused : Option Asked → Option (List ℕ) → Refusal → Type 0
 IsRefused None input refusal = ⊥
 IsRefused (Some asked) input refusal = IsRefusedBy asked.command asked.argument input refusal
+
+abbrev pub WaitsFor : Option Asked → Contents → Option (List ℕ) → Option (List ℕ) → Option (List ℕ) → Option (List ℕ) → Option ℕ → Type 0
+WaitsFor None content input left old new flushed = ⊤
+WaitsFor (Some asked) content input left old new flushed = WaitsOf asked.command asked.argument content input left old new flushed
 
 -- ---- for private clauses
 

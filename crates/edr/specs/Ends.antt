@@ -15,7 +15,7 @@ use Rattle.edr.specs.declared.commands.Command.{Command}
 use Rattle.edr.specs.declared.commands.Command.TheVariants.{Ask, Replay, ReplayAdvance, Check, CheckSummary}
 use Rattle.edr.specs.declared.endings.Ending.{Ending}
 use Rattle.edr.specs.declared.endings.Ending.TheVariants.{Done, Usage, NotFeed, ReadFault, WriteFault, OutOfMemory, Refused, OpenFault}
-use Rattle.edr.specs.Commands.{Asked, Contents, IsOutput, IsBegun, IsNoInput, IsRefused, files_asked, link_asked, ReadsOf}
+use Rattle.edr.specs.Commands.{Asked, Contents, IsOutput, IsBegun, IsNoInput, IsRefused, files_asked, link_asked, ReadsOf, WaitsFor}
 use Rattle.edr.specs.Replays.{IsServed}
 
 abbrev pub status_of : Ending → ℕ
@@ -176,6 +176,17 @@ IsReadByEnd OutOfMemory Far = ⊤
 IsReadByEnd (Refused refusal) Far = ⊤
 IsReadByEnd OpenFault Far = ⊤
 
+-- what is so where a read failed
+abbrev pub AtReadFault : Ending → Type 0 → Type 0
+AtReadFault Done So = ⊤
+AtReadFault Usage So = ⊤
+AtReadFault (NotFeed refusal) So = ⊤
+AtReadFault ReadFault So = So
+AtReadFault WriteFault So = ⊤
+AtReadFault OutOfMemory So = ⊤
+AtReadFault (Refused refusal) So = ⊤
+AtReadFault OpenFault So = ⊤
+
 -- the status that says that a command didn't come to its input: the file couldn't be opened, or is no feed
 abbrev pub LeavesInput : Command → ℕ → Type 0
 LeavesInput Ask status = ⊥
@@ -228,6 +239,7 @@ pub record Ends (ending : Ending) (asked : Option Asked) (content : Contents) (s
   pub words : EndsByWords ending asked
   pub input : ReadsBy asked content before.left after.left before.written after.written
   pub ended : IsReadByEnd ending (IsRead asked before.left after.left)
+  pub waits : AtReadFault ending (WaitsFor asked content before.left after.left before.written after.written after.flushed)
   pub output : OutputEnds ending (is_early asked) (IsOutput asked content before.left) (IsBegun asked content before.left)
       before.written after.written after.flushed
   pub cause : HasCause ending asked content before.left before.counts after.counts

@@ -1,17 +1,18 @@
 -- What a replay writes: the replies to the requests of a connection, from the editions of a feed.
-use Rattle.std.specs.Prelude.{◌≡◌, ◌⊎◌, ℕ, ◌+◌, ◌++◌, Bool, true, false, List, [], ◌∷◌, Result, Ok, Err}
+use Rattle.std.specs.Prelude.{◌≡◌, ◌⊎◌, ℕ, ◌+◌, ◌++◌, Bool, true, false, List, [], ◌∷◌, Result, Ok, Err, Some}
 use Rattle.std.specs.declared.option.Option.{Option}
 use Rattle.std.specs.Io.KnownBytes.{append_known, IsAtEnd}
+use Rattle.edr_base.specs.Calls.{IsFlushed}
 use Rattle.edr_base.specs.declared.refusals.Refusal.{Refusal}
 use Rattle.edr_edition.specs.Values.{EditionValue}
 use Rattle.edr_edition.specs.Shelves.{edition_after}
 use Rattle.edr_feed.specs.Feeds.{FeedStandsIn}
-use Rattle.edr_http.specs.Heads.{Told, IsBehind}
+use Rattle.edr_http.specs.Heads.{Told, IsBehind, HasNoHead, most_held}
 use Rattle.edr_query.specs.declared.pages.Page.{Page}
 use Rattle.edr_serve.specs.declared.ends.End.TheVariants.{EndOfInput}
 use Rattle.edr_serve.specs.Requests.{Request, Requests, Begun, session_end, request_limit}
 use Rattle.edr_serve.specs.Replies.{output}
-use Rattle.edr_serve.specs.Sessions.{IfTold, ReadsAhead}
+use Rattle.edr_serve.specs.Sessions.{IfTold, ReadsAhead, AtMost, most_behind}
 
 -- the edition that stands on the shelf after so many requests: the first for ever, or where each request advances the shelf
 -- the next, and the last where there are no more
@@ -57,19 +58,19 @@ pub record IsReplayBegun (advances : Bool) (feed input : Option (List ℕ)) (tex
   pub published : FeedStandsIn feed (Ok editions)
   pub replies : AreBegun advances editions input text
 
--- all requests of the input were read, and behind them no more than a session holds; where none of them ends the session the
--- input was read to its end
+-- all requests of the input were read, and behind them no more than a session that ends so reads; where none of them ends the
+-- session the input was read to its end
 pub record IsServed (input left : Option (List ℕ)) : Type 0 where
   pub requests : List Request
   pub all : IfTold (λ bytes. Requests request_limit bytes requests) input
-  pub ahead : Told (λ bytes others. ReadsAhead request_limit requests bytes others) input left
+  pub ahead : Told (λ bytes others. ReadsAhead (AtMost (most_behind (Some (session_end requests)))) request_limit requests bytes others) input left
   pub ended : session_end requests ≡ EndOfInput → IsAtEnd left
 
 -- some requests of the input were read whose replies were written whole, and behind them no more than a session holds; `new` is
 -- what became of the output `old`
 pub record IsReadFor (advances : Bool) (editions : List EditionValue) (input left old new : Option (List ℕ)) : Type 0 where
   pub requests : List Request
-  pub ahead : Told (λ bytes others. ReadsAhead request_limit requests bytes others) input left
+  pub ahead : Told (λ bytes others. ReadsAhead (AtMost (most_held 0)) request_limit requests bytes others) input left
   pub more : List ℕ
   pub whole : new ≡ append_known old (replayed advances editions requests ++ more)
 
@@ -83,3 +84,23 @@ pub record IsReadFrom (advances : Bool) (feed input left old new : Option (List 
 pub record ReplayReads (advances : Bool) (feed input left old new : Option (List ℕ)) : Type 0 where
   pub behind : IsBehind input left
   pub ahead : (left ≡ input) ⊎ IsReadFrom advances feed input left old new
+
+-- a read of the input failed: all requests that had come were answered, and their replies are flushed; none of them ends the
+-- session, and no head was read behind them
+pub record Waits (advances : Bool) (editions : List EditionValue) (input left old new : Option (List ℕ)) (flushed : Option ℕ) : Type 0 where
+  pub requests : List Request
+  pub begun : IfTold (λ bytes. Begun request_limit bytes requests) input
+  pub open_ : session_end requests ≡ EndOfInput
+  pub ahead : Told (λ bytes others. ReadsAhead (λ held. AtMost (most_held 0) held × HasNoHead held) request_limit requests bytes others) input left
+  pub whole : new ≡ append_known old (replayed advances editions requests)
+  pub settled : (new ≡ old) ⊎ IsFlushed new flushed
+
+-- the file is a feed, and so a read of the input failed
+pub record WaitsFrom (advances : Bool) (feed input left old new : Option (List ℕ)) (flushed : Option ℕ) : Type 0 where
+  pub editions : List EditionValue
+  pub published : FeedStandsIn feed (Ok editions)
+  pub waits : Waits advances editions input left old new flushed
+
+-- a read failed: of the file, before anything was read or written, or of the input
+abbrev pub ReplayWaits : Bool → Option (List ℕ) → Option (List ℕ) → Option (List ℕ) → Option (List ℕ) → Option (List ℕ) → Option ℕ → Type 0
+ReplayWaits advances feed input left old new flushed = ((left ≡ input) × (new ≡ old)) ⊎ WaitsFrom advances feed input left old new flushed

@@ -3,8 +3,8 @@ ghost use Rattle.std.specs.Prelude.{◌≡◌, ◌<◌, ◌++◌, [], ◌∷◌,
 ghost use Rattle.edr_base.specs.Calls.{SourceLent, SinkLent};
 ghost use Rattle.edr_edition.specs.Shelves.{IsLog, IsNext};
 ghost use Rattle.edr_http.specs.Heads.{IsBehind};
-ghost use Rattle.edr.specs.Replays.{IsReplayOf, IsReplayBegun, AreReplies, AreBegun, IsServed, IsReadFor, ReplayReads};
-ghost use Rattle.edr.specs.Ends.{OutputEnds, IsReadByEnd, Asks, status_of};
+ghost use Rattle.edr.specs.Replays.{IsReplayOf, IsReplayBegun, AreReplies, AreBegun, IsServed, IsReadFor, ReplayReads, Waits, ReplayWaits};
+ghost use Rattle.edr.specs.Ends.{OutputEnds, IsReadByEnd, AtReadFault, Asks, status_of};
 ghost use Rattle.edr.specs.Replaying.{ServeCause, ReplayCause, IsBefore, session_ends};
 
 use crate::checking::ending_of;
@@ -43,9 +43,11 @@ fn served_from_first<S: Source, K: Sink>(
     ensures ended { IsReadByEnd result (IsServed (S.left input.old) (S.left input.new)) }
     ensures behind { IsBehind (S.left input.old) (S.left input.new) }
     ensures read { IsReadFor false editions.items (S.left input.old) (S.left input.new) (K.written output.old) (K.written output.new) }
+    ensures waits { AtReadFault result (Waits false editions.items (S.left input.old) (S.left input.new) (K.written output.old) (K.written output.new) (K.flushed output.new)) }
     ensures input { SourceLent (S.aside input.old) (S.aside input.new) (S.faults input.old) (S.faults input.new) }
     ensures lent { SinkLent (K.beside output.old) (K.beside output.new) (K.faults output.old) (K.faults output.new) }
 {
+    output_goes_on();
     let mut rest = editions.into_iter();
     let Some(first) = rest.next() else {
         return Ending::OutOfMemory;
@@ -87,6 +89,7 @@ fn served_advancing<S: Source, K: Sink>(
     ensures ended { IsReadByEnd result (IsServed (S.left input.old) (S.left input.new)) }
     ensures behind { IsBehind (S.left input.old) (S.left input.new) }
     ensures read { IsReadFor true editions.items (S.left input.old) (S.left input.new) (K.written output.old) (K.written output.new) }
+    ensures waits { AtReadFault result (Waits true editions.items (S.left input.old) (S.left input.new) (K.written output.old) (K.written output.new) (K.flushed output.new)) }
     ensures input { SourceLent (S.aside input.old) (S.aside input.new) (S.faults input.old) (S.faults input.new) }
     ensures lent { SinkLent (K.beside output.old) (K.beside output.new) (K.faults output.old) (K.faults output.new) }
 {
@@ -118,7 +121,8 @@ fn served_advancing<S: Source, K: Sink>(
 
 /// Opens the file of a name, reads the feed in it, and serves the input as one connection to the output: each request from the
 /// feed's first edition, or where `advances` the first from the first and each further one from the next. However it ends, no more
-/// than 20,479 bytes of the input were read behind the requests that were answered.
+/// than 20,479 bytes of the input were read behind the requests that were answered, and with `Done` less than 4,096 behind a last
+/// request that has a head. With `ReadFault` all requests that had come whole were answered, and their replies are flushed.
 #[tactic(auto, using(crate::proofs::ReplayLemmas::replay_none))]
 pub fn replay<S: Source, K: Sink, F: Files>(
     alloc: Global,
@@ -137,6 +141,8 @@ pub fn replay<S: Source, K: Sink, F: Files>(
     ensures unread { IsBefore result → (input.new ≡ input.old) × (output.new ≡ output.old) }
     ensures ended { IsReadByEnd result (IsServed (S.left input.old) (S.left input.new)) }
     ensures read { ReplayReads advances ((F.aside files.old).content feed.now) (S.left input.old) (S.left input.new) (K.written output.old) (K.written output.new) }
+    ensures waits { AtReadFault result (ReplayWaits advances ((F.aside files.old).content feed.now) (S.left input.old) (S.left input.new)
+        (K.written output.old) (K.written output.new) (K.flushed output.new)) }
     ensures asked { Asks ((feed.now, 0) ∷ []) (status_of result) (F.aside files.old).asked (F.aside files.new).asked }
     ensures input { SourceLent (S.aside input.old) (S.aside input.new) (S.faults input.old) (S.faults input.new) }
     ensures lent { SinkLent (K.beside output.old) (K.beside output.new) (K.faults output.old) (K.faults output.new) }

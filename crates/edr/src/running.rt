@@ -1,8 +1,8 @@
 //! The program over its objects.
 ghost use Rattle.std.specs.Prelude.{◌≡◌};
 ghost use Rattle.edr_base.specs.Calls.{SourceLent, SinkLent};
-ghost use Rattle.edr.specs.Commands.{asked_by, IsOutput, IsBegun};
-ghost use Rattle.edr.specs.Ends.{Ends, EndsByWords, OutputEnds, is_early, HasCause, IsRead, IsReadByEnd, ReadsBy, IsUnread, AskedBeside, of_files, of_link, status_of};
+ghost use Rattle.edr.specs.Commands.{asked_by, IsOutput, IsBegun, WaitsFor};
+ghost use Rattle.edr.specs.Ends.{Ends, EndsByWords, OutputEnds, is_early, HasCause, IsRead, IsReadByEnd, AtReadFault, ReadsBy, IsUnread, AskedBeside, of_files, of_link, status_of};
 
 use crate::asking::ask;
 use crate::checking::check;
@@ -29,6 +29,8 @@ fn carry_out<S: Source, K: Sink, F: Files, L: Link>(
         (record { input = S.faults input.new; output = K.faults output.new; files = F.faults files.new; link = L.faults link.new; closed = (F.aside files.new).idle }) }
     ensures unread { IsUnread (asked_by words.now) (status_of result) → (input.new ≡ input.old) × (output.new ≡ output.old) }
     ensures ended { IsReadByEnd result (IsRead (asked_by words.now) (S.left input.old) (S.left input.new)) }
+    ensures waits { AtReadFault result (WaitsFor (asked_by words.now) (F.aside files.old).content (S.left input.old) (S.left input.new)
+        (K.written output.old) (K.written output.new) (K.flushed output.new)) }
     ensures read { ReadsBy (asked_by words.now) (F.aside files.old).content (S.left input.old) (S.left input.new) (K.written output.old) (K.written output.new) }
     ensures input { SourceLent (S.aside input.old) (S.aside input.new) (S.faults input.old) (S.faults input.new) }
     ensures lent { SinkLent (K.beside output.old) (K.beside output.new) (K.faults output.old) (K.faults output.new) }

@@ -6,10 +6,10 @@ use Rattle.std.proofs.lemmas.Grind.{common_steps}
 use Rattle.httparse.specs.Grammar.{RequestHead, ReadsRequest, print_request, HasNoRequest}
 use Rattle.httparse.specs.declared.spans.HeaderSpan.{HeaderSpan}
 use Rattle.httparse.specs.declared.spans.RequestSpans.{RequestSpans}
-use Rattle.httparse.specs.Spans.{RequestOverflows, IsRequestWithin, IsRequestOf, AreFieldsAt, header_bytes, name_and_value}
+use Rattle.httparse.specs.Spans.{RequestOverflows, IsRequestWithin, IsRequestAt, IsRequestOf, AreFieldsAt, header_bytes, name_and_value}
 use Rattle.httparse.proofs.GrammarLemmas.{ReadsRequest-append, request_prefix_free}
 use Rattle.edr_http.specs.Heads.{BeginsWith, HasNoHead, HasHead, HeadIsOne, DecidedEarly, IsDecided, head_of}
-use Rattle.edr_http.specs.Finding.{HasTree, HasNoTree, NeverHasTree, Tells}
+use Rattle.edr_http.specs.Finding.{HasTree, HasParts, HasNoTree, NeverHasTree, Tells}
 use Rattle.edr_http.specs.declared.finding.Found.{Found}
 use Rattle.edr_http.specs.declared.finding.Found.TheVariants as found
 
@@ -79,19 +79,24 @@ one_head bytes more h k r q x y = request_prefix_free bytes more h k r q x.reads
 
 pub got_head : (bytes window : List ℕ) (headers : List HeaderSpan) (r : RequestSpans) → window ≡ take 16384 bytes
     → length headers ≤ 64 → IsRequestWithin window headers r → IsRequestOf window headers r
-    → (h : RequestHead) × (rest : List ℕ) × BeginsWith bytes h rest × (r.len ≡ length (print_request h))
+    → HasParts bytes headers r
 got_head bytes window headers r e room within at =
     let P : List ℕ → Type 0 = λ w. ReadsRequest w at.0 (drop r.len w) in
-    let x = subst P e at.1.reads in (
-      at.0,
-      drop r.len (take 16384 bytes) ++ drop 16384 bytes,
-      record {
+    let x = subst P e at.1.reads in
+    record {
+      tree = at.0;
+      rest = drop r.len (take 16384 bytes) ++ drop 16384 bytes;
+      begins = record {
         reads = reads_whole 16384 bytes at.0 _ x;
         few_fields = fields_fit window headers r.headers at.0 room within.section.count_fits at.1.fields;
         short = read_length 16384 bytes at.0 _ x;
-      },
-      at.1.len,
-    )
+      };
+      within = subst (λ (w : List ℕ). IsRequestWithin w headers r) e within;
+      at = subst (λ (w : List ℕ). IsRequestAt w headers r at.0) e at.1;
+    }
+
+pub has_tree : (bytes : List ℕ) (fields : List HeaderSpan) (spans : RequestSpans) → HasParts bytes fields spans → HasTree bytes spans.len
+has_tree bytes fields spans h = (h.tree, h.rest, h.begins, h.at.len)
 
 -- ---- heads by what they say
 
@@ -136,7 +141,7 @@ early bytes = (
   ),
 )
 
-pub decided : (bytes : List ℕ) (found : Found) → Tells bytes found → IsDecided bytes
-decided bytes (found.Got n) h = inl (some_head bytes n h)
-decided bytes found.NeedMore h = inr (no_head bytes h.0)
-decided bytes found.Bad h = inr (no_head bytes (never_now bytes h))
+pub decided : (bytes : List ℕ) (fields : List HeaderSpan) (found : Found) → Tells bytes fields found → IsDecided bytes
+decided bytes fields (found.Got spans) h = inl (some_head bytes spans.len (has_tree bytes fields spans h))
+decided bytes fields found.NeedMore h = inr (no_head bytes h.0)
+decided bytes fields found.Bad h = inr (no_head bytes (never_now bytes h))

@@ -63,6 +63,16 @@ head_or_short old held after n f e = ⊎_elim
     (λ (t : length held - n < 4096). inr (omega (arith, t, ap length e, length-drop n held)))
     f
 
+-- what is held is no more where it stays, or where its front is taken
+pub no_more : (old held : List ℕ) → held ≡ old → length held ≤ length old
+no_more old held e = omega (arith, ap length e)
+
+pub no_more_than : (a b c : List ℕ) → a ≡ b → length c ≤ length a → length c ≤ length b
+no_more_than a b c e few = omega (arith, ap length e, few)
+
+pub fewer : (old held after : List ℕ) (n : ℕ) → held ≡ old → after ≡ drop n held → length after ≤ length old
+fewer old held after n e d = omega (arith, ap length e, ap length d, length-drop n held)
+
 -- what is held stays within the bound where a block was read behind less than a head
 pub held_bound : (old held new : ℕ) → held < 16384 → new ≤ held + 4096 → new ≤ max old ((16384 - 1) + 4096)
 held_bound old held new few grew = let r = le-max_right old 20479 in omega (arith, few, grew, r)

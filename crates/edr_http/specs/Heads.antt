@@ -71,6 +71,13 @@ IsGot (Ok EndOfInput) = ⊥
 IsGot (Ok (Refused refusal)) = ⊥
 IsGot (Err fault) = ⊥
 
+-- the end of the bytes was found
+abbrev pub IsEnd : {E : Type 0} → Result HeadOutcome E → Type 0
+IsEnd (Ok (Got head)) = ⊥
+IsEnd (Ok EndOfInput) = ⊤
+IsEnd (Ok (Refused refusal)) = ⊥
+IsEnd (Err fault) = ⊥
+
 -- the rest after a call is an end of the rest before it
 abbrev pub IsBehind : Option (List ℕ) → Option (List ℕ) → Type 0
 IsBehind before after = (front : List ℕ) × (before ≡ prepend_known front after)

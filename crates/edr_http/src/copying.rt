@@ -1,15 +1,12 @@
 //! The head that some bytes begin with, copied out of them.
-ghost use Rattle.std.specs.Prelude.{◌≡◌, ℕ, List, length, map, IfOk, All};
+ghost use Rattle.std.specs.Prelude.{◌≡◌, length, map, IfOk, All};
 ghost use Rattle.httparse.specs.Grammar.{RequestHead};
 ghost use Rattle.httparse.specs.Spans.{IsWithin, IsHeaderWithin, IsRequestWithin, IsRequestAt, header_bytes, span_bytes};
-ghost use Rattle.edr_http.specs.Heads.{head_of, BeginsWith};
-ghost use Rattle.edr_http.specs.Finding.{HasTree};
+ghost use Rattle.edr_http.specs.Heads.{head_of};
 
-use crate::finding::{FIELD_LIMIT, window};
 use crate::heads::Head;
 use edr_base::{Items, OutOfMemory, Text};
-use httparse::Status;
-use httparse::spans::{EMPTY_HEADER_SPAN, HeaderSpan, RequestSpans, Span, parse_request};
+use httparse::spans::{HeaderSpan, RequestSpans, Span};
 use std::alloc::Global;
 
 fn copy_span(alloc: Global, bytes: &[u8], span: Span) -> Result<Text, OutOfMemory>
@@ -36,8 +33,8 @@ fn copy_fields(
     Ok(Items::of(fields))
 }
 
-// Copies the parts that spans cover.
-fn copy_parts(
+/// The head whose parts these spans cover.
+pub(crate) fn copy_head(
     alloc: Global,
     bytes: &[u8],
     headers: &[HeaderSpan],
@@ -55,18 +52,4 @@ fn copy_parts(
         minor: spans.version,
         fields,
     })
-}
-
-/// The head that some bytes begin with.
-pub(crate) fn copy_head(alloc: Global, bytes: &[u8]) -> Result<Head, OutOfMemory>
-    requires { (n : ℕ) × HasTree bytes.now n }
-    ensures { IfOk result (λ head. (tree : RequestHead) (rest : List ℕ) → BeginsWith bytes.now tree rest → head ≡ head_of tree) }
-{
-    let mut headers: [HeaderSpan; FIELD_LIMIT] = [EMPTY_HEADER_SPAN; FIELD_LIMIT];
-    let front = window(bytes);
-    match parse_request(front, &mut headers) {
-        Ok(Status::Complete(spans)) => copy_parts(alloc, front, &headers, spans),
-        Ok(Status::Partial) => unreachable!(),
-        Err(_) => unreachable!(),
-    }
 }

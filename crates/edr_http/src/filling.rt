@@ -1,20 +1,22 @@
 //! Reading until it is known what is at the front of the rest.
-ghost use Rattle.std.specs.Prelude.{◌≡◌, ◌≤◌, ◌<◌, ◌+◌, ◌-◌, ◌⊎◌, ℕ, length, IfOk, Ok, IsErrOf};
+ghost use Rattle.std.specs.Prelude.{◌≡◌, ◌≤◌, ◌<◌, ◌+◌, ◌-◌, ◌⊎◌, ℕ, length, IfOk, Ok, OnErr, IsErrOf};
 ghost use Rattle.std.specs.Io.KnownBytes.{prepend_known};
 ghost use Rattle.edr_base.specs.Outside.{Rose};
 ghost use Rattle.edr_base.specs.Calls.{SourceLent};
+ghost use Rattle.httparse.specs.declared.spans.RequestSpans.{RequestSpans};
 ghost use Rattle.edr_http.specs.Heads.{block_size, most_held};
-ghost use Rattle.edr_http.specs.Finding.{Grew, IsFront, HasTree};
+ghost use Rattle.edr_http.specs.Finding.{Grew, IsFront, HasTree, HasNoTree};
 
-use crate::finding::{Found, HEAD_LIMIT, look};
+use crate::finding::{Fields, Found, HEAD_LIMIT, look};
 use crate::heads::HeadFault;
 use edr_base::{Failed, Source};
+use httparse::spans::RequestSpans;
 
 /// What is at the front of the rest.
 #[derive(Clone, Copy)]
 pub(crate) enum Front {
-    /// A head of so many bytes.
-    Got(usize),
+    /// A head, whose parts stand here.
+    Got(RequestSpans),
     /// Nothing.
     EndOfInput,
     /// Some bytes that begin with no head.
@@ -27,6 +29,7 @@ fn read_more<S: Source>(source: &mut S, held: &mut Vec<u8>) -> Result<usize, Hea
     ensures rest { prepend_known held.new.items (S.left source.new) ≡ prepend_known held.old.items (S.left source.old) }
     ensures grew { IfOk result (λ n. (n ≤ block_size) × Grew held.old.items held.new.items n (S.left source.new)) }
     ensures bounded { length held.new.items ≤ length held.old.items + block_size }
+    ensures unread { OnErr result (held.new.items ≡ held.old.items) }
     ensures lent { SourceLent (S.aside source.old) (S.aside source.new) (S.faults source.old) (S.faults source.new) }
     ensures cause { IsErrOf result HeadFault.ReadFault → Rose (S.faults source.old) (S.faults source.new) }
 {
@@ -43,20 +46,26 @@ fn read_more<S: Source>(source: &mut S, held: &mut Vec<u8>) -> Result<usize, Hea
     }
 }
 
-/// Reads until it is known what is at the front of the rest, which stays as it is.
+/// Reads until it is known what is at the front of the rest, which stays as it is, and says where the fields of a head stand.
 #[tactic(auto, using(crate::proofs::RestLemmas::no_head_ever, crate::proofs::RestLemmas::no_head_end, crate::proofs::RestLemmas::held_bound))]
-pub(crate) fn fill<S: Source>(source: &mut S, held: &mut Vec<u8>) -> Result<Front, HeadFault>
+pub(crate) fn fill<S: Source>(
+    source: &mut S,
+    held: &mut Vec<u8>,
+    fields: &mut Fields,
+) -> Result<Front, HeadFault>
     ensures rest { prepend_known held.new.items (S.left source.new) ≡ prepend_known held.old.items (S.left source.old) }
-    ensures front { IfOk result (λ front. IsFront front held.new.items (S.left source.new)) }
+    ensures front { IfOk result (λ front. IsFront front held.new.items fields.new (S.left source.new)) }
     ensures kept { (n : ℕ) → HasTree held.old.items n → source.new ≡ source.old }
-    ensures short { (n : ℕ) → result ≡ Ok (Front.Got n) → HasTree held.old.items n ⊎ (length held.new.items - n < block_size) }
+    ensures same { (n : ℕ) → HasTree held.old.items n → held.new.items ≡ held.old.items }
+    ensures none { IsErrOf result HeadFault.ReadFault → HasNoTree held.new.items }
+    ensures short { (spans : RequestSpans) → result ≡ Ok (Front.Got spans) → HasTree held.old.items spans.len ⊎ (length held.new.items - spans.len < block_size) }
     ensures bounded { length held.new.items ≤ most_held (length held.old.items) }
     ensures lent { SourceLent (S.aside source.old) (S.aside source.new) (S.faults source.old) (S.faults source.new) }
     ensures cause { IsErrOf result HeadFault.ReadFault → Rose (S.faults source.old) (S.faults source.new) }
 {
     for _ in 0..HEAD_LIMIT + 1 {
-        match look(held) {
-            Found::Got(n) => return Ok(Front::Got(n)),
+        match look(held, fields) {
+            Found::Got(spans) => return Ok(Front::Got(spans)),
             Found::Bad => return Ok(Front::BadHead),
             Found::NeedMore => {}
         }

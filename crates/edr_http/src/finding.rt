@@ -3,7 +3,7 @@ ghost use Rattle.std.specs.Prelude.{◌≡◌, take};
 ghost use Rattle.edr_http.specs.Finding.{Tells, Looks};
 
 use httparse::Status;
-use httparse::spans::{EMPTY_HEADER_SPAN, HeaderSpan, parse_request};
+use httparse::spans::{HeaderSpan, RequestSpans, parse_request};
 
 /// A head has at most so many fields.
 pub(crate) const FIELD_LIMIT: usize = 64;
@@ -11,11 +11,14 @@ pub(crate) const FIELD_LIMIT: usize = 64;
 /// A head has at most so many bytes.
 pub(crate) const HEAD_LIMIT: usize = 16_384;
 
+/// Where the fields of a head stand.
+pub(crate) type Fields = [HeaderSpan; FIELD_LIMIT];
+
 /// What is at the front of some bytes.
-#[derive(Clone, Copy, Debug, PartialEq, Eq)]
+#[derive(Clone, Copy)]
 pub(crate) enum Found {
-    /// A head of so many bytes.
-    Got(usize),
+    /// A head, whose parts stand here.
+    Got(RequestSpans),
     /// No head yet.
     NeedMore,
     /// No head, whatever follows.
@@ -33,13 +36,12 @@ pub(crate) fn window(bytes: &[u8]) -> &[u8]
     }
 }
 
-/// Looks for a head at the front of some bytes.
-pub(crate) fn find_head(bytes: &[u8]) -> Found
-    ensures { Tells bytes.now result }
+/// Looks for a head at the front of some bytes, and says where its fields stand.
+pub(crate) fn find_head(bytes: &[u8], fields: &mut Fields) -> Found
+    ensures { Tells bytes.now fields.new result }
 {
-    let mut headers: [HeaderSpan; FIELD_LIMIT] = [EMPTY_HEADER_SPAN; FIELD_LIMIT];
-    match parse_request(window(bytes), &mut headers) {
-        Ok(Status::Complete(spans)) => Found::Got(spans.len),
+    match parse_request(window(bytes), fields) {
+        Ok(Status::Complete(spans)) => Found::Got(spans),
         Ok(Status::Partial) => {
             if bytes.len() < HEAD_LIMIT {
                 Found::NeedMore
@@ -52,11 +54,11 @@ pub(crate) fn find_head(bytes: &[u8]) -> Found
 }
 
 /// The same; no bytes at all may still become a head.
-pub(crate) fn look(held: &[u8]) -> Found
-    ensures { Looks held.now result }
+pub(crate) fn look(held: &[u8], fields: &mut Fields) -> Found
+    ensures { Looks held.now fields.new result }
 {
-    match find_head(held) {
-        Found::Got(n) => Found::Got(n),
+    match find_head(held, fields) {
+        Found::Got(spans) => Found::Got(spans),
         Found::Bad if !held.is_empty() => Found::Bad,
         _ => Found::NeedMore,
     }

@@ -1,16 +1,18 @@
 //! The head at the front of the rest of a connection.
-ghost use Rattle.std.specs.Prelude.{◌≡◌, ◌≤◌, ◌<◌, ◌⊎◌, ℕ, length, drop, vec_len, IfOk, OnErr, IsErrOf};
+ghost use Rattle.std.specs.Prelude.{◌≡◌, ◌≤◌, ◌<◌, ◌⊎◌, [], ℕ, length, drop, vec_len, IfOk, OnErr, IsErrOf};
 ghost use Rattle.std.specs.Io.KnownBytes.{prepend_known};
 ghost use Rattle.edr_base.specs.Outside.{Rose};
 ghost use Rattle.edr_base.specs.Calls.{SourceLent};
-ghost use Rattle.edr_http.specs.Heads.{Finds, HasHead, IsGot, IsBehind, block_size, most_held};
-ghost use Rattle.edr_http.specs.Finding.{HasTree};
+ghost use Rattle.edr_http.specs.Heads.{Finds, HasHead, HasNoHead, IsGot, IsEnd, IsBehind, block_size, most_held};
+ghost use Rattle.edr_http.specs.Finding.{HasTree, HasNoTree};
 
 use crate::copying::copy_head;
 use crate::filling::{Front, fill};
+use crate::finding::{FIELD_LIMIT, window};
 use crate::heads::{HeadFault, HeadOutcome};
 use crate::inbox::Inbox;
 use edr_base::{Refusal, Source};
+use httparse::spans::EMPTY_HEADER_SPAN;
 use std::alloc::Global;
 
 // Takes the first bytes away.
@@ -34,13 +36,17 @@ fn take_head<S: Source>(
     ensures short { IsGot result → HasHead held.old.items ⊎ (length held.new.items < block_size) }
     ensures bounded { length held.new.items ≤ most_held (length held.old.items) }
     ensures kept { (n : ℕ) → HasTree held.old.items n → source.new ≡ source.old }
+    ensures less { (n : ℕ) → HasTree held.old.items n → length held.new.items ≤ length held.old.items }
+    ensures none { IsErrOf result HeadFault.ReadFault → HasNoTree held.new.items }
+    ensures ended { IsEnd result → held.new.items ≡ [] }
     ensures lent { SourceLent (S.aside source.old) (S.aside source.new) (S.faults source.old) (S.faults source.new) }
     ensures cause { IsErrOf result HeadFault.ReadFault → Rose (S.faults source.old) (S.faults source.new) }
 {
-    match fill(source, held) {
-        Ok(Front::Got(n)) => match copy_head(alloc, held) {
+    let mut fields = [EMPTY_HEADER_SPAN; FIELD_LIMIT];
+    match fill(source, held, &mut fields) {
+        Ok(Front::Got(spans)) => match copy_head(alloc, window(held), &fields, spans) {
             Ok(head) => {
-                remove_front(held, n);
+                remove_front(held, spans.len);
                 Ok(HeadOutcome::Got(head))
             }
             Err(_) => Err(HeadFault::OutOfMemory),
@@ -55,8 +61,9 @@ fn take_head<S: Source>(
 /// is left without it. A head is answered as soon as it has come.
 ///
 /// Where the rest isn't empty and begins with no head of at most 64 fields and 16,384 bytes, `Refused(BadHead)` is
-/// answered, and the rest stays as it was, as it does after a fault. Nothing is read where `inbox` holds a head already.
-/// Whatever is answered, `inbox` holds no more than before then, or no more than 20,479 bytes.
+/// answered, and the rest stays as it was, as it does after a fault. Nothing is read where `inbox` holds a head already, and
+/// with `ReadFault` it holds none then. Whatever is answered, `inbox` holds no more than before then, or no more than 20,479
+/// bytes; behind a head for which something was read less than 4,096, and nothing with `EndOfInput`.
 pub fn read_head<S: Source>(
     alloc: Global,
     source: &mut S,
@@ -68,6 +75,9 @@ pub fn read_head<S: Source>(
     ensures short { IsGot result → HasHead inbox.old ⊎ (length inbox.new < block_size) }
     ensures bounded { length inbox.new ≤ most_held (length inbox.old) }
     ensures kept { HasHead inbox.old → source.new ≡ source.old }
+    ensures less { HasHead inbox.old → length inbox.new ≤ length inbox.old }
+    ensures none { IsErrOf result HeadFault.ReadFault → HasNoHead inbox.new }
+    ensures ended { IsEnd result → inbox.new ≡ [] }
     ensures lent { SourceLent (S.aside source.old) (S.aside source.new) (S.faults source.old) (S.faults source.new) }
     ensures cause { IsErrOf result HeadFault.ReadFault → Rose (S.faults source.old) (S.faults source.new) }
 {

@@ -1,14 +1,14 @@
 -- The steps of a session.
-use Rattle.std.proofs.Common.{◌≡◌, ◌≢◌, inl, inr, ℕ, ◌+◌, ◌-◌, ◌≤◌, Bool, true, false, length, length-append, List, [], ◌∷◌, ◌++◌, map, sym, ap, subst, ◌∙◌, refl, Some, None, append-nil, arith}
+use Rattle.std.proofs.Common.{◌≡◌, ◌≢◌, inl, inr, ℕ, ◌+◌, ◌-◌, ◌≤◌, max, Bool, true, false, length, length-append, List, [], ◌∷◌, ◌++◌, map, sym, ap, subst, ◌∙◌, refl, Some, None, append-nil, arith}
 use Rattle.std.specs.declared.option.Option.{Option}
 use Rattle.std.specs.Prelude.{is_some, unwrap_or, option_to_list}
 use Rattle.std.specs.Io.KnownBytes.{append_known, prepend_known}
 use Rattle.std.proofs.lemmas.List.{map-append}
 use mathlib.Core.List.{append_assoc}
-use Rattle.edr_base.specs.Calls.{Front, ReadsAtMost}
-use Rattle.edr_base.specs.KnownBytes.{append_nothing, prepend_nothing, grew_on, took_on, front_none, front_on, front_whole}
+use Rattle.edr_base.specs.Calls.{ReadsAtMost}
+use Rattle.edr_base.specs.KnownBytes.{append_nothing, prepend_nothing, grew_on, took_on, front_none}
 use Rattle.edr_edition.specs.Values.{EditionValue}
-use Rattle.edr_http.specs.Heads.{Told, IsBehind, most_held}
+use Rattle.edr_http.specs.Heads.{Told, HasNoHead, IsBehind, most_held}
 use Rattle.edr_edition.specs.Shelves.{TakenGrew}
 use Rattle.edr_serve.specs.declared.ends.End.{End}
 use Rattle.edr_serve.specs.declared.ends.End.TheVariants.{EndOfInput}
@@ -16,8 +16,8 @@ use Rattle.edr_serve.specs.declared.reports.OneReport.{OneReport}
 use Rattle.edr_serve.specs.declared.reports.SessionReport.{SessionReport}
 use Rattle.edr_serve.specs.Requests.{Request, IsFirst, Requests, Begun, session_end, request_limit}
 use Rattle.edr_serve.specs.Replies.{readers, number_of, output, opened}
-use Rattle.edr_serve.specs.Sessions.{State, IfTold, last_number, NeverFall, Answered, BrokeOff, Session, AreWhole, Broken, BrokenAtOne, chunks_in, Exchanged, Served}
-use Rattle.edr_serve.specs.AheadLaws.{Ahead, ahead_on, ahead_held, ahead_read, few_held}
+use Rattle.edr_serve.specs.Sessions.{State, state, IfTold, last_number, NeverFall, Answered, BrokeOff, Session, Broken, Waits, BrokenAtOne, AtMost, most_behind, ReadsAhead, chunks_in, Exchanged, Served}
+use Rattle.edr_serve.specs.AheadLaws.{HeldBehind, held_on, held_none, held_read, held_end, ahead_of, held_behind}
 use Rattle.edr_serve.proofs.ReplyLaws.{output_on, opened_on, readers_on}
 use Rattle.edr_serve.proofs.Shelves.{seen_same, uses_on, taken_same, taken_on, never_on}
 use Rattle.edr_serve.proofs.OneRequest.{begun_none}
@@ -42,52 +42,10 @@ answered_on rs ss a b c es fs ns ms cs ds x y = record {
   taken = taken_on a.taken b.taken c.taken ns ms x.taken y.taken;
 }
 
-broke_on : (rs ss : List Request) (a b c : State) (es : List EditionValue) (ns : List ℕ) (cs : List (List ℕ)) → Answered rs a b es ns cs → BrokeOff ss b c → BrokeOff (rs ++ ss) a c
-broke_on rs ss a b c es ns cs x y =
-    let same : ns ++ map number_of y.editions ≡ map number_of (es ++ y.editions) = numbers_on ns (map number_of y.editions) es y.editions x.numbers_are refl in
-    record {
-      editions = es ++ y.editions;
-      bytes = subst (λ (z : List ℕ). Front z a.written c.written) (sym (output_on rs ss es y.editions x.full)) (front_on a.written b.written c.written (output rs es) (output ss y.editions) x.bytes y.bytes);
-      uses = uses_on a.seen es y.editions b.seen c.seen x.uses y.uses;
-      order = subst (λ (z : List ℕ). NeverFall (last_number a.seen) z (last_number c.seen)) same
-          (never_on (last_number a.seen) (last_number b.seen) (last_number c.seen) ns (map number_of y.editions) x.order y.order);
-      taken = subst (λ (z : List ℕ). TakenGrew a.taken c.taken z) same (taken_on a.taken b.taken c.taken ns (map number_of y.editions) x.taken y.taken);
-    }
-
--- requests that were answered are requests of which a beginning was
-broke_whole : (rs : List Request) (a b : State) (es : List EditionValue) (ns : List ℕ) (cs : List (List ℕ)) → Answered rs a b es ns cs → BrokeOff rs a b
-broke_whole rs a b es ns cs x = record {
-  editions = es;
-  bytes = front_whole a.written b.written (output rs es) x.bytes;
-  uses = x.uses;
-  order = subst (λ (z : List ℕ). NeverFall (last_number a.seen) z (last_number b.seen)) x.numbers_are x.order;
-  taken = subst (λ (z : List ℕ). TakenGrew a.taken b.taken z) x.numbers_are x.taken;
-}
-
--- the replies to some requests were written whole, where those to the first were and those to the others
-whole_on : (rs ss : List Request) (a b c : State) (es fs : List EditionValue) (ns : List ℕ) (cs : List (List ℕ)) → Answered rs a b es ns cs → AreWhole ss fs b c → AreWhole (rs ++ ss) (es ++ fs) a c
-whole_on rs ss a b c es fs ns cs x y = record {
-  full = omega (arith, readers_on rs ss, length-append es fs, x.full, y.full);
-  more = y.more;
-  bytes = grew_on a.written b.written c.written (output rs es) (output ss fs ++ y.more) x.bytes y.bytes
-      ∙ ap (append_known a.written) (sym (append_assoc (output rs es) (output ss fs) y.more) ∙ ap (λ w. w ++ y.more) (sym (output_on rs ss es fs x.full)));
-}
-
-whole_none : (es : List EditionValue) (a b : State) (more : List ℕ) → b.written ≡ append_known a.written more → AreWhole [] es a b
-whole_none es a b more e = record { full = omega arith; more = more; bytes = e }
-
-whole_of : (rs : List Request) (a b : State) (es : List EditionValue) (ns : List ℕ) (cs : List (List ℕ)) → Answered rs a b es ns cs → AreWhole rs es a b
-whole_of rs a b es ns cs x = record { full = omega (arith, x.full); more = []; bytes = x.bytes ∙ ap (append_known a.written) (sym (append-nil (output rs es))) }
-
--- the same of an equal list of requests
-broke_same : (rs ss : List Request) (a b : State) → rs ≡ ss → BrokeOff rs a b → BrokeOff ss a b
-broke_same rs ss a b e x = record {
-  editions = x.editions;
-  bytes = subst (λ (w : List Request). Front (output w x.editions) a.written b.written) e x.bytes;
-  uses = x.uses;
-  order = x.order;
-  taken = x.taken;
-}
+-- the same with the numbers and the chunks that it tells
+answered_as : (rs : List Request) (a b : State) (es : List EditionValue) (ns : List ℕ) (cs : List (List ℕ)) → Answered rs a b es ns cs → Answered rs a b es (map number_of es) (opened rs es)
+answered_as rs a b es ns cs x =
+    subst (λ (ms : List ℕ). Answered rs a b es ms (opened rs es)) x.numbers_are (subst (λ (ds : List (List ℕ)). Answered rs a b es ns ds) x.chunks_are x)
 
 answered_none : (a : State) → Answered [] a a [] [] []
 answered_none a = record {
@@ -103,6 +61,7 @@ answered_none a = record {
 broke_none : (a : State) → BrokeOff [] a a
 broke_none a = record {
   editions = [];
+  few = omega arith;
   bytes = front_none a.written a.written [] refl;
   uses = seen_same a.seen;
   order = omega arith;
@@ -147,7 +106,7 @@ pub record Going (turns : ℕ) (rest behind : Option (List ℕ)) (before now : S
   pub editions : List EditionValue
   pub goes : (rs : List Request) → IfTold (λ bytes. Requests turns bytes rs) behind → IfTold (λ bytes. Requests request_limit bytes (done ++ rs)) rest
   pub begins : (rs : List Request) → IfTold (λ bytes. Begun turns bytes rs) behind → IfTold (λ bytes. Begun request_limit bytes (done ++ rs)) rest
-  pub ahead : (rs : List Request) (left : Option (List ℕ)) → Ahead turns rs behind left → Ahead request_limit (done ++ rs) rest left
+  pub ahead : (rs : List Request) (held : List ℕ) (left : Option (List ℕ)) → HeldBehind turns rs held behind left → HeldBehind request_limit (done ++ rs) held rest left
   pub ends : (rs : List Request) → session_end (done ++ rs) ≡ session_end rs
   pub count : turns + length done ≡ request_limit
   pub answered : Answered done before now editions numbers chunks
@@ -158,7 +117,7 @@ going_start rest a = record {
   editions = [];
   goes = λ rs k. k;
   begins = λ rs k. k;
-  ahead = λ rs left t. t;
+  ahead = λ rs held left t. t;
   ends = λ rs. refl;
   count = refl;
   answered = answered_none a;
@@ -178,18 +137,18 @@ going_more n rest b c x y z ns cs report some g e none =
       editions = g.editions ++ e.replied.editions;
       goes = λ rs k. subst (λ (z : List Request). IfTold (λ bytes. Requests request_limit bytes z) rest) (sym (snoc g.done r rs)) (g.goes (r ∷ rs) (goes_on n b c r rs e.first still k));
       begins = λ rs k. subst (λ (z : List Request). IfTold (λ bytes. Begun request_limit bytes z) rest) (sym (snoc g.done r rs)) (g.begins (r ∷ rs) (begins_on n b c r rs e.first still k));
-      ahead = λ rs left t. subst (λ (z : List Request). Ahead request_limit z rest left) (sym (snoc g.done r rs)) (g.ahead (r ∷ rs) left (ahead_on n b c left r rs e.first t));
+      ahead = λ rs held left t. subst (λ (z : List Request). HeldBehind request_limit z held rest left) (sym (snoc g.done r rs)) (g.ahead (r ∷ rs) held left (held_on n b c left r rs held e.first t));
       ends = λ rs. ap session_end (snoc g.done r rs) ∙ (g.ends (r ∷ rs) ∙ ap (λ (o : Option End). unwrap_or o (session_end rs)) still);
       count = omega (arith, g.count, length-append g.done (r ∷ []), some);
       answered = answered_on g.done (r ∷ []) x y z g.editions e.replied.editions ns (option_to_list report.edition) cs (chunks_in report) g.answered e.replied.answered;
     }
 
 -- a session that a request ended
-going_last : (n : ℕ) (rest b c left : Option (List ℕ)) (x y z : State) (ns : List ℕ) (cs : List (List ℕ)) (one : OneReport) (end : End) (report : SessionReport)
-    → Going n rest b x y ns cs → Exchanged n b c y z one → Ahead (n - 1) [] c left → one.end ≡ Some end
+going_last : (n : ℕ) (held : List ℕ) (rest b c left : Option (List ℕ)) (x y z : State) (ns : List ℕ) (cs : List (List ℕ)) (one : OneReport) (end : End) (report : SessionReport)
+    → Going n rest b x y ns cs → Exchanged n b c y z one → HeldBehind (n - 1) [] held c left → length held ≤ most_behind (Some report.end) → one.end ≡ Some end
     → report.requests + n ≡ 1001 → report.editions ≡ ns ++ option_to_list one.edition → report.reads ≡ cs ++ chunks_in one → report.end ≡ end
     → Session rest left x z report
-going_last n rest b c left x y z ns cs one end report g e ahead ends count numbers chunks end_is =
+going_last n held rest b c left x y z ns cs one end report g e ahead few ends count numbers chunks end_is =
     let r = e.request in
     let closed : r.end ≡ Some end = sym e.replied.end ∙ ends in
     let all = answered_on g.done (r ∷ []) x y z g.editions e.replied.editions ns (option_to_list one.edition) cs (chunks_in one) g.answered e.replied.answered in
@@ -197,100 +156,117 @@ going_last n rest b c left x y z ns cs one end report g e ahead ends count numbe
       requests = g.done ++ r ∷ [];
       editions = g.editions ++ e.replied.editions;
       all = g.goes (r ∷ []) (closes_with n b c r end e.first closed);
-      ahead = g.ahead (r ∷ []) left (ahead_on n b c left r [] e.first ahead);
+      ahead = ahead_of (AtMost (most_behind (Some report.end))) request_limit (g.done ++ r ∷ []) held rest left few (g.ahead (r ∷ []) held left (held_on n b c left r [] held e.first ahead));
       answered = subst (λ (ds : List (List ℕ)). Answered (g.done ++ r ∷ []) x z (g.editions ++ e.replied.editions) report.editions ds) (sym chunks)
           (subst (λ (ms : List ℕ). Answered (g.done ++ r ∷ []) x z (g.editions ++ e.replied.editions) ms (cs ++ chunks_in one)) (sym numbers) all);
       count = omega (arith, count, g.count, length-append g.done (r ∷ []));
       end = end_is ∙ sym (g.ends (r ∷ []) ∙ ap (λ (o : Option End). unwrap_or o EndOfInput) closed);
     }
 
+-- behind those that were answered
+ahead_done : (IsSo : List ℕ → Type 0) (n : ℕ) (held : List ℕ) (rest b left : Option (List ℕ)) (x y : State) (ns : List ℕ) (cs : List (List ℕ)) (g : Going n rest b x y ns cs) → IsSo held → HeldBehind n [] held b left
+    → Told (λ bytes others. ReadsAhead IsSo request_limit g.done bytes others) rest left
+ahead_done IsSo n held rest b left x y ns cs g is ahead =
+    ahead_of IsSo request_limit g.done held rest left is (subst (λ (z : List Request). HeldBehind request_limit z held rest left) (append-nil g.done) (g.ahead [] held left ahead))
+
+begun_done : (n : ℕ) (rest b : Option (List ℕ)) (x y : State) (ns : List ℕ) (cs : List (List ℕ)) (g : Going n rest b x y ns cs) → IfTold (λ bytes. Begun request_limit bytes g.done) rest
+begun_done n rest b x y ns cs g = subst (λ (z : List Request). IfTold (λ bytes. Begun request_limit bytes z) rest) (append-nil g.done) (g.begins [] (begun_none n b))
+
 -- a session whose rest is empty
 going_stop : (n : ℕ) (rest b c left : Option (List ℕ)) (x y : State) (ns : List ℕ) (cs : List (List ℕ)) (report : SessionReport)
-    → Going n rest b x y ns cs → Told (λ u v. (u ≡ []) × (v ≡ [])) b c → Ahead n [] b left → report.requests + n ≡ 1000 → report.editions ≡ ns → report.reads ≡ cs → report.end ≡ EndOfInput → Session rest left x y report
+    → Going n rest b x y ns cs → Told (λ u v. (u ≡ []) × (v ≡ [])) b c → HeldBehind n [] [] b left → report.requests + n ≡ 1000 → report.editions ≡ ns → report.reads ≡ cs → report.end ≡ EndOfInput → Session rest left x y report
 going_stop n rest b c left x y ns cs report g e ahead count numbers chunks end_is = record {
   requests = g.done;
   editions = g.editions;
   all = subst (λ (z : List Request). IfTold (λ bytes. Requests request_limit bytes z) rest) (append-nil g.done) (g.goes [] (at_end n b c e));
-  ahead = subst (λ (z : List Request). Ahead request_limit z rest left) (append-nil g.done) (g.ahead [] left ahead);
+  ahead = subst (λ (end : End). Told (λ bytes others. ReadsAhead (AtMost (most_behind (Some end))) request_limit g.done bytes others) rest left) (sym end_is)
+      (ahead_done (AtMost 0) n [] rest b left x y ns cs g (omega arith) ahead);
   answered = subst (λ (ds : List (List ℕ)). Answered g.done x y g.editions report.editions ds) (sym chunks) (subst (λ (ms : List ℕ). Answered g.done x y g.editions ms cs) (sym numbers) g.answered);
   count = omega (arith, count, g.count);
   end = end_is ∙ sym (ap session_end (sym (append-nil g.done)) ∙ g.ends []);
 }
 
--- a fault came behind those that were answered
-going_broken : (n : ℕ) (rest b left : Option (List ℕ)) (x y z : State) (ns : List ℕ) (cs : List (List ℕ)) → Going n rest b x y ns cs → Broken n b left y z → Broken request_limit rest left x z
-unfolding broke_same broke_on
-going_broken n rest b left x y z ns cs g e =
-    let all : g.done ++ (e.answered ++ e.last) ≡ (g.done ++ e.answered) ++ e.last = sym (append_assoc g.done e.answered e.last) in
-    let broke = broke_on g.done (e.answered ++ e.last) x y z g.editions ns cs g.answered e.broke_off in
-    record {
-      answered = g.done ++ e.answered;
-      last = e.last;
-      one = e.one;
-      begun = subst (λ (w : List Request). IfTold (λ bytes. Begun request_limit bytes w) rest) all (g.begins (e.answered ++ e.last) e.begun);
-      ahead = g.ahead e.answered left e.ahead;
-      broke_off = broke_same (g.done ++ (e.answered ++ e.last)) ((g.done ++ e.answered) ++ e.last) x z all broke;
-      whole = whole_on g.done e.answered x y z g.editions e.broke_off.editions ns cs g.answered e.whole;
-    }
-
--- a fault at one request
-broken_of : (n : ℕ) (b left : Option (List ℕ)) (y z : State) → Ahead n [] b left → BrokenAtOne n b y z → Broken n b left y z
-broken_of n b left y z ahead e = record {
-  answered = [];
-  last = e.requests;
-  one = e.one;
-  begun = e.begun;
-  ahead = ahead;
-  broke_off = e.broke_off;
-  whole = whole_none e.broke_off.editions y z e.broke_off.bytes.bytes e.broke_off.bytes.grew;
-}
-
--- a fault at none
-broken_none : (n : ℕ) (b left : Option (List ℕ)) (y : State) → Ahead n [] b left → Broken n b left y y
-unfolding broke_none
-broken_none n b left y ahead = record {
-  answered = [];
-  last = [];
-  one = omega arith;
-  begun = begun_none n b;
-  ahead = ahead;
-  broke_off = broke_none y;
-  whole = whole_none [] y y [] (append_nothing y.written);
-}
-
-served_broken : (n : ℕ) (b c left : Option (List ℕ)) (y z : State) (report : OneReport) → Ahead n [] b left → Ahead (n - 1) [] c left → Served n b c y z report → Broken n b left y z
-unfolding broke_whole
-served_broken n b c left y z report ahead behind (inl e) = subst (λ (w : State). Broken n b left y w) (sym e.same) (broken_none n b left y ahead)
-served_broken n b c left y z report ahead behind (inr e) = record {
-  answered = e.request ∷ [];
-  last = [];
-  one = omega arith;
-  begun = begun_one n e.request b c e.first;
-  ahead = ahead_on n b c left e.request [] e.first behind;
-  broke_off = broke_whole (e.request ∷ []) y z e.replied.editions (option_to_list report.edition) (chunks_in report) e.replied.answered;
-  whole = whole_of (e.request ∷ []) y z e.replied.editions (option_to_list report.edition) (chunks_in report) e.replied.answered;
-}
-
 -- ---- the steps of the loop
 
 -- one request wasn't served
-pub fault_broken : (n m : ℕ) (rest b left : Option (List ℕ)) (x y z : State) (ns : List ℕ) (cs : List (List ℕ)) → m ≤ most_held 0 → ReadsAtMost (most_held m) b left
-    → Going n rest b x y ns cs → BrokenAtOne n b y z → Broken request_limit rest left x z
-fault_broken n m rest b left x y z ns cs few read g e = going_broken n rest b left x y z ns cs g (broken_of n b left y z (ahead_read n m b left few read) e)
+pub fault_broken : (n m : ℕ) (rest b left : Option (List ℕ)) (x y z : State) (ns : List ℕ) (cs : List (List ℕ)) → m ≤ most_behind None → ReadsAtMost (most_held m) b left
+    → Going n rest b x y ns cs → BrokenAtOne n b y z → Broken rest left x z
+fault_broken n m rest b left x y z ns cs few read g e = record {
+  requests = g.done;
+  last = e.requests;
+  one = e.one;
+  begun = g.begins e.requests e.begun;
+  ahead = ahead_done (AtMost (most_held 0)) n read.bytes rest b left x y ns cs g (omega (arith, few, read.within)) (held_read (most_held m) n b left read);
+  editions = g.editions;
+  between = y;
+  answered = answered_as g.done x y g.editions ns cs g.answered;
+  broke_off = e.broke_off;
+}
+
+-- nothing was begun behind those that were answered
+done_broken : (n : ℕ) (held : List ℕ) (rest b left : Option (List ℕ)) (x y : State) (ns : List ℕ) (cs : List (List ℕ)) → length held ≤ most_held 0 → HeldBehind n [] held b left → Going n rest b x y ns cs → Broken rest left x y
+done_broken n held rest b left x y ns cs few ahead g = record {
+  requests = g.done;
+  last = [];
+  one = omega arith;
+  begun = g.begins [] (begun_none n b);
+  ahead = ahead_done (AtMost (most_held 0)) n held rest b left x y ns cs g few ahead;
+  editions = g.editions;
+  between = y;
+  answered = answered_as g.done x y g.editions ns cs g.answered;
+  broke_off = broke_none y;
+}
+
+-- where the sink and the shelf are as they were, so is what answering changes
+pub state_same : {K E : Type 0} (written : K → Option (List ℕ)) (seen : E → List EditionValue) (taken : E → Option (List ℕ)) (k l : K) (e f : E) → k ≡ l → e ≡ f → state (written k) (seen e) (taken e) ≡ state (written l) (seen f) (taken f)
+state_same written seen taken k l e f p q = ap (λ x. state (written x) (seen e) (taken e)) p ∙ ap (λ y. state (written l) (seen y) (taken y)) q
+
+-- a read failed
+pub read_waits : (n m : ℕ) (held held' : List ℕ) (rest left left' : Option (List ℕ)) (x y z : State) (ns : List ℕ) (cs : List (List ℕ)) → m ≤ most_behind None → length held' ≤ most_held m → HasNoHead held'
+    → prepend_known held' left' ≡ prepend_known held left → z ≡ y → Going n rest (prepend_known held left) x y ns cs → Waits rest left' x z
+read_waits n m held held' rest left left' x y z ns cs few more none again same g =
+    let b = prepend_known held left in
+    let P : List ℕ → Type 0 = λ bytes. AtMost (most_held 0) bytes × HasNoHead bytes in
+    let within : length held' ≤ most_held 0 = omega (arith, few, more) in
+    record {
+      requests = g.done;
+      begun = begun_done n rest b x y ns cs g;
+      open_ = ap session_end (sym (append-nil g.done)) ∙ g.ends [];
+      ahead = ahead_done P n held' rest b left' x y ns cs g (within, none) (subst (λ (w : Option (List ℕ)). HeldBehind n [] held' w left') again (held_none n held' left'));
+      editions = g.editions;
+      answered = subst (λ (w : State). Answered g.done x w g.editions (map number_of g.editions) (opened g.done g.editions)) (sym same) (answered_as g.done x y g.editions ns cs g.answered);
+    }
 
 -- a request was served, but what is reported of it couldn't be kept
 pub kept_broken : (n m : ℕ) (held : List ℕ) (rest b left : Option (List ℕ)) (x y z : State) (ns : List ℕ) (cs : List (List ℕ)) (report : OneReport)
-    → m ≤ most_held 0 → length held ≤ most_held m → ReadsAtMost (most_held m) b left
-    → Going n rest b x y ns cs → Served n b (prepend_known held left) y z report → Broken request_limit rest left x z
-kept_broken n m held rest b left x y z ns cs report few more read g e =
-    going_broken n rest b left x y z ns cs g
-    (served_broken n b (prepend_known held left) left y z report (ahead_read n m b left few read) (ahead_held (n - 1) held left (few_held m (length held) few more)) e)
+    → m ≤ most_behind None → length held ≤ most_held m → ReadsAtMost (most_held m) b left
+    → Going n rest b x y ns cs → Served n b (prepend_known held left) y z report → Broken rest left x z
+unfolding done_broken
+kept_broken n m held rest b left x y z ns cs report few more read g (inl e) =
+    subst (λ (w : State). Broken rest left x w) (sym e.same) (done_broken n read.bytes rest b left x y ns cs (omega (arith, few, read.within)) (held_read (most_held m) n b left read) g)
+kept_broken n m held rest b left x y z ns cs report few more read g (inr e) =
+    let r = e.request in
+    let within : length held ≤ most_held 0 = omega (arith, few, more) in
+    let all = answered_on g.done (r ∷ []) x y z g.editions e.replied.editions ns (option_to_list report.edition) cs (chunks_in report) g.answered e.replied.answered in
+    record {
+      requests = g.done ++ r ∷ [];
+      last = [];
+      one = omega arith;
+      begun = subst (λ (w : List Request). IfTold (λ bytes. Begun request_limit bytes w) rest) (sym (append-nil (g.done ++ r ∷ [])))
+          (g.begins (r ∷ []) (begun_one n r b (prepend_known held left) e.first));
+      ahead = ahead_of (AtMost (most_held 0)) request_limit (g.done ++ r ∷ []) held rest left within
+          (g.ahead (r ∷ []) held left (held_on n b (prepend_known held left) left r [] held e.first (held_none (n - 1) held left)));
+      editions = g.editions ++ e.replied.editions;
+      between = z;
+      answered = answered_as (g.done ++ r ∷ []) x z (g.editions ++ e.replied.editions) (ns ++ option_to_list report.edition) (cs ++ chunks_in report) all;
+      broke_off = broke_none z;
+    }
 
 -- more requests than the limit
-pub limit_broken : (n : ℕ) (held : List ℕ) (rest left : Option (List ℕ)) (x y : State) (ns : List ℕ) (cs : List (List ℕ)) → length held ≤ most_held 0 → Going n rest (prepend_known held left) x y ns cs
-    → Broken request_limit rest left x y
+pub limit_broken : (n : ℕ) (held : List ℕ) (rest left : Option (List ℕ)) (x y : State) (ns : List ℕ) (cs : List (List ℕ)) → length held ≤ most_behind None → Going n rest (prepend_known held left) x y ns cs
+    → Broken rest left x y
 limit_broken n held rest left x y ns cs few g =
-    going_broken n rest (prepend_known held left) left x y y ns cs g (broken_none n (prepend_known held left) left y (ahead_held n held left few))
+    done_broken n held rest (prepend_known held left) left x y ns cs (omega (arith, few)) (held_none n held left) g
 
 -- the session goes on
 pub session_goes : (n m : ℕ) (rest b c : Option (List ℕ)) (x y z : State) (ns ms : List ℕ) (cs ds : List (List ℕ)) (report : OneReport)
@@ -306,9 +282,9 @@ session_goes n m rest b c x y z ns ms cs ds report none some fewer numbers chunk
 pub session_ends : (n turn m : ℕ) (held : List ℕ) (rest b left : Option (List ℕ)) (x y z : State) (ns : List ℕ) (cs : List (List ℕ)) (one : OneReport) (end : End) (report : SessionReport)
     → one.end ≡ Some end → turn + n ≡ 1001 → (end ≡ EndOfInput → report.requests ≡ turn - 1) → (end ≢ EndOfInput → report.requests ≡ turn) → 1 ≤ turn
     → report.editions ≡ ns ++ option_to_list one.edition → report.reads ≡ cs ++ chunks_in one → report.end ≡ end
-    → m ≤ most_held 0 → length held ≤ most_held m → ReadsAtMost (most_held m) b left
+    → m ≤ most_behind None → length held ≤ max m (most_behind one.end)
     → Going n rest b x y ns cs → Served n b (prepend_known held left) y z one → Session rest left x z report
-session_ends n turn m held rest b left x y z ns cs one end report ends sum at_end closed some numbers chunks end_is few more read g (inl e) =
+session_ends n turn m held rest b left x y z ns cs one end report ends sum at_end closed some numbers chunks end_is few more g (inl e) =
     let told : Some EndOfInput ≡ Some end = sym (ap (λ (o : OneReport). o.end) e.report_is) ∙ ends in
     let last : end ≡ EndOfInput = cc in
     let count : report.requests ≡ turn - 1 = at_end last in
@@ -316,11 +292,12 @@ session_ends n turn m held rest b left x y z ns cs one end report ends sum at_en
     let none : option_to_list one.edition ≡ [] = ap option_to_list edition in
     let unread : chunks_in one ≡ [] = ap (λ (o : OneReport). chunks_in o) e.report_is in
     subst (λ (w : State). Session rest left x w report) (sym e.same)
-    (going_stop n rest b (prepend_known held left) left x y ns cs report g e.at_end (ahead_read n m b left few read) (omega (arith, count, sum, some)) (numbers ∙ ap (λ w. ns ++ w) none ∙ append-nil ns) (chunks ∙ ap (λ w. cs ++ w) unread ∙ append-nil cs) (end_is ∙ last))
-session_ends n turn m held rest b left x y z ns cs one end report ends sum at_end closed some numbers chunks end_is few more read g (inr e) =
+    (going_stop n rest b (prepend_known held left) left x y ns cs report g e.at_end (held_end n held b left e.at_end) (omega (arith, count, sum, some)) (numbers ∙ ap (λ w. ns ++ w) none ∙ append-nil ns) (chunks ∙ ap (λ w. cs ++ w) unread ∙ append-nil cs) (end_is ∙ last))
+session_ends n turn m held rest b left x y z ns cs one end report ends sum at_end closed some numbers chunks end_is few more g (inr e) =
     let other : end ≢ EndOfInput = λ same. e.ends (ends ∙ ap Some same) in
     let count : report.requests ≡ turn = closed other in
-    going_last n rest b (prepend_known held left) left x y z ns cs one end report g e (ahead_held (n - 1) held left (few_held m (length held) few more)) ends (omega (arith, count, sum)) numbers chunks end_is
+    let within : length held ≤ most_behind (Some report.end) = subst (λ (o : End). length held ≤ most_behind (Some o)) (sym end_is) (held_behind m held one.end end e.ends ends few more) in
+    going_last n held rest b (prepend_known held left) left x y z ns cs one end report g e (held_none (n - 1) held left) within ends (omega (arith, count, sum)) numbers chunks end_is
 
 -- ---- what is left of the source
 

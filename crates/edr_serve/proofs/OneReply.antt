@@ -58,6 +58,7 @@ pub page_broke : (head : Bool) (page : Page) (end : Option End) (e : EditionValu
     → Front (page_text head page end e) w w' → BrokeOff (page_request head page end ∷ []) (state w s t) (state w' s' t')
 page_broke head page end e w w' s s' t t' grows last ascending taken front = record {
   editions = e ∷ [];
+  few = omega arith;
   bytes = subst (λ (z : List ℕ). Front z w w') (page_output head page end e) front;
   uses = (s', grows, last, seen_same s');
   order = order_of s s' e grows last ascending;
@@ -69,6 +70,7 @@ pub page_untaken : (requests : List Request) (w : Option (List ℕ)) (s s' : Lis
     → BeginsSeen s s' → IsShelfList s' → TakenGrew t t' [] → BrokeOff requests (state w s t) (state w s' t')
 page_untaken requests w s s' t t' grows ascending taken = record {
   editions = [];
+  few = omega arith;
   bytes = front_none w w (output requests []) refl;
   uses = grows;
   order = last_later s s' grows ascending;
@@ -109,6 +111,7 @@ pub refused_broke : (head : Bool) (refusal : Refusal) (end : Option End) (w w' :
     → Front (refused_text head refusal end) w w' → BrokeOff (refused_request head refusal end ∷ []) (state w s t) (state w' s t)
 refused_broke head refusal end w w' s t front = record {
   editions = [];
+  few = omega arith;
   bytes = subst (λ (z : List ℕ). Front z w w') (sym (append-nil (refused_text head refusal end))) front;
   uses = seen_same s;
   order = same_order s;
@@ -118,6 +121,7 @@ refused_broke head refusal end w w' s t front = record {
 pub none_broke : (w : Option (List ℕ)) (s : List EditionValue) (t : Option (List ℕ)) → BrokeOff [] (state w s t) (state w s t)
 none_broke w s t = record {
   editions = [];
+  few = omega arith;
   bytes = front_none w w [] refl;
   uses = seen_same s;
   order = same_order s;

@@ -1,5 +1,5 @@
 -- One request of a connection, by what was found at the front of the rest.
-use Rattle.std.proofs.Common.{◌≡◌, ◌≢◌, ◌⊎◌, inl, inr, ⊎_elim, ℕ, ◌+◌, ◌≤◌, ◌<◌, false, length, length-append, List, [], ◌∷◌, ◌++◌, sym, ap, subst, ◌∙◌, refl, Some, None, arith}
+use Rattle.std.proofs.Common.{◌≡◌, ◌≢◌, ◌⊎◌, inl, inr, ⊎_elim, ℕ, ◌+◌, ◌≤◌, ◌<◌, max, false, length, length-append, List, [], ◌∷◌, ◌++◌, sym, ap, subst, ◌∙◌, refl, Some, None, arith}
 use Rattle.std.specs.declared.option.Option.{Option}
 use Rattle.std.specs.Prelude.{is_some}
 use Rattle.std.specs.Io.KnownBytes.{append_known, prepend_known}
@@ -16,8 +16,9 @@ use Rattle.edr_serve.specs.declared.ends.End.{End}
 use Rattle.edr_serve.specs.declared.ends.End.TheVariants.{EndOfInput, ClosedByRefusal}
 use Rattle.edr_serve.specs.declared.reports.OneReport.{OneReport}
 use Rattle.edr_serve.specs.Requests.{Request, IsOf, IsFirst, Begun, no_head}
-use Rattle.edr_serve.specs.Sessions.{State, state, IfTold, BrokenAtOne, Served}
+use Rattle.edr_serve.specs.Sessions.{State, state, IfTold, TakesHead, BrokenAtOne, Served, most_behind}
 use Rattle.edr_serve.specs.Serving.{HeadReplied, HeadBroken}
+use Rattle.edr_serve.specs.AheadLaws.{least_behind}
 use Rattle.edr_serve.proofs.OneReply.{refused_replied, refused_broke, none_broke}
 
 -- ---- the first request of the rest
@@ -89,12 +90,7 @@ pub served_refused : (n : ℕ) (refusal : Refusal) (b c w w' : Option (List ℕ)
 served_refused n refusal b c w w' s t report is told bytes report_is =
     subst (λ (x : OneReport). Served n b c (state w s t) (state w' s t) x) (sym report_is) (served_bad n refusal b c w w' s t is told bytes)
 
--- ---- how much was read
-
--- what was held and read is held
-pub held_ahead : (held held' : List ℕ) (left left' : Option (List ℕ)) → prepend_known held' left' ≡ prepend_known held left → length held' ≤ most_held (length held)
-    → ReadsAtMost (most_held (length held)) (prepend_known held left) left'
-held_ahead held held' left left' same few = record { bytes = held'; read = sym same; within = few }
+-- ---- what became of the rest
 
 -- it is the rest as it was, where nothing was found in it or it is at its end
 same_bad : (b c : Option (List ℕ)) → IsBehind b c → Told (λ bytes rest. (bytes ≢ []) × HasNoHead bytes × (rest ≡ bytes)) b c → c ≡ b
@@ -108,6 +104,37 @@ same_end None None behind t = refl
 same_end None (Some c) behind t = absurd (cc behind.1)
 same_end (Some b) None behind t = absurd t
 same_end (Some b) (Some c) behind t = ap Some (t.1 ∙ sym t.0)
+
+-- its head was taken
+pub head_lost : (head : Head) (b c : Option (List ℕ)) → Told (λ bytes rest. HeadOf bytes head rest) b c → (c ≡ b) ⊎ TakesHead b c
+head_lost head None c t = inr tt
+head_lost head (Some b) None t = absurd t
+head_lost head (Some b) (Some c) t = inr (head, t)
+
+-- it has none
+pub bad_lost : (b c : Option (List ℕ)) → IsBehind b c → Told (λ bytes rest. (bytes ≢ []) × HasNoHead bytes × (rest ≡ bytes)) b c → (c ≡ b) ⊎ TakesHead b c
+bad_lost b c behind t = inl (same_bad b c behind t)
+
+-- ---- how much is held behind a request
+
+pub head_short : (held held' : List ℕ) (report : OneReport) → HasHead held ⊎ (length held' < block_size) → (HasHead held → length held' ≤ length held) → report.end ≢ Some EndOfInput
+    → length held' ≤ max (length held) (most_behind report.end)
+head_short held held' report short fewer going =
+    let least = least_behind report.end going in
+    ⊎_elim (λ (has : HasHead held). omega (arith, fewer has)) (λ (few : length held' < block_size). omega (arith, few, least)) short
+
+pub bad_short : (held held' : List ℕ) (report : OneReport) → length held' ≤ most_held (length held) → report ≡ record { edition = None; reads = []; end = bad_end } → length held' ≤ max (length held) (most_behind report.end)
+bad_short held held' report few is = subst (λ (x : OneReport). length held' ≤ max (length held) (most_behind x.end)) (sym is) few
+
+pub end_short : (held held' : List ℕ) → held' ≡ [] → length held' ≤ max (length held) (most_behind (Some EndOfInput))
+end_short held held' e = omega (arith, ap length e)
+
+-- ---- how much was read
+
+-- what was held and read is held
+pub held_ahead : (held held' : List ℕ) (left left' : Option (List ℕ)) → prepend_known held' left' ≡ prepend_known held left → length held' ≤ most_held (length held)
+    → ReadsAtMost (most_held (length held)) (prepend_known held left) left'
+held_ahead held held' left left' same few = record { bytes = held'; read = sym same; within = few }
 
 pub bad_ahead : (held held' : List ℕ) (left left' : Option (List ℕ)) → IsBehind (prepend_known held left) (prepend_known held' left')
     → Told (λ bytes rest. (bytes ≢ []) × HasNoHead bytes × (rest ≡ bytes)) (prepend_known held left) (prepend_known held' left') → length held' ≤ most_held (length held)

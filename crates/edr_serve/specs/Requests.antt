@@ -72,7 +72,8 @@ pub record WithoutHead (bytes : List ℕ) (request : Request) (rest : List ℕ) 
 abbrev pub IsFirst : ℕ → List ℕ → Request → List ℕ → Type 0
 IsFirst turns bytes request rest = FromHead turns bytes request rest ⊎ WithoutHead bytes request rest
 
--- the first requests of the bytes, one after another, and what follows them
+-- the first requests of the bytes, one after another, and what follows them; it doesn't stop at one that ends the session, as
+-- `Requests` and `Begun` do
 abbrev pub AreFirst : ℕ → List ℕ → List Request → List ℕ → Type 0
 AreFirst turns bytes [] rest = rest ≡ bytes
 AreFirst turns bytes (request ∷ requests) rest = (others : List ℕ) × IsFirst turns bytes request others × AreFirst (turns - 1) others requests rest

@@ -1,11 +1,13 @@
 -- What serving the requests of a connection does.
-use Rattle.std.specs.Prelude.{◌≡◌, ◌≢◌, ◌⊎◌, ℕ, ◌≤◌, List, [], ◌∷◌, ◌++◌, length, map, All, Option, None, Some, option_map, option_to_list, ⊤}
+use Rattle.std.specs.Prelude.{◌≡◌, ◌≢◌, ◌⊎◌, ℕ, ◌-◌, ◌≤◌, ◌==◌, if◌then◌else◌, List, [], ◌∷◌, ◌++◌, length, map, All, Option, None, Some, option_map, option_to_list, ⊤}
 use Rattle.std.specs.Io.KnownBytes.{append_known}
 use Rattle.edr_base.specs.Calls.{Front}
 use Rattle.edr_edition.specs.Values.{EditionValue}
-use Rattle.edr_http.specs.Heads.{Told, most_held}
+use Rattle.edr_http.specs.declared.heads.Head.{Head}
+use Rattle.edr_http.specs.Heads.{Told, HeadOf, HasNoHead, block_size, most_held}
 use Rattle.edr_edition.specs.Shelves.{BeginsSeen, EndsWith, TakenGrew}
-use Rattle.edr_serve.specs.declared.ends.End.TheVariants.{EndOfInput}
+use Rattle.edr_serve.specs.declared.ends.End.{End}
+use Rattle.edr_serve.specs.declared.ends.End.TheVariants.{EndOfInput, ClosedByPeer, ClosedByRefusal, RequestLimit}
 use Rattle.edr_serve.specs.declared.reports.OneReport.{OneReport}
 use Rattle.edr_serve.specs.declared.reports.SessionReport.{SessionReport}
 use Rattle.edr_serve.specs.Requests.{Request, IsFirst, AreFirst, Requests, Begun, session_end, request_limit}
@@ -56,9 +58,10 @@ pub record Answered (requests : List Request) (before after : State) (editions :
   pub order : NeverFall (last_number before.seen) numbers (last_number after.seen)
   pub taken : TakenGrew before.taken after.taken numbers
 
--- a beginning of their replies was written
+-- a beginning of their replies was written, from no more editions than they read
 pub record BrokeOff (requests : List Request) (before after : State) : Type 0 where
   pub editions : List EditionValue
+  pub few : length editions ≤ readers requests
   pub bytes : Front (output requests editions) before.written after.written
   pub uses : Uses before.seen editions after.seen
   pub order : NeverFall (last_number before.seen) (map number_of editions) (last_number after.seen)
@@ -66,39 +69,61 @@ pub record BrokeOff (requests : List Request) (before after : State) : Type 0 wh
 
 -- ---- a session; `rest` is what is still to come, and `left` what the source still has of it when the session is over
 
--- these requests were read, and behind them no more than is held at most: what the source still has follows that
-pub record ReadsAhead (turns : ℕ) (requests : List Request) (bytes left : List ℕ) : Type 0 where
+-- so much is read at most behind the requests of a session that ends so, or goes on: nothing at the end of the input, less than
+-- one block behind a head, and less than a head and one block where there is no head
+abbrev pub most_behind : Option End → ℕ
+most_behind None = block_size - 1
+most_behind (Some EndOfInput) = 0
+most_behind (Some ClosedByPeer) = block_size - 1
+most_behind (Some (ClosedByRefusal number)) = if number == 1 then most_held 0 else block_size - 1
+most_behind (Some RequestLimit) = block_size - 1
+
+-- no more bytes than so many
+abbrev pub AtMost : ℕ → List ℕ → Type 0
+AtMost most held = length held ≤ most
+
+-- these requests were read, and behind them some bytes that are so: what the source still has follows those
+pub record ReadsAhead (IsSo : List ℕ → Type 0) (turns : ℕ) (requests : List Request) (bytes left : List ℕ) : Type 0 where
   pub held : List ℕ
   pub read : AreFirst turns bytes requests (held ++ left)
-  pub few : length held ≤ most_held 0
+  pub is : IsSo held
 
 -- all requests of the rest were answered
 pub record Session (rest left : Option (List ℕ)) (before after : State) (report : SessionReport) : Type 0 where
   pub requests : List Request
   pub all : IfTold (λ bytes. Requests request_limit bytes requests) rest
-  pub ahead : Told (λ bytes others. ReadsAhead request_limit requests bytes others) rest left
+  pub ahead : Told (λ bytes others. ReadsAhead (AtMost (most_behind (Some report.end))) request_limit requests bytes others) rest left
   pub editions : List EditionValue
   pub answered : Answered requests before after editions report.editions report.reads
   pub count : report.requests ≡ length requests
   pub end : report.end ≡ session_end requests
 
--- the replies to these requests, from the first of the editions, were written whole
-pub record AreWhole (requests : List Request) (editions : List EditionValue) (before after : State) : Type 0 where
-  pub full : readers requests ≤ length editions
-  pub more : List ℕ
-  pub bytes : after.written ≡ append_known before.written (output requests editions ++ more)
-
 -- a fault came: some of them were answered, and behind those one was begun, or none
-pub record Broken (turns : ℕ) (rest left : Option (List ℕ)) (before after : State) : Type 0 where
-  pub answered : List Request
+pub record Broken (rest left : Option (List ℕ)) (before after : State) : Type 0 where
+  pub requests : List Request
   pub last : List Request
   pub one : length last ≤ 1
-  pub begun : IfTold (λ bytes. Begun turns bytes (answered ++ last)) rest
-  pub ahead : Told (λ bytes others. ReadsAhead turns answered bytes others) rest left
-  pub broke_off : BrokeOff (answered ++ last) before after
-  pub whole : AreWhole answered broke_off.editions before after
+  pub begun : IfTold (λ bytes. Begun request_limit bytes (requests ++ last)) rest
+  pub ahead : Told (λ bytes others. ReadsAhead (AtMost (most_held 0)) request_limit requests bytes others) rest left
+  pub editions : List EditionValue
+  pub between : State
+  pub answered : Answered requests before between editions (map number_of editions) (opened requests editions)
+  pub broke_off : BrokeOff last between after
+
+-- a read failed: all requests that had come were answered, none of them ends the session, and no head was read behind them
+pub record Waits (rest left : Option (List ℕ)) (before after : State) : Type 0 where
+  pub requests : List Request
+  pub begun : IfTold (λ bytes. Begun request_limit bytes requests) rest
+  pub open_ : session_end requests ≡ EndOfInput
+  pub ahead : Told (λ bytes others. ReadsAhead (λ held. AtMost (most_held 0) held × HasNoHead held) request_limit requests bytes others) rest left
+  pub editions : List EditionValue
+  pub answered : Answered requests before after editions (map number_of editions) (opened requests editions)
 
 -- ---- one request, which has so many turns left
+
+-- the head at the front of the rest was taken
+abbrev pub TakesHead : Option (List ℕ) → Option (List ℕ) → Type 0
+TakesHead rest behind = Told (λ bytes others. (head : Head) × HeadOf bytes head others) rest behind
 
 -- a fault came after it was begun, or before
 pub record BrokenAtOne (turns : ℕ) (rest : Option (List ℕ)) (before after : State) : Type 0 where

@@ -1,10 +1,10 @@
 //! Sessions: the requests of a connection, one after another (RFC 9112, section 9.3).
-ghost use Rattle.std.specs.Prelude.{◌≡◌, ◌≢◌, ◌⊎◌, ◌-◌, ◌≤◌, ◌++◌, [], ◌∷◌, None, Some, ℕ, length, option_map, option_to_list, IfOk, OnOk, OnErr, IsErrOf, IsTrue};
+ghost use Rattle.std.specs.Prelude.{◌≡◌, ◌≢◌, ◌⊎◌, ◌-◌, ◌≤◌, max, ◌++◌, [], ◌∷◌, None, Some, ℕ, length, option_map, option_to_list, IfOk, OnOk, OnErr, IsErrOf, IsTrue};
 ghost use Rattle.std.specs.Io.KnownBytes.{prepend_known};
 ghost use Rattle.edr_base.specs.Outside.{Rose};
 ghost use Rattle.edr_base.specs.Calls.{SourceLent, SinkLent, ReadsAtMost, IsFlushed};
-ghost use Rattle.edr_http.specs.Heads.{Told, IsBehind, most_held};
-ghost use Rattle.edr_serve.specs.Sessions.{state, chunks_in, Served, Broken, BrokenAtOne, Session};
+ghost use Rattle.edr_http.specs.Heads.{Told, HasHead, HasNoHead, IsBehind, most_held};
+ghost use Rattle.edr_serve.specs.Sessions.{state, chunks_in, most_behind, Served, TakesHead, BrokenAtOne, Session, Broken, Waits};
 
 use crate::ends::End;
 use crate::heads::{answer_head, refuse};
@@ -30,11 +30,15 @@ fn of_sending(fault: SendFault) -> SessionFault
 /// session, from 1; a reply to the 1,000th closes the connection.
 ///
 /// A request for a page is answered from the newest edition of the shelf, which it takes once, and any other request from
-/// none. Where the input is at its end, nothing is written or taken. Whatever is answered, `inbox` holds no more than before
-/// then, or no more than 20,479 bytes, and what it held and what was read are together no more than that either. `ReadFault` and `WriteFault` come only where the source
-/// or the sink counted a fault in this call, and a beginning of the reply, to this one request, may have been written after any
-/// fault. It puts no edition on the shelf.
-#[tactic(auto, using(crate::proofs::OneRequest::served_head, crate::proofs::OneRequest::served_bad, crate::proofs::OneRequest::served_end, crate::proofs::OneRequest::broken_head, crate::proofs::OneRequest::broken_bad, crate::proofs::OneRequest::broken_read, crate::proofs::OneRequest::held_ahead, crate::proofs::OneRequest::bad_ahead, crate::proofs::OneRequest::end_ahead))]
+/// none. Where the input is at its end, nothing is written or taken. It puts no edition on the shelf. Nothing is read where
+/// `inbox` holds a head already. Whatever is answered, `inbox` holds no more than before then, or no more than 20,479 bytes, and
+/// what it held and what was read are together no more than that either; behind a head it holds no more than before, or less
+/// than 4,096 bytes.
+///
+/// `ReadFault` and `WriteFault` come only where the source or the sink counted a fault in this call. With `ReadFault` no head had
+/// come, nothing was written or taken, and the same call may be made again. After the other faults a beginning of the reply, to
+/// this one request, may have been written, and of what was read and what is left nothing was lost but the head of that request.
+#[tactic(auto, using(crate::proofs::OneRequest::served_end, crate::proofs::OneRequest::broken_read, crate::proofs::OneRequest::held_ahead, crate::proofs::OneRequest::bad_ahead, crate::proofs::OneRequest::end_ahead, crate::proofs::OneRequest::bad_short, crate::proofs::OneRequest::end_short, crate::proofs::OneRequest::head_lost, crate::proofs::OneRequest::bad_lost))]
 pub fn serve_one<S: Source, K: Sink, E: Editions>(
     alloc: Global,
     source: &mut S,
@@ -51,6 +55,13 @@ pub fn serve_one<S: Source, K: Sink, E: Editions>(
         (state (K.written sink.old) (E.seen shelf.old) (E.taken shelf.old)) (state (K.written sink.new) (E.seen shelf.new) (E.taken shelf.new))) }
     ensures stock { E.stock shelf.new ≡ E.stock shelf.old }
     ensures behind { IsBehind (prepend_known inbox.old (S.left source.old)) (prepend_known inbox.new (S.left source.new)) }
+    ensures lost { OnErr result ((prepend_known inbox.new (S.left source.new) ≡ prepend_known inbox.old (S.left source.old))
+        ⊎ TakesHead (prepend_known inbox.old (S.left source.old)) (prepend_known inbox.new (S.left source.new))) }
+    ensures again { IsErrOf result SessionFault.ReadFault → prepend_known inbox.new (S.left source.new) ≡ prepend_known inbox.old (S.left source.old) }
+    ensures none { IsErrOf result SessionFault.ReadFault → HasNoHead inbox.new }
+    ensures unwritten { IsErrOf result SessionFault.ReadFault → (sink.new ≡ sink.old) × (shelf.new ≡ shelf.old) }
+    ensures kept { HasHead inbox.old → source.new ≡ source.old }
+    ensures short { IfOk result (λ report. length inbox.new ≤ max (length inbox.old) (most_behind report.end)) }
     ensures bounded { length inbox.new ≤ most_held (length inbox.old) }
     ensures ahead { ReadsAtMost (most_held (length inbox.old)) (prepend_known inbox.old (S.left source.old)) (S.left source.new) }
     ensures flushed { IfOk result (λ report. report.end ≢ Some End.EndOfInput → IsFlushed (K.written sink.new) (K.flushed sink.new)) }
@@ -115,9 +126,12 @@ fn replies(turn: u32, end: End) -> u32
 /// Serves the requests of a connection, in their order, until one ends the session or the input is at its end.
 ///
 /// Each request for a page is answered from one edition, the newest when its turn comes, and every reply is flushed. It puts no
-/// edition on the shelf. Whatever is answered, no more than 20,479 bytes were read behind the requests that were answered.
-/// `ReadFault` and `WriteFault` come only where the source or the sink counted a fault in this call; a beginning of the
-/// replies was written then.
+/// edition on the shelf. With `Ok` less than 4,096 bytes were read behind the request that ended the session, or where no head
+/// was found there no more than 20,479; after a fault no more than that were read behind the requests that were answered.
+///
+/// `ReadFault` and `WriteFault` come only where the source or the sink counted a fault in this call. With `ReadFault` every
+/// request that had come whole was answered, and all that was written is flushed. After the other faults the replies to some
+/// requests were written, and a beginning of one more.
 #[tactic(auto, using(crate::proofs::Going::going_begins, crate::proofs::Going::behind_begins))]
 pub fn serve_session<S: Source, K: Sink, E: Editions>(
     alloc: Global,
@@ -127,12 +141,15 @@ pub fn serve_session<S: Source, K: Sink, E: Editions>(
 ) -> Result<SessionReport, SessionFault>
     ensures done { IfOk result (λ report. Session (S.left source.old) (S.left source.new)
         (state (K.written sink.old) (E.seen shelf.old) (E.taken shelf.old)) (state (K.written sink.new) (E.seen shelf.new) (E.taken shelf.new)) report) }
-    ensures fault { OnErr result (Broken 1000 (S.left source.old) (S.left source.new)
+    ensures fault { OnErr result (Broken (S.left source.old) (S.left source.new)
         (state (K.written sink.old) (E.seen shelf.old) (E.taken shelf.old)) (state (K.written sink.new) (E.seen shelf.new) (E.taken shelf.new))) }
+    ensures waits { IsErrOf result SessionFault.ReadFault → Waits (S.left source.old) (S.left source.new)
+        (state (K.written sink.old) (E.seen shelf.old) (E.taken shelf.old)) (state (K.written sink.new) (E.seen shelf.new) (E.taken shelf.new)) }
     ensures stock { E.stock shelf.new ≡ E.stock shelf.old }
     ensures behind { IsBehind (S.left source.old) (S.left source.new) }
     ensures ended { IfOk result (λ report. report.end ≡ End.EndOfInput → Told (λ bytes rest. rest ≡ []) (S.left source.old) (S.left source.new)) }
     ensures flushed { OnOk result ((sink.new ≡ sink.old) ⊎ IsFlushed (K.written sink.new) (K.flushed sink.new)) }
+    ensures settled { IsErrOf result SessionFault.ReadFault → (sink.new ≡ sink.old) ⊎ IsFlushed (K.written sink.new) (K.flushed sink.new) }
     ensures source { SourceLent (S.aside source.old) (S.aside source.new) (S.faults source.old) (S.faults source.new) }
     ensures sink { SinkLent (K.beside sink.old) (K.beside sink.new) (K.faults sink.old) (K.faults sink.new) }
     ensures read { IsErrOf result SessionFault.ReadFault → Rose (S.faults source.old) (S.faults source.new) }

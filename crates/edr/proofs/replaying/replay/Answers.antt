@@ -1,9 +1,9 @@
-use Rattle.std.proofs.Common.{◌∙◌, List, Ok, Err, true, false, sym, ap, subst}
+use Rattle.std.proofs.Common.{◌∙◌, List, Ok, Err, true, false, inl, refl, sym, ap, subst}
 use Rattle.edr_base.specs.Outside.{Aside}
 use Rattle.edr_edition.specs.Values.{EditionValue}
 use Rattle.edr_feed.specs.Feeds.{FeedStandsIn}
-use Rattle.edr.proofs.EndLemmas.{replay_output, fault_cause, rose_earlier}
-use Rattle.edr.proofs.ReplayLemmas.{replay_read}
+use Rattle.edr.proofs.EndLemmas.{replay_output, fault_cause, rose_earlier, waits_more, waits_any}
+use Rattle.edr.proofs.ReplayLemmas.{replay_read, waits_feed}
 use Rattle.edr.proofs.replaying.replay.Goals as goal
 
 pub returns-in-Ok-read_feed-clause-output : goal.returns-in-Ok-read_feed-clause-output
@@ -31,3 +31,16 @@ returns-in-Err-clause-cause g c =
     let closed = ap (λ (aside : Aside). aside.idle) c.in-Err.ensures.lent.same ∙ c.in-Ok.ensures.ready in
     rw c.ending_of.ensures
     (fault_cause c.in-Err.fault _ _ _ _ c.in-Ok.ensures.left c.in-Err.ensures.fault (λ is. (rose_earlier _ _ _ c.in-Ok.ensures.cause.later (c.in-Err.ensures.cause (ap Err is)), closed)))
+
+pub returns-in-Ok-read_feed-clause-waits : goal.returns-in-Ok-read_feed-clause-waits
+returns-in-Ok-read_feed-clause-waits g c =
+    let stands = subst (λ (list : List EditionValue). FeedStandsIn (g.F.Source.left c.open.new.self) (Ok list)) (sym c.into_vec.ensures) c.in-Ok-read_feed.ensures.editions in
+    rw c.if-advances.true (waits_more c.served_advancing.result _ _ (waits_feed true c.into_vec.result.items _ _ _ _ _ _ _ c.in-Ok.ensures.left stands) c.served_advancing.ensures.waits)
+
+pub returns-in-Ok-2-clause-waits : goal.returns-in-Ok-2-clause-waits
+returns-in-Ok-2-clause-waits g c =
+    let stands = subst (λ (list : List EditionValue). FeedStandsIn (g.F.Source.left c.open.new.self) (Ok list)) (sym c.into_vec-in-Ok-2.ensures) c.in-Ok-read_feed.ensures.editions in
+    rw c.if-advances.false (waits_more c.served_from_first.result _ _ (waits_feed false c.into_vec-in-Ok-2.result.items _ _ _ _ _ _ _ c.in-Ok.ensures.left stands) c.served_from_first.ensures.waits)
+
+pub returns-in-Err-clause-waits : goal.returns-in-Err-clause-waits
+returns-in-Err-clause-waits g c = waits_any c.ending_of.result _ (inl (refl, refl))

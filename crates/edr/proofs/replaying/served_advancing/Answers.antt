@@ -1,25 +1,26 @@
-use Rattle.std.proofs.Common.{rules, ◌≡◌, ◌≤◌, ◌+◌, ◌-◌, ◌++◌, ◌∙◌, List, length, true, None, inr, sym, ap, subst, option_to_list, IfSome}
+use Rattle.std.proofs.Common.{rules, ◌≡◌, ◌≤◌, ◌+◌, ◌-◌, ◌++◌, ◌∙◌, List, length, true, None, Err, inl, inr, ⊎_elim, sym, ap, subst, option_to_list, IfSome}
 use Rattle.std.specs.Io.KnownBytes.{prepend_known}
 use Rattle.std.specs.Vec.Iter.{into_iter_items, into_iter_len}
+use Rattle.edr_base.specs.Calls.{IsFlushed}
 use Rattle.edr_edition.specs.Values.{EditionValue}
 use Rattle.edr_edition.specs.Shelves.{IsNext}
 use Rattle.edr_serve.specs.Sessions.{state}
 use Rattle.edr_serve.specs.AheadLaws.{few_held}
-use Rattle.edr.proofs.EndLemmas.{settled_output, broken_output, read_so_far}
+use Rattle.edr.proofs.EndLemmas.{settled_output, broken_output, read_so_far, broken_waits, settled_waits}
 use Rattle.edr.proofs.ReplayLemmas.{same_shelf}
-use Rattle.edr.proofs.AdvanceLemmas.{is_next, last_stands, stands_more, left_counted, none_after, session_goes, session_ends, session_broken, going_broken, whole_over, part_over, served_over, read_over, read_broken, read_going, behind_on, left_now, left_behind, ended_left}
+use Rattle.edr.proofs.AdvanceLemmas.{is_next, last_stands, stands_more, left_counted, none_after, session_goes, session_ends, session_broken, going_broken, whole_over, part_over, served_over, read_over, read_broken, read_going, read_waits, behind_on, left_now, left_behind, ended_left}
 use Rattle.edr.proofs.replaying.served_advancing.Goals as goal
 
 pub returns-in-Some-end-clause-output : goal.returns-in-Some-end-clause-output
 returns-in-Some-end-clause-output g c =
-    let over = session_ends c.output_goes_on.ensures c.args.editions.items c.requests.turn (length c.requests.inbox) c.serve_one.new.inbox (g.S.Source.left c.args.input.now) (prepend_known c.requests.inbox (g.S.Source.left c.requests.input)) (g.S.Source.left c.serve_one.new.source) (g.K.Sink.written c.args.output.now) (state (g.K.Sink.written c.requests.output) c.requests.shelf None) (state (g.K.Sink.written c.serve_one.new.sink) c.serve_one.new.shelf None) c.in-Ok-serve_one.report c.in-Some-end.field-0 c.requests.invariant.turn_in.0 (last_stands c.args.editions.items c.requests.shelf (into_iter_items c.requests.behind) c.requests.turn c.requests.invariant.stands c.requests.invariant.turn_in.0) c.in-Ok-serve_one.ensures.stock c.requests.invariant.few c.in-Ok-serve_one.ensures.bounded c.in-Ok-serve_one.ensures.ahead c.requests.invariant.going c.in-Ok-serve_one.ensures.done c.in-Some-end.is in
+    let over = session_ends c.output_goes_on.ensures c.args.editions.items c.requests.turn (length c.requests.inbox) c.serve_one.new.inbox (g.S.Source.left c.args.input.now) (prepend_known c.requests.inbox (g.S.Source.left c.requests.input)) (g.S.Source.left c.serve_one.new.source) (g.K.Sink.written c.args.output.now) (state (g.K.Sink.written c.requests.output) c.requests.shelf None) (state (g.K.Sink.written c.serve_one.new.sink) c.serve_one.new.shelf None) c.in-Ok-serve_one.report c.in-Some-end.field-0 c.requests.invariant.turn_in.0 (last_stands c.args.editions.items c.requests.shelf (into_iter_items c.requests.behind) c.requests.turn c.requests.invariant.stands c.requests.invariant.turn_in.0) c.in-Ok-serve_one.ensures.stock c.requests.invariant.few c.in-Ok-serve_one.ensures.short c.requests.invariant.going c.in-Ok-serve_one.ensures.done c.in-Some-end.is in
     settled_output c.settled.result true _ _ _ _ _ _ _ c.settled.ensures.settles
     (λ settled. whole_over c.args.editions.items (g.S.Source.left c.args.input.now) (g.S.Source.left c.serve_one.new.source) (g.K.Sink.written c.args.output.now) (g.K.Sink.written c.serve_one.new.sink) _ _ c.in-Some-end.field-0 over c.settled.ensures.written settled)
     (part_over c.args.editions.items (g.S.Source.left c.args.input.now) (g.S.Source.left c.serve_one.new.source) (g.K.Sink.written c.args.output.now) (g.K.Sink.written c.serve_one.new.sink) _ c.in-Some-end.field-0 over c.settled.ensures.written)
 
 pub returns-in-Some-end-clause-ended : goal.returns-in-Some-end-clause-ended
 returns-in-Some-end-clause-ended g c =
-    let over = session_ends c.output_goes_on.ensures c.args.editions.items c.requests.turn (length c.requests.inbox) c.serve_one.new.inbox (g.S.Source.left c.args.input.now) (prepend_known c.requests.inbox (g.S.Source.left c.requests.input)) (g.S.Source.left c.serve_one.new.source) (g.K.Sink.written c.args.output.now) (state (g.K.Sink.written c.requests.output) c.requests.shelf None) (state (g.K.Sink.written c.serve_one.new.sink) c.serve_one.new.shelf None) c.in-Ok-serve_one.report c.in-Some-end.field-0 c.requests.invariant.turn_in.0 (last_stands c.args.editions.items c.requests.shelf (into_iter_items c.requests.behind) c.requests.turn c.requests.invariant.stands c.requests.invariant.turn_in.0) c.in-Ok-serve_one.ensures.stock c.requests.invariant.few c.in-Ok-serve_one.ensures.bounded c.in-Ok-serve_one.ensures.ahead c.requests.invariant.going c.in-Ok-serve_one.ensures.done c.in-Some-end.is in
+    let over = session_ends c.output_goes_on.ensures c.args.editions.items c.requests.turn (length c.requests.inbox) c.serve_one.new.inbox (g.S.Source.left c.args.input.now) (prepend_known c.requests.inbox (g.S.Source.left c.requests.input)) (g.S.Source.left c.serve_one.new.source) (g.K.Sink.written c.args.output.now) (state (g.K.Sink.written c.requests.output) c.requests.shelf None) (state (g.K.Sink.written c.serve_one.new.sink) c.serve_one.new.shelf None) c.in-Ok-serve_one.report c.in-Some-end.field-0 c.requests.invariant.turn_in.0 (last_stands c.args.editions.items c.requests.shelf (into_iter_items c.requests.behind) c.requests.turn c.requests.invariant.stands c.requests.invariant.turn_in.0) c.in-Ok-serve_one.ensures.stock c.requests.invariant.few c.in-Ok-serve_one.ensures.short c.requests.invariant.going c.in-Ok-serve_one.ensures.done c.in-Some-end.is in
     let behind = left_behind (g.S.Source.left c.args.input.now) (prepend_known c.requests.inbox (g.S.Source.left c.requests.input)) (g.S.Source.left c.serve_one.new.source) c.serve_one.new.inbox c.requests.invariant.behind c.in-Ok-serve_one.ensures.behind in
     read_so_far c.settled.result _
     (served_over c.args.editions.items (g.S.Source.left c.args.input.now) (g.S.Source.left c.serve_one.new.source) (g.K.Sink.written c.args.output.now) (g.K.Sink.written c.serve_one.new.sink) c.in-Some-end.field-0 over behind
@@ -27,7 +28,7 @@ returns-in-Some-end-clause-ended g c =
 
 pub returns-in-Some-end-clause-read : goal.returns-in-Some-end-clause-read
 returns-in-Some-end-clause-read g c =
-    let over = session_ends c.output_goes_on.ensures c.args.editions.items c.requests.turn (length c.requests.inbox) c.serve_one.new.inbox (g.S.Source.left c.args.input.now) (prepend_known c.requests.inbox (g.S.Source.left c.requests.input)) (g.S.Source.left c.serve_one.new.source) (g.K.Sink.written c.args.output.now) (state (g.K.Sink.written c.requests.output) c.requests.shelf None) (state (g.K.Sink.written c.serve_one.new.sink) c.serve_one.new.shelf None) c.in-Ok-serve_one.report c.in-Some-end.field-0 c.requests.invariant.turn_in.0 (last_stands c.args.editions.items c.requests.shelf (into_iter_items c.requests.behind) c.requests.turn c.requests.invariant.stands c.requests.invariant.turn_in.0) c.in-Ok-serve_one.ensures.stock c.requests.invariant.few c.in-Ok-serve_one.ensures.bounded c.in-Ok-serve_one.ensures.ahead c.requests.invariant.going c.in-Ok-serve_one.ensures.done c.in-Some-end.is in
+    let over = session_ends c.output_goes_on.ensures c.args.editions.items c.requests.turn (length c.requests.inbox) c.serve_one.new.inbox (g.S.Source.left c.args.input.now) (prepend_known c.requests.inbox (g.S.Source.left c.requests.input)) (g.S.Source.left c.serve_one.new.source) (g.K.Sink.written c.args.output.now) (state (g.K.Sink.written c.requests.output) c.requests.shelf None) (state (g.K.Sink.written c.serve_one.new.sink) c.serve_one.new.shelf None) c.in-Ok-serve_one.report c.in-Some-end.field-0 c.requests.invariant.turn_in.0 (last_stands c.args.editions.items c.requests.shelf (into_iter_items c.requests.behind) c.requests.turn c.requests.invariant.stands c.requests.invariant.turn_in.0) c.in-Ok-serve_one.ensures.stock c.requests.invariant.few c.in-Ok-serve_one.ensures.short c.requests.invariant.going c.in-Ok-serve_one.ensures.done c.in-Some-end.is in
     read_over c.args.editions.items (g.S.Source.left c.args.input.now) (g.S.Source.left c.serve_one.new.source) (g.K.Sink.written c.args.output.now) (g.K.Sink.written c.serve_one.new.sink) _ c.in-Some-end.field-0 over c.settled.ensures.written
 
 pub returns-in-Some-end-clause-behind : goal.returns-in-Some-end-clause-behind
@@ -61,7 +62,7 @@ returns-then-is_err-clause-output g c =
 pub returns-then-is_err-clause-read : goal.returns-then-is_err-clause-read
 returns-then-is_err-clause-read g c =
     let most : c.requests.turn ≤ 1000 = search rules in
-    read_going c.args.editions.items (c.requests.turn + 1) c.serve_one.new.inbox (g.S.Source.left c.args.input.now) (g.S.Source.left c.serve_one.new.source) (g.K.Sink.written c.args.output.now) (g.K.Sink.written c.serve_one.new.sink) (few_held _ _ c.requests.invariant.few c.in-Ok-serve_one.ensures.bounded)
+    read_going c.args.editions.items (c.requests.turn + 1) c.serve_one.new.inbox (g.S.Source.left c.args.input.now) (g.S.Source.left c.serve_one.new.source) (g.K.Sink.written c.args.output.now) (g.K.Sink.written c.serve_one.new.sink) (few_held _ _ _ c.requests.invariant.few c.in-None.is c.in-Ok-serve_one.ensures.short)
     (session_goes c.output_goes_on.ensures c.args.editions.items c.requests.turn (g.S.Source.left c.args.input.now) (prepend_known c.requests.inbox (g.S.Source.left c.requests.input)) (prepend_known c.serve_one.new.inbox (g.S.Source.left c.serve_one.new.source)) (g.K.Sink.written c.args.output.now) (state (g.K.Sink.written c.requests.output) c.requests.shelf None) (state (g.K.Sink.written c.serve_one.new.sink) c.serve_one.new.shelf None) c.in-Ok-serve_one.report c.requests.invariant.turn_in.0 most (last_stands c.args.editions.items c.requests.shelf (into_iter_items c.requests.behind) c.requests.turn c.requests.invariant.stands c.requests.invariant.turn_in.0) c.in-Ok-serve_one.ensures.stock c.requests.invariant.going c.in-Ok-serve_one.ensures.done c.in-None.is)
 
 pub returns-then-is_err-clause-behind : goal.returns-then-is_err-clause-behind
@@ -83,7 +84,8 @@ requests-preserved g c =
       counted = counted;
       going = session_goes c.output_goes_on.ensures c.args.editions.items c.requests.turn (g.S.Source.left c.args.input.now) (prepend_known c.requests.inbox (g.S.Source.left c.requests.input)) (prepend_known c.serve_one.new.inbox (g.S.Source.left c.serve_one.new.source)) (g.K.Sink.written c.args.output.now) (state (g.K.Sink.written c.requests.output) c.requests.shelf None) (state (g.K.Sink.written c.serve_one.new.sink) c.serve_one.new.shelf None) c.in-Ok-serve_one.report c.requests.invariant.turn_in.0 most (last_stands c.args.editions.items c.requests.shelf (into_iter_items c.requests.behind) c.requests.turn c.requests.invariant.stands c.requests.invariant.turn_in.0) c.in-Ok-serve_one.ensures.stock c.requests.invariant.going c.in-Ok-serve_one.ensures.done c.in-None.is;
       behind = behind_on (g.S.Source.left c.args.input.now) (prepend_known c.requests.inbox (g.S.Source.left c.requests.input)) (prepend_known c.serve_one.new.inbox (g.S.Source.left c.serve_one.new.source)) c.requests.invariant.behind c.in-Ok-serve_one.ensures.behind;
-      few = few_held _ _ c.requests.invariant.few c.in-Ok-serve_one.ensures.bounded;
+      few = few_held _ _ _ c.requests.invariant.few c.in-None.is c.in-Ok-serve_one.ensures.short;
+      flushed = search rules;
       source = search rules;
       sink = search rules;
     }
@@ -96,3 +98,19 @@ returns-clause-behind g c = left_now (g.S.Source.left c.args.input.now) (g.S.Sou
 
 pub returns-clause-read : goal.returns-clause-read
 returns-clause-read g c = read_going c.args.editions.items c.requests.turn c.requests.inbox (g.S.Source.left c.args.input.now) (g.S.Source.left c.requests.input) (g.K.Sink.written c.args.output.now) (g.K.Sink.written c.requests.output) c.requests.invariant.few c.requests.invariant.going
+
+pub returns-in-Some-end-clause-waits : goal.returns-in-Some-end-clause-waits
+returns-in-Some-end-clause-waits g c = settled_waits c.settled.result _ _ _ _ _ c.settled.ensures.settles
+
+pub returns-in-Err-clause-waits : goal.returns-in-Err-clause-waits
+returns-in-Err-clause-waits g c =
+    rw c.broken.ensures
+    (broken_waits c.in-Err.fault _
+    (λ is.
+    let same = (c.in-Err.ensures.unwritten (ap Err is)).0 in
+    let settled = ⊎_elim
+        (λ old. inl (ap g.K.Sink.written (same ∙ old)))
+        (λ flushed. inr (subst (λ (k : _). IsFlushed (g.K.Sink.written k) (g.K.Sink.flushed k)) (sym same) flushed))
+        c.requests.invariant.flushed in
+    read_waits c.args.editions.items c.requests.turn (length c.requests.inbox) c.requests.inbox c.serve_one.new.inbox (g.S.Source.left c.args.input.now) (g.S.Source.left c.requests.input) (g.S.Source.left c.serve_one.new.source) (g.K.Sink.written c.args.output.now) (g.K.Sink.written c.requests.output) (g.K.Sink.written c.serve_one.new.sink) (g.K.Sink.flushed c.serve_one.new.sink)
+    c.requests.invariant.few c.in-Err.ensures.bounded (c.in-Err.ensures.none (ap Err is)) (c.in-Err.ensures.again (ap Err is)) (ap g.K.Sink.written same) settled c.requests.invariant.going))

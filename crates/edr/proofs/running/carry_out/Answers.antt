@@ -12,3 +12,13 @@ pub returns-in-Some-ReplayAdvance-default-clause-read : goal.returns-in-Some-Rep
 returns-in-Some-ReplayAdvance-default-clause-read g c =
     let asked : asked_by c.args.words.now ≡ Some (record { command = ReplayAdvance; argument = c.in-Some-ReplayAdvance-default.feed.now }) = search rules in
     rw asked c.replay-in-Some-ReplayAdvance-default.ensures.read
+
+pub returns-in-Some-Replay-default-clause-output : goal.returns-in-Some-Replay-default-clause-output
+returns-in-Some-Replay-default-clause-output g c =
+    let asked : asked_by c.args.words.now ≡ Some (record { command = Replay; argument = c.in-Some-Replay-default.feed.now }) = search rules in
+    rw asked c.replay.ensures.output
+
+pub returns-in-Some-ReplayAdvance-default-clause-output : goal.returns-in-Some-ReplayAdvance-default-clause-output
+returns-in-Some-ReplayAdvance-default-clause-output g c =
+    let asked : asked_by c.args.words.now ≡ Some (record { command = ReplayAdvance; argument = c.in-Some-ReplayAdvance-default.feed.now }) = search rules in
+    rw asked c.replay-in-Some-ReplayAdvance-default.ensures.output

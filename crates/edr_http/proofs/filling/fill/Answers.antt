@@ -1,11 +1,14 @@
-use Rattle.std.proofs.Common.{rules}
+use Rattle.std.proofs.Common.{rules, ◌≡◌, ap}
+use Rattle.httparse.specs.declared.spans.RequestSpans.{RequestSpans}
+use Rattle.edr_http.proofs.HeadLemmas.{has_tree}
 use Rattle.edr_http.proofs.RestLemmas.{got_short, grew_none}
 use Rattle.edr_http.proofs.filling.fill.Goals as goal
 
 pub returns-in-Got-clause-short : goal.returns-in-Got-clause-short
-returns-in-Got-clause-short g c n e =
+returns-in-Got-clause-short g c spans e =
     let here = rw c.deref.ensures.value at c.in-Got.ensures in
-    got_short _ _ c.args.held.now.items c.loop.held.items c.in-Got.n n c.loop.invariant.fresh here (cc)
+    let same : c.in-Got.spans ≡ spans = cc in
+    got_short _ _ c.args.held.now.items c.loop.held.items c.in-Got.spans.len spans.len c.loop.invariant.fresh (has_tree _ _ c.in-Got.spans here) (ap (λ (s : RequestSpans). s.len) same)
 
 pub returns-else-is_empty-clause-front : goal.returns-else-is_empty-clause-front
 returns-else-is_empty-clause-front g c =

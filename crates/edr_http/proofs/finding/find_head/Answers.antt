@@ -1,4 +1,4 @@
-use Rattle.std.proofs.Common.{ℕ, List, subst, arith}
+use Rattle.std.proofs.Common.{◌≡◌, ℕ, List, length, take, subst, arith}
 use Rattle.httparse.specs.Grammar.{HasNoRequest}
 use Rattle.httparse.specs.Spans.{RequestOverflows}
 use Rattle.edr_http.proofs.HeadLemmas.{got_head, never_full, none_yet, never_more}
@@ -25,5 +25,6 @@ returns-else-bytes-lt-HEAD_LIMIT c =
 
 pub returns-in-Err : goal.returns-in-Err
 returns-in-Err c =
-    let P : List ℕ → Type 0 = λ w. RequestOverflows 64 w in
-    never_more c.args.bytes.now (subst P c.window.ensures c.in-Err.ensures.no_room)
+    let room : length c.args.fields.now ≡ 64 = omega arith in
+    let P : List ℕ → Type 0 = λ w. RequestOverflows (length c.args.fields.now) w in
+    never_more c.args.bytes.now (subst (λ (n : ℕ). RequestOverflows n (take 16384 c.args.bytes.now)) room (subst P c.window.ensures c.in-Err.ensures.no_room))

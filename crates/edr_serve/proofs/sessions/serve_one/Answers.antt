@@ -1,5 +1,5 @@
 use Rattle.std.proofs.Common.{◌-◌, ap, rules}
-use Rattle.edr_serve.proofs.OneRequest.{served_head, served_refused, broken_bad, head_ahead, bad_ahead, end_ahead}
+use Rattle.edr_serve.proofs.OneRequest.{served_head, served_refused, broken_head, broken_bad, head_ahead, head_short}
 use Rattle.edr_serve.proofs.sessions.serve_one.Goals as goal
 
 pub returns-in-Ok-clause-done : goal.returns-in-Ok-clause-done
@@ -28,3 +28,15 @@ returns-in-Ok-Got-clause-ahead g c =
     let found = rw c.in-Ok-Got.field-0-is at c.in-Ok-Got.ensures.done in
     head_ahead c.in-Ok-Got.head c.args.inbox.now c.read_head.new.inbox (g.S.Source.left c.args.source.now) (g.S.Source.left c.read_head.new.source) c.read_head.ensures.behind found
     (c.read_head.ensures.short (search rules)) (λ has. ap g.S.Source.left (c.read_head.ensures.kept has))
+
+pub returns-in-Ok-Got-clause-fault : goal.returns-in-Ok-Got-clause-fault
+returns-in-Ok-Got-clause-fault g c =
+    let found = rw c.in-Ok-Got.field-0-is at c.in-Ok-Got.ensures.done in
+    broken_head (1001 - c.args.turn) c.in-Ok-Got.head _ _ _ _ c.in-Err.ensures.broke found
+
+pub returns-in-Ok-clause-short : goal.returns-in-Ok-clause-short
+returns-in-Ok-clause-short g c =
+    head_short c.args.inbox.now c.read_head.new.inbox c.in-Ok.report (c.read_head.ensures.short (search rules)) c.read_head.ensures.less c.in-Ok.ensures.going
+
+pub returns-in-Err-ReadFault-clause-none : goal.returns-in-Err-ReadFault-clause-none
+returns-in-Err-ReadFault-clause-none g c read = c.read_head.ensures.none (search rules)

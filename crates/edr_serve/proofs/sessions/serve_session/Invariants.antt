@@ -1,8 +1,8 @@
-use Rattle.std.proofs.Common.{◌≡◌, ◌≤◌, ◌-◌, ◌⊎◌, length}
+use Rattle.std.proofs.Common.{◌≡◌, ◌≤◌, ◌-◌, ◌⊎◌, None, length}
 use Rattle.std.specs.Io.KnownBytes.{prepend_known}
 use Rattle.edr_base.specs.Calls.{SinkLent, SourceLent, IsFlushed}
-use Rattle.edr_http.specs.Heads.{IsBehind, most_held}
-use Rattle.edr_serve.specs.Sessions.{state}
+use Rattle.edr_http.specs.Heads.{IsBehind}
+use Rattle.edr_serve.specs.Sessions.{state, most_behind}
 use Rattle.edr_serve.proofs.Going.{Going}
 use Rattle.edr_serve.proofs.sessions.serve_session.Given as goal
 
@@ -16,7 +16,7 @@ invariant-requests g l =
           l.editions.items l.reads.items;
       stock : g.E.Editions.stock l.shelf ≡ g.E.Editions.stock l.fn.shelf;
       behind : IsBehind (g.S.Source.left l.fn.source) (prepend_known l.inbox (g.S.Source.left l.source));
-      few : length l.inbox ≤ most_held 0;
+      few : length l.inbox ≤ most_behind None;
       flushed : (l.sink ≡ l.fn.sink) ⊎ IsFlushed (g.K.Sink.written l.sink) (g.K.Sink.flushed l.sink);
       source : SourceLent (g.S.Source.aside l.fn.source) (g.S.Source.aside l.source) (g.S.Faults.faults l.fn.source) (g.S.Faults.faults l.source);
       sink : SinkLent (g.K.Sink.beside l.fn.sink) (g.K.Sink.beside l.sink) (g.K.Faults.faults l.fn.sink) (g.K.Faults.faults l.sink);
