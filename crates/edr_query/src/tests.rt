@@ -2,10 +2,9 @@
 use super::{Page, Query, Shape, TargetFault, path_of, read_target};
 use crate::distances::read_distance;
 use crate::paths::read_address;
-use edr_base::Text;
-use std::alloc::Global;
+use edr_base::{Items, Text};
+use std::alloc::{AllocError, Global};
 use std::rt::HostRuntime;
-use std::test::Fail;
 
 // A line for each target: the target, and the kind of page that it asks for or its refusal.
 const TARGETS: &str = "\
@@ -310,91 +309,98 @@ fn page_of(page: &Page) -> &'static str {
     }
 }
 
-#[test]
-fn targets(rt: HostRuntime) -> Result<(), Fail> {
-    for line in TARGETS.lines() {
-        if line.starts_with('#') {
-            continue;
-        }
-        let (target, answer) = line.split_once(" => ").ok_or("a line without an answer")?;
-        match read_target(rt.alloc(), target.as_bytes()) {
-            Ok(page) => assert_eq!(rt; page_of(&page), answer, "{line}"),
-            Err(TargetFault::Refused(refusal)) => {
-                assert!(rt; refusal.code() == answer.as_bytes(), "{line}");
-            }
-            Err(TargetFault::OutOfMemory) => assert!(rt; false, "{line}"),
-        }
+// Whether a target asks for such a page, or is refused so.
+fn is_answered(alloc: Global, target: &str, answer: &str) -> bool {
+    match read_target(alloc, target.as_bytes()) {
+        Ok(page) => page_of(&page) == answer,
+        Err(TargetFault::Refused(refusal)) => refusal.code() == answer.as_bytes(),
+        Err(TargetFault::OutOfMemory) => false,
     }
-    Ok(())
 }
 
-// A line for each target: the target, and its page with all ids, names and numbers.
+// A line for each target: the target, and its page with all ids. A query is written as its collection, instance, crs,
+// names of parameters, times, levels and shape.
 const PAGES: &str = "\
 /collections/c%20d => collection c d
 /collections/a%2Fb/instances/ => instances a/b
 /collections/%3D%26%3F/instances/7 => instance =&? 7
 /collections/%C3%A9/locations => locations é
-/collections/grid/locations/AB => data grid Location(Text { bytes: [65, 66] }) None None
-/collections/grid/locations/A?datetime=2024-01-01T00:00Z&z=-10 => data grid Location(Text { bytes: [65] }) Some(At(1704067200)) Some(At(-10))
-/collections/grid/position?coords=POINT(50 -7)&parameter-name=temp,wind,temp,,sea+ice, => data grid Position(Points { multi: false, has_z: false, has_m: false, positions: Items { items: [Position { x: 50, y: -7, z: 0, m: 0 }] } }) None None [temp] [wind] [] [sea ice]
-/collections/grid/instances/2/position?coords=MULTIPOINT((1 2),(3 4))&crs=a%2Bb+c => data grid/2 Position(Points { multi: true, has_z: false, has_m: false, positions: Items { items: [Position { x: 1, y: 2, z: 0, m: 0 }, Position { x: 3, y: 4, z: 0, m: 0 }] } }) None None crs a+b c
-/collections/grid/radius?coords=POINT Z(1 2 3)&within=1.5&within-units=km&datetime=../1970-01-01T00:00:01Z => data grid Radius { geometry: Points { multi: false, has_z: true, has_m: false, positions: Items { items: [Position { x: 1, y: 2, z: 3, m: 0 }] } }, within: 1500 } Some(Between(None, Some(1))) None
-/collections/grid/area?coords=POLYGON((0 0,9 0,0 9,0 0))&z=10/20 => data grid Area(Polygons { multi: false, has_z: false, has_m: false, polygons: Items { items: [Polygon { rings: Items { items: [Items { items: [Position { x: 0, y: 0, z: 0, m: 0 }, Position { x: 9, y: 0, z: 0, m: 0 }, Position { x: 0, y: 9, z: 0, m: 0 }, Position { x: 0, y: 0, z: 0, m: 0 }] }] } }] } }) None Some(Between(10, 20))
-/collections/grid/cube?bbox=0,-1,5,2,3,6&datetime=../.. => data grid Cube { lo: Spot { x: 0, y: -1 }, hi: Spot { x: 2, y: 3 }, levels: Some((5, 6)) } Some(All) None
-/collections/grid/cube?bbox=0,1,2,3&z=1,5,7 => data grid Cube { lo: Spot { x: 0, y: 1 }, hi: Spot { x: 2, y: 3 }, levels: None } None Some(List(Items { items: [1, 5, 7] }))
-/collections/grid/trajectory?coords=LINESTRING M(0 1 2,3 4 5) => data grid Trajectory(Line { has_z: false, has_m: true, positions: Items { items: [Position { x: 0, y: 1, z: 0, m: 2 }, Position { x: 3, y: 4, z: 0, m: 5 }] } }) None None
-/collections/grid/corridor?coords=LINESTRING(0 0,1 1)&corridor-width=3&width-units=km&corridor-height=20&height-units=m => data grid Corridor { geometry: Line { has_z: false, has_m: false, positions: Items { items: [Position { x: 0, y: 0, z: 0, m: 0 }, Position { x: 1, y: 1, z: 0, m: 0 }] } }, width: 3000, height: Some(20) } None None
+/collections/grid/locations/AB => grid/- - - None None Location(Text { bytes: [65, 66] })
+/collections/grid/locations/A?datetime=2024-01-01T00:00Z&z=-10 => grid/- - - Some(At(1704067200)) Some(At(-10)) Location(Text { bytes: [65] })
+/collections/grid/position?coords=POINT(50 -7)&parameter-name=temp,wind,temp,,sea+ice, => grid/- - [temp][wind][][sea ice] None None Position(Points { multi: false, has_z: false, has_m: false, positions: Items { items: [Position { x: 50, y: -7, z: 0, m: 0 }] } })
+/collections/grid/instances/2/position?coords=MULTIPOINT((1 2),(3 4))&crs=a%2Bb+c => grid/2 a+b c - None None Position(Points { multi: true, has_z: false, has_m: false, positions: Items { items: [Position { x: 1, y: 2, z: 0, m: 0 }, Position { x: 3, y: 4, z: 0, m: 0 }] } })
+/collections/grid/radius?coords=POINT Z(1 2 3)&within=1.5&within-units=km&datetime=../1970-01-01T00:00:01Z => grid/- - - Some(Between(None, Some(1))) None Radius { geometry: Points { multi: false, has_z: true, has_m: false, positions: Items { items: [Position { x: 1, y: 2, z: 3, m: 0 }] } }, within: 1500 }
+/collections/grid/area?coords=POLYGON((0 0,9 0,0 9,0 0))&z=10/20 => grid/- - - None Some(Between(10, 20)) Area(Polygons { multi: false, has_z: false, has_m: false, polygons: Items { items: [Polygon { rings: Items { items: [Items { items: [Position { x: 0, y: 0, z: 0, m: 0 }, Position { x: 9, y: 0, z: 0, m: 0 }, Position { x: 0, y: 9, z: 0, m: 0 }, Position { x: 0, y: 0, z: 0, m: 0 }] }] } }] } })
+/collections/grid/cube?bbox=0,-1,5,2,3,6&datetime=../.. => grid/- - - Some(All) None Cube { lo: Spot { x: 0, y: -1 }, hi: Spot { x: 2, y: 3 }, levels: Some((5, 6)) }
+/collections/grid/cube?bbox=0,1,2,3&z=1,5,7 => grid/- - - None Some(List(Items { items: [1, 5, 7] })) Cube { lo: Spot { x: 0, y: 1 }, hi: Spot { x: 2, y: 3 }, levels: None }
+/collections/grid/trajectory?coords=LINESTRING M(0 1 2,3 4 5) => grid/- - - None None Trajectory(Line { has_z: false, has_m: true, positions: Items { items: [Position { x: 0, y: 1, z: 0, m: 2 }, Position { x: 3, y: 4, z: 0, m: 5 }] } })
+/collections/grid/corridor?coords=LINESTRING(0 0,1 1)&corridor-width=3&width-units=km&corridor-height=20&height-units=m => grid/- - - None None Corridor { geometry: Line { has_z: false, has_m: false, positions: Items { items: [Position { x: 0, y: 0, z: 0, m: 0 }, Position { x: 1, y: 1, z: 0, m: 0 }] } }, width: 3000, height: Some(20) }
 ";
 
 fn text_of(text: &Text) -> &str {
     std::str::from_utf8(text.bytes()).unwrap_or("no UTF-8")
 }
 
-fn written_query(alloc: Global, query: &Query) -> Result<String, Fail> {
-    let mut written = format!(in alloc; "data {}", text_of(&query.collection))?;
-    if let Some(instance) = &query.instance {
-        written.push_str(&format!(in alloc; "/{}", text_of(instance))?)?;
+fn text_in(text: &Option<Text>) -> &str {
+    match text {
+        Some(text) => text_of(text),
+        None => "-",
     }
-    let parts = format!(in alloc; " {:?} {:?} {:?}", query.shape, query.times, query.levels)?;
-    written.push_str(&parts)?;
-    if let Some(names) = &query.parameters {
-        for name in names.items() {
-            written.push_str(&format!(in alloc; " [{}]", text_of(name))?)?;
-        }
-    }
-    if let Some(crs) = &query.crs {
-        written.push_str(&format!(in alloc; " crs {}", text_of(crs))?)?;
+}
+
+fn names_in(alloc: Global, names: &Option<Items<Text>>) -> Result<String, AllocError> {
+    let Some(names) = names else {
+        return String::from_str(alloc, "-");
+    };
+    let mut written = String::new(alloc);
+    for name in names.items() {
+        written.push('[')?;
+        written.push_str(text_of(name))?;
+        written.push(']')?;
     }
     Ok(written)
 }
 
-fn written_page(alloc: Global, page: &Page) -> Result<String, Fail> {
-    let kind = page_of(page);
+fn written_query(alloc: Global, query: &Query) -> Result<String, AllocError> {
+    let names = names_in(alloc, &query.parameters)?;
+    format!(in alloc;
+        "{}/{} {} {} {:?} {:?} {:?}",
+        text_of(&query.collection),
+        text_in(&query.instance),
+        text_in(&query.crs),
+        names.as_str(),
+        query.times,
+        query.levels,
+        query.shape
+    )
+}
+
+// A page in words: of a query all parts of its copy.
+fn written_page(alloc: Global, page: &Page) -> Result<String, AllocError> {
     match page {
         Page::Collection(id) | Page::Instances(id) | Page::Locations(id) => {
-            Ok(format!(in alloc; "{kind} {}", text_of(id))?)
+            format!(in alloc; "{} {}", page_of(page), text_of(id))
         }
         Page::Instance(collection, id) => {
-            Ok(format!(in alloc; "{kind} {} {}", text_of(collection), text_of(id))?)
+            format!(in alloc; "{} {} {}", page_of(page), text_of(collection), text_of(id))
         }
-        Page::Ask(query) => written_query(alloc, query),
-        _ => Ok(format!(in alloc; "{kind}")?),
+        Page::Ask(query) => match query.copy(alloc) {
+            Ok(copy) => written_query(alloc, &copy),
+            Err(_) => Ok(String::new(alloc)),
+        },
+        _ => String::from_str(alloc, page_of(page)),
     }
 }
 
-#[test]
-fn pages(rt: HostRuntime) -> Result<(), Fail> {
-    for line in PAGES.lines() {
-        let (target, answer) = line.split_once(" => ").ok_or("a line without an answer")?;
-        match read_target(rt.alloc(), target.as_bytes()) {
-            Ok(page) => {
-                let written = written_page(rt.alloc(), &page)?;
-                assert_eq!(rt; written.as_str(), answer, "{line}");
-            }
-            Err(_) => assert!(rt; false, "{line}"),
-        }
+// Whether a target asks for this page, with all that it has.
+fn is_page(alloc: Global, target: &str, answer: &str) -> bool {
+    match read_target(alloc, target.as_bytes()) {
+        Ok(page) => match written_page(alloc, &page) {
+            Ok(written) => written.as_str() == answer,
+            Err(_) => false,
+        },
+        Err(_) => false,
     }
-    Ok(())
 }
 
 // A line for each path that names an address: the path, and how it is written.
@@ -415,71 +421,90 @@ const PATHS: &str = "\
 /collections/c/instances/%25/corridor => /collections/c/instances/%25/corridor
 ";
 
-#[test]
-fn paths(rt: HostRuntime) -> Result<(), Fail> {
-    for line in PATHS.lines() {
-        let (path, answer) = line.split_once(" => ").ok_or("a line without an answer")?;
-        let found = read_address(rt.alloc(), path.as_bytes())?;
-        let address = found.ok_or("a path that names no page")?;
-        let written = path_of(rt.alloc(), &address)?;
-        assert!(rt; written.bytes() == answer.as_bytes(), "{line}");
+// Whether a path names an address that is written so.
+fn is_spelled(alloc: Global, path: &str, answer: &str) -> bool {
+    match read_address(alloc, path.as_bytes()) {
+        Ok(Some(address)) => match path_of(alloc, &address) {
+            Ok(written) => written.bytes() == answer.as_bytes(),
+            Err(_) => false,
+        },
+        _ => false,
     }
-    Ok(())
 }
 
-#[test]
-fn copies(rt: HostRuntime) -> Result<(), Fail> {
-    for line in TARGETS.lines() {
-        let (target, _) = line.split_once(" => ").unwrap_or((line, ""));
-        if let Ok(Page::Ask(query)) = read_target(rt.alloc(), target.as_bytes()) {
-            match query.copy(rt.alloc()) {
-                Ok(copy) => assert_eq!(rt; kind_of(&copy), kind_of(&query), "{line}"),
-                Err(_) => assert!(rt; false, "{line}"),
-            }
-        }
-    }
-    Ok(())
-}
-
-// A line for each distance: its number and its unit, and its metres.
+// A line for each distance: its number and its unit, and its metres, or `none`.
 const DISTANCES: &str = "\
-5 m => Some(5)
-5. M => Some(5)
-005.000 m => Some(5)
-0 km => Some(0)
-0.1 km => Some(100)
-1.5 Km => Some(1500)
-1.234 kM => Some(1234)
-1.23400 km => Some(1234)
-400000 km => Some(400000000)
-400000000.0 m => Some(400000000)
-00000000000000000000000000000001 m => Some(1)
-.5 km => None
-5.1 m => None
-1.2345 km => None
-1.0001 km => None
-400000.001 km => None
-400000001 m => None
-99999999999999999999999999999999 m => None
-+5 m => None
--5 m => None
-5e3 m => None
-5,0 m => None
-1.2.3 km => None
-. m => None
-5 mi => None
-5 mm => None
-5 k => None
+5 m => 5
+5. M => 5
+005.000 m => 5
+0 km => 0
+0.1 km => 100
+1.5 Km => 1500
+1.234 kM => 1234
+1.23400 km => 1234
+400000 km => 400000000
+400000000.0 m => 400000000
+00000000000000000000000000000001 m => 1
+.5 km => none
+5.1 m => none
+1.2345 km => none
+1.0001 km => none
+400000.001 km => none
+400000001 m => none
+99999999999999999999999999999999 m => none
++5 m => none
+-5 m => none
+5e3 m => none
+5,0 m => none
+1.2.3 km => none
+. m => none
+5 mi => none
+5 mm => none
+5 k => none
 ";
 
-#[test]
-fn distances(rt: HostRuntime) -> Result<(), Fail> {
-    for line in DISTANCES.lines() {
-        let (text, answer) = line.split_once(" => ").ok_or("a line without an answer")?;
-        let (number, unit) = text.split_once(' ').ok_or("a line without a unit")?;
-        let metres = read_distance(number.as_bytes(), unit.as_bytes());
-        let shown = format!(in rt.alloc(); "{metres:?}")?;
-        assert_eq!(rt; shown.as_str(), answer, "{line}");
+// Whether a number and a unit are so many metres.
+fn is_distance(text: &str, answer: &str) -> bool {
+    match text.split_once(' ') {
+        Some((number, unit)) => {
+            read_distance(number.as_bytes(), unit.as_bytes()) == answer.parse::<i64>().ok()
+        }
+        None => false,
     }
-    Ok(())
+}
+
+#[derive(Clone, Copy)]
+enum Table {
+    Targets,
+    Pages,
+    Paths,
+    Distances,
+}
+
+fn is_right(alloc: Global, table: Table, asked: &str, answer: &str) -> bool {
+    match table {
+        Table::Targets => is_answered(alloc, asked, answer),
+        Table::Pages => is_page(alloc, asked, answer),
+        Table::Paths => is_spelled(alloc, asked, answer),
+        Table::Distances => is_distance(asked, answer),
+    }
+}
+
+// The first line of a table that isn't right; none is empty.
+fn first_wrong(alloc: Global, table: Table, lines: &str) -> &str {
+    for line in lines.lines() {
+        let (asked, answer) = line.split_once(" => ").unwrap_or((line, ""));
+        if !line.starts_with('#') && !is_right(alloc, table, asked, answer) {
+            return line;
+        }
+    }
+    ""
+}
+
+#[test]
+fn targets_pages_and_paths(rt: HostRuntime) {
+    assert_eq!(rt; first_wrong(rt.alloc(), Table::Targets, TARGETS), "");
+    assert_eq!(rt; first_wrong(rt.alloc(), Table::Pages, PAGES), "");
+    assert_eq!(rt; first_wrong(rt.alloc(), Table::Paths, PATHS), "");
+    assert_eq!(rt; first_wrong(rt.alloc(), Table::Distances, DISTANCES), "");
 }
