@@ -1,5 +1,5 @@
 -- A framing over a frame with some values is one, and its coverage is valid over a grid of samples.
-use Rattle.std.proofs.Common.{◌≡◌, ℕ, ◌*◌, ◌<◌, ◌≤◌, Bool, List, length, refl, ap, ap₂, sym, ◌∙◌, subst, arith, mul-one, Some, ℤ}
+use Rattle.std.proofs.Common.{◌≡◌, ℕ, ◌*◌, ◌<◌, ◌≤◌, Bool, List, length, refl, ap, ap₂, ◌∙◌, subst, arith, mul-one, Some, ℤ}
 use Rattle.std.specs.Prelude.{map, ◌&&◌, int_le}
 use Rattle.std.specs.List.{filter, list_any, range_with_len}
 use Rattle.std.proofs.lemmas.Bool.{false≢true}

@@ -1,6 +1,6 @@
 -- The truth values of a row, and what they say of its nodes.
-use Rattle.std.proofs.Common.{◌≡◌, ℕ, ◌+◌, ◌-◌, ◌<◌, ◌≤◌, Bool, true, false, List, [], ◌∷◌, ◌++◌, length, get_or, take, drop, refl, ap, ap₂, sym, ◌∙◌, arith, inl, inr, ℤ, pos, ◌≤ℤ◌, replicate, subst, zero, suc, get_or-take, get_or-drop, length-drop, append_assoc}
-use Rattle.std.specs.Prelude.{map, ◌&&◌}
+use Rattle.std.proofs.Common.{◌≡◌, ℕ, ◌+◌, ◌-◌, ◌<◌, ◌≤◌, Bool, true, false, List, [], ◌∷◌, ◌++◌, length, get_or, take, drop, refl, ap, ap₂, sym, ◌∙◌, arith, inl, inr, ℤ, pos, ◌≤ℤ◌, replicate, subst, suc, get_or-take, get_or-drop, length-drop, append_assoc}
+use Rattle.std.specs.Prelude.{◌&&◌}
 use Rattle.std.proofs.lemmas.Bool.{cases_lt}
 use Rattle.std.proofs.lemmas.Int.{ints}
 use Rattle.std.proofs.Math.Seq.{drop-append_seam}

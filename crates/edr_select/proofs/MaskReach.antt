@@ -1,5 +1,5 @@
 -- Between which rows and columns a disc or a box lies, and reaches that grow.
-use Rattle.std.proofs.Common.{◌≡◌, ℕ, suc, ◌+◌, ◌-◌, ◌*◌, ◌<◌, ◌≤◌, arith, Bool, true, false, List, ◌∷◌, length, get_or, take, drop, refl, ap, subst, sym, ◌∙◌, inl, inr, All, count_by, ℤ, pos, negsuc, ◌+ℤ◌, ◌-ℤ◌, ◌*ℤ◌, ◌<ℤ◌, ◌≤ℤ◌, int_lt, int_le, mul-le-mul, length-drop}
+use Rattle.std.proofs.Common.{◌≡◌, ℕ, suc, ◌+◌, ◌-◌, ◌*◌, ◌<◌, ◌≤◌, arith, Bool, true, false, List, length, get_or, take, drop, refl, ap, subst, sym, ◌∙◌, inl, inr, All, count_by, ℤ, pos, negsuc, ◌+ℤ◌, ◌-ℤ◌, ◌*ℤ◌, ◌<ℤ◌, ◌≤ℤ◌, int_lt, int_le, mul-le-mul, length-drop}
 use Rattle.std.specs.Prelude.{◌&&◌, ◌||◌, max, Option}
 use Rattle.std.specs.List.{list_any}
 use Rattle.std.proofs.lemmas.Bool.{cases_lt}

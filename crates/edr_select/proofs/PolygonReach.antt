@@ -1,10 +1,10 @@
 -- Where polygons lie: a place beyond each position of their rings is in none.
-use Rattle.std.proofs.Common.{◌≡◌, ℕ, zero, suc, ◌+◌, ◌-◌, ◌*◌, ◌<◌, ◌≤◌, arith, Bool, true, false, List, [], ◌∷◌, ◌++◌, length, cond, refl, ap, ap₂, subst, sym, ◌∙◌, inl, inr, All, count_by, Some, Option, ℤ, pos, negsuc, ◌-ℤ◌, ◌*ℤ◌, ◌<ℤ◌, ◌≤ℤ◌, int_lt, int_le}
+use Rattle.std.proofs.Common.{◌≡◌, ℕ, zero, suc, ◌+◌, ◌-◌, ◌≤◌, arith, Bool, true, false, List, [], ◌∷◌, ◌++◌, length, cond, refl, ap, ap₂, subst, sym, ◌∙◌, inl, inr, All, count_by, Some, ℤ, pos, negsuc, ◌-ℤ◌, ◌*ℤ◌, ◌<ℤ◌, ◌≤ℤ◌, int_lt, int_le}
 use Rattle.std.specs.Prelude.{◌&&◌, ◌||◌, ◌⊎◌, not, unwrap_or, slice_get}
 use Rattle.std.specs.List.{AllByRecursion, list_any, flat_map}
 use Rattle.std.specs.Ordering.{int_eq}
 use Rattle.std.proofs.lemmas.Bool.{cases_Bool}
-use Rattle.std.proofs.lemmas.Int.{ints, by_lt_z}
+use Rattle.std.proofs.lemmas.Int.{ints}
 use borrow.Author.Differences.{up, down, product_is}
 use Rattle.std.proofs.Math.Nat.{mul-le-mul_left}
 use Rattle.std.proofs.lemmas.List.Elements.{All-head, All-tail}

@@ -1,4 +1,4 @@
-use Rattle.std.proofs.Common.{◌≡◌, ◌∙◌, ◌-◌, ap, ap₂, rules, List, take, drop, max, int_lt, int_le, count_by, ℕ, ℤ, to_z, of_z, w64}
+use Rattle.std.proofs.Common.{◌≡◌, ◌∙◌, ◌-◌, ap, ap₂, rules, List, take, drop, max, int_lt, int_le, count_by, ℤ, to_z, of_z, w64}
 use Rattle.edr_select.proofs.MaskReach.{rows_lie, columns_lie, no_columns}
 use Rattle.edr_select.proofs.grid_ranges.ranges_of.Goals as goal
 

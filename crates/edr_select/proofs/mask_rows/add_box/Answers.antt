@@ -1,7 +1,7 @@
-use Rattle.std.proofs.Common.{◌≡◌, ◌∙◌, ◌+◌, ◌-◌, ◌++◌, ℕ, Bool, true, List, length, replicate, take_all, ap, ap₂, sym, arith, rules, ℤ, pos, to_z, of_z, w64}
+use Rattle.std.proofs.Common.{◌≡◌, ◌∙◌, ◌+◌, ◌-◌, ◌++◌, ℕ, Bool, true, List, length, replicate, take_all, ap, ap₂, sym, arith, rules, ℤ, to_z, of_z, w64}
 use Rattle.std.specs.Vec.{vec_len}
 use Rattle.edr_axes.specs.Axes.{value_at}
-use Rattle.edr_geometry.specs.Masks.{row_of, spot_at}
+use Rattle.edr_geometry.specs.Masks.{spot_at}
 use Rattle.edr_select.specs.Wanted.{in_box}
 use Rattle.edr_select.proofs.MaskBits.{row_in_box}
 use Rattle.edr_select.proofs.mask_rows.add_box.Goals as goal

@@ -1,4 +1,4 @@
-use Rattle.std.proofs.Common.{◌≡◌, ◌∙◌, ◌<◌, ◌≤◌, ◌++◌, ap, subst, rules, List, length, take_all, ℤ, to_z, of_z, w64}
+use Rattle.std.proofs.Common.{◌≡◌, ◌∙◌, ◌++◌, ap, rules, List, take_all, ℤ, to_z, of_z, w64}
 use Rattle.edr_axes.specs.Axes.{value_at}
 use Rattle.edr_geometry.specs.Masks.{row_of, spot_at}
 use Rattle.edr_select.specs.Wanted.{in_box}

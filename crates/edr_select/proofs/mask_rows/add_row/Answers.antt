@@ -1,4 +1,4 @@
-use Rattle.std.proofs.Common.{◌≡◌, ◌∙◌, ◌+◌, ◌-◌, ◌<◌, ◌≤◌, ◌++◌, ℕ, ap, sym, subst, arith, rules, Bool, List, length, take, drop, ℤ, to_z, of_z, w64}
+use Rattle.std.proofs.Common.{◌≡◌, ◌∙◌, ◌+◌, ◌-◌, ◌≤◌, ◌++◌, ℕ, ap, sym, subst, arith, rules, Bool, List, length, take, drop, ℤ, to_z, of_z, w64}
 use Rattle.edr_base.specs.Limits.{node_limit}
 use Rattle.edr_axes.specs.Axes.{value_at}
 use Rattle.edr_geometry.specs.Masks.{row_of}

@@ -1,4 +1,4 @@
-use Rattle.std.proofs.Common.{◌<◌, arith}
+use Rattle.std.proofs.Common.{arith}
 use Rattle.edr_select.proofs.MaskBits.{same_bits}
 use Rattle.edr_select.proofs.mask_rows.copy_mask.Goals as goal
 

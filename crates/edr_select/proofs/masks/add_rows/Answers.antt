@@ -1,5 +1,4 @@
-use Rattle.std.proofs.Common.{◌∙◌, ◌+◌, ◌<◌, ◌≤◌, sym, subst, length, arith}
-use Rattle.edr_base.specs.Limits.{node_limit}
+use Rattle.std.proofs.Common.{◌∙◌, ◌+◌, ◌<◌, sym, subst, length, arith}
 use Rattle.edr_select.specs.Masks.{MaskValue, IsMaskBefore}
 use Rattle.edr_select.proofs.MaskSteps.{grows, stays, some_row, no_row_found}
 use Rattle.edr_select.proofs.MaskSizes.{row_few, columns_few}

@@ -1,5 +1,4 @@
-use Rattle.std.proofs.Common.{◌≡◌, ◌∙◌, ◌+◌, ◌<◌, ◌≤◌, ◌++◌, Bool, List, ap, sym, subst, length, arith}
-use Rattle.edr_base.specs.Limits.{node_limit}
+use Rattle.std.proofs.Common.{◌≡◌, ◌∙◌, ◌+◌, ◌<◌, ◌++◌, Bool, List, ap, sym, subst, length, arith}
 use Rattle.edr_select.specs.Masks.{IsMaskBefore, bits_at}
 use Rattle.edr_select.proofs.MaskSteps.{begins, some_row}
 use Rattle.edr_select.proofs.MaskSizes.{row_few, columns_few}

@@ -1,4 +1,4 @@
-use Rattle.std.proofs.Common.{◌≡◌, ◌*◌, List, take, sym, subst, rules}
+use Rattle.std.proofs.Common.{sym, subst}
 use Rattle.edr_select.specs.Masks.{MaskValue, IsMaskBefore}
 use Rattle.edr_select.proofs.MaskSteps.{whole}
 use Rattle.edr_select.proofs.masks.mask_over.Goals as goal

@@ -1,4 +1,4 @@
-use Rattle.std.proofs.Common.{◌≡◌, ◌-ℤ◌, ◌+ℤ◌, sym, subst, arith, to_z, of_z, w64}
+use Rattle.std.proofs.Common.{◌-ℤ◌, ◌+ℤ◌, sym, subst, arith, to_z, of_z, w64}
 use Rattle.std.proofs.lemmas.Int.{ints}
 use Rattle.edr_query.specs.Queries.{IsShape}
 use Rattle.edr_select.specs.declared.reaches.Reach.{Reach}
