@@ -1,4 +1,5 @@
 pub mod HeadLemmas
 pub mod HeadTextLemmas
+pub mod PlaceLemmas
 pub mod ValueLemmas
 pub mod SendLemmas

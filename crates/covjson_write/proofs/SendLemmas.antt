@@ -1,5 +1,7 @@
 -- Calls that write nothing.
-use Rattle.std.proofs.Common.{ℕ, List, Option, Ok, Err, refl}
+use Rattle.std.proofs.Common.{ℕ, List, ◌++◌, take, Option, Result, Ok, Err, refl, append_assoc}
+use Rattle.json.specs.Filled.{Placed}
+use Rattle.json.proofs.Printed.Places.{Placed-then}
 use Rattle.edr_base.specs.Calls.{Writes}
 use Rattle.edr_base.specs.KnownBytes.{front_none}
 
@@ -10,3 +12,8 @@ writes_nothing T e w text = record { whole = tt; front = front_none w w text ref
 -- what was written whole is so whatever is answered
 pub writes_done : {T E : Type 0} (x : T) (U : Type 0) (y : U) (text : List ℕ) (old new : Option (List ℕ)) → Writes {E = E} (Ok x) text old new → Writes {T = U} {E = E} (Ok y) text old new
 writes_done x U y text old new writes = record { whole = writes.whole; front = writes.front }
+
+-- what three texts put at the front of a piece are together was written
+pub three_written : {T E : Type 0} (r : Result T E) {a b c d x y z : List ℕ} {i j k : ℕ} (old new : Option (List ℕ)) → Placed a b 0 x i → Placed b c i y j → Placed c d j z k
+    → Writes r (take k d) old new → Writes r (x ++ (y ++ z)) old new
+three_written r {x = x} {y = y} {z = z} old new p q s writes = rw ((Placed-then (Placed-then p q) s).bytes, append_assoc x y z) at writes

@@ -1,5 +1,5 @@
 //! The pieces of a document round its values, each written at once.
-ghost use Rattle.std.specs.Prelude.{◌≡◌, ◌++◌, if◌then◌else◌, codes, IfOk, IsErrOf, []};
+ghost use Rattle.std.specs.Prelude.{◌≡◌, ◌+◌, ◌<◌, ◌++◌, if◌then◌else◌, codes, length, IfOk, IsErrOf, []};
 ghost use Rattle.edr_base.specs.Outside.{Rose};
 ghost use Rattle.edr_base.specs.Calls.{SinkLent, Writes};
 ghost use Rattle.serde_json.specs.Written.{comma_if};
@@ -8,6 +8,7 @@ ghost use Rattle.covjson_write.specs.Writers.{IsHead};
 
 use crate::axis_texts::opening_text;
 use crate::heads::{coverage_text, keys_of, range_text};
+use crate::places::{place_comma, place_slice};
 use crate::range_heads::RangeHead;
 use covjson_value::Coverage;
 use edr_base::{Items, OutOfMemory, SendFault, Sink, Text, send};
@@ -96,6 +97,29 @@ pub fn send_coverage<K: Sink>(
     }
 }
 
+// A range's key and its opening that are shorter are put together without taking memory.
+const SHORT_RANGE: usize = 256;
+
+// Writes a short range as far as its values.
+fn send_short_range<K: Sink>(
+    sink: &mut K,
+    later: bool,
+    key: &[u8],
+    opening: &[u8],
+) -> Result<(), SendFault>
+    requires { length key.now + length opening.now < 256 }
+    ensures bytes { Writes result (comma_if later ++ (key.now ++ opening.now)) (K.written sink.old) (K.written sink.new) }
+    ensures flushed { K.flushed sink.new ≡ K.flushed sink.old }
+    ensures lent { SinkLent (K.beside sink.old) (K.beside sink.new) (K.faults sink.old) (K.faults sink.new) }
+    ensures cause { IsErrOf result SendFault.WriteFault → Rose (K.faults sink.old) (K.faults sink.new) }
+{
+    let mut piece = [0; SHORT_RANGE];
+    let start = place_comma(&mut piece, 0, later);
+    let middle = place_slice(&mut piece, start, key);
+    let end = place_slice(&mut piece, middle, opening);
+    send(sink, &piece[..end])
+}
+
 /// Writes a range as far as its values.
 #[tactic(auto, using(crate::proofs::SendLemmas::writes_nothing))]
 pub fn send_range<K: Sink>(
@@ -110,6 +134,10 @@ pub fn send_range<K: Sink>(
     ensures lent { SinkLent (K.beside sink.old) (K.beside sink.new) (K.faults sink.old) (K.faults sink.new) }
     ensures cause { IsErrOf result SendFault.WriteFault → Rose (K.faults sink.old) (K.faults sink.new) }
 {
+    let (name, begin) = (key.bytes(), opening.bytes());
+    if name.len() < SHORT_RANGE && begin.len() < SHORT_RANGE - name.len() {
+        return send_short_range(sink, later, name, begin);
+    }
     let Ok(text) = range_text(alloc, later, key, opening) else {
         return Err(SendFault::OutOfMemory);
     };
