@@ -1,3 +1,4 @@
+//! Each object of the outside on a few bytes, with the calls that fail; then names and refusals.
 ghost use Rattle.std.specs.Prelude.{◌≡◌, ◌≢◌, IfOk, IsErrOf, IsUtf8, Err};
 ghost use Rattle.edr_base.specs.Outside.{Rose};
 ghost use Rattle.edr_base.specs.Calls.{SinkLent, Writes};
@@ -11,6 +12,10 @@ use std::alloc::{AllocError, Global};
 use std::io::{self, ErrorKind, Read, Write};
 use std::test::Fail;
 
+// What is done with an object is written as words, one a call, each with its answer behind `=`: `read=ab` is a read into
+// four bytes that gives two of them, `write:abc=ab` a write that takes two bytes of three, `flush=`, `open:name=` and
+// `connect:host=` calls that give nothing. The answer `!` is a fault, `?` want of memory.
+
 fn bytes_of(alloc: Global, bytes: &[u8]) -> Result<Vec<u8>, AllocError>
     ensures { IfOk result (λ v. v.items ≡ bytes.now) }
 {
@@ -21,70 +26,6 @@ fn numbers_of(alloc: Global, numbers: &[u64]) -> Result<Vec<u64>, AllocError> {
     Vec::from_slice(alloc, numbers)
 }
 
-#[test]
-fn texts_and_items_keep_their_lists(rt: HostRuntime) -> Result<(), Fail> {
-    let alloc = rt.alloc();
-    let text = Text::of(alloc, b"grid")?;
-    assert!(rt; text.bytes() == b"grid".as_slice());
-    let items = Items::of(numbers_of(alloc, &[3, 1, 2])?);
-    assert!(rt; items.items() == [3, 1, 2].as_slice());
-    assert!(rt; items.into_vec().as_slice() == [3, 1, 2].as_slice());
-    Ok(())
-}
-
-// The bytes come in pieces of the cut, and the second call fails.
-#[test]
-fn a_source_gives_cut_pieces_and_fails_by_number(rt: HostRuntime) -> Result<(), Fail> {
-    let alloc = rt.alloc();
-    let mut source = MemorySource::of(bytes_of(alloc, b"abcde")?, 2, numbers_of(alloc, &[2])?);
-    let mut buffer = [0u8; 4];
-    assert!(rt; source.read(&mut buffer) == Ok(2));
-    assert!(rt; buffer[..2] == b"ab"[..]);
-    assert!(rt; source.read(&mut buffer) == Err(Failed));
-    assert!(rt; source.read(&mut []) == Ok(0));
-    assert!(rt; source.read(&mut buffer) == Ok(2));
-    assert!(rt; buffer[..2] == b"cd"[..]);
-    assert!(rt; source.read(&mut buffer) == Ok(1));
-    assert!(rt; buffer[..1] == b"e"[..]);
-    assert!(rt; source.read(&mut buffer) == Ok(0));
-    Ok(())
-}
-
-#[test]
-fn a_sink_takes_cut_pieces_and_fails_by_number(rt: HostRuntime) -> Result<(), Fail> {
-    let alloc = rt.alloc();
-    let mut sink = MemorySink::of(alloc, 3, numbers_of(alloc, &[2, 4])?);
-    assert!(rt; sink.write(b"abcd") == Ok(3));
-    assert!(rt; sink.write(b"d") == Err(Stop::Failed));
-    assert!(rt; sink.write(b"") == Ok(0));
-    assert!(rt; sink.flush() == Err(Stop::Failed));
-    assert!(rt; send(&mut sink, b"defgh").is_ok());
-    assert!(rt; settle(&mut sink).is_ok());
-    assert!(rt; sink.written() == b"abcdefgh".as_slice());
-    Ok(())
-}
-
-#[test]
-fn files_are_opened_by_name(rt: HostRuntime) -> Result<(), Fail> {
-    let alloc = rt.alloc();
-    let mut named = Vec::new(alloc);
-    named.push((bytes_of(alloc, b"a")?, bytes_of(alloc, b"first")?))?;
-    named.push((bytes_of(alloc, b"b")?, bytes_of(alloc, b"second")?))?;
-    named.push((bytes_of(alloc, b"a")?, bytes_of(alloc, b"never")?))?;
-    let mut files = MemoryFiles::of(alloc, named, 100, numbers_of(alloc, &[])?);
-    let mut buffer = [0u8; 16];
-    assert!(rt; files.read(&mut buffer) == Ok(0));
-    assert!(rt; files.open(str_bytes("b")) == Ok(()));
-    assert!(rt; files.read(&mut buffer) == Ok(6));
-    assert!(rt; buffer[..6] == b"second"[..]);
-    assert!(rt; files.open(str_bytes("a")) == Ok(()));
-    assert!(rt; files.read(&mut buffer) == Ok(5));
-    assert!(rt; buffer[..5] == b"first"[..]);
-    assert!(rt; files.open(str_bytes("c")) == Err(Stop::Failed));
-    assert!(rt; files.read(&mut buffer) == Ok(0));
-    Ok(())
-}
-
 // The bytes of a text, which are UTF-8.
 fn str_bytes(text: &str) -> &[u8]
     ensures { IsUtf8 result.now }
@@ -92,77 +33,212 @@ fn str_bytes(text: &str) -> &[u8]
     text.as_bytes()
 }
 
+fn is_read<S: Source>(source: &mut S, answer: &str) -> bool {
+    let mut buffer = [0u8; 4];
+    match source.read(&mut buffer) {
+        Ok(count) => &buffer[..count] == answer.as_bytes(),
+        Err(Failed) => answer == "!",
+    }
+}
+
+fn are_read<S: Source>(source: &mut S, words: &str) -> bool {
+    let mut whole = true;
+    for word in words.split(' ') {
+        let (_, answer) = word.split_once('=').unwrap_or((word, "?"));
+        whole = is_read(source, answer) && whole;
+    }
+    whole
+}
+
+fn stop_is(stop: Stop, answer: &str) -> bool {
+    match stop {
+        Stop::Failed => answer == "!",
+        Stop::OutOfMemory => answer == "?",
+    }
+}
+
+fn is_done(outcome: Result<(), Stop>, answer: &str) -> bool {
+    match outcome {
+        Ok(()) => answer.is_empty(),
+        Err(stop) => stop_is(stop, answer),
+    }
+}
+
+fn is_written<K: Sink>(sink: &mut K, call: &str, answer: &str) -> bool {
+    let Some((_, piece)) = call.split_once(':') else {
+        return is_done(sink.flush(), answer);
+    };
+    match sink.write(piece.as_bytes()) {
+        Ok(count) => &piece.as_bytes()[..count] == answer.as_bytes(),
+        Err(stop) => stop_is(stop, answer),
+    }
+}
+
+fn are_written<K: Sink>(sink: &mut K, words: &str) -> bool {
+    let mut whole = true;
+    for word in words.split(' ') {
+        let (call, answer) = word.split_once('=').unwrap_or((word, "?"));
+        whole = is_written(sink, call, answer) && whole;
+    }
+    whole
+}
+
+fn are_opened<F: Files>(files: &mut F, words: &str) -> bool {
+    let mut whole = true;
+    for word in words.split(' ') {
+        let (call, answer) = word.split_once('=').unwrap_or((word, "?"));
+        whole = match call.split_once(':') {
+            Some((_, name)) => is_done(files.open(str_bytes(name)), answer),
+            None => is_read(files, answer),
+        } && whole;
+    }
+    whole
+}
+
+fn is_linked<L: Link>(link: &mut L, call: &str, answer: &str) -> bool {
+    match call {
+        "read" => is_read(link, answer),
+        "connect:host" => is_done(link.connect(str_bytes("host"), 80), answer),
+        _ => is_written(link, call, answer),
+    }
+}
+
+fn are_linked<L: Link>(link: &mut L, words: &str) -> bool {
+    let mut whole = true;
+    for word in words.split(' ') {
+        let (call, answer) = word.split_once('=').unwrap_or((word, "?"));
+        whole = is_linked(link, call, answer) && whole;
+    }
+    whole
+}
+
+fn is_kept(text: &Text, items: &Items<u64>) -> bool {
+    text.bytes() == b"grid".as_slice() && items.items() == [3, 1, 2].as_slice()
+}
+
 #[test]
-fn a_link_gives_and_takes_once_connected(rt: HostRuntime) -> Result<(), Fail> {
-    let alloc = rt.alloc();
-    let mut link = MemoryLink::of(
-        alloc,
-        bytes_of(alloc, b"pong")?,
-        100,
-        numbers_of(alloc, &[4])?,
-    );
-    let mut buffer = [0u8; 16];
-    assert!(rt; link.write(b"ping") == Err(Stop::OutOfMemory));
-    assert!(rt; link.read(&mut buffer) == Ok(0));
-    assert!(rt; link.flush() == Ok(()));
-    assert!(rt; link.connect(str_bytes("host"), 80) == Err(Stop::Failed));
-    assert!(rt; link.connect(str_bytes("host"), 80) == Ok(()));
-    assert!(rt; link.write(b"ping") == Ok(4));
-    assert!(rt; link.read(&mut buffer) == Ok(4));
-    assert!(rt; buffer[..4] == b"pong"[..]);
-    assert!(rt; link.written() == b"ping".as_slice());
+fn texts_and_items_keep_their_lists(rt: HostRuntime) -> Result<(), Fail> {
+    let text = Text::of(rt.alloc(), b"grid")?;
+    let items = Items::of(numbers_of(rt.alloc(), &[3, 1, 2])?);
+    assert!(rt; is_kept(&text, &items) && items.into_vec().as_slice() == [3, 1, 2].as_slice());
     Ok(())
 }
 
-// However the bytes are cut, all of them are written; a fault leaves a beginning.
+// Bytes come in pieces of the cut; of the first source the second call fails.
 #[test]
-fn pieces_are_sent_whole_or_in_part(rt: HostRuntime) -> Result<(), Fail> {
-    let alloc = rt.alloc();
-    for cut in [1usize, 2, 7, 100] {
-        let mut sink = MemorySink::of(alloc, cut, numbers_of(alloc, &[])?);
-        assert!(rt; send(&mut sink, b"0123456789") == Ok(()));
-        assert!(rt; sink.written() == b"0123456789".as_slice());
-    }
-    let mut sink = MemorySink::of(alloc, 4, numbers_of(alloc, &[3])?);
-    assert!(rt; send(&mut sink, b"0123456789") == Err(SendFault::WriteFault));
-    assert!(rt; sink.written() == b"01234567".as_slice());
+fn sources_give_cut_pieces(rt: HostRuntime) -> Result<(), Fail> {
+    let letters = bytes_of(rt.alloc(), b"abcde")?;
+    let mut source = MemorySource::of(letters, 2, numbers_of(rt.alloc(), &[2])?);
+    assert!(rt; are_read(&mut source, "read=ab read=! read=cd read=e read="));
+    let mut source = QuietSource::of(bytes_of(rt.alloc(), b"abcdefg")?, 5);
+    assert!(rt; are_read(&mut source, "read=abcd read=efg read="));
     Ok(())
+}
+
+// Whether a source is read whole up to a limit, and is this; it is too long where nothing is wanted.
+fn is_read_whole(
+    source: &mut MemorySource,
+    limit: u16,
+    wanted: Option<&[u8]>,
+    alloc: Global,
+) -> bool {
+    match read_all(alloc, source, limit as usize) {
+        Ok(bytes) => wanted == Some(bytes.as_slice()),
+        Err(stop) => wanted.is_none() && matches!(stop, ReadStop::TooLong),
+    }
 }
 
 #[test]
 fn a_source_is_read_up_to_the_limit(rt: HostRuntime) -> Result<(), Fail> {
-    let alloc = rt.alloc();
-    for cut in [1usize, 3, 100] {
-        let mut source = MemorySource::of(
-            bytes_of(alloc, b"0123456789")?,
-            cut,
-            numbers_of(alloc, &[])?,
-        );
-        let all = read_all(alloc, &mut source, 10).ok().ok_or("not read")?;
-        assert!(rt; all.as_slice() == b"0123456789".as_slice());
-        let mut source = MemorySource::of(
-            bytes_of(alloc, b"0123456789")?,
-            cut,
-            numbers_of(alloc, &[])?,
-        );
-        assert!(rt; matches!(read_all(alloc, &mut source, 9), Err(ReadStop::TooLong)));
-    }
+    let mut source = MemorySource::of(
+        bytes_of(rt.alloc(), b"0123456789")?,
+        3,
+        Vec::new(rt.alloc()),
+    );
+    assert!(rt; is_read_whole(&mut source, 10, Some(b"0123456789"), rt.alloc()));
+    let mut source = MemorySource::of(
+        bytes_of(rt.alloc(), b"0123456789")?,
+        3,
+        Vec::new(rt.alloc()),
+    );
+    assert!(rt; is_read_whole(&mut source, 9, None, rt.alloc()));
     Ok(())
 }
 
+// A piece is sent whole, however it is cut; a fault leaves a beginning.
+fn takes_cut_pieces(sink: &mut MemorySink) -> bool {
+    are_written(sink, "write:abcd=abc write:d=! write:= flush=!")
+        && send(sink, b"defgh").is_ok()
+        && send(sink, b"ijklm") == Err(SendFault::WriteFault)
+        && send(sink, b"mn").is_ok()
+        && settle(sink).is_ok()
+        && sink.written() == b"abcdefghijkmn".as_slice()
+}
+
 #[test]
-fn adapters_pass_bytes_on(rt: HostRuntime) -> Result<(), Fail> {
-    let alloc = rt.alloc();
-    let mut source = RealSource::of(b"real".as_slice());
-    let all = read_all(alloc, &mut source, 4).ok().ok_or("not read")?;
-    assert!(rt; all.as_slice() == b"real".as_slice());
-    let mut bytes = Vec::new(alloc);
-    let mut sink = RealSink::of(&mut bytes);
-    assert!(rt; send(&mut sink, b"real").is_ok());
-    assert!(rt; settle(&mut sink).is_ok());
-    drop(sink);
-    assert!(rt; bytes.as_slice() == b"real".as_slice());
+fn a_sink_takes_cut_pieces_and_fails_by_number(rt: HostRuntime) -> Result<(), Fail> {
+    let mut sink = MemorySink::of(rt.alloc(), 3, numbers_of(rt.alloc(), &[2, 4, 8])?);
+    assert!(rt; takes_cut_pieces(&mut sink));
     Ok(())
+}
+
+// A file of a name and a content, with a blank between.
+fn file_of(alloc: Global, line: &str) -> Result<(Vec<u8>, Vec<u8>), AllocError> {
+    let (name, content) = line.split_once(' ').unwrap_or((line, ""));
+    let name = bytes_of(alloc, name.as_bytes())?;
+    Ok((name, bytes_of(alloc, content.as_bytes())?))
+}
+
+fn files_of(alloc: Global, lines: &str) -> Result<MemoryFiles, AllocError> {
+    let mut files = Vec::new(alloc);
+    for line in lines.lines() {
+        files.push(file_of(alloc, line)?)?;
+    }
+    Ok(MemoryFiles::of(alloc, files, 100, Vec::new(alloc)))
+}
+
+#[test]
+fn files_are_opened_by_name(rt: HostRuntime) -> Result<(), Fail> {
+    let mut files = files_of(rt.alloc(), "a first\nb second\na never")?;
+    assert!(rt;
+        are_opened(
+            &mut files,
+            "read= open:b= read=seco read=nd open:a= read=firs open:a= read=firs read=t open:c=! read="
+        )
+    );
+    Ok(())
+}
+
+fn is_connected(link: &mut MemoryLink) -> bool {
+    are_linked(
+        link,
+        "write:ping=? read= flush= connect:host=! connect:host=",
+    ) && are_linked(link, "write:ping=ping read=pong read=")
+        && link.written() == b"ping".as_slice()
+}
+
+#[test]
+fn a_link_gives_and_takes_once_connected(rt: HostRuntime) -> Result<(), Fail> {
+    let pong = bytes_of(rt.alloc(), b"pong")?;
+    let mut link = MemoryLink::of(rt.alloc(), pong, 100, numbers_of(rt.alloc(), &[4])?);
+    assert!(rt; is_connected(&mut link));
+    Ok(())
+}
+
+fn takes_bytes(bytes: &mut Vec<u8>) -> bool {
+    are_written(&mut RealSink::of(bytes), "write:real=real flush=")
+}
+
+#[test]
+fn adapters_pass_bytes_on(rt: HostRuntime) {
+    let mut bytes = Vec::new(rt.alloc());
+    assert!(rt; takes_bytes(&mut bytes) && bytes.as_slice() == b"real".as_slice());
+    assert!(rt;
+        are_read(
+            &mut RealSource::of(b"realm".as_slice()),
+            "read=real read=m read="
+        )
+    );
 }
 
 // A reader and a writer whose first call is interrupted and whose third one fails. It reads one byte and takes two.
@@ -196,7 +272,7 @@ impl Read for Shaky {
         if buf.is_empty() {
             return Ok(0);
         }
-        buf[0] = 7;
+        buf[0] = b'r';
         Ok(1)
     }
 }
@@ -214,36 +290,27 @@ impl Write for Shaky {
     }
 }
 
+fn gives_from(shaky: &mut Shaky, words: &str) -> bool {
+    are_read(&mut RealSource::of(shaky), words)
+}
+
+fn takes_to(shaky: &mut Shaky, words: &str) -> bool {
+    are_written(&mut RealSink::of(shaky), words)
+}
+
 // After an interruption the same is tried again; another error is answered once, and the next call works.
 #[test]
 fn adapters_answer_errors(rt: HostRuntime) {
-    let mut shaky = Shaky::new();
-    let mut source = RealSource::of(&mut shaky);
-    let mut buffer = [0u8; 4];
-    assert!(rt; source.read(&mut []) == Ok(0));
-    assert!(rt; source.read(&mut buffer) == Ok(1));
-    assert!(rt; buffer == [7, 0, 0, 0]);
-    assert!(rt; source.read(&mut buffer) == Err(Failed));
-    assert!(rt; source.read(&mut buffer) == Ok(1));
-    let mut shaky = Shaky::new();
-    let mut sink = RealSink::of(&mut shaky);
-    assert!(rt; sink.write(b"") == Ok(0));
-    assert!(rt; sink.write(b"abc") == Ok(2));
-    assert!(rt; sink.write(b"abc") == Err(Stop::Failed));
-    assert!(rt; sink.write(b"abc") == Ok(2));
+    assert!(rt; gives_from(&mut Shaky::new(), "read=r read=! read=r"));
+    assert!(rt; takes_to(&mut Shaky::new(), "write:abc=ab write:abc=! write:abc=ab"));
 }
 
 // No contract tells that a flush is passed on.
 #[test]
 fn flushes_are_passed_on(rt: HostRuntime) {
     let mut shaky = Shaky::new();
-    let mut sink = RealSink::of(&mut shaky);
-    assert!(rt; sink.flush() == Ok(()));
-    assert!(rt; sink.flush() == Err(Stop::Failed));
-    assert!(rt; settle(&mut sink) == Ok(()));
-    drop(sink);
-    assert!(rt; shaky.calls == 4);
-    assert!(rt; shaky.flushes == 2);
+    assert!(rt; takes_to(&mut shaky, "flush= flush=! flush="));
+    assert!(rt; shaky.calls == 4 && shaky.flushes == 2);
 }
 
 // Sends a text and flushes through a sink that is lent: what the lender's sink holds afterwards is known.
@@ -258,15 +325,16 @@ fn send_through<K: Sink>(sink: &mut K, text: &[u8]) -> Result<(), SendFault>
     send(&mut layer, text)
 }
 
+fn takes_lent(sink: &mut MemorySink) -> bool {
+    are_written(&mut Lent::of(sink), "write:abc=ab flush= write:c=!")
+        && send_through(sink, b"cde").is_ok()
+        && sink.written() == b"abcde".as_slice()
+}
+
 #[test]
 fn a_lent_sink_takes_what_its_sink_takes(rt: HostRuntime) -> Result<(), Fail> {
-    let alloc = rt.alloc();
-    let mut sink = MemorySink::of(alloc, 2, numbers_of(alloc, &[3])?);
-    assert!(rt; Lent::of(&mut sink).write(b"abc") == Ok(2));
-    assert!(rt; Lent::of(&mut sink).flush() == Ok(()));
-    assert!(rt; send_through(&mut sink, b"c") == Err(SendFault::WriteFault));
-    assert!(rt; send_through(&mut sink, b"cde") == Ok(()));
-    assert!(rt; sink.written() == b"abcde".as_slice());
+    let mut sink = MemorySink::of(rt.alloc(), 2, numbers_of(rt.alloc(), &[3])?);
+    assert!(rt; takes_lent(&mut sink));
     Ok(())
 }
 
@@ -277,51 +345,43 @@ fn send_quietly(sink: &mut QuietSink, text: &[u8]) -> Result<(), SendFault>
     send(sink, text)
 }
 
+fn takes_quietly(sink: &mut QuietSink) -> bool {
+    are_written(sink, "write:abc=ab write:= flush=")
+        && send_quietly(sink, b"cde").is_ok()
+        && sink.written() == b"abcde".as_slice()
+}
+
 #[test]
-fn quiet_objects_cut_and_never_fail(rt: HostRuntime) -> Result<(), Fail> {
-    let alloc = rt.alloc();
-    for cut in [1usize, 2, 9] {
-        let mut source = QuietSource::of(bytes_of(alloc, b"abcde")?, cut);
-        let mut buffer = [0u8; 4];
-        assert!(rt; source.read(&mut []) == Ok(0));
-        assert!(rt; source.read(&mut buffer) == Ok(cut.min(4)));
-        let rest = read_all(alloc, &mut source, 5).ok().ok_or("not read")?;
-        assert!(rt; rest.as_slice() == &b"abcde"[cut.min(4)..]);
-        let mut sink = QuietSink::of(alloc, cut);
-        assert!(rt; sink.write(b"abcde") == Ok(cut.min(5)));
-        assert!(rt; send_quietly(&mut sink, &b"abcde"[cut.min(5)..]) == Ok(()));
-        assert!(rt; settle(&mut sink) == Ok(()));
-        assert!(rt; sink.written() == b"abcde".as_slice());
-    }
-    Ok(())
+fn a_quiet_sink_cuts_and_never_fails(rt: HostRuntime) {
+    assert!(rt; takes_quietly(&mut QuietSink::of(rt.alloc(), 2)));
 }
 
 // A file that isn't there is a fault, and nothing is open after it.
 #[test]
 fn a_file_that_is_missing_is_a_fault(rt: HostRuntime) {
     let mut files = RealFiles::new(rt);
-    let mut buffer = [0u8; 4];
-    assert!(rt; files.read(&mut buffer) == Ok(0));
-    assert!(rt; files.open(str_bytes("no-such-folder/no-such-file")) == Err(Stop::Failed));
-    assert!(rt; files.read(&mut buffer) == Ok(0));
+    assert!(rt; are_opened(&mut files, "read= open:no-such-folder/no-such-file=! read="));
+}
+
+fn are_names(texts: &str, wanted: bool) -> bool {
+    let mut whole = true;
+    for text in texts.split(';') {
+        whole = is_name(text.as_bytes()) == wanted && whole;
+    }
+    whole
 }
 
 #[test]
 fn names_have_no_comma_and_no_control_byte(rt: HostRuntime) -> Result<(), Fail> {
-    for name in b"air;Luft-2 m;a b;\xc3\xa9".split(|byte| *byte == b';') {
-        assert!(rt; is_name(name));
-    }
-    for text in b";a,b;a\tb;a\x7f;\xc3;\xa9".split(|byte| *byte == b';') {
-        assert!(rt; !is_name(text));
-    }
-    assert!(rt; is_name(&[b'a'; 128]));
-    assert!(rt; !is_name(&[b'a'; 129]));
-    assert!(rt; b" \t\n\r".iter().all(|byte| is_blank(*byte)));
-    assert!(rt; !is_blank(11));
-    assert!(rt; is_utf8(b""));
-    assert!(rt; !is_utf8(b"\xff"));
-    assert!(rt; is_utf8_where_given(&None));
-    assert!(rt; !is_utf8_where_given(&Some(Text::of(rt.alloc(), b"\xff")?)));
+    assert!(rt; are_names("air;Luft-2 m;a b;é", true));
+    assert!(rt; are_names(";a,b;a\tb;a\x7f", false));
+    assert!(rt; is_name(&[b'a'; 128]) && !is_name(&[b'a'; 129]));
+    assert!(rt; !is_name(b"\xc3") && !is_name(b"\xa9") && is_utf8(b"") && !is_utf8(b"\xff"));
+    assert!(rt;
+        is_blank(b' ') && is_blank(b'\t') && is_blank(b'\n') && is_blank(b'\r') && !is_blank(11)
+    );
+    let wrong = Some(Text::of(rt.alloc(), b"\xff")?);
+    assert!(rt; is_utf8_where_given(&None) && !is_utf8_where_given(&wrong));
     Ok(())
 }
 

@@ -4,7 +4,7 @@ ghost use Rattle.std.specs.Prelude.{◌<◌};
 use crate::ChunkedSink;
 use edr_base::{MemorySink, SendFault, Sink, send};
 use std::alloc::{AllocError, Global};
-use std::test::Fail;
+use std::rt::HostRuntime;
 
 // Letters `a` between two texts.
 fn letters(alloc: Global, front: &[u8], count: usize, back: &[u8]) -> Result<Vec<u8>, AllocError> {
@@ -16,48 +16,54 @@ fn letters(alloc: Global, front: &[u8], count: usize, back: &[u8]) -> Result<Vec
     Ok(text)
 }
 
-// Whether so many letters, written in cuts of this many, are sent as this text.
-fn is_sent_as(alloc: Global, count: usize, cut: usize, text: &[u8]) -> Result<bool, AllocError>
+// Whether so many letters, written in cuts of this many, are sent as themselves between two texts.
+fn is_sent(
+    alloc: Global,
+    count: usize,
+    cut: usize,
+    front: &[u8],
+    back: &[u8],
+) -> Result<bool, AllocError>
     requires { 0 < cut }
 {
     let body = letters(alloc, b"", count, b"")?;
+    let text = letters(alloc, front, count.min(4096), back)?;
     let mut layer = ChunkedSink::of(MemorySink::of(alloc, cut, Vec::new(alloc)));
     let mut whole = true;
     for piece in body.chunks(cut) {
-        whole = whole && send(&mut layer, piece).is_ok();
+        whole = send(&mut layer, piece).is_ok() && whole;
     }
     let (sink, outcome) = layer.finish();
-    Ok(whole && outcome.is_ok() && sink.written() == text)
+    Ok(whole && outcome.is_ok() && sink.written() == text.as_slice())
+}
+
+fn are_sent(alloc: Global, cut: usize) -> Result<bool, AllocError>
+    requires { 0 < cut }
+{
+    Ok(
+        is_sent(alloc, 4096, cut, b"1000\r\n", b"\r\n0\r\n\r\n")?
+            && is_sent(alloc, 4097, cut, b"1000\r\n", b"\r\n1\r\na\r\n0\r\n\r\n")?
+            && is_sent(alloc, 4095, cut, b"fff\r\n", b"\r\n0\r\n\r\n")?
+            && is_sent(alloc, 171, cut, b"ab\r\n", b"\r\n0\r\n\r\n")?
+            && is_sent(alloc, 0, cut, b"", b"0\r\n\r\n")?,
+    )
+}
+
+// After a fault a beginning was sent.
+fn breaks_off(layer: &mut ChunkedSink<MemorySink>) -> bool {
+    layer.write(b"abc") == Ok(3)
+        && layer.end() == Err(SendFault::WriteFault)
+        && layer.end().is_ok()
+        && layer.flush().is_ok()
 }
 
 #[test]
-fn bodies_are_sent_in_chunks(rt: HostRuntime) -> Result<(), Fail> {
+fn bodies_are_sent_in_chunks(rt: HostRuntime) -> Result<(), AllocError> {
     let alloc = rt.alloc();
-    let full = letters(alloc, b"1000\r\n", 4096, b"\r\n0\r\n\r\n")?;
-    let more = letters(alloc, b"1000\r\n", 4096, b"\r\n1\r\na\r\n0\r\n\r\n")?;
-    let fewer = letters(alloc, b"fff\r\n", 4095, b"\r\n0\r\n\r\n")?;
-    let few = letters(alloc, b"ab\r\n", 171, b"\r\n0\r\n\r\n")?;
-    for cut in [100usize, 4096, 5000] {
-        assert!(rt; is_sent_as(alloc, 4096, cut, &full)?);
-        assert!(rt; is_sent_as(alloc, 4097, cut, &more)?);
-        assert!(rt; is_sent_as(alloc, 4095, cut, &fewer)?);
-        assert!(rt; is_sent_as(alloc, 171, cut, &few)?);
-        assert!(rt; is_sent_as(alloc, 0, cut, b"0\r\n\r\n")?);
-    }
-    Ok(())
-}
-
-// After a fault a beginning was sent, and the sink comes back.
-#[test]
-fn a_body_breaks_off_at_a_fault(rt: HostRuntime) -> Result<(), Fail> {
-    let alloc = rt.alloc();
+    assert!(rt; are_sent(alloc, 100)? && are_sent(alloc, 4096)? && are_sent(alloc, 5000)?);
     let fails = Vec::from_slice(alloc, &[2u64])?;
     let mut layer = ChunkedSink::of(MemorySink::of(alloc, 3, fails));
-    assert!(rt; layer.write(b"abc") == Ok(3));
-    assert!(rt; layer.end() == Err(SendFault::WriteFault));
-    assert!(rt; layer.end() == Ok(()));
-    assert!(rt; layer.flush() == Ok(()));
-    let sink = layer.into_inner();
-    assert!(rt; sink.written() == b"3\r\n".as_slice());
+    assert!(rt; breaks_off(&mut layer));
+    assert!(rt; layer.into_inner().written() == b"3\r\n".as_slice());
     Ok(())
 }

@@ -1,7 +1,7 @@
 //! Rows of well-known text.
 use super::{WktFault, read_wkt, write_wkt};
+use std::alloc::{AllocError, Global};
 use std::rt::HostRuntime;
-use std::test::Fail;
 
 // A line for each text: the text, and the answer to it, which is its written form or its fault.
 const TABLE: &str = "\
@@ -117,9 +117,9 @@ LINESTRING M(0 0 5,1 0 4,100000001 0 6) => OutOfRange(3)
 ";
 
 // Whether a text is read, and written in this form.
-fn is_written(rt: &HostRuntime, text: &str, form: &str) -> bool {
-    match read_wkt(rt.alloc(), text.as_bytes()) {
-        Ok(geometry) => match write_wkt(rt.alloc(), &geometry) {
+fn is_written(alloc: Global, text: &[u8], form: &str) -> bool {
+    match read_wkt(alloc, text) {
+        Ok(geometry) => match write_wkt(alloc, &geometry) {
             Ok(written) => written.bytes() == form.as_bytes(),
             Err(_) => false,
         },
@@ -128,58 +128,35 @@ fn is_written(rt: &HostRuntime, text: &str, form: &str) -> bool {
 }
 
 // Whether a fault is shown so.
-fn is_shown(rt: &HostRuntime, fault: WktFault, answer: &str) -> bool {
-    match format!(in rt.alloc(); "{fault:?}") {
+fn is_shown(alloc: Global, fault: WktFault, answer: &str) -> bool {
+    match format!(in alloc; "{fault:?}") {
         Ok(shown) => shown.as_str() == answer,
         Err(_) => false,
     }
 }
 
 // Whether this is the answer to a text. A written form is also read as it stands.
-fn is_answered(rt: &HostRuntime, text: &str, answer: &str) -> bool {
-    match read_wkt(rt.alloc(), text.as_bytes()) {
-        Ok(_) => is_written(rt, text, answer) && is_written(rt, answer, answer),
-        Err(fault) => is_shown(rt, fault, answer),
+fn is_answered(alloc: Global, text: &[u8], answer: &str) -> bool {
+    match read_wkt(alloc, text) {
+        Ok(_) => is_written(alloc, text, answer) && is_written(alloc, answer.as_bytes(), answer),
+        Err(fault) => is_shown(alloc, fault, answer),
     }
 }
 
-#[test]
-fn answers(rt: HostRuntime) -> Result<(), Fail> {
-    for line in TABLE.lines() {
-        if line.starts_with('#') {
-            continue;
+// The first line that isn't answered so; none is empty.
+fn first_wrong(alloc: Global, lines: &str) -> &str {
+    for line in lines.lines() {
+        let (text, answer) = line.split_once(" => ").unwrap_or((line, ""));
+        if !line.starts_with('#') && !is_answered(alloc, text.as_bytes(), answer) {
+            return line;
         }
-        let (text, answer) = line.split_once(" => ").ok_or("a line without an answer")?;
-        assert!(rt; is_answered(&rt, text, answer), "{line}");
     }
-    Ok(())
+    ""
 }
-
-#[test]
-fn blanks(rt: HostRuntime) {
-    assert!(rt; is_answered(&rt, "\r\n\tPoint\r\n(+5. -0)\n", "POINT(5 0)"));
-    assert!(rt;
-        is_answered(
-            &rt,
-            "LINESTRING(\n0\n0\n,\n1 \t 1\n)",
-            "LINESTRING(0 0,1 1)"
-        )
-    );
-}
-
-// How many positions follow two of a line, how the text ends, and the fault.
-const COUNTS: &str = "\
-9998 ) => None
-9999 ) => Some(TooManyPositions)
-100000 ) => Some(TooManyPositions)
-9998 ,100000001 0) => Some(TooManyPositions)
-9998  => Some(NotWkt)
-9999 x) => Some(NotWkt)
-";
 
 // A line of two positions, so many more, and an end.
-fn line_of(rt: &HostRuntime, more: usize, end: &str) -> Result<Vec<u8>, Fail> {
-    let mut text = Vec::from_slice(rt.alloc(), b"LINESTRING(1 2,3 4")?;
+fn line_of(alloc: Global, more: u32, end: &str) -> Result<Vec<u8>, AllocError> {
+    let mut text = Vec::from_slice(alloc, b"LINESTRING(1 2,3 4")?;
     for _ in 0..more {
         text.extend_from_slice(b", 3 4")?;
     }
@@ -187,14 +164,39 @@ fn line_of(rt: &HostRuntime, more: usize, end: &str) -> Result<Vec<u8>, Fail> {
     Ok(text)
 }
 
-#[test]
-fn counts(rt: HostRuntime) -> Result<(), Fail> {
-    for line in COUNTS.lines() {
-        let (parts, answer) = line.split_once(" => ").ok_or("a line without an answer")?;
-        let (more, end) = parts.split_once(' ').ok_or("a line without an end")?;
-        let text = line_of(&rt, more.parse::<usize>()?, end)?;
-        let fault = format!(in rt.alloc(); "{:?}", read_wkt(rt.alloc(), &text).err())?;
-        assert_eq!(rt; fault.as_str(), answer, "{line}");
+// Whether a line of two positions, so many more, and an end is read, or has this fault.
+fn is_counted(alloc: Global, more: u32, end: &str, fault: &str) -> bool {
+    match line_of(alloc, more, end) {
+        Ok(text) => match read_wkt(alloc, &text) {
+            Ok(_) => fault == "none",
+            Err(given) => is_shown(alloc, given, fault),
+        },
+        Err(_) => false,
     }
-    Ok(())
+}
+
+#[test]
+fn answers(rt: HostRuntime) {
+    let alloc = rt.alloc();
+    assert_eq!(rt; first_wrong(alloc, TABLE), "");
+    assert!(rt; is_answered(alloc, b"\r\n\tPoint\r\n(+5. -0)\n", "POINT(5 0)"));
+    assert!(rt;
+        is_answered(
+            alloc,
+            b"LINESTRING(\n0\n0\n,\n1 \t 1\n)",
+            "LINESTRING(0 0,1 1)"
+        )
+    );
+}
+
+// 10,000 positions are read, and no more.
+#[test]
+fn counts(rt: HostRuntime) {
+    let alloc = rt.alloc();
+    assert!(rt; is_counted(alloc, 9998, ")", "none"));
+    assert!(rt; is_counted(alloc, 9999, ")", "TooManyPositions"));
+    assert!(rt; is_counted(alloc, 100_000, ")", "TooManyPositions"));
+    assert!(rt; is_counted(alloc, 9998, ",100000001 0)", "TooManyPositions"));
+    assert!(rt; is_counted(alloc, 9998, "", "NotWkt"));
+    assert!(rt; is_counted(alloc, 9999, " x)", "NotWkt"));
 }
