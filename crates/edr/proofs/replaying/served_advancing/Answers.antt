@@ -109,8 +109,8 @@ returns-in-Err-clause-waits g c =
     (λ is.
     let same = (c.in-Err.ensures.unwritten (ap Err is)).0 in
     let settled = ⊎_elim
-        (λ old. inl (ap g.K.Sink.written (same ∙ old)))
-        (λ flushed. inr (subst (λ (k : _). IsFlushed (g.K.Sink.written k) (g.K.Sink.flushed k)) (sym same) flushed))
-        c.requests.invariant.flushed in
+    (λ old. inl (ap g.K.Sink.written (same ∙ old)))
+    (λ flushed. inr (subst (λ (k : _). IsFlushed (g.K.Sink.written k) (g.K.Sink.flushed k)) (sym same) flushed))
+    c.requests.invariant.flushed in
     read_waits c.args.editions.items c.requests.turn (length c.requests.inbox) c.requests.inbox c.serve_one.new.inbox (g.S.Source.left c.args.input.now) (g.S.Source.left c.requests.input) (g.S.Source.left c.serve_one.new.source) (g.K.Sink.written c.args.output.now) (g.K.Sink.written c.requests.output) (g.K.Sink.written c.serve_one.new.sink) (g.K.Sink.flushed c.serve_one.new.sink)
     c.requests.invariant.few c.in-Err.ensures.bounded (c.in-Err.ensures.none (ap Err is)) (c.in-Err.ensures.again (ap Err is)) (ap g.K.Sink.written same) settled c.requests.invariant.going))
