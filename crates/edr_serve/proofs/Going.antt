@@ -9,14 +9,13 @@ use Rattle.edr_base.specs.Calls.{ReadsAtMost}
 use Rattle.edr_base.specs.KnownBytes.{append_nothing, prepend_nothing, grew_on, took_on, front_none}
 use Rattle.edr_edition.specs.Values.{EditionValue}
 use Rattle.edr_http.specs.Heads.{Told, HasNoHead, IsBehind, most_held}
-use Rattle.edr_edition.specs.Shelves.{TakenGrew}
 use Rattle.edr_serve.specs.declared.ends.End.{End}
 use Rattle.edr_serve.specs.declared.ends.End.TheVariants.{EndOfInput}
 use Rattle.edr_serve.specs.declared.reports.OneReport.{OneReport}
 use Rattle.edr_serve.specs.declared.reports.SessionReport.{SessionReport}
 use Rattle.edr_serve.specs.Requests.{Request, IsFirst, Requests, Begun, session_end, request_limit}
 use Rattle.edr_serve.specs.Replies.{readers, number_of, output, opened}
-use Rattle.edr_serve.specs.Sessions.{State, state, IfTold, last_number, NeverFall, Answered, BrokeOff, Session, Broken, Waits, BrokenAtOne, AtMost, most_behind, ReadsAhead, chunks_in, Exchanged, Served}
+use Rattle.edr_serve.specs.Sessions.{State, state, IfTold, last_number, Answered, BrokeOff, Session, Broken, Waits, BrokenAtOne, AtMost, most_behind, ReadsAhead, chunks_in, Exchanged, Served}
 use Rattle.edr_serve.specs.AheadLaws.{HeldBehind, held_on, held_none, held_read, held_end, ahead_of, held_behind}
 use Rattle.edr_serve.proofs.ReplyLaws.{output_on, opened_on, readers_on}
 use Rattle.edr_serve.proofs.Shelves.{seen_same, uses_on, taken_same, taken_on, never_on}
