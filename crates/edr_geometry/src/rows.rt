@@ -1,5 +1,5 @@
 //! Rows of places, and the edges that cross them.
-ghost use Rattle.std.specs.Prelude.{◌≡◌, ◌<◌, ◌+◌, length};
+ghost use Rattle.std.specs.Prelude.{◌≡◌, ◌<◌, ◌≤◌, ◌+◌, length};
 ghost use Rattle.edr_axes.specs.Axes.{IsAscending};
 ghost use Rattle.edr_geometry.specs.Limits.{IsSpot};
 ghost use Rattle.edr_geometry.specs.Planar as plane;
@@ -7,6 +7,18 @@ ghost use Rattle.edr_geometry.specs.Rows.{IsRow, IsCut, IsLeftCut, passes, spot_
 
 use crate::points::{is_before, is_passed, is_touched};
 use edr_base::{Position, Spot};
+
+// A place from a low one up to a high one: the guess where it is one, and else the middle.
+fn place_between(low: usize, high: usize, guess: usize) -> usize
+    requires { low < high }
+    ensures { (low ≤ result) × (result < high) }
+{
+    if low <= guess && guess < high {
+        guess
+    } else {
+        low + (high - low) / 2
+    }
+}
 
 /// The places of one y along some ascending x, in metres.
 #[derive(Clone, Copy)]
@@ -29,8 +41,9 @@ impl<'a> Row<'a> {
         }
     }
 
-    /// How many places of the row stand before an edge. They come first.
-    pub fn count_before(&self, a: &Spot, b: &Spot) -> usize
+    /// How many places of the row stand before an edge. They come first. The search begins at `guess`, from which it goes on
+    /// by steps that double, so it is short where that is near.
+    pub fn count_before(&self, a: &Spot, b: &Spot, guess: usize) -> usize
         requires row { IsRow self.now.y self.now.xs.now }
         requires a_in { IsSpot a.now }
         requires b_in { IsSpot b.now }
@@ -38,12 +51,18 @@ impl<'a> Row<'a> {
     {
         let mut low = 0;
         let mut high = self.xs.len();
+        let mut guess = guess;
+        let mut step: usize = 1;
         'halves: while low < high {
-            let middle = low + (high - low) / 2;
-            if is_before(self.spot(middle), *a, *b) {
-                low = middle + 1;
+            let place = place_between(low, high, guess);
+            if is_before(self.spot(place), *a, *b) {
+                low = place + 1;
+                guess = low.saturating_add(step);
+                step = step.saturating_add(step);
             } else {
-                high = middle;
+                high = place;
+                guess = high.saturating_sub(step);
+                step = step.saturating_add(step);
             }
         }
         low

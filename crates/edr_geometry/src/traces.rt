@@ -10,8 +10,16 @@ use crate::rows::{Row, spot_of};
 use crate::toggles::toggle_edge;
 use edr_base::{Items, Position, Spot};
 
-// Toggles each place of a row for which an edge crosses, and sets each place on it. One search serves both.
-fn trace_edge(flags: &mut [bool], mask: &mut [bool], row: &Row<'_>, a: &Spot, b: &Spot)
+// Toggles each place of a row for which an edge crosses, and sets each place on it. One search serves both; it begins at
+// `guess`, and the answer is where to begin for the next edge.
+fn trace_edge(
+    flags: &mut [bool],
+    mask: &mut [bool],
+    row: &Row<'_>,
+    a: &Spot,
+    b: &Spot,
+    guess: usize,
+) -> usize
     requires row { IsRow row.now.y row.now.xs.now }
     requires a_in { IsSpot a.now }
     requires b_in { IsSpot b.now }
@@ -21,11 +29,12 @@ fn trace_edge(flags: &mut [bool], mask: &mut [bool], row: &Row<'_>, a: &Spot, b:
     ensures joins { Joins mask.old mask.new (λ place. plane.on_segment (spot_in row.now.y row.now.xs.now place) a.now b.now) }
 {
     if !row.touches(a, b) {
-        return;
+        return guess;
     }
-    let count = row.count_before(a, b);
+    let count = row.count_before(a, b, guess);
     toggle_edge(flags, row, a, b, count);
     mark_edge(mask, row, a, b, count);
+    count
 }
 
 // The same for each edge of a ring.
@@ -37,13 +46,15 @@ fn trace_ring(flags: &mut [bool], mask: &mut [bool], row: &Row<'_>, ring: &[Posi
     ensures toggles { Toggles flags.old flags.new (length row.now.xs.now) (odd_crossed row.now.y row.now.xs.now (plane.edges_along ring.now)) }
     ensures joins { Joins mask.old mask.new (on_edges row.now.y row.now.xs.now (plane.edges_along ring.now)) }
 {
+    let mut guess = 0;
     for place in 1..ring.len() {
-        trace_edge(
+        guess = trace_edge(
             flags,
             mask,
             row,
             &spot_of(&ring[place - 1]),
             &spot_of(&ring[place]),
+            guess,
         );
     }
 }

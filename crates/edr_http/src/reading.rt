@@ -20,7 +20,9 @@ fn remove_front(held: &mut Vec<u8>, n: usize)
     requires { n ≤ vec_len held.old }
     ensures { held.new.items ≡ drop n held.old.items }
 {
-    held.drain(..n);
+    let left = held.len() - n;
+    held.copy_within(n.., 0);
+    held.truncate(left);
 }
 
 // Takes the head at the front of what is held and what is left of the source.
