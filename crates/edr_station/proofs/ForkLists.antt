@@ -1,5 +1,5 @@
 -- The stations of a fork: those of one side, and those of the other.
-use Rattle.std.proofs.Common.{◌≡◌, ℕ, ◌+◌, ◌-◌, ◌^◌, ◌<◌, ◌≤◌, ◌++◌, List, length, take, drop, get_or, Option, Result, Ok, Err, IfOk, OnOk, sym, ap, ◌∙◌, subst, arith, append_assoc, length-append}
+use Rattle.std.proofs.Common.{◌≡◌, ℕ, ◌+◌, ◌-◌, ◌^◌, ◌<◌, ◌≤◌, ◌++◌, List, length, take, drop, get_or, Option, Result, Ok, Err, IfOk, OnOk, OnErr, sym, ap, ◌∙◌, subst, arith, append_assoc, length-append}
 use Rattle.std.specs.Option.{option_to_list}
 use Rattle.std.specs.Arc.{arc_value}
 use Rattle.std.specs.declared.sync.Arc.{Arc}
@@ -80,3 +80,7 @@ joined_is (Ok list) before before' behind behind' whole made front back is =
 pub on_ok_is : {T E : Type 0} {A B : Type 0} (r : Result T E) → OnOk r A → (A → B) → OnOk r B
 on_ok_is (Err e) h f = tt
 on_ok_is (Ok x) h f = f h
+
+pub on_err : {T E : Type 0} {A : Type 0} (r : Result T E) → A → OnErr r A
+on_err (Err e) a = a
+on_err (Ok x) a = tt

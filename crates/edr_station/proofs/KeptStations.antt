@@ -20,8 +20,8 @@ none_kept parameters = record {
 }
 
 pub span_fits : (id : List ℕ) (stations : List StationValue) (place end : ℕ) → IsSpanOf id stations place end → (place ≤ end) × (end ≤ place + 1) × (end ≤ length stations)
-span_fits id stations place end (inl (same, (le, (below, above)))) = (omega arith, omega arith, omega arith)
-span_fits id stations place end (inr (next, (inside, has))) = (omega arith, omega arith, omega arith)
+span_fits id stations place end (inl span) = (omega (arith, span.0), omega (arith, span.0), omega (arith, span.0, span.1.0))
+span_fits id stations place end (inr span) = (omega (arith, span.0), omega (arith, span.0), omega (arith, span.0, span.1.0))
 
 pub with_span : (new : StationValue) (stations : List StationValue) (place end : ℕ) → AscendBy station_id stations → IsSpanOf new.id stations place end
     → with_item station_id new stations ≡ splice place end (Some new) stations

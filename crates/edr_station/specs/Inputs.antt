@@ -1,6 +1,6 @@
 -- Which inputs are the stations of a collection, and why others aren't.
 use Rattle.std.specs.Prelude.{◌≡◌, ◌≢◌, ◌↔◌, ℕ, ◌<◌, List, length, map, All, Contains}
-use Rattle.std.specs.List.{HoldsAt}
+
 use Rattle.std.specs.declared.cmp.Ordering.TheVariants.{Less}
 use Rattle.edr_chunk.specs.Samples.{AreSamples}
 use Rattle.edr_ids.specs.Ids.{order}

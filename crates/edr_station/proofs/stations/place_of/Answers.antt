@@ -17,7 +17,7 @@ returns-in-Equal c =
     let s = c.at.result.now in
     let inside : middle < length c.args.shelf.now = omega (arith, c.loop-low.invariant.1, c.loop-low-test.true) in
     let same : order s.id c.args.id.now ≡ Equal = ap (λ k. order k c.args.id.now) (sym c.id.ensures.id) ∙ (sym c.cmp.ensures ∙ c.in-Equal.is) in
-    (inside, found_at c.args.id.now c.args.shelf.now c.requires middle s inside c.at.ensures same)
+    record { place = (inside, found_at c.args.id.now c.args.shelf.now c.requires middle s inside c.at.ensures same); fits = c.len-high.ensures.fits }
 
 pub loop-low-preserved : goal.loop-low-preserved
 loop-low-preserved c =
