@@ -5,3 +5,5 @@ pub mod ForkLists
 pub mod SortedPlaces
 pub mod BlockNumbers
 pub mod KeptStations
+pub mod LeastIds
+pub mod MadeOf

@@ -1,13 +1,13 @@
 -- Which inputs are the stations of a collection, and why others aren't.
-use Rattle.std.specs.Prelude.{◌≡◌, ◌≢◌, ◌↔◌, ℕ, ◌<◌, List, length, map, All, Contains}
-
+use Rattle.std.specs.Prelude.{◌≡◌, ◌≢◌, ◌↔◌, ℕ, pos, ◌<◌, List, [], length, map, All, Contains, None}
+use Rattle.std.specs.List.{slice_index_or}
 use Rattle.std.specs.declared.cmp.Ordering.TheVariants.{Less}
 use Rattle.edr_chunk.specs.Samples.{AreSamples}
 use Rattle.edr_ids.specs.Ids.{order}
 use Rattle.edr_station.specs.declared.inputs.StationInput.{StationInput}
 use Rattle.edr_station.specs.declared.inputs.StationFault.{StationFault}
 use Rattle.edr_station.specs.declared.inputs.StationFault.TheVariants.{SameId, WrongCount, OutOfMemory}
-use Rattle.edr_station.specs.Stations.{StationValue, IsPlaced, HasSeries, values_along}
+use Rattle.edr_station.specs.Stations.{StationValue, IsPlaced, values_along}
 
 -- the station that an input describes
 abbrev pub station_of : StationInput → StationValue
@@ -31,9 +31,16 @@ pub record HasCounts (parameters : ℕ) (input : StationInput) : Type 0 where
   pub many : length input.series ≡ parameters
   pub long : All (λ values. length values ≡ values_along (station_of input)) input.series
 
--- an input of the id
-abbrev pub HasId : List ℕ → StationInput → Type 0
-HasId id input = input.id ≡ id
+-- no input: what stands past the last one
+abbrev pub no_input : StationInput
+no_input = record { id = []; label = []; x = pos 0; y = pos 0; times = []; levels = None; series = [] }
+
+-- the input at a place, and its id
+abbrev pub input_at : List StationInput → ℕ → StationInput
+input_at inputs place = slice_index_or inputs place no_input
+
+abbrev pub id_at : List StationInput → ℕ → List ℕ
+id_at inputs place = (input_at inputs place).id
 
 -- two inputs have the id
 pub record IsRepeated (inputs : List StationInput) (id : List ℕ) : Type 0 where
@@ -41,15 +48,15 @@ pub record IsRepeated (inputs : List StationInput) (id : List ℕ) : Type 0 wher
   pub second : ℕ
   pub apart : first < second
   pub inside : second < length inputs
-  pub first_has : HoldsAt (HasId id) inputs first
-  pub second_has : HoldsAt (HasId id) inputs second
+  pub first_has : id_at inputs first ≡ id
+  pub second_has : id_at inputs second ≡ id
 
 -- an input of the id hasn't the counts of so many parameters
 pub record IsMiscounted (parameters : ℕ) (inputs : List StationInput) (id : List ℕ) : Type 0 where
-  pub input : StationInput
-  pub among : Contains inputs input
-  pub has : input.id ≡ id
-  pub differs : ¬ (HasCounts parameters input)
+  pub place : ℕ
+  pub inside : place < length inputs
+  pub has : id_at inputs place ≡ id
+  pub differs : ¬ (HasCounts parameters (input_at inputs place))
 
 -- an id is so, and none before it in byte order is
 pub record IsLeastId (IsSo : List ℕ → Type 0) (id : List ℕ) : Type 0 where

@@ -9,3 +9,4 @@ pub mod Shelves
 pub mod Forks
 pub mod ForkDepths
 pub mod Places
+pub mod Least

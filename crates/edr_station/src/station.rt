@@ -13,6 +13,7 @@ use crate::series::{BLOCK, Series};
 use edr_axes::Axis;
 use edr_base::{Items, OutOfMemory, Spot, Text};
 use edr_chunk::Packed;
+use edr_ids::Identified;
 use std::alloc::Global;
 use std::marker::Model;
 use std::sync::Arc;
@@ -64,6 +65,14 @@ impl Model for Station {
       zs = (arc_value s.axes).levels;
       series = s.series;
     }) × (s.id_len ≤ length s.names) };
+}
+
+impl Identified for Station {
+    ghost id_of = { λ station. station.id };
+
+    fn id(&self) -> &[u8] {
+        self.id()
+    }
 }
 
 // Two texts, one behind the other.

@@ -7,15 +7,18 @@ ghost use Rattle.edr_ids.specs.Ids.{AscendBy, with_item, without_id};
 ghost use Rattle.edr_station.specs.Stations.{StationValue, AreStations, IsStation, station_id, station_at};
 ghost use Rattle.edr_station.specs.Blocks.{blocks, blocks_of, block_of, first_block, place_at, Within, IsBlock};
 ghost use Rattle.edr_station.specs.Boxes.{places_inside};
-ghost use Rattle.edr_station.specs.Inputs.{station_of, IsInput, HasCounts, IsRepeated, IsMiscounted, IsLeastId, rank, Applies, AreOf};
+ghost use Rattle.edr_station.specs.Inputs.{station_of, IsInput, HasCounts, rank, Applies, AreOf};
+ghost use Rattle.edr_station.specs.Least.{HaveOwnIds};
 ghost use Rattle.edr_station.specs.Places.{IsPlaceOf, IsSpanOf, AreKept};
 
+use crate::faults::find_fault;
 use crate::inputs::{StationFault, StationInput};
 use crate::series::BLOCK;
 use crate::shelves::Shelf;
 use crate::station::Station;
 use edr_base::{OutOfMemory, Spot};
 use edr_chunk::{Packed, Reads, open_packed};
+use edr_ids::items_are_by_id;
 use std::alloc::Global;
 use std::cmp::Ordering;
 use std::marker::Model;
@@ -97,6 +100,27 @@ fn counted(parameters: usize, shelf: Shelf) -> Result<Shelf, OutOfMemory>
     }
 }
 
+// The stations of inputs that have no fault.
+fn stations_of(
+    alloc: Global,
+    parameters: usize,
+    inputs: Vec<StationInput>,
+) -> Result<Stations, OutOfMemory>
+    requires inputs { All IsInput inputs.items }
+    requires counts { All (HasCounts parameters) inputs.items }
+    requires once { HaveOwnIds inputs.items }
+    ensures parameters { IfOk result (λ stations. stations.parameters ≡ parameters) }
+    ensures stations { IfOk result (λ stations. AreOf inputs.items stations.stations) }
+{
+    items_are_by_id::<Station>();
+    let mut stations = Stations::new(parameters);
+    for input in inputs {
+        stations.stands();
+        stations.set(alloc, input)?;
+    }
+    Ok(stations)
+}
+
 impl Stations {
     /// No stations, for so many parameters. It takes no memory.
     pub fn new(parameters: usize) -> Stations
@@ -106,6 +130,32 @@ impl Stations {
             parameters,
             shelf: Shelf::empty(),
         }
+    }
+
+    /// The stations that some inputs describe, each of so many parameters.
+    ///
+    /// The first fault that applies is answered: `SameId` where two inputs have one id, then `WrongCount` where an input has
+    /// no list for each parameter or a list without one value for each time and level, each with the least id in byte order.
+    pub fn of(
+        alloc: Global,
+        parameters: usize,
+        inputs: Vec<StationInput>,
+    ) -> Result<Stations, StationFault>
+        requires { All IsInput inputs.items }
+        ensures parameters { IfOk result (λ stations. stations.parameters ≡ parameters) }
+        ensures stations { IfOk result (λ stations. AreOf inputs.items stations.stations) }
+        ensures none { OnOk result (NoneApplies (Applies parameters inputs.items)) }
+        ensures refused { IfErr result (λ fault. fault ≢ StationFault.OutOfMemory → IsLeast rank (Applies parameters inputs.items) fault) }
+    {
+        find_fault(alloc, parameters, &inputs)?;
+        Ok(stations_of(alloc, parameters, inputs)?)
+    }
+
+    // They stand in ascending order of their ids.
+    fn stands(&self)
+        ensures { AreStations self.now }
+    {
+        let _ = &self.shelf;
     }
 
     /// How many parameters each station has. It takes no memory.
