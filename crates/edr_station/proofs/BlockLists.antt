@@ -1,7 +1,6 @@
 -- A list in blocks of 256.
-use Rattle.std.proofs.Common.{◌≡◌, ℕ, zero, suc, ◌+◌, ◌*◌, ◌-◌, ◌<◌, ◌≤◌, ◌++◌, ◌∷◌, List, [], length, min, take, drop, get_or, refl, sym, ap, ◌∙◌, arith, length-drop, below_more}
+use Rattle.std.proofs.Common.{◌≡◌, ℕ, zero, suc, ◌+◌, ◌*◌, ◌-◌, ◌≤◌, ◌++◌, ◌∷◌, List, [], length, min, take, drop, get_or, refl, sym, ap, ◌∙◌, arith, length-drop, below_more}
 use Rattle.std.specs.Prelude.{ℤ, Option}
-use Rattle.std.specs.List.{flat_map}
 use Rattle.std.proofs.Math.Nat.{min_comm}
 use Rattle.std.proofs.Math.Seq.{take-add, take-suc, get_or-append_seam}
 use Rattle.std.proofs.lemmas.List.{take_all, take_min, append-nil, get_or_append_left, length_push}

@@ -1,5 +1,5 @@
 -- The numbers of blocks.
-use Rattle.std.proofs.Common.{◌≡◌, ℕ, zero, suc, ◌+◌, ◌*◌, ◌-◌, ◌/◌, ◌%◌, ◌<◌, ◌≤◌, ◌++◌, ◌∷◌, List, [], inl, inr, length, min, take, drop, get_or, All, refl, sym, ap, ◌∙◌, subst, arith, length-drop}
+use Rattle.std.proofs.Common.{◌≡◌, ℕ, zero, suc, ◌+◌, ◌*◌, ◌-◌, ◌/◌, ◌%◌, ◌<◌, ◌≤◌, ◌∷◌, List, [], inl, inr, length, min, take, drop, get_or, sym, ap, ◌∙◌, arith, length-drop}
 use Rattle.std.specs.Prelude.{ℤ, Option, None}
 use Rattle.std.proofs.Math.Nat.{mul-add, mul_comm, mul-le-mul_left, min_comm}
 use Rattle.std.proofs.Math.Seq.{take-add}
@@ -7,8 +7,8 @@ use Rattle.std.proofs.lemmas.Nat.{mul-add-lt, same_from_place, div_below, div-ad
 use Rattle.std.proofs.lemmas.Bool.{cases_order}
 use Rattle.std.proofs.lemmas.List.{get_or-take, get_or-drop, length-take}
 use Rattle.std.proofs.lemmas.List.Sums.{sum_by-cons, sum_by-append, sum_by_more, sum_by-take-le}
-use Rattle.edr_station.specs.Stations.{StationValue, StationsValue, AreStations, IsStation, levels_along, values_along, nowhere, station_at}
-use Rattle.edr_station.specs.Blocks.{blocks_along, blocks_of, blocks, first_block, StationPlace, place_at, Within, place_in_series, series_at, value, block_of, place_in_block, cut_block, IsBlock}
+use Rattle.edr_station.specs.Stations.{StationValue, StationsValue, AreStations, levels_along, values_along, nowhere, station_at}
+use Rattle.edr_station.specs.Blocks.{blocks_of, blocks, first_block, StationPlace, Within, place_in_series, series_at, value, block_of, place_in_block, cut_block, IsBlock}
 use Rattle.edr_station.specs.Shelves.{blocks_in, IsFound}
 
 -- as many for each parameter

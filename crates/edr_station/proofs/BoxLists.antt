@@ -1,9 +1,8 @@
 -- The places of the stations inside a box, list by list.
-use Rattle.std.proofs.Common.{◌≡◌, ℕ, zero, suc, ◌+◌, ◌<◌, ◌≤◌, ◌++◌, ◌∷◌, Bool, true, false, if◌then◌else◌, List, [], length, map, take, get_or, refl, sym, ap, ◌∙◌, arith}
+use Rattle.std.proofs.Common.{◌≡◌, ℕ, suc, ◌+◌, ◌<◌, ◌++◌, ◌∷◌, true, false, if◌then◌else◌, List, [], length, map, take, get_or, ap, ◌∙◌, arith}
 use Rattle.std.specs.List.{filter, enumerate_from}
-use Rattle.std.proofs.Math.Nat.{add-zero}
 use Rattle.std.proofs.Math.Seq.{take-suc}
-use Rattle.std.proofs.lemmas.List.{append-nil, map-append, take_all, length-take}
+use Rattle.std.proofs.lemmas.List.{append-nil, map-append, length-take}
 use Rattle.std.proofs.lemmas.List.Elements.{filter-append}
 use Rattle.edr_base.specs.declared.places.Spot.{Spot}
 use Rattle.edr_station.specs.Stations.{StationValue}

@@ -1,12 +1,12 @@
 -- The stations of a collection after one of them is set or taken out.
-use Rattle.std.proofs.Common.{◌≡◌, ℕ, ◌+◌, ◌-◌, ◌*◌, ◌^◌, ◌<◌, ◌≤◌, ◌++◌, ◌∷◌, List, [], inl, inr, length, take, drop, All, Some, None, Ok, Err, refl, sym, ap, ◌∙◌, subst, arith}
+use Rattle.std.proofs.Common.{◌≡◌, ℕ, ◌+◌, ◌*◌, ◌^◌, ◌<◌, ◌≤◌, List, [], inl, inr, length, take, drop, All, Some, None, Ok, refl, sym, ap, ◌∙◌, subst, arith}
 use Rattle.std.proofs.Math.Seq.{take-add}
 use Rattle.std.proofs.lemmas.List.Elements.{All-nil, All-cons}
 use Rattle.std.proofs.lemmas.List.Sums.{sum_by-append, sum_by-take-drop}
 use Rattle.std.specs.Prelude.{sum_by}
 use Rattle.edr_ids.specs.Ids.{AscendBy, with_item, without_id}
 use Rattle.edr_ids.specs.ListLaws.{AscendBy-nil, AscendBy-with_item, AscendBy-without_id}
-use Rattle.edr_station.specs.Stations.{StationValue, StationsValue, AreStations, IsStation, station_id}
+use Rattle.edr_station.specs.Stations.{StationValue, StationsValue, IsStation, station_id}
 use Rattle.edr_station.specs.Blocks.{blocks, blocks_of}
 use Rattle.edr_station.specs.Shelves.{splice}
 use Rattle.edr_station.specs.Places.{IsPlaceOf, IsSpanOf, AreKept}

@@ -1,5 +1,5 @@
 -- The least id of those that are so, one place more at a time.
-use Rattle.std.proofs.Common.{◌≡◌, ◌⊎◌, ℕ, ◌+◌, ◌<◌, ◌≤◌, List, inl, inr, length, get_or, All, Option, Some, None, Ordering, Less, Equal, refl, sym, ap, ◌∙◌, subst, arith}
+use Rattle.std.proofs.Common.{◌≡◌, ℕ, ◌+◌, ◌<◌, ◌≤◌, List, inl, inr, length, All, Option, Some, None, Less, Equal, refl, sym, ap, ◌∙◌, subst, arith}
 use Rattle.std.proofs.Math.Nat.{eq-or-lt_of_le}
 use Rattle.std.proofs.lemmas.Cmp.{nat_list_cmp_total}
 use Rattle.std.proofs.lemmas.Bool.{cases_eq}
@@ -34,9 +34,11 @@ module _ (inputs : List StationInput) (IsSo : ℕ → Type 0) (place : ℕ) wher
       subst (IsLeastPlace inputs IsSo (place + 1)) (sym is)
       (omega arith, so, up_to (λ at. IsSo at → ¬ (IsBelow inputs at place)) (λ at below so'. absurd (h at below so')) (λ so' below. not_below_itself inputs place below))
   least_yes (Some p) result so h (inl lower) =
-      subst (IsLeastPlace inputs IsSo (place + 1)) (sym lower.0)
-      (omega arith, so,
-      up_to (λ at. IsSo at → ¬ (IsBelow inputs at place)) (λ at below so' under. h.2 at below so' (below_trans inputs at place p under lower.1)) (λ so' below. not_below_itself inputs place below))
+      subst (IsLeastPlace inputs IsSo (place + 1)) (sym lower.0) (
+        omega arith,
+        so,
+        up_to (λ at. IsSo at → ¬ (IsBelow inputs at place)) (λ at below so' under. h.2 at below so' (below_trans inputs at place p under lower.1)) (λ so' below. not_below_itself inputs place below),
+      )
   least_yes (Some p) result so h (inr higher) =
       subst (IsLeastPlace inputs IsSo (place + 1)) (sym higher.0)
       (omega (arith, h.0), h.1, up_to (λ at. IsSo at → ¬ (IsBelow inputs at p)) h.2 (λ so'. higher.1))

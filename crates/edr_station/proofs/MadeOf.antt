@@ -1,5 +1,5 @@
 -- The stations that are set of inputs, one more at a time.
-use Rattle.std.proofs.Common.{◌≡◌, ◌≢◌, ◌⊎◌, ◌↔◌, ℕ, ◌+◌, ◌<◌, ◌≤◌, ◌++◌, ◌∷◌, List, [], inl, inr, length, map, get_or, Option, Some, None, Contains, bytes_eq, refl, sym, ap, ◌∙◌, subst, arith, length-append}
+use Rattle.std.proofs.Common.{◌≡◌, ◌≢◌, ◌⊎◌, ◌<◌, ◌++◌, ◌∷◌, List, [], inl, inr, length, map, get_or, Option, Some, None, Contains, bytes_eq, refl, sym, ap, ◌∙◌, subst, arith, length-append}
 use Rattle.std.proofs.Math.Seq.{get_or-append_seam}
 use Rattle.std.proofs.lemmas.Bool.{cases_Bool, cases_lt, false≢true}
 use Rattle.std.proofs.lemmas.List.{get_or_append_left, get_or-map, length-map, map-append}
@@ -8,8 +8,12 @@ use Rattle.edr_ids.specs.Ids.{AscendBy, AreById, item_of, with_item}
 use Rattle.edr_ids.specs.ListLaws.{AscendBy-with_item, item_found}
 use Rattle.edr_station.specs.declared.inputs.StationInput.{StationInput}
 use Rattle.edr_station.specs.Stations.{StationValue, station_id}
-use Rattle.edr_station.specs.Inputs.{station_of, no_input, input_at, id_at, AreOf}
-use Rattle.edr_station.specs.Least.{IsRepeatAt, HaveOwnIds}
+use Rattle.edr_station.specs.Inputs.{station_of, no_input, id_at, AreOf}
+use Rattle.edr_station.specs.Least.{HaveOwnIds}
+
+pub is_empty : (xs : List StationInput) → length xs ≡ 0 → xs ≡ []
+is_empty [] h = refl
+is_empty (x ∷ xs) h = absurd (omega (arith, h))
 
 pushed_in : (xs : List StationValue) (y s : StationValue) → Contains (xs ++ y ∷ []) s → Contains xs s ⊎ (s ≡ y)
 pushed_in xs y s h = elim (cases_lt h.0 (length xs)) [
@@ -52,8 +56,8 @@ made_more laws done x items up none h s =
     let new = station_of x in
     let all = map station_of done in
     let more : map station_of (done ++ x ∷ []) ≡ all ++ new ∷ [] = map-append station_of done (x ∷ []) in (
-      λ stands. subst (λ (l : List StationValue). Contains l s) (sym more) (in_pushed all new s (elim (set_in laws new items up none s stands) [ | inl old ↦ inl ((h s).0 old) | inr same ↦ inr same ])),
-      λ stands. in_set laws new items up none s (elim (pushed_in all new s (subst (λ (l : List StationValue). Contains l s) more stands)) [ | inl old ↦ inl ((h s).1 old) | inr same ↦ inr same ]),
+      λ stands. subst (λ (l : List StationValue). Contains l s) (sym more) (in_pushed all new s (elim (set_in laws new items up none s stands) [ inl old ↦ inl ((h s).0 old) | inr same ↦ inr same ])),
+      λ stands. in_set laws new items up none s (elim (pushed_in all new s (subst (λ (l : List StationValue). Contains l s) more stands)) [ inl old ↦ inl ((h s).1 old) | inr same ↦ inr same ]),
     )
 
 cases_Option : {A : Type 0} (o : Option A) → (o ≡ None) ⊎ ((y : A) × (o ≡ Some y))

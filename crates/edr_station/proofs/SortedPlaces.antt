@@ -1,5 +1,5 @@
 -- Stations in the order of their ids, by the place of an id.
-use Rattle.std.proofs.Common.{◌≡◌, ℕ, zero, suc, ◌+◌, ◌<◌, ◌≤◌, ◌++◌, ◌∷◌, Bool, true, false, not, List, [], inl, inr, length, min, take, drop, get_or, All, Some, None, Ordering, Less, Equal, Greater, refl, sym, ap, ◌∙◌, subst, arith}
+use Rattle.std.proofs.Common.{◌≡◌, ℕ, suc, ◌+◌, ◌<◌, ◌≤◌, ◌++◌, ◌∷◌, Bool, not, List, [], inl, inr, length, take, drop, get_or, All, Some, None, Ordering, Less, Equal, Greater, sym, ap, ◌∙◌, arith}
 use Rattle.std.specs.Prelude.{Option}
 use Rattle.std.specs.List.{filter}
 use Rattle.std.specs.Ordering.{is_lt, is_eq, is_gt}
@@ -14,7 +14,7 @@ use Rattle.edr_ids.specs.Ids.{order, AscendBy, has_id, is_below, is_above, item_
 use Rattle.edr_ids.specs.ListLaws.{order_itself, order_same, order_less_flips, order_greater_flips, less_from_test, greater_from_test, keys_ascend, has_id_is, filter_keeps_all, filter_keeps_none, item_of-found, item_of-none}
 use Rattle.edr_station.specs.Stations.{StationValue, station_id, nowhere, station_at}
 use Rattle.edr_station.specs.Shelves.{splice}
-use Rattle.edr_station.specs.Places.{AreBelow, AreAbove, IsPlaceOf}
+use Rattle.edr_station.specs.Places.{AreBelow, AreAbove}
 
 -- ---- how the search narrows
 

@@ -1,13 +1,11 @@
 -- Lists of stations in trees of pages: for private clauses.
-use Rattle.std.specs.Prelude.{◌≡◌, ℕ, ◌+◌, ◌<◌, ◌≤◌, ◌^◌, ⊤, true, List, [], ◌∷◌, ◌++◌, length, map, take, drop, sum_by, Option, option_map, Result, Ok, Err}
+use Rattle.std.specs.Prelude.{◌≡◌, ℕ, ◌+◌, ◌<◌, ◌≤◌, List, ◌++◌, length, map, take, drop, sum_by, Option}
 use Rattle.std.specs.Option.{option_to_list}
-use Rattle.std.specs.List.{slice_index_or, filter, enumerate_from}
+use Rattle.std.specs.List.{slice_index_or}
 use Rattle.std.specs.Arc.{arc_value}
 use Rattle.std.specs.declared.sync.Arc.{Arc}
 use Rattle.std.specs.declared.alloc.Global.{Global}
-use Rattle.edr_ids.specs.Ids.{is_below, is_above}
-use Rattle.edr_station.specs.declared.station.Station.{Station}
-use Rattle.edr_station.specs.Stations.{StationValue, station_id}
+use Rattle.edr_station.specs.Stations.{StationValue}
 use Rattle.edr_station.specs.Blocks.{blocks_of}
 
 -- the stations of shared ones

@@ -50,7 +50,7 @@ fn are_long(input: &StationInput, series: &[Items<Option<i64>>]) -> bool
     true
 }
 
-// Whether an input has a list for each parameter, with one value for each time and level.
+/// Whether an input has a list for each parameter, with one value for each time and level.
 pub fn has_counts(parameters: usize, input: &StationInput) -> bool
     ensures { IsTrue result ↔ HasCounts parameters input.now }
 {

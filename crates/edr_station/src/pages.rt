@@ -44,10 +44,7 @@ fn count_blocks(stations: &[Arc<Station>]) -> Option<u64>
 }
 
 // Shares some stations more.
-fn share_all(
-    stations: &[Arc<Station>],
-    shared: &mut Vec<Arc<Station>>,
-) -> Result<(), OutOfMemory>
+fn share_all(stations: &[Arc<Station>], shared: &mut Vec<Arc<Station>>) -> Result<(), OutOfMemory>
     ensures { OnOk result (stations_of shared.new.items ≡ stations_of shared.old.items ++ stations_of stations.now) }
 {
     for station in stations {
@@ -56,7 +53,7 @@ fn share_all(
     Ok(())
 }
 
-// Adds a station, where one is given.
+/// Adds a station, where one is given. The only error is want of memory.
 pub fn push_given(
     put: Option<Arc<Station>>,
     stations: &mut Vec<Arc<Station>>,

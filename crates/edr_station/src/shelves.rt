@@ -197,7 +197,8 @@ impl Shelf {
             Top::Sides(fork) => {
                 let fork: &Fork = fork;
                 fork.before.add_inside(first, lo, hi, places)?;
-                fork.behind.add_inside(first + fork.before.len(), lo, hi, places)
+                fork.behind
+                    .add_inside(first + fork.before.len(), lo, hi, places)
             }
         }
     }
@@ -341,7 +342,9 @@ impl Shelf {
                     let before = fork.before.spliced(alloc, place, end, put)?;
                     balanced(alloc, before, fork.behind.share()?)
                 } else {
-                    let behind = fork.behind.spliced(alloc, place - before, end - before, put)?;
+                    let behind = fork
+                        .behind
+                        .spliced(alloc, place - before, end - before, put)?;
                     balanced(alloc, fork.before.share()?, behind)
                 }
             }

@@ -96,10 +96,7 @@ fn levels_in(levels: &Option<Axis>) -> usize
 }
 
 // The packed lists of values.
-fn packed(
-    alloc: Global,
-    series: &[Items<Option<i64>>],
-) -> Result<Vec<Series>, OutOfMemory>
+fn packed(alloc: Global, series: &[Items<Option<i64>>]) -> Result<Vec<Series>, OutOfMemory>
     requires { All AreSamples series.now }
     ensures { IfOk result (λ packed. packed.items ≡ series.now) }
 {

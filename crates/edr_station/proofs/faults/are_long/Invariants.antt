@@ -1,4 +1,4 @@
-use Rattle.std.proofs.Common.{◌≡◌, ℕ, All, take, length}
+use Rattle.std.proofs.Common.{◌≡◌, All, take, length}
 use Rattle.edr_station.specs.Stations.{values_along}
 use Rattle.edr_station.specs.Inputs.{station_of}
 use Rattle.edr_station.proofs.faults.are_long.Given as goal

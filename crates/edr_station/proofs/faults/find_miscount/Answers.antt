@@ -13,7 +13,7 @@ returns-in_ok-id-in-Some-clause-refused c told =
     let place = c.in-Some.place in
     let id : c.in_ok-id-in-Some.id ≡ id_at inputs place =
     c.in_ok-id-in-Some.ensures
-    ∙ (c.bytes.ensures ∙ ap (λ (i : StationInput). i.id) (c.index-inputs-place.is ∙ get_or_default inputs place c.index-inputs-place.result no_input c.in-Some.ensures.0)) in
+    ∙ (c.bytes.ensures ∙ ap (λ (i : StationInput). i.id) (get_or_default inputs place c.index-inputs-place.result no_input c.in-Some.ensures.0)) in
     subst (λ (k : List ℕ). IsLeast rank (Applies c.args.parameters inputs) (WrongCount k)) (sym id) (wrong_is_least c.args.parameters inputs place c.requires c.in-Some.ensures)
 
 pub returns-in-None-clause-counts : goal.returns-in-None-clause-counts

@@ -1,4 +1,4 @@
-use Rattle.std.proofs.Common.{◌≡◌, ◌+◌, ◌<◌, sym, ap, ◌∙◌, subst, arith, take, length}
+use Rattle.std.proofs.Common.{◌≡◌, ◌+◌, ◌<◌, sym, ap, ◌∙◌, subst, arith, take}
 use Rattle.std.specs.Prelude.{SomeIff, Option, ℕ}
 use Rattle.std.proofs.lemmas.List.{take_all}
 use Rattle.edr_station.specs.Blocks.{blocks_of}

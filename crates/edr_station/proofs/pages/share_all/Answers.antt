@@ -1,4 +1,4 @@
-use Rattle.std.proofs.Common.{◌≡◌, ◌+◌, ◌++◌, ◌∷◌, [], List, sym, ap, ◌∙◌, take, append_assoc}
+use Rattle.std.proofs.Common.{◌≡◌, ◌++◌, ◌∷◌, [], List, sym, ap, ◌∙◌, take, append_assoc}
 use Rattle.std.specs.Arc.{arc_value}
 use Rattle.edr_station.specs.Stations.{StationValue}
 use Rattle.edr_station.specs.Shelves.{stations_of}

@@ -1,5 +1,4 @@
-use Rattle.std.proofs.Common.{◌≡◌, ◌+◌, ◌++◌, ◌∷◌, [], List, sym, ◌∙◌, subst}
-use Rattle.std.specs.Prelude.{ℤ, Option}
+use Rattle.std.proofs.Common.{◌+◌, List, sym, ◌∙◌, subst}
 use Rattle.edr_station.specs.KeptBlocks.{Filled}
 use Rattle.edr_station.proofs.BlockLists.{Values, filled_more}
 use Rattle.edr_station.proofs.series.packed_blocks.Goals as goal

@@ -1,6 +1,5 @@
-use Rattle.std.proofs.Common.{◌≡◌, ◌++◌, List, sym, ap, ◌∙◌, take, drop}
+use Rattle.std.proofs.Common.{ap, ◌∙◌, take, drop}
 use Rattle.std.proofs.lemmas.List.{take-append-drop}
-use Rattle.edr_station.specs.Stations.{StationValue}
 use Rattle.edr_station.specs.Shelves.{stations_of}
 use Rattle.edr_station.proofs.SharedLists.{part_before, part_behind}
 use Rattle.edr_station.proofs.ForkLists.{joined_is}

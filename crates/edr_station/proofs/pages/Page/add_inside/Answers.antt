@@ -1,4 +1,4 @@
-use Rattle.std.proofs.Common.{◌≡◌, ℕ, ◌+◌, ◌<◌, ◌++◌, ◌∷◌, [], List, length, sym, ap, ◌∙◌, arith, rules, take, append_assoc}
+use Rattle.std.proofs.Common.{ℕ, ◌+◌, ◌<◌, ◌++◌, ◌∷◌, [], List, length, sym, ap, ◌∙◌, rules, take, append_assoc}
 use Rattle.edr_station.specs.Boxes.{places_from}
 use Rattle.edr_station.proofs.SharedLists.{at_page}
 use Rattle.edr_station.proofs.BoxLists.{places_more_yes, places_more_no}

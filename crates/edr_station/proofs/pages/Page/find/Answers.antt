@@ -1,4 +1,4 @@
-use Rattle.std.proofs.Common.{◌≡◌, ◌+◌, ◌<◌, length, sym, ap, ◌∙◌, arith, rules}
+use Rattle.std.proofs.Common.{◌<◌, length, ap, arith, rules}
 use Rattle.std.proofs.lemmas.List.Sums.{sum_by_more}
 use Rattle.edr_station.specs.Blocks.{blocks_of}
 use Rattle.edr_station.proofs.SharedLists.{at_page}

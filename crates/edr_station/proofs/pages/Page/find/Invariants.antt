@@ -1,5 +1,5 @@
 use Rattle.std.proofs.Common.{◌≡◌, ◌≤◌, take}
-use Rattle.edr_station.specs.Shelves.{stations_of, blocks_in}
+use Rattle.edr_station.specs.Shelves.{blocks_in}
 use Rattle.edr_station.proofs.pages.Page.find.Given as goal
 
 abbrev pub invariant-loop-place : goal.invariant-loop-place

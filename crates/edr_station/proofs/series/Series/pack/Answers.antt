@@ -1,5 +1,4 @@
-use Rattle.std.proofs.Common.{◌≡◌, List, length, sym, ap, ◌∙◌, subst}
-use Rattle.std.specs.Prelude.{ℤ, Option}
+use Rattle.std.proofs.Common.{List, length, sym, ap, ◌∙◌, subst}
 use Rattle.edr_station.specs.Blocks.{blocks_along}
 use Rattle.edr_station.specs.KeptBlocks.{values_of, Filled, AreBlocks}
 use Rattle.edr_station.proofs.BlockLists.{Values, whole_values}

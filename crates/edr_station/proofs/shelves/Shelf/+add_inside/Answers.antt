@@ -1,5 +1,4 @@
-use Rattle.std.proofs.Common.{◌≡◌, ℕ, ◌+◌, ◌++◌, sym, ap, ◌∙◌, List, length, append_assoc}
-use Rattle.edr_station.specs.Stations.{StationValue}
+use Rattle.std.proofs.Common.{ℕ, ◌+◌, ◌++◌, sym, ap, ◌∙◌, List, length, append_assoc}
 use Rattle.edr_station.specs.Boxes.{places_from}
 use Rattle.edr_station.proofs.BoxLists.{places-append}
 use Rattle.edr_station.proofs.ForkLists.{at_fork, on_ok_is}

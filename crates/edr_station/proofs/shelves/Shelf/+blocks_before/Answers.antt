@@ -1,4 +1,4 @@
-use Rattle.std.proofs.Common.{◌≡◌, ◌-◌, sym, ap, ◌∙◌, arith, take, List}
+use Rattle.std.proofs.Common.{◌-◌, ap, arith, take, List}
 use Rattle.edr_station.specs.Stations.{StationValue}
 use Rattle.edr_station.specs.Shelves.{blocks_in}
 use Rattle.edr_station.proofs.SharedLists.{blocks_before-le}
@@ -16,5 +16,10 @@ returns-else-place-before t c =
     let fork = c.deref-fork.result.now in
     let at = at_fork c.args.self.now c.self.inside.top c.in-Sides.fork fork c.self.view_is c.in-Sides.is c.deref-fork.ensures c.self.invariant in
     let whole = ap (λ (l : List StationValue). blocks_in (take c.args.place l)) at.is in
-    omega (arith, whole, blocks_behind fork.before fork.behind c.len-before.result c.args.place c.len-before.ensures.len c.if-place-before.false,
-    c.blocks-else-place-before.ensures, c.blocks_before-else-place-before.ensures)
+    omega (
+      arith,
+      whole,
+      blocks_behind fork.before fork.behind c.len-before.result c.args.place c.len-before.ensures.len c.if-place-before.false,
+      c.blocks-else-place-before.ensures,
+      c.blocks_before-else-place-before.ensures,
+    )

@@ -1,4 +1,4 @@
-use Rattle.std.proofs.Common.{◌≡◌, ℕ, ◌+◌, ◌-◌, ◌≤◌, ◌++◌, sym, ap, ◌∙◌, arith, subst, List, length}
+use Rattle.std.proofs.Common.{ℕ, ◌+◌, ◌-◌, ◌≤◌, ◌++◌, sym, arith, subst, List, length}
 use Rattle.edr_station.specs.Stations.{StationValue}
 use Rattle.edr_station.specs.Shelves.{blocks_in, IsFound}
 use Rattle.edr_station.proofs.ForkLists.{at_fork, found_behind}

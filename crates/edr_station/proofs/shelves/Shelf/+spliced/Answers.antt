@@ -1,7 +1,6 @@
-use Rattle.std.proofs.Common.{◌≡◌, ◌-◌, ℕ, sym, ap, ◌∙◌, List, refl}
+use Rattle.std.proofs.Common.{◌-◌, sym, ap, ◌∙◌}
 use Rattle.std.specs.Option.{option_map}
 use Rattle.std.specs.Arc.{arc_value}
-use Rattle.edr_station.specs.Stations.{StationValue}
 use Rattle.edr_station.specs.Shelves.{splice}
 use Rattle.edr_station.proofs.SharedLists.{Shared}
 use Rattle.edr_station.proofs.ForkLists.{at_fork, joined_is, splice_behind}

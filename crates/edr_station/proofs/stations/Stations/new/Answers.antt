@@ -1,5 +1,5 @@
 use Rattle.std.proofs.Common.{List, sym, subst}
-use Rattle.edr_station.specs.Stations.{StationValue, StationsValue}
+use Rattle.edr_station.specs.Stations.{StationValue}
 use Rattle.edr_station.specs.Places.{AreKept}
 use Rattle.edr_station.proofs.KeptStations.{none_kept}
 use Rattle.edr_station.proofs.stations.Stations.new.Goals as goal

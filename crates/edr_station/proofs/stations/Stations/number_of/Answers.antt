@@ -1,5 +1,5 @@
-use Rattle.std.proofs.Common.{◌≡◌, ℕ, ◌+◌, ◌*◌, ◌^◌, ◌<◌, List, length, take, refl, sym, ap, ◌∙◌, subst, arith}
-use Rattle.edr_station.specs.Stations.{StationValue, StationsValue, nowhere, station_at}
+use Rattle.std.proofs.Common.{◌≡◌, ℕ, ◌+◌, ◌*◌, ◌^◌, ◌<◌, length, take, refl, sym, ap, ◌∙◌, subst, arith}
+use Rattle.edr_station.specs.Stations.{StationsValue, nowhere, station_at}
 use Rattle.edr_station.specs.Blocks.{blocks, blocks_of, first_block}
 use Rattle.edr_station.specs.Shelves.{blocks_in}
 use Rattle.edr_station.specs.Places.{AreKept}

@@ -1,9 +1,8 @@
-use Rattle.std.proofs.Common.{◌≡◌, ◌+◌, ℕ, List, None, Some, Option, sym, ap, ◌∙◌}
+use Rattle.std.proofs.Common.{◌≡◌, ℕ, List, None, Some, Option, sym, ap, ◌∙◌}
 use Rattle.std.specs.Prelude.{is_some}
-use Rattle.edr_ids.specs.Ids.{AscendBy, item_of, without_id}
+use Rattle.edr_ids.specs.Ids.{item_of, without_id}
 use Rattle.edr_ids.specs.ListLaws.{without_id-none}
 use Rattle.edr_station.specs.Stations.{StationValue, StationsValue, station_id, station_at}
-use Rattle.edr_station.specs.Shelves.{splice}
 use Rattle.edr_station.proofs.SortedPlaces.{left_one, one_found, none_found}
 use Rattle.edr_station.proofs.KeptStations.{kept_without}
 use Rattle.edr_station.proofs.ForkLists.{on_err}
