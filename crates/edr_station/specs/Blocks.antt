@@ -1,0 +1,82 @@
+-- The blocks of stations: up to 256 values of one station and parameter, in the order t, z. They are numbered by station,
+-- parameter and block, ascending from 0.
+use Rattle.std.specs.Prelude.{◌≡◌, ℕ, ◌+◌, ◌*◌, ◌-◌, ◌/◌, ◌%◌, ◌<◌, min, ℤ, List, [], length, take, drop, Option, None, sum_by}
+use Rattle.std.specs.List.{slice_index_or}
+use Rattle.edr_station.specs.Stations.{StationValue, StationsValue, levels_along, values_along, station_at}
+
+-- how many blocks hold so many values
+abbrev pub blocks_along : ℕ → ℕ
+blocks_along values = (values + 255) / 256
+
+-- how many blocks each parameter of a station has
+abbrev pub blocks_of : StationValue → ℕ
+blocks_of s = blocks_along (values_along s)
+
+-- how many blocks stations of so many parameters have
+abbrev pub blocks : ℕ → List StationValue → ℕ
+blocks parameters stations = sum_by (λ s. parameters * blocks_of s) stations
+
+-- the number of the first block of the station at a place: all blocks of the stations before it stand before it
+abbrev pub first_block : StationsValue → ℕ → ℕ
+first_block collection station = blocks collection.parameters (take station collection.stations)
+
+-- a place: of a station, a parameter, a time and a level, each from 0; the level is 0 where the station has none
+pub record StationPlace : Type 0 where
+  pub station : ℕ
+  pub parameter : ℕ
+  pub time : ℕ
+  pub level : ℕ
+
+abbrev pub place_at : ℕ → ℕ → ℕ → ℕ → StationPlace
+place_at station parameter time level = record { station = station; parameter = parameter; time = time; level = level }
+
+-- the place lies among the stations, the parameters, and that station's times and levels
+pub record Within (collection : StationsValue) (place : StationPlace) : Type 0 where
+  pub station : place.station < length collection.stations
+  pub parameter : place.parameter < collection.parameters
+  pub time : place.time < length (station_at collection.stations place.station).ts
+  pub level : place.level < levels_along (station_at collection.stations place.station).zs
+
+-- where the value of a time and a level stands among those of a parameter
+abbrev pub place_in_series : StationValue → ℕ → ℕ → ℕ
+place_in_series s time level = time * levels_along s.zs + level
+
+-- the values of a parameter of a station
+abbrev pub series_at : StationValue → ℕ → List (Option ℤ)
+series_at s parameter = slice_index_or s.series parameter []
+
+-- the value at a place
+abbrev pub value : StationsValue → StationPlace → Option ℤ
+value collection place =
+    let s = station_at collection.stations place.station in
+    slice_index_or (series_at s place.parameter) (place_in_series s place.time place.level) None
+
+-- the number of a place's block
+abbrev pub block_of : StationsValue → StationPlace → ℕ
+block_of collection place =
+    let s = station_at collection.stations place.station in
+    first_block collection place.station + place.parameter * blocks_of s + place_in_series s place.time place.level / 256
+
+-- where a place's value stands in its block
+abbrev pub place_in_block : StationsValue → StationPlace → ℕ
+place_in_block collection place = place_in_series (station_at collection.stations place.station) place.time place.level % 256
+
+-- the values of a block of a parameter: 256, or what is left at the last one
+abbrev pub cut_block : ℕ → List (Option ℤ) → List (Option ℤ)
+cut_block block values = take 256 (drop (block * 256) values)
+
+-- what the block of a number is: it is one of some station and parameter, it has the values of its part of their series and
+-- no more; so all places whose block it is lie in it, with the collection's values
+pub record IsBlock (collection : StationsValue) (number : ℕ) (values : List (Option ℤ)) : Type 0 where
+  pub station : ℕ
+  pub parameter : ℕ
+  pub block : ℕ
+  pub station_in : station < length collection.stations
+  pub parameter_in : parameter < collection.parameters
+  pub block_in : block < blocks_of (station_at collection.stations station)
+  pub numbered : first_block collection station + parameter * blocks_of (station_at collection.stations station) + block ≡ number
+  pub long : length values ≡ min (values_along (station_at collection.stations station) - block * 256) 256
+  pub cut : values ≡ cut_block block (series_at (station_at collection.stations station) parameter)
+  pub lies : (place : StationPlace) → Within collection place → block_of collection place ≡ number → place_in_block collection place < length values
+  pub same : (place : StationPlace) → Within collection place → block_of collection place ≡ number
+      → slice_index_or values (place_in_block collection place) None ≡ value collection place

@@ -1,0 +1,12 @@
+pub mod Stations
+pub mod Blocks
+pub mod Boxes
+pub mod Inputs
+pub mod Few
+pub mod KeptBlocks
+pub mod Kept
+pub mod Shelves
+pub mod Forks
+pub mod ForkDepths
+pub mod Places
+pub mod Least

@@ -1,0 +1,15 @@
+//! The stations of a collection: where and when each of them is, and its values, kept in packed blocks.
+#![tactic(auto)]
+
+mod faults;
+mod few;
+mod inputs;
+mod pages;
+mod series;
+mod shelves;
+mod station;
+mod stations;
+
+pub use inputs::{StationFault, StationInput};
+pub use station::Station;
+pub use stations::Stations;
