@@ -1,14 +1,16 @@
 //! Documents of lines, for tests.
 //!
 //! A document is a coverage, or coverages between `[` and `]`. A coverage is its domain type and some words: `t`, `z`, `y`
-//! and `x` of the domain, `at` with its tuples x/y/z/m, and `own` where these have levels of their own, the `ids` of its
-//! parameters, and the `values` of each, `-` for an absent one. It may have an `id`, a `crs` and a `vertical`. In texts `?`
-//! stands for a byte that is no UTF-8.
+//! and `x` of the domain, `at` with its tuples x/y/z/m, and `own` where these have levels of their own. `ids` has its
+//! parameters, each an id, and behind colons the language and the text of its label and its unit, where these aren't `en`,
+//! `A` and none. `values` has the values of each parameter, `-` for an absent one, with bars between parameters where they
+//! differ; `ranges` is how many have them, where not all have. A coverage may have an `id`, a `crs` and a `vertical`. In
+//! texts `?` stands for a byte that is no UTF-8, `_` for a blank and `^` for a line feed. A line that can't be read, and
+//! want of memory, give nothing.
 use covjson_value::{Coverage, Document, Domain, NdArray, Parameter, Referencing};
 use edr_axes::Axis;
 use edr_base::{Items, Position, Text};
 use std::alloc::Global;
-use std::test::Fail;
 
 // The value of a word, where a line has it.
 fn word<'a>(line: &'a str, name: &str) -> Option<&'a str> {
@@ -22,42 +24,46 @@ fn word<'a>(line: &'a str, name: &str) -> Option<&'a str> {
     None
 }
 
-fn number(text: &str) -> Result<i64, Fail> {
-    Ok(text.parse::<i64>().ok().ok_or("no number")?)
+fn number(text: &str) -> Option<i64> {
+    text.parse::<i64>().ok()
 }
 
-fn number_in(line: &str, name: &str) -> Result<Option<i64>, Fail> {
+fn number_in(line: &str, name: &str) -> Option<Option<i64>> {
     match word(line, name) {
-        Some(text) => Ok(Some(number(text)?)),
-        None => Ok(None),
+        Some(text) => Some(Some(number(text)?)),
+        None => Some(None),
     }
 }
 
 // The number of a word, and 0 where a line hasn't it.
-fn number_or_zero(line: &str, name: &str) -> Result<i64, Fail> {
-    Ok(number_in(line, name)?.unwrap_or(0))
+fn number_or_zero(line: &str, name: &str) -> Option<i64> {
+    number(word(line, name).unwrap_or("0"))
 }
 
-fn axis_in(alloc: Global, line: &str, name: &str) -> Result<Option<Axis>, Fail> {
-    let Some(text) = word(line, name) else {
-        return Ok(None);
-    };
+fn axis_of(alloc: Global, text: &str) -> Option<Axis> {
     let mut values = Vec::new(alloc);
     for part in text.split(',') {
-        values.push(number(part)?)?;
+        values.push(number(part)?).ok()?;
     }
-    Ok(Some(Axis::of(alloc, &values)?))
+    Axis::of(alloc, &values).ok()
 }
 
-fn axis(alloc: Global, line: &str, name: &str) -> Result<Axis, Fail> {
-    Ok(axis_in(alloc, line, name)?.ok_or("no axis")?)
+fn axis_in(alloc: Global, line: &str, name: &str) -> Option<Option<Axis>> {
+    match word(line, name) {
+        Some(text) => Some(Some(axis_of(alloc, text)?)),
+        None => Some(None),
+    }
 }
 
-fn tuple(text: &str) -> Result<Position, Fail> {
-    let (x, rest) = text.split_once('/').ok_or("no y")?;
-    let (y, rest) = rest.split_once('/').ok_or("no z")?;
-    let (z, m) = rest.split_once('/').ok_or("no m")?;
-    Ok(Position {
+fn axis(alloc: Global, line: &str, name: &str) -> Option<Axis> {
+    axis_of(alloc, word(line, name)?)
+}
+
+fn tuple(text: &str) -> Option<Position> {
+    let (x, rest) = text.split_once('/')?;
+    let (y, rest) = rest.split_once('/')?;
+    let (z, m) = rest.split_once('/')?;
+    Some(Position {
         x: number(x)?,
         y: number(y)?,
         z: number(z)?,
@@ -65,18 +71,18 @@ fn tuple(text: &str) -> Result<Position, Fail> {
     })
 }
 
-fn tuples(alloc: Global, line: &str) -> Result<Items<Position>, Fail> {
+fn tuples(alloc: Global, line: &str) -> Option<Items<Position>> {
     let mut items = Vec::new(alloc);
     if let Some(text) = word(line, "at") {
         for part in text.split(',') {
-            items.push(tuple(part)?)?;
+            items.push(tuple(part)?).ok()?;
         }
     }
-    Ok(Items::of(items))
+    Some(Items::of(items))
 }
 
-fn grid(alloc: Global, line: &str) -> Result<Domain, Fail> {
-    Ok(Domain::Grid {
+fn grid(alloc: Global, line: &str) -> Option<Domain> {
+    Some(Domain::Grid {
         t: axis_in(alloc, line, "t")?,
         z: axis_in(alloc, line, "z")?,
         y: axis(alloc, line, "y")?,
@@ -84,8 +90,8 @@ fn grid(alloc: Global, line: &str) -> Result<Domain, Fail> {
     })
 }
 
-fn point(line: &str) -> Result<Domain, Fail> {
-    Ok(Domain::Point {
+fn point(line: &str) -> Option<Domain> {
+    Some(Domain::Point {
         t: number_in(line, "t")?,
         z: number_in(line, "z")?,
         y: number_or_zero(line, "y")?,
@@ -93,8 +99,8 @@ fn point(line: &str) -> Result<Domain, Fail> {
     })
 }
 
-fn point_series(alloc: Global, line: &str) -> Result<Domain, Fail> {
-    Ok(Domain::PointSeries {
+fn point_series(alloc: Global, line: &str) -> Option<Domain> {
+    Some(Domain::PointSeries {
         t: axis(alloc, line, "t")?,
         z: number_in(line, "z")?,
         y: number_or_zero(line, "y")?,
@@ -102,8 +108,8 @@ fn point_series(alloc: Global, line: &str) -> Result<Domain, Fail> {
     })
 }
 
-fn vertical_profile(alloc: Global, line: &str) -> Result<Domain, Fail> {
-    Ok(Domain::VerticalProfile {
+fn vertical_profile(alloc: Global, line: &str) -> Option<Domain> {
+    Some(Domain::VerticalProfile {
         t: number_in(line, "t")?,
         z: axis(alloc, line, "z")?,
         y: number_or_zero(line, "y")?,
@@ -111,108 +117,148 @@ fn vertical_profile(alloc: Global, line: &str) -> Result<Domain, Fail> {
     })
 }
 
+fn multi_point(alloc: Global, line: &str) -> Option<Domain> {
+    Some(Domain::MultiPoint {
+        t: number_in(line, "t")?,
+        has_z: word(line, "own").is_some(),
+        spots: tuples(alloc, line)?,
+    })
+}
+
+fn trajectory(alloc: Global, line: &str) -> Option<Domain> {
+    Some(Domain::Trajectory {
+        z: number_in(line, "z")?,
+        has_z: word(line, "own").is_some(),
+        steps: tuples(alloc, line)?,
+    })
+}
+
 /// The domain of a line.
-pub fn domain(alloc: Global, line: &str) -> Result<Domain, Fail> {
-    let has_z = word(line, "own").is_some();
+pub fn domain(alloc: Global, line: &str) -> Option<Domain> {
     let (kind, _) = line.split_once(' ').unwrap_or((line, ""));
     match kind {
         "Grid" => grid(alloc, line),
         "Point" => point(line),
         "PointSeries" => point_series(alloc, line),
         "VerticalProfile" => vertical_profile(alloc, line),
-        "MultiPoint" => Ok(Domain::MultiPoint {
-            t: number_in(line, "t")?,
-            has_z,
-            spots: tuples(alloc, line)?,
-        }),
-        "Trajectory" => Ok(Domain::Trajectory {
-            z: number_in(line, "z")?,
-            has_z,
-            steps: tuples(alloc, line)?,
-        }),
-        _ => Err(Fail::new("no domain type")),
+        "MultiPoint" => multi_point(alloc, line),
+        "Trajectory" => trajectory(alloc, line),
+        _ => None,
     }
 }
 
-// A text, with a byte that is no UTF-8 for each `?`.
-fn text_of(alloc: Global, word: &str) -> Result<Text, Fail> {
+fn text_of(alloc: Global, word: &str) -> Option<Text> {
     let mut bytes = Vec::new(alloc);
     for byte in word.bytes() {
-        bytes.push(if byte == b'?' { 0xff } else { byte })?;
+        let meant = match byte {
+            b'?' => 0xff,
+            b'_' => b' ',
+            b'^' => b'\n',
+            other => other,
+        };
+        bytes.push(meant).ok()?;
     }
-    Ok(Text::from_vec(bytes))
+    Some(Text::from_vec(bytes))
 }
 
-fn text_in(alloc: Global, line: &str, name: &str) -> Result<Option<Text>, Fail> {
-    match word(line, name) {
-        Some(text) => Ok(Some(text_of(alloc, text)?)),
-        None => Ok(None),
+fn text_if(alloc: Global, word: Option<&str>) -> Option<Option<Text>> {
+    match word {
+        Some(text) => Some(Some(text_of(alloc, text)?)),
+        None => Some(None),
     }
 }
 
-/// A parameter of that id.
-pub fn parameter(alloc: Global, id: &str) -> Result<Parameter, Fail> {
-    Ok(Parameter {
-        id: text_of(alloc, id)?,
-        lang: Text::of(alloc, b"en")?,
-        label: Text::of(alloc, b"A")?,
-        unit: None,
+fn parameter(alloc: Global, word: &str) -> Option<Parameter> {
+    let mut parts = word.split(':');
+    Some(Parameter {
+        id: text_of(alloc, parts.next().unwrap_or(""))?,
+        lang: text_of(alloc, parts.next().unwrap_or("en"))?,
+        label: text_of(alloc, parts.next().unwrap_or("A"))?,
+        unit: text_if(alloc, parts.next())?,
     })
 }
 
-/// The values of a line.
-pub fn range(alloc: Global, line: &str) -> Result<NdArray, Fail> {
-    let mut values = Vec::new(alloc);
-    if let Some(text) = word(line, "values") {
-        for part in text.split(',') {
-            let value = if part == "-" {
-                None
-            } else {
-                Some(number(part)?)
-            };
-            values.push(value)?;
+fn parameters(alloc: Global, ids: &str) -> Option<Items<Parameter>> {
+    let mut items = Vec::new(alloc);
+    if !ids.is_empty() {
+        for id in ids.split(',') {
+            items.push(parameter(alloc, id)?).ok()?;
         }
     }
-    Ok(NdArray {
+    Some(Items::of(items))
+}
+
+fn range(alloc: Global, text: &str) -> Option<NdArray> {
+    let mut values = Vec::new(alloc);
+    if !text.is_empty() {
+        for part in text.split(',') {
+            let value = match part {
+                "-" => None,
+                _ => Some(number(part)?),
+            };
+            values.push(value).ok()?;
+        }
+    }
+    Some(NdArray {
         values: Items::of(values),
     })
 }
 
-/// The coverage of a line, with these ids of parameters where the line has none.
-pub fn coverage(alloc: Global, line: &str, ids: &str) -> Result<Coverage, Fail> {
-    let mut parameters = Vec::new(alloc);
-    let mut ranges = Vec::new(alloc);
-    let ids = word(line, "ids").unwrap_or(ids);
-    if !ids.is_empty() {
-        for id in ids.split(',') {
-            parameters.push(parameter(alloc, id)?)?;
-            ranges.push(range(alloc, line)?)?;
-        }
+fn ranges(alloc: Global, count: usize, text: &str) -> Option<Items<NdArray>> {
+    let mut items = Vec::new(alloc);
+    let mut parts = text.split('|');
+    let mut part = parts.next().unwrap_or("");
+    for _ in 0..count {
+        items.push(range(alloc, part)?).ok()?;
+        part = parts.next().unwrap_or(part);
     }
-    let referencing = Referencing {
+    Some(Items::of(items))
+}
+
+fn referencing(alloc: Global, line: &str) -> Option<Referencing> {
+    Some(Referencing {
         crs: text_of(alloc, word(line, "crs").unwrap_or(""))?,
-        vertical: text_in(alloc, line, "vertical")?,
-    };
-    Ok(Coverage {
-        id: text_in(alloc, line, "id")?,
-        domain: domain(alloc, line)?,
-        referencing,
-        parameters: Items::of(parameters),
-        ranges: Items::of(ranges),
+        vertical: text_if(alloc, word(line, "vertical"))?,
     })
 }
 
-/// The document of a line, with these ids of parameters where a coverage has none.
-pub fn document(alloc: Global, line: &str, ids: &str) -> Result<Document, Fail> {
-    let Some(lines) = line.strip_prefix('[') else {
-        return Ok(Document::One(coverage(alloc, line, ids)?));
-    };
-    let lines = lines.strip_suffix(']').unwrap_or(lines);
-    let mut coverages = Vec::new(alloc);
+// How many parameters of a line have values.
+fn count_of(line: &str, parameters: usize) -> usize {
+    match word(line, "ranges") {
+        Some(text) => text.parse::<usize>().unwrap_or(0),
+        None => parameters,
+    }
+}
+
+fn coverage(alloc: Global, line: &str, ids: &str) -> Option<Coverage> {
+    let parameters = parameters(alloc, word(line, "ids").unwrap_or(ids))?;
+    let count = count_of(line, parameters.items().len());
+    Some(Coverage {
+        parameters,
+        ranges: ranges(alloc, count, word(line, "values").unwrap_or(""))?,
+        referencing: referencing(alloc, line)?,
+        id: text_if(alloc, word(line, "id"))?,
+        domain: domain(alloc, line)?,
+    })
+}
+
+fn coverages(alloc: Global, lines: &str, ids: &str) -> Option<Items<Coverage>> {
+    let mut items = Vec::new(alloc);
     if !lines.is_empty() {
         for line in lines.split(';') {
-            coverages.push(coverage(alloc, line, ids)?)?;
+            items.push(coverage(alloc, line, ids)?).ok()?;
         }
     }
-    Ok(Document::Many(Items::of(coverages)))
+    Some(Items::of(items))
+}
+
+/// The document of a line, with these ids of parameters where a coverage has none.
+pub fn document(alloc: Global, line: &str, ids: &str) -> Option<Document> {
+    match line.strip_prefix('[') {
+        Some(lines) => {
+            let lines = lines.strip_suffix(']').unwrap_or(lines);
+            Some(Document::Many(coverages(alloc, lines, ids)?))
+        }
+        None => Some(Document::One(coverage(alloc, line, ids)?)),
+    }
 }

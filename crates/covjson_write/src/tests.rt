@@ -1,13 +1,11 @@
 //! Texts of documents, written by hand (OGC 21-069r2).
-use crate::documents::{coverage, document, parameter, range};
+use crate::documents::document;
 use crate::write_whole;
-use covjson_value::{Coverage, Document, Parameter};
-use edr_base::{Items, Text};
+use covjson_value::Document;
 use std::alloc::Global;
-use std::str;
-use std::test::Fail;
+use std::rt::HostRuntime;
 
-// A line for each document, and its text; each coverage has the parameter `a`.
+// A line for each document, and its text; a coverage has the parameter `a` where it names none.
 const DOCUMENTS: &str = r#"# grids
 Grid y=0 x=7 crs=m values=5 => {"domain":{"axes":{"x":{"values":[7]},"y":{"values":[0]}},"domainType":"Grid","referencing":[{"coordinates":["x","y"],"system":{"id":"m","type":"ProjectedCRS"}}],"type":"Domain"},"parameters":{"a":{"observedProperty":{"label":{"en":"A"}},"type":"Parameter"}},"ranges":{"a":{"axisNames":["y","x"],"dataType":"integer","shape":[1,1],"type":"NdArray","values":[5]}},"type":"Coverage"}
 Grid t=-1 y=-20,0 x=-1,0,100000000 crs=m values=1,-,3,-4,-,6 => {"domain":{"axes":{"t":{"values":["1969-12-31T23:59:59Z"]},"x":{"values":[-1,0,100000000]},"y":{"values":[-20,0]}},"domainType":"Grid","referencing":[{"coordinates":["x","y"],"system":{"id":"m","type":"ProjectedCRS"}},{"coordinates":["t"],"system":{"calendar":"Gregorian","type":"TemporalRS"}}],"type":"Domain"},"parameters":{"a":{"observedProperty":{"label":{"en":"A"}},"type":"Parameter"}},"ranges":{"a":{"axisNames":["t","y","x"],"dataType":"integer","shape":[1,2,3],"type":"NdArray","values":[1,null,3,-4,null,6]}},"type":"Coverage"}
@@ -52,59 +50,40 @@ MultiPoint at=1/2/3/0 own=z vertical=depth values=5 => {"domain":{"axes":{"compo
 [] => {"coverages":[],"type":"CoverageCollection"}
 [Point y=2 x=1 crs=m id= values=-5] => {"coverages":[{"domain":{"axes":{"x":{"values":[1]},"y":{"values":[2]}},"domainType":"Point","referencing":[{"coordinates":["x","y"],"system":{"id":"m","type":"ProjectedCRS"}}],"type":"Domain"},"id":"","parameters":{"a":{"observedProperty":{"label":{"en":"A"}},"type":"Parameter"}},"ranges":{"a":{"dataType":"integer","type":"NdArray","values":[-5]}},"type":"Coverage"}],"type":"CoverageCollection"}
 [Point y=2 x=1 crs=m id=z values=8;Point y=2 x=1 crs=m id=a values=9] => {"coverages":[{"domain":{"axes":{"x":{"values":[1]},"y":{"values":[2]}},"domainType":"Point","referencing":[{"coordinates":["x","y"],"system":{"id":"m","type":"ProjectedCRS"}}],"type":"Domain"},"id":"z","parameters":{"a":{"observedProperty":{"label":{"en":"A"}},"type":"Parameter"}},"ranges":{"a":{"dataType":"integer","type":"NdArray","values":[8]}},"type":"Coverage"},{"domain":{"axes":{"x":{"values":[1]},"y":{"values":[2]}},"domainType":"Point","referencing":[{"coordinates":["x","y"],"system":{"id":"m","type":"ProjectedCRS"}}],"type":"Domain"},"id":"a","parameters":{"a":{"observedProperty":{"label":{"en":"A"}},"type":"Parameter"}},"ranges":{"a":{"dataType":"integer","type":"NdArray","values":[9]}},"type":"Coverage"}],"type":"CoverageCollection"}
+# parameters of other labels and values, one with a unit
+Point y=2 x=1 id=s_1 crs=m ids=B:de:Höhe^:m,a values=9007199254740991|- => {"domain":{"axes":{"x":{"values":[1]},"y":{"values":[2]}},"domainType":"Point","referencing":[{"coordinates":["x","y"],"system":{"id":"m","type":"ProjectedCRS"}}],"type":"Domain"},"id":"s 1","parameters":{"B":{"observedProperty":{"label":{"de":"Höhe\n"}},"type":"Parameter","unit":{"symbol":"m"}},"a":{"observedProperty":{"label":{"en":"A"}},"type":"Parameter"}},"ranges":{"B":{"dataType":"integer","type":"NdArray","values":[9007199254740991]},"a":{"dataType":"integer","type":"NdArray","values":[null]}},"type":"Coverage"}
 "#;
 
-// The bytes as a text, to be read where they aren't what was wanted.
-fn shown(text: &Text) -> &str {
-    str::from_utf8(text.bytes()).unwrap_or("no UTF-8")
-}
-
-#[test]
-fn documents(rt: HostRuntime) -> Result<(), Fail> {
-    for line in DOCUMENTS.lines() {
-        if line.starts_with('#') {
-            continue;
-        }
-        let (words, wanted) = line.split_once(" => ").ok_or("a line without a text")?;
-        let document = document(rt.alloc(), words, "a")?;
-        assert!(rt; document.is_valid(), "{line}");
-        let text = write_whole(rt.alloc(), &document)?;
-        assert_eq!(rt; shown(&text), wanted);
+// Whether a document is valid, and is this text.
+fn is_text(alloc: Global, document: &Document, wanted: &str) -> bool {
+    if !document.is_valid() {
+        return false;
     }
-    Ok(())
+    match write_whole(alloc, document) {
+        Ok(text) => text.bytes() == wanted.as_bytes(),
+        Err(_) => false,
+    }
 }
 
-// ---- two parameters
-
-// A Point of the parameters `B` and `a`, of which one has a unit.
-fn two_parameters(alloc: Global) -> Result<Coverage, Fail> {
-    let first = Parameter {
-        id: Text::of(alloc, b"B")?,
-        lang: Text::of(alloc, b"de")?,
-        label: Text::of(alloc, "H\u{f6}he\n".as_bytes())?,
-        unit: Some(Text::of(alloc, b"m")?),
-    };
-    let mut parameters = Vec::new(alloc);
-    parameters.push(first)?;
-    parameters.push(parameter(alloc, "a")?)?;
-    let mut ranges = Vec::new(alloc);
-    ranges.push(range(alloc, "values=9007199254740991")?)?;
-    ranges.push(range(alloc, "values=-")?)?;
-    let mut one = coverage(alloc, "Point y=2 x=1 crs=m values=-", "a")?;
-    one.id = Some(Text::of(alloc, b"s 1")?);
-    one.parameters = Items::of(parameters);
-    one.ranges = Items::of(ranges);
-    Ok(one)
+fn is_written(alloc: Global, words: &str, wanted: &str) -> bool {
+    match document(alloc, words, "a") {
+        Some(document) => is_text(alloc, &document, wanted),
+        None => false,
+    }
 }
 
-const TWO_PARAMETERS: &str =
-    "{\"domain\":{\"axes\":{\"x\":{\"values\":[1]},\"y\":{\"values\":[2]}},\"domainType\":\"Point\",\"referencing\":[{\"coordinates\":[\"x\",\"y\"],\"system\":{\"id\":\"m\",\"type\":\"ProjectedCRS\"}}],\"type\":\"Domain\"},\"id\":\"s 1\",\"parameters\":{\"B\":{\"observedProperty\":{\"label\":{\"de\":\"H\u{f6}he\\n\"}},\"type\":\"Parameter\",\"unit\":{\"symbol\":\"m\"}},\"a\":{\"observedProperty\":{\"label\":{\"en\":\"A\"}},\"type\":\"Parameter\"}},\"ranges\":{\"B\":{\"dataType\":\"integer\",\"type\":\"NdArray\",\"values\":[9007199254740991]},\"a\":{\"dataType\":\"integer\",\"type\":\"NdArray\",\"values\":[null]}},\"type\":\"Coverage\"}";
+// The first line whose document isn't written so; none is empty.
+fn first_wrong(alloc: Global, lines: &str) -> &str {
+    for line in lines.lines() {
+        let (words, wanted) = line.split_once(" => ").unwrap_or((line, ""));
+        if !line.starts_with('#') && !is_written(alloc, words, wanted) {
+            return line;
+        }
+    }
+    ""
+}
 
 #[test]
-fn parameters(rt: HostRuntime) -> Result<(), Fail> {
-    let document = Document::One(two_parameters(rt.alloc())?);
-    assert!(rt; document.is_valid());
-    let text = write_whole(rt.alloc(), &document)?;
-    assert_eq!(rt; shown(&text), TWO_PARAMETERS);
-    Ok(())
+fn documents_are_written(rt: HostRuntime) {
+    assert_eq!(rt; first_wrong(rt.alloc(), DOCUMENTS), "");
 }

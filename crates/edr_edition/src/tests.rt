@@ -1,106 +1,106 @@
 //! A draft from its first change to its second edition. The faults of changes are tested by the lines of feeds.
-ghost use Rattle.edr_edition.specs.Changes.{IsChange};
-
 use crate::{
     Change, Draft, Edition, Editions, GridInstance, Kind, LocalShelf, SteppedShelf, Store,
     editions_cross_threads,
 };
 use covjson_value::{Coverage, Domain, NdArray, Parameter, Referencing};
-use edr_axes::Axis;
+use edr_axes::{Axis, AxisFault};
 use edr_base::{Items, OutOfMemory, Text};
 use edr_chunk::Reads;
 use std::alloc::Global;
-use std::process::Abort;
 use std::rt::HostRuntime;
 
-fn text(rt: &impl Abort, alloc: Global, bytes: &[u8]) -> Text {
-    Text::of(alloc, bytes).expect(rt, "a text")
-}
-
-fn axis(rt: &impl Abort, alloc: Global, values: &[i64]) -> Axis {
-    Axis::of(alloc, values).expect(rt, "an axis")
-}
-
-fn parameters(rt: &impl Abort, alloc: Global, label: &[u8]) -> Items<Parameter> {
+fn parameters(alloc: Global, label: &[u8]) -> Result<Items<Parameter>, OutOfMemory> {
     let mut parameters = Vec::new(alloc);
-    let parameter = Parameter {
-        id: text(rt, alloc, b"temp"),
-        lang: text(rt, alloc, b"en"),
-        label: text(rt, alloc, label),
+    parameters.push(Parameter {
+        id: Text::of(alloc, b"temp")?,
+        lang: Text::of(alloc, b"en")?,
+        label: Text::of(alloc, label)?,
         unit: None,
-    };
-    assert!(rt; parameters.push(parameter).is_ok());
-    Items::of(parameters)
+    })?;
+    Ok(Items::of(parameters))
 }
 
-fn ranges(rt: &impl Abort, alloc: Global, values: &[Option<i64>]) -> Items<NdArray> {
+// Numbers with blanks between, `-` for an absent one.
+fn ranges(alloc: Global, numbers: &str) -> Result<Items<NdArray>, OutOfMemory> {
+    let mut values = Vec::new(alloc);
+    for number in numbers.split(' ') {
+        values.push(number.parse::<i64>().ok())?;
+    }
     let mut ranges = Vec::new(alloc);
-    let values = Items::of(Vec::from_slice(alloc, values).expect(rt, "values"));
-    assert!(rt; ranges.push(NdArray { values }).is_ok());
-    Items::of(ranges)
+    ranges.push(NdArray {
+        values: Items::of(values),
+    })?;
+    Ok(Items::of(ranges))
+}
+
+fn domain(alloc: Global) -> Result<Domain, AxisFault> {
+    Ok(Domain::Grid {
+        t: Some(Axis::of(alloc, &[0, 3600])?),
+        z: None,
+        y: Axis::of(alloc, &[0, 100])?,
+        x: Axis::of(alloc, &[0, 100, 200])?,
+    })
 }
 
 // A bare grid of two times, two rows and three columns.
-fn bare(rt: &impl Abort, alloc: Global, label: &[u8]) -> Change
-    ensures { IsChange result }
-{
-    let values = [
-        Some(10),
-        Some(11),
-        Some(12),
-        Some(13),
-        None,
-        Some(15),
-        Some(20),
-        Some(21),
-        Some(22),
-        Some(23),
-        Some(24),
-        Some(25),
-    ];
-    let coverage = Coverage {
+fn coverage(alloc: Global, label: &[u8]) -> Result<Coverage, OutOfMemory> {
+    Ok(Coverage {
         id: None,
-        domain: Domain::Grid {
-            t: Some(axis(rt, alloc, &[0, 3600])),
-            z: None,
-            y: axis(rt, alloc, &[0, 100]),
-            x: axis(rt, alloc, &[0, 100, 200]),
-        },
+        domain: domain(alloc).or(Err(OutOfMemory))?,
         referencing: Referencing {
-            crs: text(rt, alloc, b"local"),
+            crs: Text::of(alloc, b"local")?,
             vertical: None,
         },
-        parameters: parameters(rt, alloc, label),
-        ranges: ranges(rt, alloc, &values),
-    };
-    assert!(rt; coverage.is_valid());
-    Change::Bare(coverage)
+        parameters: parameters(alloc, label)?,
+        ranges: ranges(alloc, "10 11 12 13 - 15 20 21 22 23 24 25")?,
+    })
+}
+
+// Sets the bare grid whose parameter has this label, and says whether it could.
+fn is_set(alloc: Global, draft: &mut Draft, label: &[u8]) -> Result<bool, OutOfMemory> {
+    let coverage = coverage(alloc, label)?;
+    Ok(coverage.is_valid() && draft.apply(Change::Bare(coverage)).is_ok())
+}
+
+// The edition 1 of one bare grid; of none where it isn't set.
+fn first_edition(alloc: Global) -> Result<Edition, OutOfMemory> {
+    let mut draft = Draft::empty(alloc);
+    let _ = is_set(alloc, &mut draft, b"Temperature")?;
+    Ok(draft.finish(1))
 }
 
 // The newest instance of the collection of bare grids.
-fn newest<'a>(rt: &impl Abort, edition: &'a Edition) -> &'a GridInstance {
-    let collection = edition.collection(b"grid").expect(rt, "a collection");
-    collection.newest().expect(rt, "an instance")
+fn newest(edition: &Edition) -> Option<&GridInstance> {
+    edition.collection(b"grid")?.newest()
 }
 
-fn label<'a>(rt: &impl Abort, edition: &'a Edition) -> &'a [u8] {
-    match newest(rt, edition).parameters() {
-        [parameter] => parameter.label.bytes(),
-        _ => b"",
+fn has_label(edition: &Edition, label: &[u8]) -> bool {
+    match newest(edition) {
+        Some(instance) => match instance.parameters() {
+            [parameter] => parameter.label.bytes() == label,
+            _ => false,
+        },
+        None => false,
     }
 }
 
-#[test]
-fn an_edition_never_changes(rt: HostRuntime) {
-    let alloc = rt.alloc();
-    let mut draft = Draft::empty(alloc);
-    assert!(rt; draft.apply(bare(&rt, alloc, b"Temperature")).is_ok());
-    let first = draft.finish(1);
-    let mut draft = Draft::from_edition(alloc, &first).expect(&rt, "a draft");
-    assert!(rt; draft.apply(bare(&rt, alloc, b"Heat")).is_ok());
+fn is_summed(edition: &Edition) -> bool {
+    match newest(edition) {
+        Some(instance) => {
+            let tally = instance.tally();
+            tally.samples == 12 && tally.present == 11 && tally.sum == 196
+        }
+        None => false,
+    }
+}
+
+// Whether an edition stays as it is where a second one is made from it.
+fn stays(alloc: Global, first: &Edition) -> Result<bool, OutOfMemory> {
+    let mut draft = Draft::from_edition(alloc, first)?;
+    let is_set = is_set(alloc, &mut draft, b"Heat")?;
     let second = draft.finish(2);
-    assert_eq!(rt; label(&rt, &first), b"Temperature".as_slice());
-    assert_eq!(rt; label(&rt, &second), b"Heat".as_slice());
+    Ok(is_set && has_label(first, b"Temperature") && has_label(&second, b"Heat"))
 }
 
 // What a store over the newest bare grid lists once its first tile was opened; nothing where there is no such grid.
@@ -119,26 +119,6 @@ fn opened(alloc: Global, edition: &Edition) -> Result<Reads, OutOfMemory> {
     Ok(store.into_reads())
 }
 
-#[test]
-fn a_store_lists_what_it_opened(rt: HostRuntime) {
-    let alloc = rt.alloc();
-    let mut draft = Draft::empty(alloc);
-    assert!(rt; draft.apply(bare(&rt, alloc, b"Temperature")).is_ok());
-    let edition = draft.finish(1);
-    let reads = opened(alloc, &edition).expect(&rt, "a tile");
-    assert_eq!(rt; reads.numbers(), [0u64].as_slice());
-}
-
-#[test]
-fn samples_are_counted_and_summed(rt: HostRuntime) {
-    let alloc = rt.alloc();
-    let mut draft = Draft::empty(alloc);
-    assert!(rt; draft.apply(bare(&rt, alloc, b"Temperature")).is_ok());
-    let edition = draft.finish(1);
-    let tally = newest(&rt, &edition).tally();
-    assert!(rt; tally.samples == 12 && tally.present == 11 && tally.sum == 196);
-}
-
 fn is_shared_by_threads<T: Send + Sync + Drop>(_: &T) {}
 
 fn editions_are_shared_by_threads(edition: &Edition) {
@@ -149,13 +129,6 @@ fn editions_are_shared_by_threads(edition: &Edition) {
 fn drafts_are_shared_by_threads(draft: &Draft) {
     editions_cross_threads();
     is_shared_by_threads(draft);
-}
-
-#[test]
-fn editions_and_drafts_can_be_shared(rt: HostRuntime) {
-    let draft = Draft::empty(rt.alloc());
-    drafts_are_shared_by_threads(&draft);
-    editions_are_shared_by_threads(&draft.finish(1));
 }
 
 // The numbers of the editions that a shelf answers, before and after it gets two more.
@@ -181,10 +154,22 @@ fn stepped_numbers(alloc: Global) -> Result<[u64; 3], OutOfMemory> {
 }
 
 #[test]
-fn shelves_answer_editions(rt: HostRuntime) {
+fn editions_stay_and_are_counted(rt: HostRuntime) -> Result<(), OutOfMemory> {
     let alloc = rt.alloc();
-    let local = local_numbers(alloc).expect(&rt, "a shelf");
-    assert_eq!(rt; local, [1u64, 3, 3]);
-    let stepped = stepped_numbers(alloc).expect(&rt, "a shelf");
-    assert_eq!(rt; stepped, [1u64, 2, 2]);
+    let first = first_edition(alloc)?;
+    assert!(rt; stays(alloc, &first)?);
+    assert!(rt; is_summed(&first));
+    assert!(rt; opened(alloc, &first)?.numbers() == [0u64].as_slice());
+    Ok(())
+}
+
+#[test]
+fn editions_are_shared(rt: HostRuntime) -> Result<(), OutOfMemory> {
+    let alloc = rt.alloc();
+    assert!(rt; local_numbers(alloc)? == [1u64, 3, 3]);
+    assert!(rt; stepped_numbers(alloc)? == [1u64, 2, 2]);
+    let draft = Draft::empty(alloc);
+    drafts_are_shared_by_threads(&draft);
+    editions_are_shared_by_threads(&draft.finish(1));
+    Ok(())
 }
