@@ -2,9 +2,10 @@
 """Measures replies of discs, polygons and boxes: the time of an answer once the feed is read, beside python3 with the same
 selection over lists, and the memory of the greatest reply.
 
-It makes its grids from a seed in a temporary folder. The time of an answer is that of many rounds of `edr_bench answers` less
-that of one; each round reads the target, plans, opens tiles and writes the document to memory. python3 keeps the samples in one
-list, and each round selects and writes the ranges alone. Run it from anywhere: bench/areas/run.py"""
+It makes its grids from a seed in a temporary folder. The time of a box is that of many replies of `edr replay` on one connection,
+less that of one. The time of another answer is that of many rounds of `edr_bench answers` less that of one; each round reads the
+target, plans, opens tiles and writes the document to memory. python3 keeps the samples in one list, and each round selects and
+writes the ranges alone. Run it from anywhere: bench/areas/run.py"""
 import os
 import random
 import sys
@@ -128,6 +129,19 @@ def answer_time(path, target, rounds):
     return (many - one) / rounds, int(length)
 
 
+def reply_time(path, target, replies):
+    """The seconds of one reply among many on a connection, and the bytes of its document."""
+    _, _, length = measure(bench("answers", target, 1), path)
+    times = []
+    for count in (1, 1 + replies):
+        requests = f"{path}.{count}"
+        with open(requests, "w") as file:
+            file.write(f"GET {target} HTTP/1.1\r\nHost: a\r\n\r\n" * count)
+        took, _, _ = measure(["/bin/sh", "-c", 'exec "$0" replay "$1" > /dev/null', EDR, path], requests)
+        times.append(took)
+    return (times[1] - times[0]) / replies, int(length)
+
+
 def main():
     print("| grid | query | milliseconds an answer | answers a second | of python3 | bytes |")
     print("|---|---|---|---|---|---|")
@@ -140,13 +154,14 @@ def main():
             lists[rows] = samples_of(rows * columns)
         polygon, teeth = zigzag(1000, 1000), comb(10_000, 2000, 2000)
         answers = [
-            (2000, "cube of 500,000 values", cube(500, 500, 1499, 999), 20, (python_cube, lists[2000], 2000, 500, 500, 1499, 999)),
-            (2000, "disc of 97 nodes", disc(1000, 1000, 5), 2_000, (python_disc, lists[2000], 2000, 1000, 1000, 5)),
-            (200, "disc of 97 nodes", disc(100, 100, 5), 2_000, (python_disc, lists[200], 200, 100, 100, 5)),
-            (1000, "polygon of 1,000 edges", area(polygon), 5, (python_area, lists[1000], 1000, 1000, polygon)),
+            (2000, "cube of 500,000 values", cube(500, 500, 1499, 999), 200, (python_cube, lists[2000], 2000, 500, 500, 1499, 999)),
+            (2000, "disc of 97 nodes", disc(1000, 1000, 5), 40_000, (python_disc, lists[2000], 2000, 1000, 1000, 5)),
+            (200, "disc of 97 nodes", disc(100, 100, 5), 40_000, (python_disc, lists[200], 200, 100, 100, 5)),
+            (1000, "polygon of 1,000 edges", area(polygon), 40, (python_area, lists[1000], 1000, 1000, polygon)),
         ]
         for side, name, target, rounds, python in answers:
-            seconds, length = answer_time(paths[side], target, rounds)
+            taken = reply_time if name.startswith("cube") else answer_time
+            seconds, length = taken(paths[side], target, rounds)
             ratio = seconds / python_time(*python)
             print(f"| {side} by {side} | {name} | {seconds * 1e3:.3f} | {1 / seconds:,.0f} | {ratio:.3f} | {length:,} |")
         # more values than a reply may have, so the time is that of the mask
