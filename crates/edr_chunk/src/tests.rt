@@ -7,17 +7,17 @@ use crate::{GridPacker, GridPlace, GridShape, Packed, PackedGrid, Reads, open_pa
 use edr_base::{OutOfMemory, SAMPLE_LIMIT};
 use std::alloc::Global;
 use std::rt::HostRuntime;
-use std::test::Fail;
 
-#[test]
-fn values_are_numbered_with_x_fastest(rt: HostRuntime) {
-    let shape = GridShape {
-        parameters: 2,
-        times: 2,
-        levels: 3,
-        rows: 4,
-        columns: 5,
-    };
+const NUMBERED: GridShape = GridShape {
+    parameters: 2,
+    times: 2,
+    levels: 3,
+    rows: 4,
+    columns: 5,
+};
+
+// Whether the values of a grid are numbered with x fastest, then y, z, t and the parameter.
+fn is_numbered() -> bool {
     for n in 0..240u32 {
         let place = GridPlace {
             parameter: (n / 120) as u64,
@@ -26,9 +26,11 @@ fn values_are_numbered_with_x_fastest(rt: HostRuntime) {
             y: n / 5 % 4,
             x: n % 5,
         };
-        assert!(rt; shape.number(place) == n as u64);
-        assert!(rt; shape.node_number(place) == (n % 120) as u64);
+        if NUMBERED.number(place) != n as u64 || NUMBERED.node_number(place) != (n % 120) as u64 {
+            return false;
+        }
     }
+    true
 }
 
 // A sample as it is written; what isn't one is missing.
@@ -68,20 +70,31 @@ null null
 0 null 4294967294
 0 null 4294967295";
 
-#[test]
-fn lists_come_back(rt: HostRuntime) -> Result<(), Fail> {
-    let mut reads = Reads::new(rt.alloc());
-    let mut number = 0;
-    for line in LISTS.lines() {
-        let samples = samples_of(rt.alloc(), line)?;
-        let packed = Packed::pack(rt.alloc(), &samples)?;
-        assert!(rt; packed.unpack(rt.alloc())?.as_slice() == samples.as_slice());
-        let opened = open_packed(rt.alloc(), &packed, number, &mut reads)?;
-        assert!(rt; opened.as_slice() == samples.as_slice());
-        number = number.wrapping_add(1);
+// Whether a list is packed and comes back, also where its opening is noted by a number.
+fn comes_back(
+    alloc: Global,
+    samples: &[Option<i64>],
+    number: u64,
+    reads: &mut Reads,
+) -> Result<bool, OutOfMemory>
+    requires { AreSamples samples.now }
+{
+    let packed = Packed::pack(alloc, samples)?;
+    let unpacked = packed.unpack(alloc)?;
+    let opened = open_packed(alloc, &packed, number, reads)?;
+    Ok(unpacked.as_slice() == samples && opened.as_slice() == samples)
+}
+
+// Whether all lists come back, and are noted by their numbers.
+fn all_come_back(alloc: Global, lists: &str) -> Result<bool, OutOfMemory> {
+    let mut reads = Reads::new(alloc);
+    let mut whole = true;
+    for line in lists.lines() {
+        let samples = samples_of(alloc, line)?;
+        let number = reads.numbers().len() as u64;
+        whole = comes_back(alloc, &samples, number, &mut reads)? && whole;
     }
-    assert!(rt; reads.numbers() == [0, 1, 2, 3, 4, 5, 6, 7, 8, 9, 10, 11, 12].as_slice());
-    Ok(())
+    Ok(whole && reads.numbers() == [0, 1, 2, 3, 4, 5, 6, 7, 8, 9, 10, 11, 12].as_slice())
 }
 
 const SQUARE: GridShape = GridShape {
@@ -150,38 +163,57 @@ fn has_many(alloc: Global, grid: &PackedGrid, samples: &[Option<i64>]) -> Result
     Ok(reads.numbers().len() == samples.len() / 17)
 }
 
-#[test]
-fn tiles_are_numbered_row_by_row(rt: HostRuntime) -> Result<(), Fail> {
-    let samples = samples_from(rt.alloc(), 0, 4_225)?;
-    let grid = PackedGrid::pack(rt.alloc(), SQUARE, &samples)?;
-    let below = GridPlace {
-        parameter: 0,
-        t: 0,
-        z: 0,
-        y: 64,
-        x: 0,
-    };
-    let mut reads = Reads::new(rt.alloc());
-    assert!(rt; grid.tiles() == 4);
-    assert!(rt; grid.tile_of(below) == 2);
-    assert!(rt; value_at(rt.alloc(), &grid, 4_160, &mut reads)? == Some(7_480));
-    assert!(rt; value_at(rt.alloc(), &grid, 4_224, &mut reads)? == Some(7_672));
-    assert!(rt; reads.numbers() == [2, 3].as_slice());
-    assert!(rt; has_many(rt.alloc(), &grid, &samples)?);
-    Ok(())
+const BELOW: GridPlace = GridPlace {
+    parameter: 0,
+    t: 0,
+    z: 0,
+    y: 64,
+    x: 0,
+};
+
+// Whether the tiles of a square are numbered row by row, and each is opened for its values.
+fn is_tiled(alloc: Global) -> Result<bool, OutOfMemory> {
+    let samples = samples_from(alloc, 0, 4_225)?;
+    let grid = PackedGrid::pack(alloc, SQUARE, &samples)?;
+    let mut reads = Reads::new(alloc);
+    let first = value_at(alloc, &grid, 4_160, &mut reads)?;
+    let last = value_at(alloc, &grid, 4_224, &mut reads)?;
+    Ok(
+        first == Some(7_480)
+            && last == Some(7_672)
+            && grid.tiles() == 4
+            && grid.tile_of(BELOW) == 2
+            && reads.numbers() == [2, 3].as_slice()
+            && has_many(alloc, &grid, &samples)?,
+    )
+}
+
+// A grid that gets its parameters in turn.
+fn added(alloc: Global) -> Result<PackedGrid, OutOfMemory> {
+    let mut packer = GridPacker::new(alloc, SEVERAL);
+    packer.add(alloc, &samples_from(alloc, 0, 17_160)?)?;
+    packer.add(alloc, &samples_from(alloc, 17_160, 17_160)?)?;
+    Ok(packer.finish())
+}
+
+// Whether a grid of several parameters has its values, and so has one that got them in turn.
+fn is_packed(alloc: Global) -> Result<bool, OutOfMemory> {
+    let samples = samples_from(alloc, 0, 34_320)?;
+    let grid = PackedGrid::pack(alloc, SEVERAL, &samples)?;
+    let same = added(alloc)?;
+    Ok(
+        grid.tiles() == 32
+            && has_many(alloc, &grid, &samples)?
+            && same.shape() == SEVERAL
+            && has_many(alloc, &same, &samples)?,
+    )
 }
 
 #[test]
-fn parameters_are_packed_in_turn(rt: HostRuntime) -> Result<(), Fail> {
-    let samples = samples_from(rt.alloc(), 0, 34_320)?;
-    let grid = PackedGrid::pack(rt.alloc(), SEVERAL, &samples)?;
-    assert!(rt; grid.tiles() == 32);
-    assert!(rt; has_many(rt.alloc(), &grid, &samples)?);
-    let mut packer = GridPacker::new(rt.alloc(), SEVERAL);
-    packer.add(rt.alloc(), &samples_from(rt.alloc(), 0, 17_160)?)?;
-    packer.add(rt.alloc(), &samples_from(rt.alloc(), 17_160, 17_160)?)?;
-    let same = packer.finish();
-    assert!(rt; same.shape() == SEVERAL);
-    assert!(rt; has_many(rt.alloc(), &same, &samples)?);
+fn lists_and_grids_come_back(rt: HostRuntime) -> Result<(), OutOfMemory> {
+    assert!(rt; is_numbered());
+    assert!(rt; all_come_back(rt.alloc(), LISTS)?);
+    assert!(rt; is_tiled(rt.alloc())?);
+    assert!(rt; is_packed(rt.alloc())?);
     Ok(())
 }
