@@ -1,3 +1,4 @@
+pub mod RegularGaps
 pub mod HeadLemmas
 pub mod HeadTextLemmas
 pub mod PlaceLemmas

@@ -1,6 +1,6 @@
 use Rattle.std.proofs.Common.{◌≡◌, w64, sym, ◌∙◌, arith}
 use Rattle.std.proofs.lemmas.Int.{ints, to_z-of_z}
-use Rattle.covjson_value.proofs.RegularGaps.{gaps_more, gaps_regular, other_gap}
+use Rattle.covjson_write.proofs.RegularGaps.{gaps_more, gaps_regular, other_gap}
 use Rattle.covjson_write.proofs.regular_axes.is_regular.Goals as goal
 
 pub returns-then-gap_at-step : goal.returns-then-gap_at-step
