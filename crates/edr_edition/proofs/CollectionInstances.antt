@@ -1,77 +1,68 @@
--- The instances of a collection: one set, taken out or found.
-use Rattle.std.proofs.Common.{◌≡◌, ℕ, ◌<◌, ◌+◌, Bool, true, false, not, cond, List, [], ◌∷◌, ◌++◌, length, take, drop, get_or, All, Contains, Result, Ok, Err, OnOk, OnErr, refl, sym, ap, ◌∙◌, subst, arith}
+-- A collection's instances and stations, before and after a change of them.
+use Rattle.std.proofs.Common.{◌≡◌, ℕ, ◌+◌, ◌<◌, Bool, true, false, not, cond, nat_lt, if◌then◌else◌, List, [], ◌∷◌, ◌++◌, length, take, drop, get_or, Contains, refl, sym, ap, ◌∙◌, subst, arith}
+use Rattle.std.proofs.lemmas.Bool.{lt-ltb}
 use Rattle.std.proofs.lemmas.List.{take-append-drop}
 use Rattle.std.proofs.lemmas.List.Elements.{filter_more, filter-append}
 use Rattle.std.specs.List.{filter}
-use Rattle.covjson_value.specs.declared.coverages.Referencing.{Referencing}
+use Rattle.covjson_value.specs.declared.coverages.Parameter.{Parameter}
 use Rattle.edr_ids.specs.Ids.{has_id, with_item, without_id}
-use Rattle.edr_edition.specs.declared.kinds.Kind.{Kind}
-use Rattle.edr_edition.specs.declared.kinds.Kind.TheVariants.{Grid}
-use Rattle.edr_edition.specs.Values.{InstanceValue, CollectionValue, instance_id, parameters_of}
-use Rattle.edr_edition.specs.Instances.{IsInstance}
+use Rattle.edr_station.specs.Stations.{StationValue, station_id}
+use Rattle.edr_edition.specs.declared.kinds.Kind.TheVariants.{Grid, Station}
+use Rattle.edr_edition.specs.Values.{InstanceValue, CollectionValue, instance_id}
 use Rattle.edr_edition.specs.Editions.{IsCollection}
-use Rattle.edr_edition.specs.Changes.{with_instances}
-use Rattle.edr_edition.proofs.InstanceLaws.{put_keeps, take_keeps}
+use Rattle.edr_edition.specs.Collections.{where_some, holding, with_instance, without_instance, with_station, without_station}
 
--- ---- a collection's instances, before and after
+-- ---- before and after
 
-module _ (id : List ℕ) (kind : Kind) (title : List ℕ) (referencing : Referencing) where
-  abbrev holding : List InstanceValue → CollectionValue
-  holding xs = record { id = id; title = title; kind = kind; referencing = referencing; instances = xs; stations = [] }
+if_some_is : {V : Type 0} (xs : List V) (parameters : List Parameter) → (if nat_lt 0 (length xs) then parameters else []) ≡ where_some xs parameters
+if_some_is [] parameters = refl
+if_some_is (x ∷ xs) parameters = (let some : nat_lt 0 (length (x ∷ xs)) ≡ true = lt-ltb 0 (length (x ∷ xs)) (omega arith) in rw some refl)
 
-  module _ (now : CollectionValue) (xs ys : List InstanceValue) (is : holding xs ≡ now) where
-    with_put : (i : InstanceValue) → ys ≡ with_item instance_id i xs → holding ys ≡ with_instances now (with_item instance_id i now.instances)
-    with_put i put = ap holding put ∙ ap (λ (c : CollectionValue). with_instances c (with_item instance_id i c.instances)) is
+-- by how many there are
+pub count_is : (own : List Parameter) {ps : List Parameter} {n m : ℕ} → ps ≡ (if nat_lt 0 n then own else []) → n ≡ m → ps ≡ (if nat_lt 0 m then own else [])
+count_is own is same = is ∙ ap (λ k. if nat_lt 0 k then own else []) same
 
-    pub with_put_where_set : {T E : Type 0} (r : Result T E) (i : InstanceValue) → OnOk r (ys ≡ with_item instance_id i xs) → OnOk r (holding ys ≡ with_instances now (with_item instance_id i now.instances))
-    with_put_where_set (Ok u) i put = with_put i put
-    with_put_where_set (Err e) i put = tt
+module _ (c : CollectionValue) (is : IsCollection c) where
+  holding_same : (ps qs : List Parameter) (xs ys : List InstanceValue) (ss ts : List StationValue) → ps ≡ qs → xs ≡ ys → ss ≡ ts → holding c ps xs ss ≡ holding c qs ys ts
+  holding_same ps qs xs ys ss ts hp hx hs = ap (λ p. holding c p xs ss) hp ∙ (ap (λ x. holding c qs x ss) hx ∙ ap (holding c qs ys) hs)
 
-    pub put_or_kept : {T E : Type 0} (r : Result T E) (i : InstanceValue) → IsCollection (holding xs) → IsInstance i → now.kind ≡ Grid → All (λ (o : InstanceValue). o.parameters ≡ i.parameters) (without_id instance_id i.id now.instances)
-        → OnOk r (ys ≡ with_item instance_id i xs) → OnErr r (ys ≡ xs) → IsCollection (holding ys)
-    put_or_kept (Ok u) i before one grids others put kept =
-        subst IsCollection (sym (with_put i put)) (put_keeps now i (subst IsCollection is before) one grids others)
-    put_or_kept (Err e) i before one grids others put kept = subst (λ zs. IsCollection (holding zs)) (sym kept) before
+  pub instance_set : (kind : c.kind ≡ Grid) (ps : List Parameter) (xs : List InstanceValue) (i : InstanceValue) → ps ≡ i.parameters → xs ≡ with_item instance_id i c.instances → holding c ps xs [] ≡ with_instance i c
+  instance_set kind ps xs i same set = holding_same ps i.parameters xs (with_item instance_id i c.instances) [] c.stations same set (sym (is.of_grids kind))
 
-    with_left : (left : List ℕ) → ys ≡ without_id instance_id left xs → holding ys ≡ with_instances now (without_id instance_id left now.instances)
-    with_left left out = ap holding out ∙ ap (λ (c : CollectionValue). with_instances c (without_id instance_id left c.instances)) is
+  pub instance_taken : (kind : c.kind ≡ Grid) (ps : List Parameter) (xs : List InstanceValue) (left : List ℕ) → ps ≡ (if nat_lt 0 (length xs) then c.parameters else []) → xs ≡ without_id instance_id left c.instances
+      → holding c ps xs [] ≡ without_instance left c
+  instance_taken kind ps xs left same taken =
+      holding_same ps (where_some (without_id instance_id left c.instances) c.parameters) xs (without_id instance_id left c.instances) [] c.stations
+      (same ∙ (if_some_is xs c.parameters ∙ ap (λ (ys : List InstanceValue). where_some ys c.parameters) taken)) taken (sym (is.of_grids kind))
 
-    pub with_left_where_taken : {T E : Type 0} (r : Result T E) (left : List ℕ) → OnOk r (ys ≡ without_id instance_id left xs) → OnOk r (holding ys ≡ with_instances now (without_id instance_id left now.instances))
-    with_left_where_taken (Ok u) left out = with_left left out
-    with_left_where_taken (Err e) left out = tt
+  pub station_set : (kind : c.kind ≡ Station) (ps : List Parameter) (ss : List StationValue) (given : List Parameter) (s : StationValue) → ps ≡ given → ss ≡ with_item station_id s c.stations
+      → holding c ps [] ss ≡ with_station given s c
+  station_set kind ps ss given s same set = holding_same ps given [] c.instances ss (with_item station_id s c.stations) same (sym (is.of_stations kind)) set
 
-    pub left_or_kept : {T E : Type 0} (r : Result T E) (left : List ℕ) → IsCollection (holding xs) → OnOk r (ys ≡ without_id instance_id left xs) → OnErr r (ys ≡ xs) → IsCollection (holding ys)
-    left_or_kept (Ok u) left before out kept = subst IsCollection (sym (with_left left out)) (take_keeps now left (subst IsCollection is before))
-    left_or_kept (Err e) left before out kept = subst (λ zs. IsCollection (holding zs)) (sym kept) before
-
-    pub kept_where_failed : {T E : Type 0} (r : Result T E) → OnErr r (ys ≡ xs) → OnErr r (holding ys ≡ now)
-    kept_where_failed (Ok u) kept = tt
-    kept_where_failed (Err e) kept = ap holding kept ∙ is
-
--- ---- the first of them has the parameters of all
-
-pub parameters_of_first : (is : List InstanceValue) (first : InstanceValue) → 0 < length is → first ≡ get_or is 0 first → first.parameters ≡ parameters_of is
-parameters_of_first [] first some is = absurd (omega (arith, some))
-parameters_of_first (i ∷ is) first some same = ap (λ (o : InstanceValue). o.parameters) same
+  pub station_taken : (kind : c.kind ≡ Station) (ps : List Parameter) (ss : List StationValue) (left : List ℕ) → ps ≡ (if nat_lt 0 (length ss) then c.parameters else []) → ss ≡ without_id station_id left c.stations
+      → holding c ps [] ss ≡ without_station left c
+  station_taken kind ps ss left same taken =
+      holding_same ps (where_some (without_id station_id left c.stations) c.parameters) [] c.instances ss (without_id station_id left c.stations)
+      (same ∙ (if_some_is ss c.parameters ∙ ap (λ (ts : List StationValue). where_some ts c.parameters) taken)) (sym (is.of_stations kind)) taken
 
 -- ---- one with another id
 
-module _ (is : List InstanceValue) (id : List ℕ) (k : ℕ) (x : InstanceValue) (inside : k < length is) (here : x ≡ get_or is k x) (before : without_id instance_id id (take k is) ≡ []) where
-  abbrev other : InstanceValue → Bool
-  other i = not (has_id instance_id id i)
+module _ {V : Type 0} (key : V → List ℕ) (xs : List V) (id : List ℕ) (k : ℕ) (x : V) (inside : k < length xs) (here : x ≡ get_or xs k x) (before : without_id key id (take k xs) ≡ []) where
+  abbrev other : V → Bool
+  other y = not (has_id key id y)
 
-  kept_before : filter other (take (k + 1) is) ≡ cond (other x) (x ∷ []) []
+  kept_before : filter other (take (k + 1) xs) ≡ cond (other x) (x ∷ []) []
   kept_before =
-      filter_more other is k x inside
-      ∙ (ap (λ js. js ++ cond (other (get_or is k x)) (get_or is k x ∷ []) []) before ∙ ap (λ i. cond (other i) (i ∷ []) []) (sym here))
+      filter_more other xs k x inside
+      ∙ (ap (λ ys. ys ++ cond (other (get_or xs k x)) (get_or xs k x ∷ []) []) before ∙ ap (λ y. cond (other y) (y ∷ []) []) (sym here))
 
-  pub other_is_among : not (has_id instance_id id x) ≡ true → Contains (without_id instance_id id is) x
+  pub other_is_among : not (has_id key id x) ≡ true → Contains (without_id key id xs) x
   other_is_among differs =
-      let start : filter other (take (k + 1) is) ≡ x ∷ [] = kept_before ∙ rw differs refl in
-      let split : filter other is ≡ filter other (take (k + 1) is) ++ filter other (drop (k + 1) is) =
-      ap (filter other) (sym (take-append-drop (k + 1) is)) ∙ filter-append other (take (k + 1) is) (drop (k + 1) is) in
-      subst (λ js. Contains js x) (sym (split ∙ ap (λ js. js ++ filter other (drop (k + 1) is)) start)) (0, omega arith, refl)
+      let start : filter other (take (k + 1) xs) ≡ x ∷ [] = kept_before ∙ rw differs refl in
+      let split : filter other xs ≡ filter other (take (k + 1) xs) ++ filter other (drop (k + 1) xs) =
+      ap (filter other) (sym (take-append-drop (k + 1) xs)) ∙ filter-append other (take (k + 1) xs) (drop (k + 1) xs) in
+      subst (λ ys. Contains ys x) (sym (split ∙ ap (λ ys. ys ++ filter other (drop (k + 1) xs)) start)) (0, omega arith, refl)
 
   -- one more has the id
-  pub no_other_more : not (has_id instance_id id x) ≡ false → without_id instance_id id (take (k + 1) is) ≡ []
+  pub no_other_more : not (has_id key id x) ≡ false → without_id key id (take (k + 1) xs) ≡ []
   no_other_more equal = kept_before ∙ rw equal refl

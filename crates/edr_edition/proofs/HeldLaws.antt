@@ -61,7 +61,7 @@ module _ (c : CollectionValue) (name : Option (List ℕ)) (i : Option InstanceVa
 
     held_is : (kind : Kind) (o : Option InstanceValue) → IsCollection c → (kind ≡ Grid → o ≡ instance_named name c.instances) → (kind ≡ Station → o ≡ None)
         → IsHeldBy c (held_by c o) × IsHeld (held_by c o)
-    held_is kind None is gs ss = (refl, tt)
+    held_is kind None is gs ss = ((refl, refl), (is.parameters, is.stations))
     held_is Grid (Some x) is gs ss =
         let among = named_among name c.instances x is.instances.ascending (gs refl) in (among, among_all IsInstance c.instances x is.instances.each among)
     held_is Station (Some x) is gs ss = let none = ss refl in cc

@@ -1,11 +1,4 @@
-pub mod FaultLaws
-pub mod RefusalLaws
-pub mod OutcomeLaws
-pub mod InstanceLaws
 pub mod CollectionInstances
-pub mod ParameterLaws
-pub mod CollectionLaws
-pub mod StepLaws
 pub mod TallySteps
 pub mod PackedGrids
 pub mod NewestLaws

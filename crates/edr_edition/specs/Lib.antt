@@ -5,10 +5,8 @@ pub mod Instances
 pub mod InstanceLaws
 pub mod ShapeLaws
 pub mod GridLaws
-pub mod Parameters
 pub mod Editions
+pub mod Collections
+pub mod CollectionLaws
 pub mod Stores
 pub mod Shelves
-pub mod Changes
-pub mod Outcomes
-pub mod Steps

@@ -1,22 +1,26 @@
 //! Collections.
-ghost use Rattle.std.specs.Prelude.{◌≡◌, ◌<◌, [], length, All, Contains, is_some, option_map, IfOk, IfSome, OnOk, OnErr, MatchOption, IsUtf8};
+ghost use Rattle.std.specs.Prelude.{◌≡◌, ◌≢◌, ◌<◌, ◌≤◌, [], None, Some, length, All, Contains, is_some, option_map, IfOk, IfSome, OnOk, OnErr, MatchOption, IsUtf8, nat_lt, if◌then◌else◌};
 ghost use Rattle.std.specs.List.{slice_index_or};
 ghost use Rattle.covjson_value.specs.Coverages.{IsReferencing};
+ghost use Rattle.edr_base.specs.Limits.{node_limit};
 ghost use Rattle.edr_base.specs.Names.{IsName};
 ghost use Rattle.edr_ids.specs.Ids as ids;
 ghost use Rattle.edr_ids.specs.Ids.{with_item, without_id};
-ghost use Rattle.edr_edition.specs.Values.{InstanceValue, instance_id, parameters_of};
+ghost use Rattle.edr_station.specs.Stations.{StationValue, station_id, values_along, IsStation};
+ghost use Rattle.edr_station.specs.Inputs.{station_of, IsInput, HasCounts};
+ghost use Rattle.edr_edition.specs.Values.{InstanceValue, instance_id};
 ghost use Rattle.edr_edition.specs.Instances.{IsInstance};
-ghost use Rattle.edr_edition.specs.Editions.{IsCollection};
+ghost use Rattle.edr_edition.specs.Editions.{AreParameters, IsCollection};
 ghost use Rattle.edr_edition.specs.Stores.{newest};
-ghost use Rattle.edr_edition.specs.Changes.{empty_collection, with_instances, without_instance};
-ghost use Rattle.edr_edition.specs.declared.kinds.Kind.TheVariants.{Grid};
+ghost use Rattle.edr_edition.specs.Collections.{empty_collection, with_instance, without_instance, with_station, without_station, holding, parameters_in, stations_in, KeepsStations};
+ghost use Rattle.edr_edition.specs.declared.kinds.Kind.TheVariants.{Grid, Station};
 
 use crate::instances::GridInstance;
 use crate::kinds::Kind;
 use covjson_value::{Parameter, Referencing};
-use edr_base::{OutOfMemory, Text};
+use edr_base::{Items, OutOfMemory, Text};
 use edr_ids::{ById, Identified};
+use edr_station::{Station as Site, StationInput, Stations};
 use std::alloc::Global;
 use std::marker::Model;
 use std::sync::Arc;
@@ -30,20 +34,25 @@ struct Head {
     referencing: Referencing,
 }
 
-/// A collection of grids or of stations (OGC 19-086r6, collections). Stations are not kept yet: contracts see none.
+/// A collection of grids or of stations (OGC 19-086r6, collections).
 ///
-/// Its instances stand in strictly ascending order of their ids, byte by byte, and have the same parameters.
+/// Its instances, or its stations, stand in strictly ascending order of their ids, byte by byte, and have the same parameters.
+/// Of its stations each has levels, or none has.
 #[derive(Drop)]
 pub struct CollectionData {
     head: Arc<Head>,
+    // None where it has no instance and no station.
+    parameters: Option<Arc<Items<Parameter>>>,
     instances: ById<GridInstance>,
+    // None for a collection of grids.
+    stations: Option<Stations>,
 }
 
 impl Model for CollectionData {
-    ghost use Rattle.std.specs.Prelude.{[]};
     ghost use Rattle.std.specs.Arc.{arc_value};
     ghost use Rattle.edr_edition.specs.Values.{CollectionValue};
     ghost use Rattle.edr_edition.specs.Editions.{IsCollection};
+    ghost use Rattle.edr_edition.specs.Collections.{parameters_in, stations_in, KeepsStations};
 
     ghost Value = { CollectionValue };
 
@@ -52,8 +61,9 @@ impl Model for CollectionData {
       title = (arc_value c.head).title;
       kind = (arc_value c.head).kind;
       referencing = (arc_value c.head).referencing;
+      parameters = parameters_in c.parameters;
       instances = c.instances;
-      stations = [];
+      stations = stations_in c.stations;
     } };
 
     ghost invariant = { λ c. IsCollection (record {
@@ -61,9 +71,47 @@ impl Model for CollectionData {
       title = (arc_value c.head).title;
       kind = (arc_value c.head).kind;
       referencing = (arc_value c.head).referencing;
+      parameters = parameters_in c.parameters;
       instances = c.instances;
-      stations = [];
-    }) };
+      stations = stations_in c.stations;
+    }) × KeepsStations (arc_value c.head).kind (parameters_in c.parameters) c.stations };
+}
+
+// The stations of an empty collection.
+fn no_stations(kind: Kind) -> Option<Stations>
+    ensures grids { kind ≡ Grid → result ≡ None }
+    ensures stations { kind ≡ Station → result ≡ Some (record { parameters = 0; stations = [] }) }
+{
+    match kind {
+        Kind::Grid => None,
+        Kind::Station => Some(Stations::new(0)),
+    }
+}
+
+// Some stations, or where there are none, none without parameters.
+fn some_or_new(stations: Stations) -> Stations
+    ensures stations { result.stations ≡ stations.stations }
+    ensures parameters { result.parameters ≡ (if nat_lt 0 (length stations.stations) then stations.parameters else 0) }
+{
+    if stations.len() > 0 {
+        stations
+    } else {
+        Stations::new(0)
+    }
+}
+
+// A station of another id; None exactly where there is none.
+fn other_than<'a>(stations: &'a Stations, id: &[u8]) -> Option<&'a Site>
+    ensures { MatchOption result (without_id station_id id.now stations.now.stations ≡ [])
+        (λ station. Contains (without_id station_id id.now stations.now.stations) station.now) }
+{
+    for place in 0..stations.len() {
+        let station = stations.station(place);
+        if station.id() != id {
+            return Some(station);
+        }
+    }
+    None
 }
 
 impl Identified for CollectionData {
@@ -107,15 +155,15 @@ impl CollectionData {
         &self.head.referencing
     }
 
-    /// The parameters of each of its instances, in strictly ascending order of ids; none where it has no instance.
+    /// The parameters of each of its instances or stations, in strictly ascending order of ids; none where it has neither.
     pub fn parameters(&self) -> &[Parameter]
-        ensures parameters { result.now ≡ parameters_of self.now.instances }
+        ensures parameters { result.now ≡ self.now.parameters }
         ensures collection { IsCollection self.now }
     {
-        if self.instances.len() == 0 {
-            return &[];
+        match &self.parameters {
+            Some(shared) => shared.items(),
+            None => &[],
         }
-        self.instances.at(0).parameters()
     }
 
     /// How many instances it has.
@@ -154,17 +202,17 @@ impl CollectionData {
         }
     }
 
-    /// How many stations it has: none, as stations aren't kept yet.
-    pub fn stations(&self) -> usize
-        ensures stations { result ≡ length self.now.stations }
-        ensures none { result ≡ 0 }
+    /// Its stations; None exactly for a collection of grids.
+    pub fn stations(&self) -> Option<&Stations>
+        ensures stations { MatchOption result (self.now.kind ≡ Grid)
+            (λ stations. (self.now.kind ≡ Station) × (stations.now ≡ record { parameters = length self.now.parameters; stations = self.now.stations })) }
+        ensures collection { IsCollection self.now }
     {
-        let _ = &self.instances;
-        0
+        self.stations.as_ref()
     }
 
-    // A collection without instances.
-    pub(crate) fn empty(
+    /// A collection without instances or stations.
+    pub fn empty(
         alloc: Global,
         id: Text,
         kind: Kind,
@@ -187,22 +235,79 @@ impl CollectionData {
         )?;
         Ok(CollectionData {
             head,
+            parameters: None,
             instances: ById::empty(),
+            stations: no_stations(kind),
         })
     }
 
-    // An equal collection, which shares its instances. It takes no memory.
-    pub(crate) fn share(&self) -> Result<CollectionData, OutOfMemory>
-        ensures { IfOk result (λ collection. collection ≡ self.now) }
+    // The same collection with other parameters, instances and stations.
+    fn with(
+        &self,
+        parameters: Option<Arc<Items<Parameter>>>,
+        instances: ById<GridInstance>,
+        stations: Option<Stations>,
+    ) -> Result<CollectionData, OutOfMemory>
+        requires collection { IsCollection (holding self.now (parameters_in parameters) instances (stations_in stations)) }
+        requires keeps { KeepsStations self.now.kind (parameters_in parameters) stations }
+        ensures { IfOk result (λ collection. collection ≡ holding self.now (parameters_in parameters) instances (stations_in stations)) }
     {
         Ok(CollectionData {
             head: Arc::try_clone(&self.head)?,
-            instances: self.instances.share()?,
+            parameters,
+            instances,
+            stations,
         })
     }
 
-    // An instance of another id; None exactly where there is none.
-    pub(crate) fn other_than(&self, id: &[u8]) -> Option<&GridInstance>
+    // Its parameters, shared, where there is something that has them.
+    fn share_parameters(&self, count: usize) -> Result<Option<Arc<Items<Parameter>>>, OutOfMemory>
+        ensures { IfOk result (λ shared. parameters_in shared ≡ (if nat_lt 0 count then self.now.parameters else [])) }
+    {
+        match &self.parameters {
+            Some(parameters) if count > 0 => Ok(Some(Arc::try_clone(parameters)?)),
+            _ => Ok(None),
+        }
+    }
+
+    // The stations of a collection of stations, shared.
+    fn share_stations(&self) -> Result<Stations, OutOfMemory>
+        requires { self.now.kind ≡ Station }
+        ensures { IfOk result (λ stations. stations ≡ record { parameters = length self.now.parameters; stations = self.now.stations }) }
+    {
+        match &self.stations {
+            Some(stations) => stations.share(),
+            None => unreachable!(),
+        }
+    }
+
+    // The stations of a collection of stations beside one of an id that is set: of so many parameters, as the others have.
+    fn stations_beside(&self, id: &[u8], parameters: usize) -> Result<Stations, OutOfMemory>
+        requires kind { self.now.kind ≡ Station }
+        requires same { without_id station_id id.now self.now.stations ≢ [] → length self.now.parameters ≡ parameters }
+        ensures parameters { IfOk result (λ stations. stations.parameters ≡ parameters) }
+        ensures same { IfOk result (λ stations. (s : StationValue) → s.id ≡ id.now → with_item station_id s stations.stations ≡ with_item station_id s self.now.stations) }
+    {
+        match self.other_station(id) {
+            Some(_) => self.share_stations(),
+            None => Ok(Stations::new(parameters)),
+        }
+    }
+
+    /// An equal collection, which shares its instances and stations. It takes no memory; its only error is that there are too
+    /// many copies to be counted.
+    pub fn share(&self) -> Result<CollectionData, OutOfMemory>
+        ensures { IfOk result (λ collection. collection ≡ self.now) }
+    {
+        let stations = match self.head.kind {
+            Kind::Grid => None,
+            Kind::Station => Some(self.share_stations()?),
+        };
+        self.with(self.share_parameters(1)?, self.instances.share()?, stations)
+    }
+
+    /// An instance of another id; None exactly where there is none.
+    pub fn other_instance(&self, id: &[u8]) -> Option<&GridInstance>
         ensures other { MatchOption result (without_id instance_id id.now self.now.instances ≡ [])
             (λ instance. Contains (without_id instance_id id.now self.now.instances) instance.now) }
         ensures collection { IsCollection self.now }
@@ -216,23 +321,92 @@ impl CollectionData {
         None
     }
 
-    // Sets an instance, in place of one of its id.
-    pub(crate) fn put(&mut self, alloc: Global, instance: GridInstance) -> Result<(), OutOfMemory>
-        requires kind { self.old.kind ≡ Grid }
-        requires instance { IsInstance instance }
-        requires same { All (λ (i : InstanceValue). i.parameters ≡ instance.parameters) (without_id instance_id instance.id self.old.instances) }
-        ensures set { OnOk result (self.new ≡ with_instances self.old (with_item instance_id instance self.old.instances)) }
-        ensures kept { OnErr result (self.new ≡ self.old) }
+    /// A station of another id; None exactly where there is none.
+    pub fn other_station(&self, id: &[u8]) -> Option<&Site>
+        ensures other { MatchOption result (without_id station_id id.now self.now.stations ≡ [])
+            (λ station. Contains (without_id station_id id.now self.now.stations) station.now) }
+        ensures collection { IsCollection self.now }
     {
-        self.instances.put(alloc, instance)
+        match &self.stations {
+            Some(stations) => other_than(stations, id),
+            None => None,
+        }
     }
 
-    // Takes out the instance of an id, and says whether there was one.
-    pub(crate) fn take_out(&mut self, alloc: Global, id: &[u8]) -> Result<bool, OutOfMemory>
+    /// Sets an instance, in place of one of its id. Other instances have the same parameters.
+    ///
+    /// After want of memory, its only error, the collection is as it was, and the instance is given up.
+    pub fn set_instance(&mut self, alloc: Global, instance: GridInstance) -> Result<(), OutOfMemory>
+        requires kind { self.old.kind ≡ Grid }
+        requires same { without_id instance_id instance.id self.old.instances ≢ [] → self.old.parameters ≡ instance.parameters }
+        ensures set { OnOk result (self.new ≡ with_instance instance self.old) }
+        ensures kept { OnErr result (self.new ≡ self.old) }
+    {
+        let parameters = instance.share_parameters()?;
+        let mut instances = self.instances.share()?;
+        instances.put(alloc, instance)?;
+        *self = self.with(Some(parameters), instances, None)?;
+        Ok(())
+    }
+
+    /// Takes out the instance of an id, and says whether there was one.
+    ///
+    /// After want of memory, its only error, the collection is as it was.
+    pub fn take_instance(&mut self, alloc: Global, id: &[u8]) -> Result<bool, OutOfMemory>
+        requires kind { self.old.kind ≡ Grid }
         ensures was { IfOk result (λ was. was ≡ is_some (ids.item_of instance_id id.now self.old.instances)) }
         ensures without { OnOk result (self.new ≡ without_instance id.now self.old) }
         ensures kept { OnErr result (self.new ≡ self.old) }
     {
-        self.instances.take_out(alloc, id)
+        let mut instances = self.instances.share()?;
+        let was = instances.take_out(alloc, id)?;
+        let parameters = self.share_parameters(instances.len())?;
+        *self = self.with(parameters, instances, None)?;
+        Ok(was)
+    }
+
+    /// Sets a station of some parameters, in place of one of its id. Other stations have the same parameters, and levels
+    /// exactly where it has.
+    ///
+    /// After want of memory, its only error, the collection is as it was, and the station is given up.
+    pub fn set_station(
+        &mut self,
+        alloc: Global,
+        parameters: Items<Parameter>,
+        input: StationInput,
+    ) -> Result<(), OutOfMemory>
+        requires kind { self.old.kind ≡ Station }
+        requires parameters { AreParameters parameters }
+        requires input { IsInput input }
+        requires counts { HasCounts (length parameters) input }
+        requires few { values_along (station_of input) ≤ node_limit }
+        requires same { without_id station_id input.id self.old.stations ≢ [] → self.old.parameters ≡ parameters }
+        requires alike { All (λ (s : StationValue). is_some s.zs ≡ is_some input.levels) (without_id station_id input.id self.old.stations) }
+        ensures set { OnOk result (self.new ≡ with_station parameters (station_of input) self.old) }
+        ensures kept { OnErr result (self.new ≡ self.old) }
+    {
+        let _ = &self.head;
+        let mut stations = self.stations_beside(input.id.bytes(), parameters.items().len())?;
+        stations.set(alloc, input)?;
+        let parameters = Arc::new(alloc, parameters)?;
+        *self = self.with(Some(parameters), ById::empty(), Some(stations))?;
+        Ok(())
+    }
+
+    /// Takes out the station of an id, and says whether there was one.
+    ///
+    /// After want of memory, its only error, the collection is as it was.
+    pub fn take_station(&mut self, alloc: Global, id: &[u8]) -> Result<bool, OutOfMemory>
+        requires kind { self.old.kind ≡ Station }
+        ensures was { IfOk result (λ was. was ≡ is_some (ids.item_of station_id id.now self.old.stations)) }
+        ensures without { OnOk result (self.new ≡ without_station id.now self.old) }
+        ensures kept { OnErr result (self.new ≡ self.old) }
+    {
+        let _ = &self.head;
+        let mut stations = self.share_stations()?;
+        let was = stations.take_out(alloc, id)?;
+        let parameters = self.share_parameters(stations.len())?;
+        *self = self.with(parameters, ById::empty(), Some(some_or_new(stations)))?;
+        Ok(was)
     }
 }

@@ -31,8 +31,8 @@ impl Model for Edition {
 }
 
 impl Edition {
-    // The edition of that number of these collections.
-    pub(crate) fn of(number: u64, collections: ById<CollectionData>) -> Edition
+    /// The edition of that number of these collections. It takes no memory.
+    pub fn of(number: u64, collections: ById<CollectionData>) -> Edition
         requires { AreCollections collections }
         ensures { result ≡ record { number = number; collections = collections } }
     {
@@ -74,8 +74,9 @@ impl Edition {
         self.collections.item_of(id)
     }
 
-    // Equal collections, which share all that they hold. It takes no memory.
-    pub(crate) fn collections(&self) -> Result<ById<CollectionData>, OutOfMemory>
+    /// Equal collections, which share all that they hold. It takes no memory; its only error is that there are too many copies
+    /// to be counted.
+    pub fn collections(&self) -> Result<ById<CollectionData>, OutOfMemory>
         ensures same { IfOk result (λ collections. collections ≡ self.now.collections) }
         ensures collections { AreCollections self.now.collections }
     {

@@ -5,6 +5,7 @@ ghost use Rattle.covjson_value.specs.declared.coverages.NdArray.{NdArray as NdAr
 ghost use Rattle.edr_base.specs.Names.{IsName};
 ghost use Rattle.edr_edition.specs.Instances.{IsTimedGrid, instance_of, values_of, IsInstance, shape_over, FillsNodes};
 ghost use Rattle.edr_edition.specs.Tallies.{tally_of};
+ghost use Rattle.std.specs.Arc.{arc_value};
 
 use crate::tallies::Tally;
 use covjson_value::{Coverage, Domain, NdArray, Parameter};
@@ -14,6 +15,7 @@ use edr_chunk::{GridPacker, GridShape, PackedGrid};
 use edr_ids::Identified;
 use std::alloc::Global;
 use std::marker::Model;
+use std::sync::Arc;
 
 /// One grid of a collection, such as one run of a forecast (OGC 19-086r6, instances).
 ///
@@ -27,7 +29,7 @@ pub struct GridInstance {
     levels: Option<Axis>,
     ys: Axis,
     xs: Axis,
-    parameters: Items<Parameter>,
+    parameters: Arc<Items<Parameter>>,
     grid: PackedGrid,
     tally: Tally,
 }
@@ -37,12 +39,13 @@ impl Model for GridInstance {
     ghost use Rattle.edr_edition.specs.Values.{InstanceValue};
     ghost use Rattle.edr_edition.specs.Instances.{IsInstance};
     ghost use Rattle.edr_edition.specs.Tallies.{tally_of};
+    ghost use Rattle.std.specs.Arc.{arc_value};
 
     ghost Value = { InstanceValue };
 
     ghost view = { λ i. record {
       id = i.id;
-      parameters = i.parameters;
+      parameters = arc_value i.parameters;
       ts = i.times;
       zs = i.levels;
       ys = i.ys;
@@ -52,7 +55,7 @@ impl Model for GridInstance {
 
     ghost invariant = { λ i. IsInstance (record {
       id = i.id;
-      parameters = i.parameters;
+      parameters = arc_value i.parameters;
       ts = i.times;
       zs = i.levels;
       ys = i.ys;
@@ -119,12 +122,8 @@ impl Identified for GridInstance {
 }
 
 impl GridInstance {
-    // The instance of that id that a grid is.
-    pub(crate) fn of(
-        alloc: Global,
-        id: Text,
-        coverage: Coverage,
-    ) -> Result<GridInstance, OutOfMemory>
+    /// The instance of that id that a grid is. The only error is want of memory.
+    pub fn of(alloc: Global, id: Text, coverage: Coverage) -> Result<GridInstance, OutOfMemory>
         requires id { IsName id }
         requires grid { IsTimedGrid coverage }
         ensures { IfOk result (λ instance. instance ≡ instance_of id coverage) }
@@ -149,6 +148,7 @@ impl GridInstance {
         let shape = shape_of(parameters.items().len(), &times, &levels, &ys, &xs);
         let grid = packed(alloc, shape, ranges.items())?;
         let tally = tally_of(ranges.items())?;
+        let parameters = Arc::new(alloc, parameters)?;
         Ok(GridInstance {
             id,
             times,
@@ -203,6 +203,13 @@ impl GridInstance {
         ensures instance { IsInstance self.now }
     {
         self.parameters.items()
+    }
+
+    // The same, shared.
+    pub(crate) fn share_parameters(&self) -> Result<Arc<Items<Parameter>>, OutOfMemory>
+        ensures { IfOk result (λ parameters. arc_value parameters ≡ self.now.parameters) }
+    {
+        Ok(Arc::try_clone(&self.parameters)?)
     }
 
     /// Its values, in packed tiles.

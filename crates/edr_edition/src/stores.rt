@@ -1,6 +1,6 @@
 //! What one reply is made from, read chunk by chunk.
 ghost use Rattle.std.specs.Prelude.{◌≡◌, ◌++◌, ◌∷◌, [], None, Some, IsSome, option_map, IfOk, OnOk, OnErr};
-ghost use Rattle.edr_edition.specs.Stores.{instance_named, subject_of, IsSubject, HasTile, IsTileOf};
+ghost use Rattle.edr_edition.specs.Stores.{instance_named, subject_of, IsSubject, HasTile, IsTileOf, HasBlock, IsBlockOf};
 ghost use Rattle.edr_edition.specs.declared.kinds.Kind.TheVariants.{Grid, Station};
 
 use crate::collections::CollectionData;
@@ -12,8 +12,8 @@ use edr_chunk::{Reads, Tile};
 use std::alloc::Global;
 use std::marker::Model;
 
-/// The data of one instance of an edition, or of the stations of a collection, for one reply, and the numbers of the tiles
-/// that were opened. It hands out tiles and that list, and nothing else of the edition.
+/// The data of one instance of an edition, or of the stations of a collection, for one reply, and the numbers of the tiles or
+/// blocks that were opened. It hands out these and that list, and nothing else of the edition.
 #[derive(Drop)]
 pub struct Store<'a> {
     collection: &'a CollectionData,
@@ -56,7 +56,7 @@ fn instance_held<'a>(
 
 impl<'a> Store<'a> {
     /// The store over a collection of an edition and the instance of an id, or its newest where none is named; over its
-    /// stations where it is a collection of stations. No tile was opened. It takes no memory.
+    /// stations where it is a collection of stations. No tile or block was opened. It takes no memory.
     pub fn of(
         alloc: Global,
         edition: &'a Edition,
@@ -93,6 +93,22 @@ impl<'a> Store<'a> {
         instance.grid().open(alloc, tile, &mut self.reads)
     }
 
+    /// The values of the block of a number, in the order t, z; the number is appended to the list. After want of memory, its
+    /// only error, the list is as it was.
+    pub fn block(&mut self, alloc: Global, number: u64) -> Result<Vec<Option<i64>>, OutOfMemory>
+        requires { HasBlock self.old.subject.held number }
+        ensures block { IfOk result (λ values. IsBlockOf self.old.subject.held number values.items) }
+        ensures read { OnOk result (self.new.numbers ≡ self.old.numbers ++ number ∷ []) }
+        ensures unread { OnErr result (self.new.numbers ≡ self.old.numbers) }
+        ensures subject { self.new.subject ≡ self.old.subject }
+        ensures stands { IsSubject self.old.subject }
+    {
+        let Some(stations) = self.collection.stations() else {
+            unreachable!()
+        };
+        stations.open_block(alloc, number, &mut self.reads)
+    }
+
     /// What it is over is a collection, and one of its instances or its stations.
     pub fn subject_stands(&self)
         ensures { IsSubject self.now.subject }
@@ -100,7 +116,7 @@ impl<'a> Store<'a> {
         let _ = &self.collection;
     }
 
-    /// The numbers of the tiles that were opened, in that order. It takes no memory.
+    /// The numbers of the tiles or blocks that were opened, in that order. It takes no memory.
     pub fn numbers(&self) -> &[u64]
         ensures { result.now ≡ self.now.numbers }
     {

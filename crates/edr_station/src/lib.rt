@@ -4,6 +4,7 @@
 mod faults;
 mod few;
 mod inputs;
+mod laws;
 mod pages;
 mod series;
 mod shelves;
@@ -11,5 +12,6 @@ mod station;
 mod stations;
 
 pub use inputs::{StationFault, StationInput};
+pub use laws::stations_cross_threads;
 pub use station::Station;
 pub use stations::Stations;

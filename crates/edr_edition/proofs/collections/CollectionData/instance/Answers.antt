@@ -5,4 +5,4 @@ use Rattle.edr_edition.proofs.collections.CollectionData.instance.Goals as goal
 
 pub returns-clause-instance : goal.returns-clause-instance
 returns-clause-instance c =
-    found_is IsInstance (λ instance. instance.now) instance_id c.args.id.now c.self.inside.instances c.item_of.result c.self.invariant.instances.each c.item_of.ensures
+    found_is IsInstance (λ instance. instance.now) instance_id c.args.id.now c.self.inside.instances c.item_of.result c.self.invariant.0.instances.each c.item_of.ensures

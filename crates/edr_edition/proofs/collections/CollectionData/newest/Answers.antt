@@ -13,4 +13,4 @@ returns-in-Some-clause-newest c =
 
 pub returns-in-Some-clause-instance : goal.returns-in-Some-clause-instance
 returns-in-Some-clause-instance c =
-    at_place IsInstance c.self.inside.instances c.in-Some.place c.at.result.now c.self.invariant.instances.each (omega (arith, c.in-Some.ensures.0, c.in-Some.ensures.1, c.len.ensures.len)) (c.at.ensures c.at.result.now)
+    at_place IsInstance c.self.inside.instances c.in-Some.place c.at.result.now c.self.invariant.0.instances.each (omega (arith, c.in-Some.ensures.0, c.in-Some.ensures.1, c.len.ensures.len)) (c.at.ensures c.at.result.now)

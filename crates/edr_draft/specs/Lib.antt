@@ -1,0 +1,5 @@
+pub mod Series
+pub mod Parameters
+pub mod Changes
+pub mod Outcomes
+pub mod Steps

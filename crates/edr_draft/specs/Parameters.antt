@@ -1,0 +1,19 @@
+-- Where lists of parameters differ.
+use Rattle.std.specs.Prelude.{◌≡◌, ◌≢◌, ℕ, List, Option}
+use Rattle.std.specs.declared.cmp.Ordering.TheVariants.{Less}
+use Rattle.covjson_value.specs.declared.coverages.Parameter.{Parameter}
+use Rattle.edr_ids.specs.Ids.{order, item_of}
+use Rattle.edr_edition.specs.Values.{parameter_id}
+
+-- the parameter of an id, where there is one
+abbrev pub parameter_in : List Parameter → List ℕ → Option Parameter
+parameter_in parameters id = item_of parameter_id id parameters
+
+-- only one side has a parameter of the id, or the two differ there in language, label or unit
+abbrev pub DifferAt : List Parameter → List Parameter → List ℕ → Type 0
+DifferAt one other id = parameter_in one id ≢ parameter_in other id
+
+-- they differ at the id, and at none below it, byte by byte
+pub record DifferFirstAt (one other : List Parameter) (id : List ℕ) : Type 0 where
+  pub differ : DifferAt one other id
+  pub same_below : (lower : List ℕ) → order lower id ≡ Less → parameter_in one lower ≡ parameter_in other lower

@@ -1,0 +1,266 @@
+//! The steps of a change, on the collections of a draft.
+ghost use Rattle.std.specs.Prelude.{◌≡◌, ◌<◌, Some, [], IfOk, IsUtf8, length};
+ghost use Rattle.std.specs.List.{slice_index_or};
+ghost use Rattle.covjson_value.specs.Coverages.{IsReferencing, IsValid};
+ghost use Rattle.edr_base.specs.Names.{IsName};
+ghost use Rattle.edr_ids.specs.Ids.{with_item};
+ghost use Rattle.edr_draft.specs.declared.changes.Change.TheVariants.{Collection, Grid, Station, DropCollection, DropInstance, DropStation, Bare};
+ghost use Rattle.edr_edition.specs.Values.{CollectionValue, collection_id};
+ghost use Rattle.edr_edition.specs.Editions.{AreCollections};
+ghost use Rattle.edr_draft.specs.Changes.{as_instance, as_station, AppliesToSet, with_grid, with_series, bare_collection};
+ghost use Rattle.edr_draft.specs.Steps.{Finds, Becomes, IsMade};
+
+use crate::changes::ChangeFault;
+use crate::checks::{check_grid, check_series};
+use crate::series::input_of;
+use covjson_value::{Coverage, Referencing};
+use edr_base::{OutOfMemory, Text};
+use edr_edition::{CollectionData, GridInstance, Kind};
+use edr_ids::ById;
+use std::alloc::Global;
+
+/// Adds an empty collection: SameCollection.
+pub fn add_collection(
+    alloc: Global,
+    collections: &mut ById<CollectionData>,
+    id: Text,
+    kind: Kind,
+    title: Text,
+    referencing: Referencing,
+) -> Result<(), ChangeFault>
+    requires collections { AreCollections collections.old }
+    requires id { IsName id }
+    requires title { IsUtf8 title }
+    requires referencing { IsReferencing referencing }
+    ensures made { IsMade collections.old (Collection id kind title referencing.crs referencing.vertical) result collections.new }
+{
+    if collections.item_of(id.bytes()).is_some() {
+        return Err(ChangeFault::SameCollection);
+    }
+    let collection = CollectionData::empty(alloc, id, kind, title, referencing)?;
+    collections.put(alloc, collection)?;
+    Ok(())
+}
+
+// Sets an instance of a collection, and sets that among the collections.
+fn set_with(
+    alloc: Global,
+    collections: &mut ById<CollectionData>,
+    collection: CollectionData,
+    id: Text,
+    coverage: Coverage,
+) -> Result<(), ChangeFault>
+    requires collections { AreCollections collections.old }
+    requires id { IsName id }
+    requires coverage { IsValid coverage }
+    ensures finds { Finds (AppliesToSet (as_instance id) (Some collection) coverage) result }
+    ensures becomes { Becomes collections.old (with_item collection_id (with_grid id coverage collection) collections.old) result collections.new }
+{
+    check_grid(alloc, &collection, id.bytes(), &coverage)?;
+    let mut collection = collection;
+    let instance = GridInstance::of(alloc, id, coverage)?;
+    collection.set_instance(alloc, instance)?;
+    collections.put(alloc, collection)?;
+    Ok(())
+}
+
+/// Sets an instance: UnknownCollection, and then as the grid is.
+pub fn set_instance(
+    alloc: Global,
+    collections: &mut ById<CollectionData>,
+    collection: &[u8],
+    id: Text,
+    coverage: Coverage,
+) -> Result<(), ChangeFault>
+    requires collections { AreCollections collections.old }
+    requires id { IsName id }
+    requires coverage { IsValid coverage }
+    ensures made { IsMade collections.old (Grid collection.now id coverage) result collections.new }
+{
+    let Some(held) = collections.item_of(collection) else {
+        return Err(ChangeFault::UnknownCollection);
+    };
+    let held = held.share()?;
+    set_with(alloc, collections, held, id, coverage)
+}
+
+// Sets a station of a collection, and sets that among the collections.
+fn set_series(
+    alloc: Global,
+    collections: &mut ById<CollectionData>,
+    collection: CollectionData,
+    id: Text,
+    label: Text,
+    coverage: Coverage,
+) -> Result<(), ChangeFault>
+    requires collections { AreCollections collections.old }
+    requires id { IsName id }
+    requires label { IsUtf8 label }
+    requires coverage { IsValid coverage }
+    ensures finds { Finds (AppliesToSet (as_station id) (Some collection) coverage) result }
+    ensures becomes { Becomes collections.old (with_item collection_id (with_series id label coverage collection) collections.old) result collections.new }
+{
+    check_series(alloc, &collection, id.bytes(), &coverage)?;
+    let mut collection = collection;
+    let Coverage {
+        id: _,
+        domain,
+        referencing: _,
+        parameters,
+        ranges,
+    } = coverage;
+    let input = input_of(alloc, id, label, domain, ranges)?;
+    collection.set_station(alloc, parameters, input)?;
+    collections.put(alloc, collection)?;
+    Ok(())
+}
+
+/// Sets a station: UnknownCollection, and then as the series is.
+pub fn set_station(
+    alloc: Global,
+    collections: &mut ById<CollectionData>,
+    collection: &[u8],
+    id: Text,
+    label: Text,
+    coverage: Coverage,
+) -> Result<(), ChangeFault>
+    requires collections { AreCollections collections.old }
+    requires id { IsName id }
+    requires label { IsUtf8 label }
+    requires coverage { IsValid coverage }
+    ensures made { IsMade collections.old (Station collection.now id label coverage) result collections.new }
+{
+    let Some(held) = collections.item_of(collection) else {
+        return Err(ChangeFault::UnknownCollection);
+    };
+    let held = held.share()?;
+    set_series(alloc, collections, held, id, label, coverage)
+}
+
+/// Drops a collection: UnknownCollection.
+pub fn drop_collection(
+    alloc: Global,
+    collections: &mut ById<CollectionData>,
+    id: &[u8],
+) -> Result<(), ChangeFault>
+    requires collections { AreCollections collections.old }
+    ensures made { IsMade collections.old (DropCollection id.now) result collections.new }
+{
+    let there = collections.take_out(alloc, id)?;
+    if !there {
+        return Err(ChangeFault::UnknownCollection);
+    }
+    Ok(())
+}
+
+/// Drops an instance: UnknownCollection, WrongKind, UnknownInstance.
+pub fn drop_instance(
+    alloc: Global,
+    collections: &mut ById<CollectionData>,
+    collection: &[u8],
+    id: &[u8],
+) -> Result<(), ChangeFault>
+    requires collections { AreCollections collections.old }
+    ensures made { IsMade collections.old (DropInstance collection.now id.now) result collections.new }
+{
+    let Some(held) = collections.item_of(collection) else {
+        return Err(ChangeFault::UnknownCollection);
+    };
+    if held.kind() != Kind::Grid {
+        return Err(ChangeFault::WrongKind);
+    }
+    let mut left = held.share()?;
+    let there = left.take_instance(alloc, id)?;
+    if !there {
+        return Err(ChangeFault::UnknownInstance);
+    }
+    collections.put(alloc, left)?;
+    Ok(())
+}
+
+/// Drops a station: UnknownCollection, WrongKind, UnknownStation.
+pub fn drop_station(
+    alloc: Global,
+    collections: &mut ById<CollectionData>,
+    collection: &[u8],
+    id: &[u8],
+) -> Result<(), ChangeFault>
+    requires collections { AreCollections collections.old }
+    ensures made { IsMade collections.old (DropStation collection.now id.now) result collections.new }
+{
+    let Some(held) = collections.item_of(collection) else {
+        return Err(ChangeFault::UnknownCollection);
+    };
+    if held.kind() != Kind::Station {
+        return Err(ChangeFault::WrongKind);
+    }
+    let mut left = held.share()?;
+    let there = left.take_station(alloc, id)?;
+    if !there {
+        return Err(ChangeFault::UnknownStation);
+    }
+    collections.put(alloc, left)?;
+    Ok(())
+}
+
+fn copy_where_given(alloc: Global, text: &Option<Text>) -> Result<Option<Text>, OutOfMemory>
+    ensures { IfOk result (λ copied. copied ≡ text.now) }
+{
+    match text {
+        Some(text) => Ok(Some(Text::of(alloc, text.bytes())?)),
+        None => Ok(None),
+    }
+}
+
+fn copy_referencing(alloc: Global, referencing: &Referencing) -> Result<Referencing, OutOfMemory>
+    ensures { IfOk result (λ copied. copied ≡ referencing.now) }
+{
+    Ok(Referencing {
+        crs: Text::of(alloc, referencing.crs.bytes())?,
+        vertical: copy_where_given(alloc, &referencing.vertical)?,
+    })
+}
+
+// An empty collection for bare coverages with these systems.
+fn empty_bare_collection(
+    alloc: Global,
+    referencing: &Referencing,
+) -> Result<CollectionData, OutOfMemory>
+    requires { IsReferencing referencing.now }
+    ensures { IfOk result (λ collection. collection ≡ bare_collection [] referencing.now) }
+{
+    let id = Text::of(alloc, b"grid")?;
+    let title = Text::of(alloc, b"grid")?;
+    let referencing = copy_referencing(alloc, referencing)?;
+    CollectionData::empty(alloc, id, Kind::Grid, title, referencing)
+}
+
+// The collection that bare coverages go to: the one that is there, shared, or an empty one with these systems.
+fn bare_collection_of(
+    alloc: Global,
+    collections: &ById<CollectionData>,
+    referencing: &Referencing,
+) -> Result<CollectionData, OutOfMemory>
+    requires { IsReferencing referencing.now }
+    ensures { IfOk result (λ collection. collection ≡ bare_collection collections.now referencing.now) }
+{
+    match collections.item_of(b"grid") {
+        Some(held) => held.share(),
+        None => empty_bare_collection(alloc, referencing),
+    }
+}
+
+/// Sets a bare coverage: as the grid is.
+pub fn set_bare(
+    alloc: Global,
+    collections: &mut ById<CollectionData>,
+    coverage: Coverage,
+) -> Result<(), ChangeFault>
+    requires collections { AreCollections collections.old }
+    requires coverage { IsValid coverage }
+    ensures made { IsMade collections.old (Bare coverage) result collections.new }
+{
+    let id = Text::of(alloc, b"1")?;
+    let collection = bare_collection_of(alloc, collections, &coverage.referencing)?;
+    set_with(alloc, collections, collection, id, coverage)
+}

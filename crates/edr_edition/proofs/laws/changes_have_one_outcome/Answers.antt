@@ -1,5 +1,0 @@
-use Rattle.edr_edition.proofs.OutcomeLaws.{one_outcome}
-use Rattle.edr_edition.proofs.laws.changes_have_one_outcome.Goals as goal
-
-pub returns : goal.returns
-returns c = one_outcome
