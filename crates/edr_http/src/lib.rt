@@ -8,6 +8,7 @@ mod copying;
 mod filling;
 mod finding;
 mod heads;
+mod held;
 mod inbox;
 mod laws;
 mod reading;
