@@ -1,7 +1,9 @@
 //! Bytes that were read and not used.
 ghost use Rattle.std.specs.Prelude.{◌≡◌, []};
 
+use crate::finding::{FIELD_LIMIT, Fields};
 use crate::held::Held;
+use httparse::spans::EMPTY_HEADER_SPAN;
 use std::alloc::Global;
 use std::marker::Model;
 
@@ -9,6 +11,8 @@ use std::marker::Model;
 #[derive(Debug, Drop)]
 pub struct Inbox {
     pub(crate) held: Held,
+    // where the fields of the last head stand
+    pub(crate) fields: Fields,
 }
 
 impl Model for Inbox {
@@ -26,6 +30,7 @@ impl Inbox {
     {
         Inbox {
             held: Held::new(alloc),
+            fields: [EMPTY_HEADER_SPAN; FIELD_LIMIT],
         }
     }
 

@@ -8,12 +8,11 @@ ghost use Rattle.edr_http.specs.Finding.{HasTree, HasNoTree};
 
 use crate::copying::copy_head;
 use crate::filling::{Front, fill};
-use crate::finding::{FIELD_LIMIT, window};
+use crate::finding::{Fields, window};
 use crate::heads::{HeadFault, HeadOutcome};
 use crate::held::Held;
 use crate::inbox::Inbox;
 use edr_base::{Refusal, Source};
-use httparse::spans::EMPTY_HEADER_SPAN;
 use std::alloc::Global;
 
 // Takes the head at the front of what is held and what is left of the source.
@@ -22,6 +21,7 @@ fn take_head<S: Source>(
     alloc: Global,
     source: &mut S,
     held: &mut Held,
+    fields: &mut Fields,
 ) -> Result<HeadOutcome, HeadFault>
     ensures done { IfOk result (λ outcome. Finds outcome (prepend_known held.old (S.left source.old)) (prepend_known held.new (S.left source.new))) }
     ensures fault { OnErr result (prepend_known held.new (S.left source.new) ≡ prepend_known held.old (S.left source.old)) }
@@ -35,9 +35,8 @@ fn take_head<S: Source>(
     ensures lent { SourceLent (S.aside source.old) (S.aside source.new) (S.faults source.old) (S.faults source.new) }
     ensures cause { IsErrOf result HeadFault.ReadFault → Rose (S.faults source.old) (S.faults source.new) }
 {
-    let mut fields = [EMPTY_HEADER_SPAN; FIELD_LIMIT];
-    match fill(source, held, &mut fields) {
-        Ok(Front::Got(spans)) => match copy_head(alloc, window(held.bytes()), &fields, spans) {
+    match fill(source, held, fields) {
+        Ok(Front::Got(spans)) => match copy_head(alloc, window(held.bytes()), fields, spans) {
             Ok(head) => {
                 held.take(spans.len);
                 Ok(HeadOutcome::Got(head))
@@ -74,5 +73,5 @@ pub fn read_head<S: Source>(
     ensures lent { SourceLent (S.aside source.old) (S.aside source.new) (S.faults source.old) (S.faults source.new) }
     ensures cause { IsErrOf result HeadFault.ReadFault → Rose (S.faults source.old) (S.faults source.new) }
 {
-    take_head(alloc, source, &mut inbox.held)
+    take_head(alloc, source, &mut inbox.held, &mut inbox.fields)
 }
