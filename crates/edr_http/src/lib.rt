@@ -5,6 +5,7 @@ mod checks;
 mod chunked_sink;
 mod chunks;
 mod copying;
+mod draft;
 mod filling;
 mod finding;
 mod heads;
