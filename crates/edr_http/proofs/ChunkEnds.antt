@@ -1,5 +1,5 @@
 -- How a body that is sent in chunks begins, breaks off and ends.
-use Rattle.std.proofs.Common.{◌≡◌, ℕ, zero, suc, ◌-◌, ◌*◌, ◌≤◌, ◌<◌, Bool, true, false, length, List, [], ◌∷◌, ◌++◌, take, drop, sym, ap, subst, ◌∙◌, refl, Some, None, append-nil, arith}
+use Rattle.std.proofs.Common.{◌≡◌, ℕ, zero, suc, ◌-◌, ◌*◌, ◌≤◌, ◌<◌, Bool, true, false, length, length-drop, codes, List, [], ◌∷◌, ◌++◌, take, drop, sym, ap, subst, ◌∙◌, refl, Some, None, append-nil, arith}
 use Rattle.std.specs.declared.option.Option.{Option}
 use mathlib.Core.List.{append_assoc}
 use Rattle.std.specs.Prelude.{Result, Ok, OnOk}
@@ -7,8 +7,9 @@ use Rattle.std.proofs.lemmas.Bool.Decides.{nat_tests}
 use Rattle.std.proofs.lemmas.List.{take-append-drop, take-append-le, take_all}
 use Rattle.edr_base.specs.KnownBytes.{writes_on}
 use Rattle.edr_base.specs.Calls.{Writes}
-use Rattle.edr_http.specs.Chunks.{chunk, first_chunks, chunked}
-use Rattle.edr_http.specs.ChunkLaws.{chunked_more}
+use Rattle.std.specs.Fmt.{digits}
+use Rattle.edr_http.specs.Chunks.{crlf, chunk, first_chunks, last_chunk, chunked}
+use Rattle.edr_http.specs.ChunkLaws.{chunked_one, chunked_more}
 use Rattle.edr_http.specs.ChunkedSinkParts.{piece_in, bottom_of, sent_of, payload, rebuilt, rebuilt_known, has_room, body_known, bottom_known}
 use Rattle.edr_http.specs.ChunkedSinks.{nothing_in, EndsBody, BeginsBody}
 use Rattle.edr_http.proofs.ChunkFrames.{chunk_length, piece_length}
@@ -108,3 +109,18 @@ new_room (Some ws) = grind (arith, nat_tests)
 -- what a call promises where it answers Ok
 pub ok_of : {T E : Type 0} (r : Result T E) (x : T) (P : Type 0) → r ≡ Ok x → OnOk r P → P
 ok_of r x P e p = subst (λ z. OnOk z P) e p
+
+-- ---- a body of one chunk
+
+-- its line, which ends an array, its bytes and its end
+pub chunk_parts : (line text : List ℕ) (start : ℕ) → length line ≡ 6 → 0 < length text → length text ≤ 4096 → drop start line ≡ digits 16 false (length text) ++ crlf
+    → take (6 - start) (drop start line) ++ (text ++ codes "\r\n0\r\n\r\n") ≡ chunked text
+chunk_parts line text start six some small e =
+    let size : List ℕ = digits 16 false (length text) in
+    let end : List ℕ = last_chunk ++ crlf in
+    let whole : take (6 - start) (drop start line) ≡ drop start line = take_all (6 - start) (drop start line) (omega (arith, length-drop start line, six)) in
+    ap (λ w. w ++ (text ++ codes "\r\n0\r\n\r\n")) (whole ∙ e) ∙ (append_assoc size crlf (text ++ codes "\r\n0\r\n\r\n")
+    ∙ sym (chunked_one text some small ∙ (append_assoc size (crlf ++ (text ++ crlf)) end ∙ ap (λ w. size ++ (crlf ++ w)) (append_assoc text crlf end))))
+
+pub written_as : {T E : Type 0} (r : Result T E) (a b : Option (List ℕ)) (xs text : List ℕ) → xs ≡ text → Writes r xs a b → Writes r text a b
+written_as r a b xs text e w = subst (λ (t : List ℕ). Writes r t a b) e w

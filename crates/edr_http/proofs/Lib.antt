@@ -1,5 +1,6 @@
 pub mod HeadLemmas
 pub mod RestLemmas
+pub mod HeldLemmas
 pub mod CheckLemmas
 pub mod ReplyLemmas
 pub mod ChunkFrames

@@ -1,7 +1,7 @@
 //! Bodies in chunks, as they are sent.
 ghost use Rattle.std.specs.Prelude.{◌<◌};
 
-use crate::ChunkedSink;
+use crate::{ChunkedSink, send_body};
 use edr_base::{MemorySink, SendFault, Sink, send};
 use std::alloc::{AllocError, Global};
 use std::rt::HostRuntime;
@@ -16,7 +16,7 @@ fn letters(alloc: Global, front: &[u8], count: usize, back: &[u8]) -> Result<Vec
     Ok(text)
 }
 
-// Whether so many letters, written in cuts of this many, are sent as themselves between two texts.
+// Whether so many letters, written in cuts of this many or at once, are sent as themselves between two texts.
 fn is_sent(
     alloc: Global,
     count: usize,
@@ -34,7 +34,10 @@ fn is_sent(
         whole = send(&mut layer, piece).is_ok() && whole;
     }
     let (sink, outcome) = layer.finish();
-    Ok(whole && outcome.is_ok() && sink.written() == text.as_slice())
+    let gathered = whole && outcome.is_ok() && sink.written() == text.as_slice();
+    let mut other = MemorySink::of(alloc, cut, Vec::new(alloc));
+    let sent = send_body(&mut other, &body).is_ok();
+    Ok(gathered && sent && other.written() == text.as_slice())
 }
 
 fn are_sent(alloc: Global, cut: usize) -> Result<bool, AllocError>

@@ -1,5 +1,5 @@
 //! A sink that sends what is written to it in chunks (RFC 9112 section 7.1).
-ghost use Rattle.std.specs.Prelude.{◌≡◌, ◌≤◌, ◌<◌, ◌+◌, ◌-◌, ℕ, List, length, take, drop, Option, OnOk, OnErr, IsOk, IsErrOf, IfOk, Ok, Err, true, false, None};
+ghost use Rattle.std.specs.Prelude.{◌≡◌, ◌≤◌, ◌<◌, ◌+◌, ◌-◌, ◌++◌, ℕ, List, length, take, drop, Option, OnOk, OnErr, IsOk, IsErrOf, IfOk, Ok, Err, true, false, None};
 ghost use Rattle.std.specs.Io.KnownBytes.{append_known};
 ghost use Rattle.edr_base.specs.Outside.{Rose};
 ghost use Rattle.edr_base.specs.Calls.{Appended, Flushed, SinkLent, Writes};
@@ -7,7 +7,7 @@ ghost use Rattle.edr_http.specs.Chunks.{chunked};
 ghost use Rattle.edr_http.specs.ChunkedSinkParts.{IsFrame, piece_in, has_room, rebuilt_known, body_known, bottom_known, both_told};
 ghost use Rattle.std.proofs.Props.{props};
 
-use crate::chunks::{fill, last_text, new_frame};
+use crate::chunks::{fill, last_text, new_frame, size_line};
 use edr_base::{Faults, Lent, SendFault, Sink, Stop, send};
 
 /// Sends what is written to it in chunks of 4,096 bytes to the sink inside, however the writes are cut (RFC 9112 section
@@ -295,10 +295,38 @@ impl<K: Sink> ChunkedSink<K> {
     }
 }
 
-/// Sends a text as a whole body in chunks to a sink that is lent, and doesn't flush it. After a fault a beginning of the
-/// chunks was sent.
+// Sends two texts, one behind the other.
+#[tactic(auto, using(edr_base::specs::KnownBytes::writes_stop))]
+fn send_two<K: Sink>(sink: &mut K, first: &[u8], second: &[u8]) -> Result<(), SendFault>
+    ensures bytes { Writes result (first.now ++ second.now) (K.written sink.old) (K.written sink.new) }
+    ensures flushed { K.flushed sink.new ≡ K.flushed sink.old }
+    ensures lent { SinkLent (K.beside sink.old) (K.beside sink.new) (K.faults sink.old) (K.faults sink.new) }
+    ensures cause { IsErrOf result SendFault.WriteFault → Rose (K.faults sink.old) (K.faults sink.new) }
+{
+    match send(sink, first) {
+        Ok(()) => send(sink, second),
+        Err(fault) => Err(fault),
+    }
+}
+
+// Sends a text as a body of one chunk, without gathering it.
+fn send_chunk<K: Sink>(sink: &mut K, text: &[u8]) -> Result<(), SendFault>
+    requires { (0 < length text.now) × (length text.now ≤ 4096) }
+    ensures bytes { Writes result (chunked text.now) (K.written sink.old) (K.written sink.new) }
+    ensures flushed { K.flushed sink.new ≡ K.flushed sink.old }
+    ensures lent { SinkLent (K.beside sink.old) (K.beside sink.new) (K.faults sink.old) (K.faults sink.new) }
+    ensures cause { IsErrOf result SendFault.WriteFault → Rose (K.faults sink.old) (K.faults sink.new) }
+{
+    let (line, start) = size_line(text.len());
+    match send(sink, &line[start..]) {
+        Ok(()) => send_two(sink, text, b"\r\n0\r\n\r\n"),
+        Err(fault) => Err(fault),
+    }
+}
+
+// Sends a text as a body in chunks, each of which is gathered.
 #[tactic(auto, using(edr_base::specs::LentParts::held_name, edr_base::specs::LentParts::held_below))]
-pub fn send_body<K: Sink>(sink: &mut K, text: &[u8]) -> Result<(), SendFault>
+fn send_gathered<K: Sink>(sink: &mut K, text: &[u8]) -> Result<(), SendFault>
     ensures bytes { Writes result (chunked text.now) (K.written sink.old) (K.written sink.new) }
     ensures flushed { K.flushed sink.new ≡ K.flushed sink.old }
     ensures lent { SinkLent (K.beside sink.old) (K.beside sink.new) (K.faults sink.old) (K.faults sink.new) }
@@ -307,4 +335,19 @@ pub fn send_body<K: Sink>(sink: &mut K, text: &[u8]) -> Result<(), SendFault>
     let mut layer = ChunkedSink::of(Lent::of(sink));
     let outcome = layer.send_whole(text);
     layer.end_after(outcome)
+}
+
+/// Sends a text as a whole body in chunks to a sink that is lent, and doesn't flush it. After a fault a beginning of the
+/// chunks was sent.
+pub fn send_body<K: Sink>(sink: &mut K, text: &[u8]) -> Result<(), SendFault>
+    ensures bytes { Writes result (chunked text.now) (K.written sink.old) (K.written sink.new) }
+    ensures flushed { K.flushed sink.new ≡ K.flushed sink.old }
+    ensures lent { SinkLent (K.beside sink.old) (K.beside sink.new) (K.faults sink.old) (K.faults sink.new) }
+    ensures cause { IsErrOf result SendFault.WriteFault → Rose (K.faults sink.old) (K.faults sink.new) }
+{
+    if text.is_empty() || text.len() > 4096 {
+        send_gathered(sink, text)
+    } else {
+        send_chunk(sink, text)
+    }
 }

@@ -45,8 +45,9 @@ pub(crate) fn fill(frame: &mut [u8; 4109], used: usize, bytes: &[u8])
 }
 
 // Puts the size of a short piece before it, in place of that of a full one, and says where it begins.
-fn put_size(frame: &mut [u8; 4109], size: usize) -> usize
+fn put_size(frame: &mut [u8], size: usize) -> usize
     requires small { size < 4096 }
+    requires long { 6 ≤ length frame.old }
     requires full { take 6 frame.old ≡ codes "1000\r\n" }
     ensures place { result + length (digits 16 false size) ≡ 4 }
     ensures text { drop result frame.new ≡ digits 16 false size ++ (crlf ++ drop 6 frame.old) }
@@ -63,6 +64,20 @@ fn put_size(frame: &mut [u8; 4109], size: usize) -> usize
     }
     put(frame, 1, &[digit(size / 256), middle, last]);
     1
+}
+
+// The line before a piece, which is its size in hexadecimal: it stands at the end of the array, and this says where it begins.
+pub(crate) fn size_line(size: usize) -> ([u8; 6], usize)
+    requires { size ≤ 4096 }
+    ensures bound { result.1 ≤ 6 }
+    ensures text { drop result.1 result.0 ≡ digits 16 false size ++ crlf }
+{
+    let mut line = *b"1000\r\n";
+    if size == 4096 {
+        return (line, 0);
+    }
+    let start = put_size(&mut line, size);
+    (line, start)
 }
 
 // Makes of the piece the end of a body of which `sent` bytes went out, and says from where to where in the array it stands.

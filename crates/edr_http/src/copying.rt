@@ -24,7 +24,7 @@ fn copy_fields(
     requires { All (IsHeaderWithin (length bytes.now)) headers.now }
     ensures { IfOk result (λ fields. fields ≡ map (header_bytes bytes.now) headers.now) }
 {
-    let mut fields = Vec::new(alloc);
+    let mut fields = Vec::with_capacity(alloc, headers.len())?;
     for header in headers {
         let name = copy_span(alloc, bytes, header.name)?;
         let value = copy_span(alloc, bytes, header.value)?;

@@ -1,15 +1,16 @@
 //! Reading until it is known what is at the front of the rest.
-ghost use Rattle.std.specs.Prelude.{◌≡◌, ◌≤◌, ◌<◌, ◌+◌, ◌-◌, ◌⊎◌, ℕ, length, IfOk, Ok, OnErr, IsErrOf};
+ghost use Rattle.std.specs.Prelude.{◌≡◌, ◌≤◌, ◌<◌, ◌-◌, ◌⊎◌, ℕ, length, IfOk, Ok, IsErrOf};
 ghost use Rattle.std.specs.Io.KnownBytes.{prepend_known};
 ghost use Rattle.edr_base.specs.Outside.{Rose};
 ghost use Rattle.edr_base.specs.Calls.{SourceLent};
 ghost use Rattle.httparse.specs.declared.spans.RequestSpans.{RequestSpans};
 ghost use Rattle.edr_http.specs.Heads.{block_size, most_held};
-ghost use Rattle.edr_http.specs.Finding.{Grew, IsFront, HasTree, HasNoTree};
+ghost use Rattle.edr_http.specs.Finding.{IsFront, HasTree, HasNoTree};
 
 use crate::finding::{Fields, Found, HEAD_LIMIT, look};
 use crate::heads::HeadFault;
-use edr_base::{Failed, Source};
+use crate::held::{Held, read_more};
+use edr_base::Source;
 use httparse::spans::RequestSpans;
 
 /// What is at the front of the rest.
@@ -23,55 +24,32 @@ pub(crate) enum Front {
     BadHead,
 }
 
-// Reads one block behind what is held.
-#[tactic(auto, using(crate::proofs::RestLemmas::rest_grew))]
-fn read_more<S: Source>(source: &mut S, held: &mut Vec<u8>) -> Result<usize, HeadFault>
-    ensures rest { prepend_known held.new.items (S.left source.new) ≡ prepend_known held.old.items (S.left source.old) }
-    ensures grew { IfOk result (λ n. (n ≤ block_size) × Grew held.old.items held.new.items n (S.left source.new)) }
-    ensures bounded { length held.new.items ≤ length held.old.items + block_size }
-    ensures unread { OnErr result (held.new.items ≡ held.old.items) }
-    ensures lent { SourceLent (S.aside source.old) (S.aside source.new) (S.faults source.old) (S.faults source.new) }
-    ensures cause { IsErrOf result HeadFault.ReadFault → Rose (S.faults source.old) (S.faults source.new) }
-{
-    let mut block = [0u8; 4096];
-    if held.try_reserve(4096).is_err() {
-        return Err(HeadFault::OutOfMemory);
-    }
-    match source.read(&mut block) {
-        Ok(n) => match held.extend_from_slice(&block[..n]) {
-            Ok(()) => Ok(n),
-            Err(_) => unreachable!(),
-        },
-        Err(Failed) => Err(HeadFault::ReadFault),
-    }
-}
-
 /// Reads until it is known what is at the front of the rest, which stays as it is, and says where the fields of a head stand.
 #[tactic(auto, using(crate::proofs::RestLemmas::no_head_ever, crate::proofs::RestLemmas::no_head_end, crate::proofs::RestLemmas::held_bound))]
 pub(crate) fn fill<S: Source>(
     source: &mut S,
-    held: &mut Vec<u8>,
+    held: &mut Held,
     fields: &mut Fields,
 ) -> Result<Front, HeadFault>
-    ensures rest { prepend_known held.new.items (S.left source.new) ≡ prepend_known held.old.items (S.left source.old) }
-    ensures front { IfOk result (λ front. IsFront front held.new.items fields.new (S.left source.new)) }
-    ensures kept { (n : ℕ) → HasTree held.old.items n → source.new ≡ source.old }
-    ensures same { (n : ℕ) → HasTree held.old.items n → held.new.items ≡ held.old.items }
-    ensures none { IsErrOf result HeadFault.ReadFault → HasNoTree held.new.items }
-    ensures short { (spans : RequestSpans) → result ≡ Ok (Front.Got spans) → HasTree held.old.items spans.len ⊎ (length held.new.items - spans.len < block_size) }
-    ensures bounded { length held.new.items ≤ most_held (length held.old.items) }
+    ensures rest { prepend_known held.new (S.left source.new) ≡ prepend_known held.old (S.left source.old) }
+    ensures front { IfOk result (λ front. IsFront front held.new fields.new (S.left source.new)) }
+    ensures kept { (n : ℕ) → HasTree held.old n → source.new ≡ source.old }
+    ensures same { (n : ℕ) → HasTree held.old n → held.new ≡ held.old }
+    ensures none { IsErrOf result HeadFault.ReadFault → HasNoTree held.new }
+    ensures short { (spans : RequestSpans) → result ≡ Ok (Front.Got spans) → HasTree held.old spans.len ⊎ (length held.new - spans.len < block_size) }
+    ensures bounded { length held.new ≤ most_held (length held.old) }
     ensures lent { SourceLent (S.aside source.old) (S.aside source.new) (S.faults source.old) (S.faults source.new) }
     ensures cause { IsErrOf result HeadFault.ReadFault → Rose (S.faults source.old) (S.faults source.new) }
 {
     for _ in 0..HEAD_LIMIT + 1 {
-        match look(held, fields) {
+        match look(held.bytes(), fields) {
             Found::Got(spans) => return Ok(Front::Got(spans)),
             Found::Bad => return Ok(Front::BadHead),
             Found::NeedMore => {}
         }
         match read_more(source, held) {
             Ok(0) => {
-                return Ok(if held.is_empty() {
+                return Ok(if held.bytes().is_empty() {
                     Front::EndOfInput
                 } else {
                     Front::BadHead

@@ -1,13 +1,18 @@
 //! Bytes that were read and not used.
 ghost use Rattle.std.specs.Prelude.{◌≡◌, []};
 
+use crate::finding::{FIELD_LIMIT, Fields};
+use crate::held::Held;
+use httparse::spans::EMPTY_HEADER_SPAN;
 use std::alloc::Global;
 use std::marker::Model;
 
 /// The bytes of a connection that were read and not used yet, seen as a list.
 #[derive(Debug, Drop)]
 pub struct Inbox {
-    pub(crate) bytes: Vec<u8>,
+    pub(crate) held: Held,
+    // where the fields of the last head stand
+    pub(crate) fields: Fields,
 }
 
 impl Model for Inbox {
@@ -15,7 +20,7 @@ impl Model for Inbox {
 
     ghost Value = { List ℕ };
 
-    ghost view = { λ inbox. inbox.bytes.items };
+    ghost view = { λ inbox. inbox.held };
 }
 
 impl Inbox {
@@ -24,7 +29,8 @@ impl Inbox {
         ensures { result ≡ [] }
     {
         Inbox {
-            bytes: Vec::new(alloc),
+            held: Held::new(alloc),
+            fields: [EMPTY_HEADER_SPAN; FIELD_LIMIT],
         }
     }
 
@@ -32,6 +38,6 @@ impl Inbox {
     pub fn held(&self) -> &[u8]
         ensures { result.now ≡ self.now }
     {
-        &self.bytes
+        self.held.bytes()
     }
 }

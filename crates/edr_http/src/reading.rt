@@ -1,5 +1,5 @@
 //! The head at the front of the rest of a connection.
-ghost use Rattle.std.specs.Prelude.{◌≡◌, ◌≤◌, ◌<◌, ◌⊎◌, [], ℕ, length, drop, vec_len, IfOk, OnErr, IsErrOf};
+ghost use Rattle.std.specs.Prelude.{◌≡◌, ◌≤◌, ◌<◌, ◌⊎◌, [], ℕ, length, IfOk, OnErr, IsErrOf};
 ghost use Rattle.std.specs.Io.KnownBytes.{prepend_known};
 ghost use Rattle.edr_base.specs.Outside.{Rose};
 ghost use Rattle.edr_base.specs.Calls.{SourceLent};
@@ -8,47 +8,37 @@ ghost use Rattle.edr_http.specs.Finding.{HasTree, HasNoTree};
 
 use crate::copying::copy_head;
 use crate::filling::{Front, fill};
-use crate::finding::{FIELD_LIMIT, window};
+use crate::finding::{Fields, window};
 use crate::heads::{HeadFault, HeadOutcome};
+use crate::held::Held;
 use crate::inbox::Inbox;
 use edr_base::{Refusal, Source};
-use httparse::spans::EMPTY_HEADER_SPAN;
 use std::alloc::Global;
-
-// Takes the first bytes away.
-fn remove_front(held: &mut Vec<u8>, n: usize)
-    requires { n ≤ vec_len held.old }
-    ensures { held.new.items ≡ drop n held.old.items }
-{
-    let left = held.len() - n;
-    held.copy_within(n.., 0);
-    held.truncate(left);
-}
 
 // Takes the head at the front of what is held and what is left of the source.
 #[tactic(auto, using(crate::proofs::RestLemmas::finds_end, crate::proofs::RestLemmas::finds_bad, crate::proofs::RestLemmas::rest_after, crate::proofs::RestLemmas::rest_same))]
 fn take_head<S: Source>(
     alloc: Global,
     source: &mut S,
-    held: &mut Vec<u8>,
+    held: &mut Held,
+    fields: &mut Fields,
 ) -> Result<HeadOutcome, HeadFault>
-    ensures done { IfOk result (λ outcome. Finds outcome (prepend_known held.old.items (S.left source.old)) (prepend_known held.new.items (S.left source.new))) }
-    ensures fault { OnErr result (prepend_known held.new.items (S.left source.new) ≡ prepend_known held.old.items (S.left source.old)) }
-    ensures behind { IsBehind (prepend_known held.old.items (S.left source.old)) (prepend_known held.new.items (S.left source.new)) }
-    ensures short { IsGot result → HasHead held.old.items ⊎ (length held.new.items < block_size) }
-    ensures bounded { length held.new.items ≤ most_held (length held.old.items) }
-    ensures kept { (n : ℕ) → HasTree held.old.items n → source.new ≡ source.old }
-    ensures less { (n : ℕ) → HasTree held.old.items n → length held.new.items ≤ length held.old.items }
-    ensures none { IsErrOf result HeadFault.ReadFault → HasNoTree held.new.items }
-    ensures ended { IsEnd result → held.new.items ≡ [] }
+    ensures done { IfOk result (λ outcome. Finds outcome (prepend_known held.old (S.left source.old)) (prepend_known held.new (S.left source.new))) }
+    ensures fault { OnErr result (prepend_known held.new (S.left source.new) ≡ prepend_known held.old (S.left source.old)) }
+    ensures behind { IsBehind (prepend_known held.old (S.left source.old)) (prepend_known held.new (S.left source.new)) }
+    ensures short { IsGot result → HasHead held.old ⊎ (length held.new < block_size) }
+    ensures bounded { length held.new ≤ most_held (length held.old) }
+    ensures kept { (n : ℕ) → HasTree held.old n → source.new ≡ source.old }
+    ensures less { (n : ℕ) → HasTree held.old n → length held.new ≤ length held.old }
+    ensures none { IsErrOf result HeadFault.ReadFault → HasNoTree held.new }
+    ensures ended { IsEnd result → held.new ≡ [] }
     ensures lent { SourceLent (S.aside source.old) (S.aside source.new) (S.faults source.old) (S.faults source.new) }
     ensures cause { IsErrOf result HeadFault.ReadFault → Rose (S.faults source.old) (S.faults source.new) }
 {
-    let mut fields = [EMPTY_HEADER_SPAN; FIELD_LIMIT];
-    match fill(source, held, &mut fields) {
-        Ok(Front::Got(spans)) => match copy_head(alloc, window(held), &fields, spans) {
+    match fill(source, held, fields) {
+        Ok(Front::Got(spans)) => match copy_head(alloc, window(held.bytes()), fields, spans) {
             Ok(head) => {
-                remove_front(held, spans.len);
+                held.take(spans.len);
                 Ok(HeadOutcome::Got(head))
             }
             Err(_) => Err(HeadFault::OutOfMemory),
@@ -83,5 +73,5 @@ pub fn read_head<S: Source>(
     ensures lent { SourceLent (S.aside source.old) (S.aside source.new) (S.faults source.old) (S.faults source.new) }
     ensures cause { IsErrOf result HeadFault.ReadFault → Rose (S.faults source.old) (S.faults source.new) }
 {
-    take_head(alloc, source, &mut inbox.bytes)
+    take_head(alloc, source, &mut inbox.held, &mut inbox.fields)
 }

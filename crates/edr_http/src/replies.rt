@@ -1,15 +1,17 @@
 //! The heads of replies.
-ghost use Rattle.std.specs.Prelude.{◌≡◌, ◌++◌, codes, IsErrOf};
+ghost use Rattle.std.specs.Prelude.{◌≡◌, ◌≤◌, ◌+◌, ◌++◌, length, codes, IsErrOf};
 ghost use Rattle.edr_base.specs.Outside.{Rose};
 ghost use Rattle.edr_base.specs.Calls.{SinkLent, Writes};
 ghost use Rattle.edr_http.specs.Replies.{IsStatus, status_line, type_line, edition_line, allow_line, coding_line, close_line, reply_head};
 
+use crate::draft::Draft;
 use edr_base::{SendFault, Sink, send};
 use itoa::Buffer;
 
 fn status_line(status: u16) -> &'static [u8]
     requires { IsStatus status }
-    ensures { result.now ≡ status_line status }
+    ensures text { result.now ≡ status_line status }
+    ensures short { length result.now ≤ 41 }
 {
     match status {
         200 => b"HTTP/1.1 200 OK\r\n",
@@ -22,7 +24,8 @@ fn status_line(status: u16) -> &'static [u8]
 }
 
 fn type_line(json: bool) -> &'static [u8]
-    ensures { result.now ≡ type_line json }
+    ensures text { result.now ≡ type_line json }
+    ensures short { length result.now ≤ 45 }
 {
     if json {
         b"Content-Type: application/json\r\n"
@@ -33,7 +36,8 @@ fn type_line(json: bool) -> &'static [u8]
 
 // The lines behind the edition.
 fn last_lines(status: u16, close: bool) -> &'static [u8]
-    ensures { result.now ≡ allow_line status ++ (coding_line ++ (close_line close ++ codes "\r\n")) }
+    ensures text { result.now ≡ allow_line status ++ (coding_line ++ (close_line close ++ codes "\r\n")) }
+    ensures short { length result.now ≤ 67 }
 {
     match (status == 405, close) {
         (true, true) => {
@@ -45,71 +49,17 @@ fn last_lines(status: u16, close: bool) -> &'static [u8]
     }
 }
 
-/// Writes two texts, one behind the other.
-#[tactic(auto, using(edr_base::specs::KnownBytes::writes_stop))]
-pub(crate) fn send_two<K: Sink>(sink: &mut K, first: &[u8], second: &[u8]) -> Result<(), SendFault>
-    ensures bytes { Writes result (first.now ++ second.now) (K.written sink.old) (K.written sink.new) }
-    ensures flushed { K.flushed sink.new ≡ K.flushed sink.old }
-    ensures lent { SinkLent (K.beside sink.old) (K.beside sink.new) (K.faults sink.old) (K.faults sink.new) }
-    ensures cause { IsErrOf result SendFault.WriteFault → Rose (K.faults sink.old) (K.faults sink.new) }
+// Puts the line of an edition behind what there is.
+fn add_edition(draft: &mut Draft, edition: Option<u64>)
+    requires { length draft.old ≤ 86 }
+    ensures text { draft.new ≡ draft.old ++ edition_line edition }
+    ensures short { length draft.new ≤ length draft.old + 37 }
 {
-    match send(sink, first) {
-        Ok(()) => send(sink, second),
-        Err(fault) => Err(fault),
-    }
-}
-
-fn send_edition<K: Sink>(sink: &mut K, edition: Option<u64>) -> Result<(), SendFault>
-    ensures bytes { Writes result (edition_line edition) (K.written sink.old) (K.written sink.new) }
-    ensures flushed { K.flushed sink.new ≡ K.flushed sink.old }
-    ensures lent { SinkLent (K.beside sink.old) (K.beside sink.new) (K.faults sink.old) (K.faults sink.new) }
-    ensures cause { IsErrOf result SendFault.WriteFault → Rose (K.faults sink.old) (K.faults sink.new) }
-{
-    let Some(number) = edition else {
-        return send(sink, b"");
-    };
-    let mut buffer = Buffer::new();
-    match send(sink, b"X-Edr-Edition: ") {
-        Ok(()) => send_two(sink, buffer.format(number).as_bytes(), b"\r\n"),
-        Err(fault) => Err(fault),
-    }
-}
-
-// The lines from the edition on.
-#[tactic(auto, using(edr_base::specs::KnownBytes::writes_stop))]
-fn send_end_of_head<K: Sink>(
-    sink: &mut K,
-    status: u16,
-    edition: Option<u64>,
-    close: bool,
-) -> Result<(), SendFault>
-    ensures bytes { Writes result (edition_line edition ++ (allow_line status ++ (coding_line ++ (close_line close ++ codes "\r\n")))) (K.written sink.old) (K.written sink.new) }
-    ensures flushed { K.flushed sink.new ≡ K.flushed sink.old }
-    ensures lent { SinkLent (K.beside sink.old) (K.beside sink.new) (K.faults sink.old) (K.faults sink.new) }
-    ensures cause { IsErrOf result SendFault.WriteFault → Rose (K.faults sink.old) (K.faults sink.new) }
-{
-    match send_edition(sink, edition) {
-        Ok(()) => send(sink, last_lines(status, close)),
-        Err(fault) => Err(fault),
-    }
-}
-
-// The lines behind the first one.
-fn send_fields<K: Sink>(
-    sink: &mut K,
-    status: u16,
-    json: bool,
-    edition: Option<u64>,
-    close: bool,
-) -> Result<(), SendFault>
-    ensures bytes { Writes result (type_line json ++ (edition_line edition ++ (allow_line status ++ (coding_line ++ (close_line close ++ codes "\r\n"))))) (K.written sink.old) (K.written sink.new) }
-    ensures flushed { K.flushed sink.new ≡ K.flushed sink.old }
-    ensures lent { SinkLent (K.beside sink.old) (K.beside sink.new) (K.faults sink.old) (K.faults sink.new) }
-    ensures cause { IsErrOf result SendFault.WriteFault → Rose (K.faults sink.old) (K.faults sink.new) }
-{
-    match send(sink, type_line(json)) {
-        Ok(()) => send_end_of_head(sink, status, edition, close),
-        Err(fault) => Err(fault),
+    if let Some(number) = edition {
+        let mut buffer = Buffer::new();
+        draft.add(b"X-Edr-Edition: ");
+        draft.add(buffer.format(number).as_bytes());
+        draft.add(b"\r\n");
     }
 }
 
@@ -129,8 +79,10 @@ pub fn write_head<K: Sink>(
     ensures lent { SinkLent (K.beside sink.old) (K.beside sink.new) (K.faults sink.old) (K.faults sink.new) }
     ensures cause { IsErrOf result SendFault.WriteFault → Rose (K.faults sink.old) (K.faults sink.new) }
 {
-    match send(sink, status_line(status)) {
-        Ok(()) => send_fields(sink, status, json, edition, close),
-        Err(fault) => Err(fault),
-    }
+    let mut draft = Draft::new();
+    draft.add(status_line(status));
+    draft.add(type_line(json));
+    add_edition(&mut draft, edition);
+    draft.add(last_lines(status, close));
+    send(sink, draft.bytes())
 }

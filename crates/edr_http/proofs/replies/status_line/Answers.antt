@@ -3,28 +3,28 @@ use Rattle.std.specs.Fmt.{digits}
 use Rattle.edr_http.proofs.ReplyLemmas.{last_status}
 use Rattle.edr_http.proofs.replies.status_line.Goals as goal
 
-pub returns-in-200 : goal.returns-in-200
+pub returns-in-200-clause-text : goal.returns-in-200-clause-text
 unfolding digits
-returns-in-200 c = rw c.in-200.is refl
+returns-in-200-clause-text c = rw c.in-200.is refl
 
-pub returns-in-400 : goal.returns-in-400
+pub returns-in-400-clause-text : goal.returns-in-400-clause-text
 unfolding digits
-returns-in-400 c = rw c.in-400.is refl
+returns-in-400-clause-text c = rw c.in-400.is refl
 
-pub returns-in-404 : goal.returns-in-404
+pub returns-in-404-clause-text : goal.returns-in-404-clause-text
 unfolding digits
-returns-in-404 c = rw c.in-404.is refl
+returns-in-404-clause-text c = rw c.in-404.is refl
 
-pub returns-in-405 : goal.returns-in-405
+pub returns-in-405-clause-text : goal.returns-in-405-clause-text
 unfolding digits
-returns-in-405 c = rw c.in-405.is refl
+returns-in-405-clause-text c = rw c.in-405.is refl
 
-pub returns-in-413 : goal.returns-in-413
+pub returns-in-413-clause-text : goal.returns-in-413-clause-text
 unfolding digits
-returns-in-413 c = rw c.in-413.is refl
+returns-in-413-clause-text c = rw c.in-413.is refl
 
-pub returns-in_default : goal.returns-in_default
+pub returns-in_default-clause-text : goal.returns-in_default-clause-text
 unfolding digits
-returns-in_default c =
+returns-in_default-clause-text c =
     let e : c.args.status ≡ 505 = last_status c.args.status c.requires (search rules) (search rules) (search rules) (search rules) (search rules) in
     rw e refl

@@ -1,6 +1,6 @@
 use Rattle.std.proofs.Common.{rules}
 use Rattle.edr_base.specs.LentParts.{held_name}
-use Rattle.edr_http.proofs.chunked_sink.send_body.Goals as goal
+use Rattle.edr_http.proofs.chunked_sink.send_gathered.Goals as goal
 
 pub returns-clause-bytes : goal.returns-clause-bytes
 returns-clause-bytes g c =
