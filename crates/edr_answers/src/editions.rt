@@ -8,7 +8,9 @@ use covjson_value::Parameter;
 use edr_axes::Axis;
 use edr_base::MemorySource;
 use edr_chunk::{GridPlace, GridShape, PackedGrid, Reads};
-use edr_edition::{ChangeFault, CollectionData, Edition, GridInstance};
+use edr_draft::ChangeFault;
+use edr_edition::{CollectionData, Edition, GridInstance};
+use edr_station::{Station, Stations};
 use edr_feed::{Feed, FeedFault, read_feed};
 use std::alloc::Global;
 
@@ -129,6 +131,47 @@ fn put_instance(
     put_samples(alloc, instance.grid(), notation)
 }
 
+// Where and when a station is.
+fn put_station(
+    alloc: Global,
+    station: &Station,
+    notation: &mut Notation,
+) -> Result<(), AnswerFault> {
+    notation.put(b"\n  station ")?;
+    notation.put(station.id())?;
+    notation.put(b": ")?;
+    notation.put(station.label())?;
+    notation.put(b"; ")?;
+    notation.put_number(alloc, station.x())?;
+    notation.put_number(alloc, station.y())?;
+    notation.put(b"; ")?;
+    put_axis(alloc, station.times(), notation)?;
+    match station.levels() {
+        Some(levels) => put_axis(alloc, levels, notation),
+        None => notation.put(b"- ; "),
+    }
+}
+
+// The stations, and then their samples, block by block.
+fn put_stations(
+    alloc: Global,
+    stations: &Stations,
+    notation: &mut Notation,
+) -> Result<(), AnswerFault> {
+    for place in 0..stations.len() {
+        put_station(alloc, stations.station(place), notation)?;
+    }
+    notation.put(b"\n  blocks: ")?;
+    let mut reads = Reads::new(alloc);
+    for number in 0..stations.blocks() {
+        for sample in stations.open_block(alloc, number, &mut reads)? {
+            put_sample(alloc, sample, notation)?;
+        }
+        notation.put(b"; ")?;
+    }
+    Ok(())
+}
+
 fn put_collection(
     alloc: Global,
     collection: &CollectionData,
@@ -150,7 +193,10 @@ fn put_collection(
     for place in 0..collection.instances() {
         put_instance(alloc, collection.instance_at(place), notation)?;
     }
-    Ok(())
+    match collection.stations() {
+        Some(stations) => put_stations(alloc, stations, notation),
+        None => Ok(()),
+    }
 }
 
 fn put_edition(

@@ -58,8 +58,3 @@ of_shape c q i k n (at.Location id) each s = absurd each
 pub of_each : (c : CollectionValue) (q : QueryValue) (i : InstanceValue) → c.kind ≡ Grid → instance_named q.instance c.instances ≡ Some i → TakesEach q.shape
     → refused_in c (Ask q) ≡ refused_query c q
 of_each c q i k n each = of_shape c q i k n q.shape each refl
-
--- ---- collections of stations, which have none by now
-
-pub unknown_location : (c : CollectionValue) (q : QueryValue) (id : List ℕ) → c.kind ≡ Station → c.stations ≡ [] → q.shape ≡ at.Location id → refused_in c (Ask q) ≡ Some UnknownLocation
-unknown_location c q id k none s = rw (k, none, s) refl

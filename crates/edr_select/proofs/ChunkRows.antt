@@ -7,7 +7,8 @@ use Rattle.edr_chunk.specs.AllPlaces.{places}
 use Rattle.covjson_value.specs.declared.domains.Domain.TheVariants as domain
 use Rattle.covjson_value.specs.declared.coverages.Document.{Document}
 use Rattle.covjson_value.specs.declared.coverages.Document.TheVariants.{One}
-use Rattle.edr_edition.specs.Values.{InstanceValue, StationValue}
+use Rattle.edr_station.specs.Stations.{StationValue}
+use Rattle.edr_edition.specs.Values.{InstanceValue}
 use Rattle.edr_edition.specs.Stores.{Subject}
 use Rattle.edr_query.specs.declared.shapes.Shape.TheVariants as shape
 use Rattle.edr_query.specs.Values.{QueryValue}
@@ -56,7 +57,6 @@ abbrev series : List ℕ → ℕ → StationValue
 series id k = record {
   id = id;
   label = id;
-  parameters = temp ∷ [];
   x = pos (k * 1000);
   y = pos (k * 500);
   ts = map hour (range_with_len 0 300);

@@ -11,11 +11,11 @@ use Rattle.covjson_value.specs.declared.domains.Domain.{Domain}
 use Rattle.covjson_value.specs.declared.domains.Domain.TheVariants as domain
 use Rattle.covjson_value.specs.declared.coverages.Coverage.{Coverage}
 use Rattle.covjson_value.specs.declared.coverages.Document.TheVariants.{One, Many}
-use Rattle.edr_edition.specs.Values.{StationValue}
+use Rattle.edr_station.specs.Stations.{StationValue}
 use Rattle.edr_edition.specs.Stores.{Subject}
 use Rattle.edr_query.specs.declared.shapes.Shape.TheVariants as shape
 use Rattle.edr_query.specs.Values.{QueryValue}
-use Rattle.edr_select.specs.Samples.{blocks_of}
+use Rattle.edr_station.specs.Blocks.{blocks_of}
 use Rattle.edr_select.specs.Selections.{needed}
 use Rattle.edr_select.specs.Documents.{document}
 use Rattle.edr_select.specs.Checks.{refused_query}
@@ -26,7 +26,6 @@ abbrev mast : StationValue
 mast = record {
   id = codes "M";
   label = codes "Mast";
-  parameters = temp ∷ [];
   x = pos 0;
   y = pos 0;
   ts = t0 ∷ t1 ∷ [];

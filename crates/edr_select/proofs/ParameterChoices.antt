@@ -11,7 +11,7 @@ use Rattle.edr_ids.specs.ListLaws.{order_itself, keys_ascend}
 use Rattle.edr_select.proofs.SearchedIds.{none_has_it}
 use Rattle.covjson_value.specs.declared.coverages.Parameter.{Parameter}
 use Rattle.covjson_value.specs.Coverages.{ids_of}
-use Rattle.edr_edition.specs.Parameters.{parameter_id}
+use Rattle.edr_edition.specs.Values.{parameter_id}
 use Rattle.edr_select.specs.Samples.{id_at, ascending_once}
 use Rattle.edr_select.specs.Refusals.{names_other}
 use Rattle.edr_select.specs.ListLaws.{both}

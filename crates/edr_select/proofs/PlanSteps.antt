@@ -11,7 +11,7 @@ use Rattle.covjson_value.specs.Coverages.{ids_of}
 use Rattle.edr_ids.specs.Ids.{order, has_id, item_of}
 use Rattle.edr_edition.specs.declared.kinds.Kind.{Kind}
 use Rattle.edr_edition.specs.declared.kinds.Kind.TheVariants.{Grid}
-use Rattle.edr_edition.specs.Values.{InstanceValue, CollectionValue, instance_id, parameters_of}
+use Rattle.edr_edition.specs.Values.{InstanceValue, CollectionValue, instance_id}
 use Rattle.edr_edition.specs.Stores.{Subject, instance_named, newest, greater, subject_in}
 use Rattle.edr_query.specs.Values.{QueryValue}
 use Rattle.edr_select.specs.Limits.{value_limit, coverage_limit}
@@ -85,15 +85,13 @@ module _ (c : CollectionValue) (q : QueryValue) (i : InstanceValue) (asked : IsA
 
   -- ---- names
 
-  same_parameters : i.parameters ≡ parameters_of c.instances
+  same_parameters : i.parameters ≡ c.parameters
   same_parameters =
-      all_member (λ (o : InstanceValue). o.parameters ≡ parameters_of c.instances) c.instances i asked.is_collection.instances.same
+      all_member (λ (o : InstanceValue). o.parameters ≡ c.parameters) c.instances i asked.is_collection.instances.same
       (named_member q.instance c.instances i asked.instance_is)
 
   names_are : applies_to_query c q UnknownParameterName ≡ names_other q.parameters (ids_of i.parameters)
-  names_are =
-      ap (λ (kind : Kind). names_other q.parameters (ids_in c kind)) asked.kind
-      ∙ ap (λ (ps : List Parameter). names_other q.parameters (ids_of ps)) (sym same_parameters)
+  names_are = ap (λ (ps : List Parameter). names_other q.parameters (ids_of ps)) (sym same_parameters)
 
   pub refused_names : names_other q.parameters (ids_of i.parameters) ≡ true → refused_query c q ≡ Some UnknownParameterName
   refused_names h = stops (applies_to_query c q UnknownParameterName) UnknownParameterName (refused_known c q) (names_are ∙ h)

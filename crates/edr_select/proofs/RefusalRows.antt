@@ -2,7 +2,8 @@
 use Rattle.std.proofs.Common.{◌≡◌, ℕ, pos, codes, List, [], ◌∷◌, refl, Some, None}
 use Rattle.edr_base.specs.declared.refusals.Refusal.TheVariants.{UnknownCollection, UnknownInstance, UnknownLocation, QueryNotOffered, UnknownParameterName, BadCrs, NoLevels}
 use Rattle.edr_chunk.specs.AllPlaces.{places}
-use Rattle.edr_edition.specs.Values.{InstanceValue, StationValue, CollectionValue, EditionValue}
+use Rattle.edr_station.specs.Stations.{StationValue}
+use Rattle.edr_edition.specs.Values.{InstanceValue, CollectionValue, EditionValue}
 use Rattle.edr_edition.specs.Stores.{of_grid, of_stations, subject_of}
 use Rattle.edr_query.specs.declared.pages.Page.TheVariants.{Locations, Instances, Ask}
 use Rattle.edr_query.specs.declared.shapes.Shape.TheVariants as shape
@@ -12,7 +13,7 @@ use Rattle.edr_select.specs.Checks.{refused_query}
 use Rattle.edr_select.proofs.RowData.{has, t0, at, spot, point, line, temp, grids, sites, edition, flat, asking, ask}
 
 abbrev alpha : StationValue
-alpha = record { id = codes "A"; label = codes "Alpha"; parameters = temp ∷ []; x = pos 0; y = pos 0; ts = t0 ∷ []; zs = None; series = (has 1 ∷ []) ∷ [] }
+alpha = record { id = codes "A"; label = codes "Alpha"; x = pos 0; y = pos 0; ts = t0 ∷ []; zs = None; series = (has 1 ∷ []) ∷ [] }
 
 -- a collection of grids and one of stations
 abbrev full : EditionValue
@@ -130,5 +131,5 @@ newest_instance = refl
 named_instance : subject_of (edition (both ∷ [])) (codes "grid") (Some (codes "1")) ≡ Some (record { collection = both; held = of_grid flat })
 named_instance = refl
 
-stations : subject_of full (codes "sites") None ≡ Some (record { collection = sites (alpha ∷ []); held = of_stations (alpha ∷ []) })
+stations : subject_of full (codes "sites") None ≡ Some (record { collection = sites (alpha ∷ []); held = of_stations (temp ∷ []) (alpha ∷ []) })
 stations = refl

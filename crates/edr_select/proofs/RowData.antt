@@ -16,7 +16,9 @@ use Rattle.covjson_value.specs.declared.coverages.Coverage.{Coverage}
 use Rattle.covjson_value.specs.declared.coverages.Document.{Document}
 use Rattle.covjson_value.specs.declared.coverages.Document.TheVariants.{One}
 use Rattle.edr_edition.specs.declared.kinds.Kind.TheVariants as kinds
-use Rattle.edr_edition.specs.Values.{InstanceValue, StationValue, CollectionValue, EditionValue}
+use Rattle.edr_station.specs.Stations.{StationValue}
+use Rattle.edr_edition.specs.Values.{InstanceValue, CollectionValue, EditionValue}
+use Rattle.edr_edition.specs.Collections.{where_some}
 use Rattle.edr_edition.specs.Stores.{of_grid, of_stations, Subject}
 use Rattle.edr_query.specs.declared.shapes.Shape.{Shape}
 use Rattle.edr_query.specs.Values.{QueryValue}
@@ -79,11 +81,25 @@ plane = record { crs = codes "local"; vertical = None }
 abbrev pub space : Referencing
 space = record { crs = codes "local"; vertical = Some (codes "height") }
 
+-- the parameters of the first instance
+abbrev parameters_of : List InstanceValue → List Parameter
+parameters_of [] = []
+parameters_of (instance ∷ instances) = instance.parameters
+
 abbrev pub grids : List InstanceValue → CollectionValue
-grids instances = record { id = codes "grid"; title = codes "grid"; kind = kinds.Grid; referencing = space; instances = instances; stations = [] }
+grids instances =
+    record { id = codes "grid"; title = codes "grid"; kind = kinds.Grid; referencing = space; parameters = parameters_of instances; instances = instances; stations = [] }
 
 abbrev pub sites : List StationValue → CollectionValue
-sites stations = record { id = codes "sites"; title = codes "sites"; kind = kinds.Station; referencing = space; instances = []; stations = stations }
+sites stations = record {
+  id = codes "sites";
+  title = codes "sites";
+  kind = kinds.Station;
+  referencing = space;
+  parameters = where_some stations (temp ∷ []);
+  instances = [];
+  stations = stations;
+}
 
 abbrev pub edition : List CollectionValue → EditionValue
 edition collections = record { number = 1; collections = collections }
@@ -96,7 +112,7 @@ abbrev pub on : InstanceValue → Subject
 on instance = record { collection = grids (instance ∷ []); held = of_grid instance }
 
 abbrev pub among : List StationValue → Subject
-among stations = record { collection = sites stations; held = of_stations stations }
+among stations = record { collection = sites stations; held = of_stations (where_some stations (temp ∷ [])) stations }
 
 -- ---- grids
 

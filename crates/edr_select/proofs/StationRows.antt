@@ -7,7 +7,7 @@ use Rattle.edr_wkt.specs.declared.geometry.Geometry.TheVariants.{Line, Polygons}
 use Rattle.covjson_value.specs.declared.domains.Domain.TheVariants as domain
 use Rattle.covjson_value.specs.declared.coverages.Coverage.{Coverage}
 use Rattle.covjson_value.specs.declared.coverages.Document.TheVariants.{One, Many}
-use Rattle.edr_edition.specs.Values.{StationValue}
+use Rattle.edr_station.specs.Stations.{StationValue}
 use Rattle.edr_edition.specs.Stores.{Subject}
 use Rattle.edr_query.specs.declared.shapes.Shape.{Shape}
 use Rattle.edr_query.specs.declared.shapes.Shape.TheVariants as shape
@@ -21,7 +21,6 @@ abbrev alpha : StationValue
 alpha = record {
   id = codes "A";
   label = codes "Alpha";
-  parameters = temp ∷ [];
   x = pos 0;
   y = pos 0;
   ts = t0 ∷ t1 ∷ [];
@@ -30,7 +29,7 @@ alpha = record {
 }
 
 abbrev beta : StationValue
-beta = record { id = codes "B"; label = codes "Beta"; parameters = temp ∷ []; x = pos 100; y = pos 0; ts = t1 ∷ []; zs = None; series = (has 3 ∷ []) ∷ [] }
+beta = record { id = codes "B"; label = codes "Beta"; x = pos 100; y = pos 0; ts = t1 ∷ []; zs = None; series = (has 3 ∷ []) ∷ [] }
 
 abbrev both : Subject
 both = among (alpha ∷ beta ∷ [])

@@ -9,7 +9,8 @@ use Rattle.edr_wkt.specs.Wkt.{has_z_of}
 use Rattle.covjson_value.specs.declared.domains.Domain.{Domain}
 use Rattle.covjson_value.specs.declared.domains.Domain.TheVariants.{Grid, Point, PointSeries, VerticalProfile, MultiPoint, Trajectory}
 use Rattle.covjson_value.specs.Samples.{Node, same_where_given}
-use Rattle.edr_edition.specs.Values.{InstanceValue, StationValue}
+use Rattle.edr_station.specs.Stations.{StationValue}
+use Rattle.edr_edition.specs.Values.{InstanceValue}
 use Rattle.edr_edition.specs.Stores.{Held, of_grid, of_stations}
 use Rattle.edr_query.specs.declared.shapes.Shape.{Shape}
 use Rattle.edr_query.specs.declared.shapes.Shape.TheVariants as at
@@ -151,4 +152,4 @@ heads_on_stations stations other picks = together (heads_of_stations stations pi
 -- the heads of the reply to a query, by what it selects
 abbrev pub heads_of : Held → QueryValue → List Stored → Heads
 heads_of (of_grid i) q picks = heads_on_grid i q q.shape picks
-heads_of (of_stations stations) q picks = heads_on_stations stations q.shape picks
+heads_of (of_stations parameters stations) q picks = heads_on_stations stations q.shape picks

@@ -103,4 +103,4 @@ route_over i q has_z has_m vertices =
 
 abbrev pub route_in : Held → QueryValue → Geometry → List (List Node)
 route_in (of_grid i) q line = route_over i q (has_z_of line) (has_m_of line) (line_of line)
-route_in (of_stations stations) q line = []
+route_in (of_stations parameters stations) q line = []

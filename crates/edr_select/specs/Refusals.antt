@@ -9,7 +9,8 @@ use Rattle.covjson_value.specs.Coverages.{ids_of}
 use Rattle.edr_ids.specs.Ids.{item_of}
 use Rattle.edr_edition.specs.declared.kinds.Kind.{Kind}
 use Rattle.edr_edition.specs.declared.kinds.Kind.TheVariants.{Grid, Station}
-use Rattle.edr_edition.specs.Values.{StationValue, CollectionValue, EditionValue, instance_id, station_id, collection_id, parameters_of}
+use Rattle.edr_station.specs.Stations.{StationValue, station_id}
+use Rattle.edr_edition.specs.Values.{CollectionValue, EditionValue, instance_id, collection_id}
 use Rattle.edr_edition.specs.Stores.{Held, of_grid, of_stations, Subject, instance_named, subject_in}
 use Rattle.edr_query.specs.declared.pages.Page.{Page}
 use Rattle.edr_query.specs.declared.pages.Page.TheVariants.{Landing, Conformance, Collections, Collection, Instances, Instance, Locations, Ask}
@@ -18,7 +19,6 @@ use Rattle.edr_query.specs.declared.shapes.Shape.TheVariants as at
 use Rattle.edr_query.specs.Values.{QueryValue}
 use Rattle.edr_query.specs.Queries.{has_z, has_levels, coords_of, box_of}
 use Rattle.edr_select.specs.Limits.{value_limit, coverage_limit}
-use Rattle.edr_select.specs.Samples.{parameters_of_stations}
 use Rattle.edr_select.specs.Selections.{picked}
 use Rattle.edr_select.specs.Heads.{is_some_stored}
 use Rattle.edr_select.specs.Documents.{document, coverages_in, values_in}
@@ -96,9 +96,8 @@ crs_is_other None crs = false
 crs_is_other (Some asked) crs = not (bytes_eq asked crs)
 
 -- the ids of the parameters of a collection
-abbrev pub ids_in : CollectionValue → Kind → List (List ℕ)
-ids_in collection Grid = ids_of (parameters_of collection.instances)
-ids_in collection Station = ids_of (parameters_of_stations collection.stations)
+abbrev pub ids_in : CollectionValue → List (List ℕ)
+ids_in collection = ids_of collection.parameters
 
 -- levels are asked: by `z`, by the z of a geometry or by a box with levels
 abbrev pub asks_levels : QueryValue → Bool
@@ -107,7 +106,7 @@ asks_levels q = is_some q.levels || (has_z (coords_of q.shape) || has_levels (bo
 -- the data have levels: stations where one of them has
 abbrev pub have_levels : Held → Bool
 have_levels (of_grid i) = is_some i.zs
-have_levels (of_stations stations) = list_any (λ (s : StationValue). is_some s.zs) stations
+have_levels (of_stations parameters stations) = list_any (λ (s : StationValue). is_some s.zs) stations
 
 -- ---- the table
 
@@ -125,7 +124,7 @@ applies_if applies (Some found) = applies found
 
 -- a refusal applies to a query of a collection
 abbrev pub applies_to_query : CollectionValue → QueryValue → Refusal → Bool
-applies_to_query collection q UnknownParameterName = names_other q.parameters (ids_in collection collection.kind)
+applies_to_query collection q UnknownParameterName = names_other q.parameters (ids_in collection)
 applies_to_query collection q BadCrs = crs_is_other q.crs collection.referencing.crs
 applies_to_query collection q other = applies_if (applies_to_subject q other) (subject_in q.instance collection)
 

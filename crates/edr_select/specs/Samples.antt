@@ -4,13 +4,14 @@ use Rattle.std.specs.List.{slice_index_or, filter, flat_map, list_any, range_wit
 use Rattle.edr_axes.specs.Axes.{value_at}
 use Rattle.covjson_value.specs.declared.coverages.Parameter.{Parameter}
 use Rattle.covjson_value.specs.Coverages.{ids_of}
-use Rattle.covjson_value.specs.Domains.{axis_length}
 use Rattle.covjson_value.specs.Samples.{Node, node, Sample, values_or_absent}
 use Rattle.edr_chunk.specs.declared.shapes.GridPlace.{GridPlace}
 use Rattle.edr_chunk.specs.AllPlaces.{places}
 use Rattle.edr_chunk.specs.Grids.{value}
 use Rattle.edr_chunk.specs.Tiles.{tiles, tile_of}
-use Rattle.edr_edition.specs.Values.{InstanceValue, StationValue}
+use Rattle.edr_station.specs.Stations.{StationValue}
+use Rattle.edr_station.specs.Blocks.{blocks_of, blocks}
+use Rattle.edr_edition.specs.Values.{InstanceValue}
 use Rattle.edr_edition.specs.Stores.{Held, of_grid, of_stations, Subject}
 
 -- a sample as it is stored: of a grid, or of the station of an id, and in a chunk, which has a number
@@ -47,10 +48,6 @@ grid_samples i = map (stored_at i) (places i.grid.shape)
 abbrev pub station_nodes : StationValue → List Node
 station_nodes s = flat_map (λ t. map (λ z. node (Some t) z s.y s.x) (values_or_absent s.zs)) s.ts
 
--- how many blocks of 256 values each parameter of a station has
-abbrev pub blocks_of : StationValue → ℕ
-blocks_of s = (length s.ts * axis_length s.zs + 255) / 256
-
 -- the samples of a parameter of a station, from one on; `first` is the number of the parameter's first block
 abbrev pub series_samples : StationValue → List ℕ → ℕ → ℕ → List Node → List (Option ℤ) → List Stored
 series_samples s parameter first place [] values = []
@@ -66,39 +63,29 @@ samples_of_station s first (p ∷ parameters) (values ∷ series) =
     series_samples s p.id first 0 (station_nodes s) values ++ samples_of_station s (first + blocks_of s) parameters series
 
 -- all samples of stations, in the order station, parameter, t, z; `first` is the number of the first block
-abbrev pub samples_of_stations : ℕ → List StationValue → List Stored
-samples_of_stations first [] = []
-samples_of_stations first (s ∷ stations) =
-    samples_of_station s first s.parameters s.series ++ samples_of_stations (first + length s.parameters * blocks_of s) stations
-
--- how many blocks stations have
-abbrev pub blocks : List StationValue → ℕ
-blocks [] = 0
-blocks (s ∷ stations) = length s.parameters * blocks_of s + blocks stations
+abbrev pub samples_of_stations : List Parameter → ℕ → List StationValue → List Stored
+samples_of_stations parameters first [] = []
+samples_of_stations parameters first (s ∷ stations) =
+    samples_of_station s first parameters s.series ++ samples_of_stations parameters (first + length parameters * blocks_of s) stations
 
 -- ---- what a query is about
 
 abbrev pub samples_of : Held → List Stored
 samples_of (of_grid i) = grid_samples i
-samples_of (of_stations stations) = samples_of_stations 0 stations
+samples_of (of_stations parameters stations) = samples_of_stations parameters 0 stations
 
 -- all samples of a subject
 abbrev pub samples_in : Subject → List Stored
 samples_in subject = samples_of subject.held
 
--- the parameters of stations, which are the same in each
-abbrev pub parameters_of_stations : List StationValue → List Parameter
-parameters_of_stations [] = []
-parameters_of_stations (s ∷ stations) = s.parameters
-
 abbrev pub parameters_in : Held → List Parameter
 parameters_in (of_grid i) = i.parameters
-parameters_in (of_stations stations) = parameters_of_stations stations
+parameters_in (of_stations parameters stations) = parameters
 
 -- how many chunks there are, numbered from 0
 abbrev pub chunks_in : Held → ℕ
 chunks_in (of_grid i) = tiles i.grid.shape
-chunks_in (of_stations stations) = blocks stations
+chunks_in (of_stations parameters stations) = blocks (length parameters) stations
 
 -- of the numbers below a count those that are among some: ascending, each once
 abbrev pub ascending_once : ℕ → List ℕ → List ℕ

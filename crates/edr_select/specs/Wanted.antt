@@ -117,7 +117,7 @@ spot_at n = record { x = n.x; y = n.y }
 -- a shape takes the place of a sample; a line takes times, levels and places together, and has its own rules
 abbrev pub takes_place : Held → Shape → Stored → Bool
 takes_place (of_grid i) (at.Position geometry) s = list_any (is_nearest_node i.ys i.xs s.sample.at) (positions_of geometry)
-takes_place (of_stations stations) (at.Position geometry) s = false
+takes_place (of_stations parameters stations) (at.Position geometry) s = false
 takes_place held (at.Radius geometry within) s = list_any (λ p. in_disc (spot_at s.sample.at) (spot_of p) within) (positions_of geometry)
 takes_place held (at.Area geometry) s = in_areas geometry (spot_at s.sample.at)
 takes_place held (at.Cube lo hi levels) s = in_box (spot_at s.sample.at) lo hi

@@ -46,14 +46,16 @@ fn found_grid<'a>(
     }
 }
 
-// Why a collection of stations isn't asked: none is kept yet.
+// Why a collection of stations isn't asked: its data aren't answered yet.
 fn refused_stations(query: &Query, collection: &CollectionData) -> Refusal
     requires { collection.now.kind ≡ Station }
     ensures { refused_in collection.now (Ask query.now) ≡ Some result }
 {
-    let _ = collection.stations();
+    let Some(stations) = collection.stations() else {
+        unreachable!()
+    };
     match &query.shape {
-        Shape::Location(_) => Refusal::UnknownLocation,
+        Shape::Location(id) if stations.by_id(id.bytes()).is_none() => Refusal::UnknownLocation,
         _ => Refusal::QueryNotOffered,
     }
 }

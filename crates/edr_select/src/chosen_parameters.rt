@@ -3,7 +3,7 @@ ghost use Rattle.std.specs.Prelude.{◌≡◌, ◌<◌, false, true, length, Som
 ghost use Rattle.edr_ids.specs.Ids.{AscendBy};
 ghost use Rattle.edr_select.specs.PlacesOfIds.{IsPlaceOf};
 ghost use Rattle.covjson_value.specs.Coverages.{ids_of};
-ghost use Rattle.edr_edition.specs.Parameters.{parameter_id};
+ghost use Rattle.edr_edition.specs.Values.{parameter_id};
 ghost use Rattle.edr_select.specs.Refusals.{names_other};
 ghost use Rattle.edr_select.specs.Choices.{parameter_places};
 

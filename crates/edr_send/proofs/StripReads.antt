@@ -14,7 +14,7 @@ use Rattle.edr_send.specs.Strips.{tile_across}
 
 pub has_number : (held : Held) (k : ℕ) → k < tiles (grid_of held).shape → HasTile held k
 has_number (of_grid instance) k l = l
-has_number (of_stations stations) k l = absurd (omega (arith, l))
+has_number (of_stations parameters stations) k l = absurd (omega (arith, l))
 
 -- the tile of a node in its row of tiles and its column of tiles
 same_tile : (shape : GridShape) (p t z from y x across : ℕ) → y / 64 ≡ from / 64 → x / 64 ≡ across → tile_of shape (at p t z y x) ≡ tile_across shape p t z from across

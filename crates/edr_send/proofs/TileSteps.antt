@@ -21,11 +21,11 @@ use Rattle.edr_send.proofs.Puts.{put_append, put_agree}
 
 pub has_tile : ((shape : GridShape) → TilesAreNumbered shape) → (held : Held) (slot : Slot) → IsSlot (grid_of held).shape slot → HasTile held slot.tile
 has_tile laws (of_grid instance) slot is = subst (λ (k : ℕ). k < tiles instance.grid.shape) (sym is.tile) ((laws instance.grid.shape).below slot.place is.within)
-has_tile laws (of_stations stations) slot is = let w = is.within.parameter in absurd (omega arith)
+has_tile laws (of_stations parameters stations) slot is = let w = is.within.parameter in absurd (omega arith)
 
 pub is_tile : (held : Held) (tile : ℕ) (opened : TileValue) → IsTileOf held tile opened → IsTile (grid_of held) tile opened
 is_tile (of_grid instance) tile opened is = is
-is_tile (of_stations stations) tile opened is = absurd is
+is_tile (of_stations parameters stations) tile opened is = absurd is
 
 pub tile_inside : ((shape : GridShape) → TilesAreNumbered shape) → (shape : GridShape) (slot : Slot) → IsSlot shape slot → slot_tile slot < tiles shape
 tile_inside laws shape slot is = subst (λ (k : ℕ). k < tiles shape) (sym is.tile) ((laws shape).below slot.place is.within)

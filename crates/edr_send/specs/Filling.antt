@@ -18,7 +18,7 @@ no_grid = record { shape = record { parameters = 0; times = 0; levels = 0; rows 
 
 abbrev pub grid_of : Held → chunk.Values
 grid_of (of_grid instance) = instance.grid
-grid_of (of_stations stations) = no_grid
+grid_of (of_stations parameters stations) = no_grid
 
 -- ---- slots
 

@@ -46,7 +46,7 @@ mapped f o h = (f h.0, ap (option_map f) h.1)
 
 held_at : (collection : CollectionValue) (query : QueryValue) (kind : Kind) → ¬ (is_of_grids kind && is_none (instance_named query.instance collection.instances) ≡ true) → Is (held_in collection kind query.instance)
 held_at collection query Grid n = let h = instance_at (instance_named query.instance collection.instances) n in (of_grid h.0, ap (option_map of_grid) h.1)
-held_at collection query Station n = (of_stations collection.stations, refl)
+held_at collection query Station n = (of_stations collection.parameters collection.stations, refl)
 
 subject_at : (query : QueryValue) (o : Option CollectionValue) (collection : CollectionValue) → o ≡ Some collection
     → Is (held_in collection collection.kind query.instance) → Is (option_and_then (subject_in query.instance) o)

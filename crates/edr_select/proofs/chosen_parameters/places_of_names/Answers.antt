@@ -1,6 +1,6 @@
 use Rattle.std.proofs.Common.{◌≡◌, ◌+◌, ◌∙◌, sym, subst, take, take_all, Err}
 use Rattle.edr_select.specs.PlacesOfIds.{IsPlaceOf}
-use Rattle.edr_edition.specs.Parameters.{parameter_id}
+use Rattle.edr_edition.specs.Values.{parameter_id}
 use Rattle.edr_select.specs.Samples.{id_at}
 use Rattle.edr_select.proofs.ParameterChoices.{names_more, name_unknown, names_taken, found_id, NamesFound}
 use Rattle.edr_select.proofs.chosen_parameters.places_of_names.Goals as goal
