@@ -22,3 +22,4 @@ pub mod SpelledTexts
 pub mod SpelledQueries
 pub mod SpelledAddresses
 pub mod WrittenParts
+pub mod IdLemmas
