@@ -23,3 +23,4 @@ pub mod SpelledQueries
 pub mod SpelledAddresses
 pub mod WrittenParts
 pub mod IdLemmas
+pub mod PlainLemmas

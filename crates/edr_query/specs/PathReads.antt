@@ -1,6 +1,6 @@
 -- For private clauses: what the calls that read a path answer.
-use Rattle.std.specs.Prelude.{ℕ, ◌==◌, bytes_eq, if◌then◌else◌, List, [], ◌∷◌, ◌++◌, codes, map, Option, None, Some}
-use Rattle.std.specs.List.{slice_split}
+use Rattle.std.specs.Prelude.{ℕ, ◌==◌, not, bytes_eq, if◌then◌else◌, List, [], ◌∷◌, ◌++◌, codes, map, Option, None, Some}
+use Rattle.std.specs.List.{slice_split, AllPass}
 use Rattle.percent_encoding.specs.Percent.{percent_decode}
 use Rattle.edr_query.specs.declared.addresses.QueryKind.{QueryKind}
 use Rattle.edr_query.specs.declared.addresses.QueryKind.TheVariants.{Position, Radius, Area, Cube, Trajectory, Corridor}
@@ -15,6 +15,10 @@ raw_in text = without_empty_last (slice_split (λ byte. byte == 47) text)
 -- the parts of what stands behind the first slash, decoded
 abbrev pub parts_in : List ℕ → List (List ℕ)
 parts_in text = map percent_decode (raw_in text)
+
+-- no byte is a `%`
+abbrev pub IsUnescaped : List ℕ → Type 0
+IsUnescaped raw = AllPass (λ byte. not (byte == 37)) raw
 
 abbrev pub HasNoAddress : List ℕ → Type 0
 HasNoAddress path = (address : Address) → ¬ (IsPath path address)

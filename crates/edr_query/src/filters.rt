@@ -19,7 +19,7 @@ use std::alloc::Global;
 use std::collections::BTreeSet;
 
 /// The times of `datetime`, where it is given.
-pub fn read_datetime(parameters: &Parameters) -> Result<Option<Times>, TargetFault>
+pub fn read_datetime(parameters: &Parameters<'_>) -> Result<Option<Times>, TargetFault>
     ensures { Checks result (λ times. MaySay IsTimesText (value_of p.Datetime parameters.now) times) BadDatetime (HasBadTimes parameters.now) }
 {
     let Some(text) = parameters.get(Parameter::Datetime) else {
@@ -32,7 +32,7 @@ pub fn read_datetime(parameters: &Parameters) -> Result<Option<Times>, TargetFau
 }
 
 /// The levels of `z`, where it is given.
-pub fn read_z(alloc: Global, parameters: &Parameters) -> Result<Option<Levels>, TargetFault>
+pub fn read_z(alloc: Global, parameters: &Parameters<'_>) -> Result<Option<Levels>, TargetFault>
     ensures { Checks result (λ levels. MaySay IsLevelsText (value_of p.Z parameters.now) levels) BadLevel (HasBadLevels parameters.now) }
 {
     let Some(text) = parameters.get(Parameter::Z) else {
@@ -81,7 +81,7 @@ fn names_of(alloc: Global, text: &[u8]) -> Result<Items<Text>, OutOfMemory>
 /// The names of `parameter-name`, where it is given.
 pub fn read_names(
     alloc: Global,
-    parameters: &Parameters,
+    parameters: &Parameters<'_>,
 ) -> Result<Option<Items<Text>>, OutOfMemory>
     ensures { IfOk result (λ names. (names ≡ option_map names_in (value_of p.ParameterName parameters.now)) × IfSome names AreNames) }
 {
@@ -92,7 +92,7 @@ pub fn read_names(
 }
 
 /// The text of `crs`, where it is given.
-pub fn read_crs(alloc: Global, parameters: &Parameters) -> Result<Option<Text>, OutOfMemory>
+pub fn read_crs(alloc: Global, parameters: &Parameters<'_>) -> Result<Option<Text>, OutOfMemory>
     ensures { IfOk result (λ crs. (crs ≡ value_of p.Crs parameters.now) × IfSome crs IsUtf8) }
 {
     match parameters.get(Parameter::Crs) {

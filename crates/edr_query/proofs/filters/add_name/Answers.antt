@@ -1,4 +1,4 @@
-use Rattle.std.proofs.Common.{rules, ◌≡◌, ℕ, List, [], ◌∷◌, ◌++◌, sym, ◌∙◌, subst}
+use Rattle.std.proofs.Common.{rules, ◌≡◌, [], ◌∷◌, ◌++◌, sym, ◌∙◌, subst}
 use Rattle.edr_query.specs.Seen.{AreSeen}
 use Rattle.edr_query.proofs.SeenLemmas.{name_added, name_kept, seen_more}
 use Rattle.edr_query.proofs.filters.add_name.Goals as goal
