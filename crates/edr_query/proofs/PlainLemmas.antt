@@ -1,29 +1,18 @@
 -- Texts in which nothing is escaped stand for themselves.
-use Rattle.std.proofs.Common.{◌≡◌, ◌≢◌, ℕ, ◌==◌, List, [], ◌∷◌, All, true, IsUtf8, refl, ap, sym, ◌∙◌, Some, ne_eqb}
-use Rattle.std.specs.Prelude.{not}
+use Rattle.std.proofs.Common.{◌≡◌, ◌≢◌, ℕ, List, [], ◌∷◌, All, IsUtf8, refl, ap, sym, ◌∙◌, Some, ne_eqb}
 use Rattle.std.specs.Str.Lossy.{utf8_lossy}
-use Rattle.std.proofs.lemmas.Bool.{false≢true, and_parts}
 use Rattle.std.proofs.lemmas.List.Elements.{All-head, All-tail, All-weaker}
 use Rattle.std.proofs.lemmas.Str.{utf8_lossy-IsUtf8}
 use Rattle.percent_encoding.specs.Percent.{percent_decode}
-use Rattle.form_urlencoded.specs.Form.{decode}
+use Rattle.form_urlencoded.specs.Form.{decode, IsPlain}
 use Rattle.form_urlencoded.proofs.FormLemmas.{map-plus_to_space}
 use Rattle.edr_query.specs.declared.parameters.Parameter.{Parameter}
 use Rattle.edr_query.specs.declared.parameters.Parameter.TheVariants.{Format, Coords, Within, WithinUnits, Bbox, CorridorWidth, WidthUnits, CorridorHeight, HeightUnits, Datetime, Z, ParameterName, Crs}
 use Rattle.edr_query.specs.Parameters.{name_of}
 use Rattle.edr_query.specs.PathReads.{IsUnescaped}
-use Rattle.edr_query.specs.Reads.{parameter_in, read_text, is_plain, ArePlain}
+use Rattle.edr_query.specs.Reads.{parameter_in, read_text}
 use Rattle.edr_query.proofs.PairLemmas.{name_back, parameter_sound}
 use Rattle.edr_query.proofs.SpelledTexts.{name_utf8}
-
-unescaped_byte : (b : ℕ) → not (b == 37) ≡ true → b ≢ 37
-unescaped_byte b h = λ e. false≢true (sym (ap (λ x. not (x == 37)) e) ∙ h)
-
-no_plus : (b : ℕ) → is_plain b ≡ true → b ≢ 43
-no_plus b h = λ e. false≢true (sym (ap (λ x. not (x == 43)) e) ∙ (and_parts (not (b == 43)) (not (b == 37)) h).0)
-
-no_percent : (b : ℕ) → is_plain b ≡ true → b ≢ 37
-no_percent b h = unescaped_byte b (and_parts (not (b == 43)) (not (b == 37)) h).1
 
 unescaped : (bs : List ℕ) → All (λ b. b ≢ 37) bs → percent_decode bs ≡ bs
 unfolding percent_decode
@@ -35,15 +24,15 @@ unescaped (b ∷ high ∷ low ∷ rest) all =
 
 -- a part in which nothing is escaped
 pub kept_part : (bs : List ℕ) → IsUnescaped bs → bs ≡ percent_decode bs
-kept_part bs all = sym (unescaped bs (All-weaker (λ b. not (b == 37) ≡ true) (λ b. b ≢ 37) unescaped_byte bs all))
+kept_part bs all = sym (unescaped bs all)
 
-decoded : (bs : List ℕ) → ArePlain bs → decode bs ≡ bs
+decoded : (bs : List ℕ) → All IsPlain bs → decode bs ≡ bs
 decoded bs all =
-    ap percent_decode (map-plus_to_space bs (All-weaker (λ b. is_plain b ≡ true) (λ b. b ≢ 43) no_plus bs all))
-    ∙ unescaped bs (All-weaker (λ b. is_plain b ≡ true) (λ b. b ≢ 37) no_percent bs all)
+    ap percent_decode (map-plus_to_space bs (All-weaker IsPlain (λ b. b ≢ 43) (λ b h. h.0) bs all))
+    ∙ unescaped bs (All-weaker IsPlain (λ b. b ≢ 37) (λ b h. h.1) bs all)
 
 -- a plain text that is UTF-8 stands for itself
-pub kept_text : (bs : List ℕ) → ArePlain bs → IsUtf8 bs → read_text bs ≡ bs
+pub kept_text : (bs : List ℕ) → All IsPlain bs → IsUtf8 bs → read_text bs ≡ bs
 kept_text bs all utf8 = ap utf8_lossy (decoded bs all) ∙ utf8_lossy-IsUtf8 bs utf8
 
 name_decoded : (p : Parameter) → decode (name_of p) ≡ name_of p

@@ -1,6 +1,6 @@
 -- For private clauses: what the calls that read a path answer.
-use Rattle.std.specs.Prelude.{ℕ, ◌==◌, not, bytes_eq, if◌then◌else◌, List, [], ◌∷◌, ◌++◌, codes, map, Option, None, Some}
-use Rattle.std.specs.List.{slice_split, AllPass}
+use Rattle.std.specs.Prelude.{◌≢◌, ℕ, ◌==◌, All, bytes_eq, if◌then◌else◌, List, [], ◌∷◌, ◌++◌, codes, map, Option, None, Some}
+use Rattle.std.specs.List.{slice_split}
 use Rattle.percent_encoding.specs.Percent.{percent_decode}
 use Rattle.edr_query.specs.declared.addresses.QueryKind.{QueryKind}
 use Rattle.edr_query.specs.declared.addresses.QueryKind.TheVariants.{Position, Radius, Area, Cube, Trajectory, Corridor}
@@ -18,7 +18,7 @@ parts_in text = map percent_decode (raw_in text)
 
 -- no byte is a `%`
 abbrev pub IsUnescaped : List ℕ → Type 0
-IsUnescaped raw = AllPass (λ byte. not (byte == 37)) raw
+IsUnescaped raw = All (λ byte. byte ≢ 37) raw
 
 abbrev pub HasNoAddress : List ℕ → Type 0
 HasNoAddress path = (address : Address) → ¬ (IsPath path address)

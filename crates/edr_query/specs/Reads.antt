@@ -1,7 +1,6 @@
 -- For private clauses: what the calls that read the parameters of a target answer.
-use Rattle.std.specs.Prelude.{◌≡◌, ◌⊎◌, ◌<◌, ℕ, ℤ, Bool, true, false, not, ◌==◌, ◌&&◌, is_some, bytes_eq, if◌then◌else◌, List, [], ◌∷◌, ◌++◌, codes, Option, None, Some, Result, Ok, Err, MatchResult}
+use Rattle.std.specs.Prelude.{◌≡◌, ◌⊎◌, ◌<◌, ℕ, ℤ, Bool, true, false, ◌&&◌, is_some, bytes_eq, if◌then◌else◌, List, [], ◌∷◌, ◌++◌, codes, Option, None, Some, Result, Ok, Err, MatchResult}
 use Rattle.std.specs.Str.Lossy.{utf8_lossy}
-use Rattle.std.specs.List.{AllPass}
 use Rattle.form_urlencoded.specs.Form.{decode}
 use Rattle.edr_base.specs.FirstThatApplies.{IsLeast, NoneApplies}
 use Rattle.edr_base.specs.declared.refusals.Refusal.{Refusal}
@@ -51,13 +50,6 @@ parameter_in name =
 -- what a name or a value stands for
 abbrev pub read_text : List ℕ → List ℕ
 read_text raw = utf8_lossy (decode raw)
-
--- the byte stands for itself
-abbrev pub is_plain : ℕ → Bool
-is_plain byte = not (byte == 43) && not (byte == 37)
-
-abbrev pub ArePlain : List ℕ → Type 0
-ArePlain raw = AllPass is_plain raw
 
 -- no refusal whose number is below this one applies
 abbrev pub Passed : PageKind → List Pair → ℕ → Type 0

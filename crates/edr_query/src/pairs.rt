@@ -1,10 +1,11 @@
 //! Reading the pairs of a query text.
 ghost use Rattle.std.specs.Prelude.{◌≡◌, ◌++◌, ◌∷◌, [], Some, None, true, is_some, MatchOption, OnOk, map};
-ghost use Rattle.std.specs.Prelude.{IfOk, IsTrue, ◌↔◌};
+ghost use Rattle.std.specs.Prelude.{IfOk, IsTrue, All};
+ghost use Rattle.form_urlencoded.specs.Form.{IsPlain};
 ghost use Rattle.std.specs.Cow.{cow_str_bytes};
 ghost use Rattle.edr_base.specs.declared.refusals.Refusal.TheVariants.{UnknownParameter};
 ghost use Rattle.edr_query.specs.Parameters.{name_of, value_of, is_taken, pairs_in, IsUnknown};
-ghost use Rattle.edr_query.specs.Reads.{parameter_in, read_text, is_plain, ArePlain, Checks, Steps, AreRead, with_pair};
+ghost use Rattle.edr_query.specs.Reads.{parameter_in, read_text, Checks, Steps, AreRead, with_pair};
 
 use crate::addresses::PageKind;
 use crate::parameters::{Parameter, is_taken, parameter_of};
@@ -71,18 +72,11 @@ impl<'a> Parameters<'a> {
     }
 }
 
-// Whether a byte stands for itself.
-fn is_plain(byte: u8) -> bool
-    ensures { result ≡ is_plain byte }
-{
-    byte != b'+' && byte != b'%'
-}
-
-// Whether each byte stands for itself.
+// Whether nothing is escaped: no byte is a `+` or a `%`.
 fn are_plain(raw: &[u8]) -> bool
-    ensures { IsTrue result ↔ ArePlain raw.now }
+    ensures { IsTrue result → All IsPlain raw.now }
 {
-    raw.iter().all(|byte| is_plain(*byte))
+    !raw.contains(&b'+') && !raw.contains(&b'%')
 }
 
 // A value, decoded. It takes no memory where nothing is escaped.

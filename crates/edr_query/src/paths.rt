@@ -34,11 +34,11 @@ fn first_part(text: &[u8]) -> Option<(&[u8], &[u8])>
     }
 }
 
-// Whether nothing is escaped.
+// Whether nothing is escaped: no byte is a `%`.
 fn is_unescaped(raw: &[u8]) -> bool
-    ensures { IsTrue result ↔ IsUnescaped raw.now }
+    ensures { IsTrue result → IsUnescaped raw.now }
 {
-    raw.iter().all(|byte| *byte != b'%')
+    !raw.contains(&b'%')
 }
 
 // A part of a path, decoded. It takes no memory where nothing is escaped.

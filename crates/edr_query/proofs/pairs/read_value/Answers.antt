@@ -4,4 +4,4 @@ use Rattle.edr_query.proofs.pairs.read_value.Goals as goal
 
 pub returns-in-Ok : goal.returns-in-Ok
 returns-in-Ok c =
-    c.in-Ok.ensures.cases.0 ∙ sym (kept_text c.args.raw.now (c.are_plain.ensures.0 c.if-are_plain.true) c.in-Ok.ensures.cases.1)
+    c.in-Ok.ensures.cases.0 ∙ sym (kept_text c.args.raw.now (c.are_plain.ensures c.if-are_plain.true) c.in-Ok.ensures.cases.1)
