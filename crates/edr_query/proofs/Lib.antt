@@ -22,3 +22,5 @@ pub mod SpelledTexts
 pub mod SpelledQueries
 pub mod SpelledAddresses
 pub mod WrittenParts
+pub mod IdLemmas
+pub mod PlainLemmas

@@ -13,7 +13,7 @@ use Rattle.edr_query.proofs.ListLemmas.{some_same, none_some, choice, same_text,
 
 -- ---- names
 
-name_back : (p : Parameter) → parameter_in (name_of p) ≡ Some p
+pub name_back : (p : Parameter) → parameter_in (name_of p) ≡ Some p
 name_back Format = refl
 name_back Coords = refl
 name_back Within = refl

@@ -27,7 +27,7 @@ second p q ps all = All-head IsPart q ps (All-tail IsPart p (q ∷ ps) all)
 below : (c : List ℕ) (ps : List (List ℕ)) → IsPart c → All IsPart ps → All IsPart (codes "collections" ∷ c ∷ ps)
 below c ps h all = more (codes "collections") (c ∷ ps) collections_part (more c ps h all)
 
-parts_from_ids : (a : Address) → All IsPart (ids_of a) → All IsPart (parts_of a)
+pub parts_from_ids : (a : Address) → All IsPart (ids_of a) → All IsPart (parts_of a)
 parts_from_ids Landing all = All-nil IsPart
 parts_from_ids Conformance all = one (codes "conformance") conformance_part
 parts_from_ids Collections all = one (codes "collections") collections_part

@@ -1,27 +1,24 @@
 -- For private clauses: what the calls that read a path answer.
-use Rattle.std.specs.Prelude.{◌≡◌, ℕ, ◌==◌, bytes_eq, if◌then◌else◌, List, [], ◌∷◌, ◌++◌, codes, All, map, Option, None, Some}
+use Rattle.std.specs.Prelude.{◌≢◌, ℕ, ◌==◌, All, bytes_eq, if◌then◌else◌, List, [], ◌∷◌, ◌++◌, codes, map, Option, None, Some}
 use Rattle.std.specs.List.{slice_split}
 use Rattle.percent_encoding.specs.Percent.{percent_decode}
 use Rattle.edr_query.specs.declared.addresses.QueryKind.{QueryKind}
 use Rattle.edr_query.specs.declared.addresses.QueryKind.TheVariants.{Position, Radius, Area, Cube, Trajectory, Corridor}
 use Rattle.edr_query.specs.declared.addresses.Address.{Address}
 use Rattle.edr_query.specs.declared.addresses.Address.TheVariants.{Landing, Conformance, Collections, Collection, Instances, Instance, Locations, Location, Query}
-use Rattle.edr_query.specs.Paths.{without_empty_last, IsPart, HasParts, IsPath, parts_of, part_text}
+use Rattle.edr_query.specs.Paths.{without_empty_last, IsPath, parts_of, part_text}
 
 -- the parts of what stands behind the first slash, as they are written
 abbrev pub raw_in : List ℕ → List (List ℕ)
 raw_in text = without_empty_last (slice_split (λ byte. byte == 47) text)
 
 -- the parts of what stands behind the first slash, decoded
-pub record HasInnerParts (inner : List ℕ) (parts : List (List ℕ)) : Type 0 where
-  pub decoded : map percent_decode (raw_in inner) ≡ parts
-  pub each : All IsPart parts
+abbrev pub parts_in : List ℕ → List (List ℕ)
+parts_in text = map percent_decode (raw_in text)
 
-abbrev pub HasNoInnerParts : List ℕ → Type 0
-HasNoInnerParts inner = (parts : List (List ℕ)) → ¬ (HasInnerParts inner parts)
-
-abbrev pub HasNoParts : List ℕ → Type 0
-HasNoParts path = (parts : List (List ℕ)) → ¬ (HasParts path parts)
+-- no byte is a `%`
+abbrev pub IsUnescaped : List ℕ → Type 0
+IsUnescaped raw = All (λ byte. byte ≢ 37) raw
 
 abbrev pub HasNoAddress : List ℕ → Type 0
 HasNoAddress path = (address : Address) → ¬ (IsPath path address)

@@ -90,7 +90,7 @@ pub fn ask(
     shape: Shape,
     times: Option<Times>,
     levels: Option<Levels>,
-    parameters: &Parameters,
+    parameters: &Parameters<'_>,
 ) -> Result<Query, OutOfMemory>
     requires { IsQuery (record { collection = collection; instance = instance; shape = shape; times = times; levels = levels; parameters = None; crs = None }) }
     ensures { IfOk result (λ query. query ≡ record {

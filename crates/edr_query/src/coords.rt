@@ -19,7 +19,10 @@ use edr_wkt::{Geometry, WktFault, faultless_geometries_have_no_fault, read_wkt, 
 use std::alloc::Global;
 
 /// The geometry of `coords`, where it is given.
-pub fn read_coords(alloc: Global, parameters: &Parameters) -> Result<Option<Geometry>, TargetFault>
+pub fn read_coords(
+    alloc: Global,
+    parameters: &Parameters<'_>,
+) -> Result<Option<Geometry>, TargetFault>
     ensures { Checks result (λ coords. MaySay IsGeometryText (value_of p.Coords parameters.now) coords) BadCoords (HasBadCoords parameters.now) }
 {
     let Some(text) = parameters.get(Parameter::Coords) else {
@@ -90,7 +93,7 @@ fn takes(kind: QueryKind, geometry: &Geometry) -> bool
 /// Along a line with z the height of a corridor is given.
 pub fn check_height_along(
     page: PageKind,
-    parameters: &Parameters,
+    parameters: &Parameters<'_>,
     coords: &Option<Geometry>,
 ) -> Result<(), TargetFault>
     requires said { MaySay IsGeometryText (value_of p.Coords parameters.now) coords.now }
@@ -113,7 +116,7 @@ pub fn check_height_along(
 /// The query takes the geometry of `coords`.
 pub fn check_geometry(
     page: PageKind,
-    parameters: &Parameters,
+    parameters: &Parameters<'_>,
     coords: &Option<Geometry>,
 ) -> Result<(), TargetFault>
     requires { MaySay IsGeometryText (value_of p.Coords parameters.now) coords.now }
@@ -177,7 +180,10 @@ fn list_in(levels: &Levels) -> &[i64]
 }
 
 /// The box of `bbox`, where it is given.
-pub fn read_bbox(alloc: Global, parameters: &Parameters) -> Result<Option<BoundingBox>, TargetFault>
+pub fn read_bbox(
+    alloc: Global,
+    parameters: &Parameters<'_>,
+) -> Result<Option<BoundingBox>, TargetFault>
     ensures { Checks result (λ found. MaySay IsBoxText (value_of p.Bbox parameters.now) found) BadBbox (HasBadBox parameters.now) }
 {
     levels_are_unique();

@@ -1,5 +1,6 @@
 //! Reading times, levels, names of parameters and reference systems.
-ghost use Rattle.std.specs.Prelude.{◌≡◌, IfOk, IfSome, OnOk, IsUtf8, option_map};
+ghost use Rattle.std.specs.List.{list_any};
+ghost use Rattle.std.specs.Prelude.{◌≡◌, bytes_eq, IfOk, IfSome, OnOk, IsUtf8, option_map};
 ghost use Rattle.edr_base.specs.declared.refusals.Refusal.TheVariants.{BadDatetime, BadLevel};
 ghost use Rattle.edr_axes.specs.Times.{IsTimesText};
 ghost use Rattle.edr_axes.specs.Levels.{IsLevelsText};
@@ -8,7 +9,7 @@ ghost use Rattle.edr_query.specs.Parameters.{value_of, MaySay};
 ghost use Rattle.edr_query.specs.Queries.{with_name, names_in, AreNames};
 ghost use Rattle.edr_query.specs.Targets.{HasBadTimes, HasBadLevels};
 ghost use Rattle.edr_query.specs.Reads.{Checks};
-ghost use Rattle.edr_query.specs.Seen.{AreSeen};
+ghost use Rattle.edr_query.specs.Seen.{AreSeen, AreSeenIf};
 
 use crate::pairs::Parameters;
 use crate::parameters::Parameter;
@@ -19,7 +20,7 @@ use std::alloc::Global;
 use std::collections::BTreeSet;
 
 /// The times of `datetime`, where it is given.
-pub fn read_datetime(parameters: &Parameters) -> Result<Option<Times>, TargetFault>
+pub fn read_datetime(parameters: &Parameters<'_>) -> Result<Option<Times>, TargetFault>
     ensures { Checks result (λ times. MaySay IsTimesText (value_of p.Datetime parameters.now) times) BadDatetime (HasBadTimes parameters.now) }
 {
     let Some(text) = parameters.get(Parameter::Datetime) else {
@@ -32,7 +33,7 @@ pub fn read_datetime(parameters: &Parameters) -> Result<Option<Times>, TargetFau
 }
 
 /// The levels of `z`, where it is given.
-pub fn read_z(alloc: Global, parameters: &Parameters) -> Result<Option<Levels>, TargetFault>
+pub fn read_z(alloc: Global, parameters: &Parameters<'_>) -> Result<Option<Levels>, TargetFault>
     ensures { Checks result (λ levels. MaySay IsLevelsText (value_of p.Z parameters.now) levels) BadLevel (HasBadLevels parameters.now) }
 {
     let Some(text) = parameters.get(Parameter::Z) else {
@@ -45,8 +46,28 @@ pub fn read_z(alloc: Global, parameters: &Parameters) -> Result<Option<Levels>, 
     }
 }
 
+// From so many bytes on a text may have many names, and a set of those that were seen is kept.
+const MANY: usize = 64;
+
+// Whether a name is among some.
+fn is_among(names: &[Text], name: &[u8]) -> bool
+    ensures { result ≡ list_any (bytes_eq name.now) names.now }
+{
+    names.iter().any(|other| name == other.bytes())
+}
+
+// One more name, unless it is among the others.
+fn add_few(alloc: Global, names: &mut Vec<Text>, name: &[u8]) -> Result<(), OutOfMemory>
+    ensures { OnOk result (names.new.items ≡ with_name names.old.items name.now) }
+{
+    if !is_among(names, name) {
+        names.push(Text::of(alloc, name)?)?;
+    }
+    Ok(())
+}
+
 // One more name, unless it was seen before: the names that were seen are those of the list.
-fn add_name<'a>(
+fn add_seen<'a>(
     alloc: Global,
     names: &mut Vec<Text>,
     seen: &mut BTreeSet<&'a [u8]>,
@@ -62,26 +83,46 @@ fn add_name<'a>(
     Ok(())
 }
 
+// One more name, unless the list has it. Where many may come, the set has the names of the list.
+fn add_name<'a>(
+    alloc: Global,
+    many: bool,
+    names: &mut Vec<Text>,
+    seen: &mut BTreeSet<&'a [u8]>,
+    name: &'a [u8],
+) -> Result<(), OutOfMemory>
+    requires { AreSeenIf many seen.old names.old.items }
+    ensures names { OnOk result (names.new.items ≡ with_name names.old.items name.now) }
+    ensures seen { OnOk result (AreSeenIf many seen.new names.new.items) }
+{
+    if many {
+        add_seen(alloc, names, seen, name)
+    } else {
+        add_few(alloc, names, name)
+    }
+}
+
 // The names between the commas of a text, each once.
 fn names_of(alloc: Global, text: &[u8]) -> Result<Items<Text>, OutOfMemory>
     requires { IsUtf8 text.now }
     ensures { IfOk result (λ names. (names ≡ names_in text.now) × AreNames names) }
 {
+    let many = text.len() >= MANY;
     let mut names = Vec::new(alloc);
     let mut seen = BTreeSet::new(alloc);
     let mut rest = text;
     while let Some((front, back)) = cut_at(rest, b',') {
-        add_name(alloc, &mut names, &mut seen, front)?;
+        add_name(alloc, many, &mut names, &mut seen, front)?;
         rest = back;
     }
-    add_name(alloc, &mut names, &mut seen, rest)?;
+    add_name(alloc, many, &mut names, &mut seen, rest)?;
     Ok(Items::of(names))
 }
 
 /// The names of `parameter-name`, where it is given.
 pub fn read_names(
     alloc: Global,
-    parameters: &Parameters,
+    parameters: &Parameters<'_>,
 ) -> Result<Option<Items<Text>>, OutOfMemory>
     ensures { IfOk result (λ names. (names ≡ option_map names_in (value_of p.ParameterName parameters.now)) × IfSome names AreNames) }
 {
@@ -92,7 +133,7 @@ pub fn read_names(
 }
 
 /// The text of `crs`, where it is given.
-pub fn read_crs(alloc: Global, parameters: &Parameters) -> Result<Option<Text>, OutOfMemory>
+pub fn read_crs(alloc: Global, parameters: &Parameters<'_>) -> Result<Option<Text>, OutOfMemory>
     ensures { IfOk result (λ crs. (crs ≡ value_of p.Crs parameters.now) × IfSome crs IsUtf8) }
 {
     match parameters.get(Parameter::Crs) {

@@ -1,24 +1,28 @@
 //! Reading the pairs of a query text.
 ghost use Rattle.std.specs.Prelude.{◌≡◌, ◌++◌, ◌∷◌, [], Some, None, true, is_some, MatchOption, OnOk, map};
-ghost use Rattle.std.specs.Prelude.{IfOk};
+ghost use Rattle.std.specs.Prelude.{IfOk, IsTrue, All};
+ghost use Rattle.form_urlencoded.specs.Form.{IsPlain};
+ghost use Rattle.std.specs.Cow.{cow_str_bytes};
 ghost use Rattle.edr_base.specs.declared.refusals.Refusal.TheVariants.{UnknownParameter};
 ghost use Rattle.edr_query.specs.Parameters.{name_of, value_of, is_taken, pairs_in, IsUnknown};
-ghost use Rattle.edr_query.specs.Reads.{read_text, Checks, Steps, AreRead, with_pair};
+ghost use Rattle.edr_query.specs.Reads.{parameter_in, read_text, Checks, Steps, AreRead, with_pair};
 
 use crate::addresses::PageKind;
 use crate::parameters::{Parameter, is_taken, parameter_of};
 use crate::reading::TargetFault;
 use edr_base::{OutOfMemory, Refusal};
 use std::alloc::Global;
+use std::borrow::CowStr;
 use std::marker::Model;
+use std::str;
 
 /// The parameters of a target, each once. Contracts see their names and values as pairs.
 #[derive(Debug, Drop)]
-pub struct Parameters {
-    found: Vec<(Parameter, String)>,
+pub struct Parameters<'a> {
+    found: Vec<(Parameter, CowStr<'a, Global>)>,
 }
 
-impl Model for Parameters {
+impl<'a> Model for Parameters<'a> {
     ghost use Rattle.std.specs.Prelude.{map};
     ghost use Rattle.edr_query.specs.Parameters.{Pair};
     ghost use Rattle.std.specs.Prelude.{List};
@@ -30,8 +34,8 @@ impl Model for Parameters {
     ghost view = { λ parameters. map named parameters.found.items };
 }
 
-impl Parameters {
-    fn new(alloc: Global) -> Parameters
+impl<'a> Parameters<'a> {
+    fn new(alloc: Global) -> Parameters<'a>
         ensures { result ≡ [] }
     {
         Parameters {
@@ -59,21 +63,50 @@ impl Parameters {
     }
 
     // One more parameter, with its value as it is written.
-    fn add(&mut self, alloc: Global, parameter: Parameter, raw: &[u8]) -> Result<(), OutOfMemory>
+    fn add(&mut self, alloc: Global, parameter: Parameter, raw: &'a [u8]) -> Result<(), OutOfMemory>
         ensures { OnOk result (self.new ≡ self.old ++ (name_of parameter, read_text raw.now) ∷ []) }
     {
-        let value = form_urlencoded::decode(alloc, raw)?.into_owned(alloc)?;
+        let value = read_value(alloc, raw)?;
         self.found.push((parameter, value))?;
         Ok(())
     }
+}
+
+// Whether nothing is escaped: no byte is a `+` or a `%`.
+fn are_plain(raw: &[u8]) -> bool
+    ensures { IsTrue result → All IsPlain raw.now }
+{
+    !raw.contains(&b'+') && !raw.contains(&b'%')
+}
+
+// A value, decoded. It takes no memory where nothing is escaped.
+fn read_value(alloc: Global, raw: &[u8]) -> Result<CowStr<'_, Global>, OutOfMemory>
+    ensures { IfOk result (λ text. cow_str_bytes text ≡ read_text raw.now) }
+{
+    if are_plain(raw) {
+        if let Ok(text) = str::from_utf8(raw) {
+            return Ok(CowStr::Borrowed(text));
+        }
+    }
+    Ok(form_urlencoded::decode(alloc, raw)?)
+}
+
+// The parameter of a name as it is written. It takes no memory where nothing is escaped.
+fn read_name(alloc: Global, raw: &[u8]) -> Result<Option<Parameter>, OutOfMemory>
+    ensures { IfOk result (λ parameter. parameter ≡ parameter_in (read_text raw.now)) }
+{
+    if let Some(parameter) = parameter_of(raw) {
+        return Ok(Some(parameter));
+    }
+    let name = form_urlencoded::decode(alloc, raw)?;
+    Ok(parameter_of(name.as_str().as_bytes()))
 }
 
 // The parameter of a name as it is written, which a page takes.
 fn known(alloc: Global, page: PageKind, raw: &[u8]) -> Result<Parameter, TargetFault>
     ensures { Checks result (λ parameter. (read_text raw.now ≡ name_of parameter) × (is_taken page parameter ≡ true)) UnknownParameter (IsUnknown page (read_text raw.now)) }
 {
-    let name = form_urlencoded::decode(alloc, raw)?;
-    match parameter_of(name.as_str().as_bytes()) {
+    match read_name(alloc, raw)? {
         Some(parameter) => {
             if is_taken(page, parameter) {
                 Ok(parameter)
@@ -86,13 +119,13 @@ fn known(alloc: Global, page: PageKind, raw: &[u8]) -> Result<Parameter, TargetF
 }
 
 // The parameters so far with one more; none where its name stands twice.
-fn with_pair(
+fn with_pair<'a>(
     alloc: Global,
-    found: Option<Parameters>,
+    found: Option<Parameters<'a>>,
     parameter: Parameter,
-    raw: &[u8],
-) -> Result<Option<Parameters>, OutOfMemory>
-    ensures { IfOk result (λ more. more ≡ with_pair found parameter (read_text raw.now)) }
+    raw: &'a [u8],
+) -> Result<Option<Parameters<'a>>, OutOfMemory>
+    ensures { IfOk result (λ more. more ≡ with_pair found.entry parameter (read_text raw.now)) }
 {
     let Some(mut parameters) = found else {
         return Ok(None);
@@ -109,7 +142,7 @@ pub fn read_parameters(
     alloc: Global,
     page: PageKind,
     text: &[u8],
-) -> Result<Parameters, TargetFault>
+) -> Result<Parameters<'_>, TargetFault>
     ensures { Steps result (λ read. AreRead page (pairs_in text.now) read) page (pairs_in text.now) }
 {
     let mut found = Some(Parameters::new(alloc));

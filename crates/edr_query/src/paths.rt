@@ -1,12 +1,14 @@
 //! Reading the path of a target.
-ghost use Rattle.std.specs.Prelude.{◌≡◌, IfOk, MatchOption, option_map};
+ghost use Rattle.std.specs.Prelude.{◌≡◌, ◌∷◌, [], ◌↔◌, All, IfOk, IsTrue, MatchOption};
+ghost use Rattle.std.specs.Cow.{cow_slice_items};
 ghost use Rattle.percent_encoding.specs.Percent.{percent_decode};
-ghost use Rattle.edr_query.specs.Paths.{IsPart, HasParts, IsPath, path_in, query_in};
-ghost use Rattle.edr_query.specs.PathReads.{HasInnerParts, HasNoInnerParts, HasNoParts, HasNoAddress, kind_in, top_page, named_page, id_page, instance_page, collection_page, below_collections, address_in};
+ghost use Rattle.edr_query.specs.Paths.{IsPart, IsPath, ids_of, path_in, query_in};
+ghost use Rattle.edr_query.specs.PathReads.{HasNoAddress, IsUnescaped, parts_in, kind_in, top_page, named_page, id_page, instance_page, collection_page, address_in};
 
 use crate::addresses::{Address, QueryKind};
 use edr_base::{OutOfMemory, Text, cut_at, is_utf8, without_front};
 use std::alloc::Global;
+use std::borrow::CowSlice;
 
 /// What stands before the first `?` of a target, and what follows it.
 pub fn cut_target(target: &[u8]) -> (&[u8], &[u8])
@@ -19,48 +21,43 @@ pub fn cut_target(target: &[u8]) -> (&[u8], &[u8])
     }
 }
 
-// A part of a path, decoded; None where it is empty or no UTF-8.
-fn read_part(alloc: Global, raw: &[u8]) -> Result<Option<Text>, OutOfMemory>
-    ensures { IfOk result (λ part. MatchOption part (¬ (IsPart (percent_decode raw.now))) (λ text. (text ≡ percent_decode raw.now) × IsPart text)) }
+// The first part of what stands behind a slash, as it is written, and what stands behind it; None where no part is left.
+fn first_part(text: &[u8]) -> Option<(&[u8], &[u8])>
+    ensures { MatchOption result (parts_in text.now ≡ []) (λ parts. parts_in text.now ≡ percent_decode parts.0.now ∷ parts_in parts.1.now) }
 {
-    let mut bytes = Vec::new(alloc);
-    percent_encoding::percent_decode(raw).append_to(&mut bytes)?;
-    if bytes.is_empty() || !is_utf8(&bytes) {
-        return Ok(None);
+    if text.is_empty() {
+        return None;
     }
-    Ok(Some(Text::from_vec(bytes)))
+    match cut_at(text, b'/') {
+        Some((front, back)) => Some((front, back)),
+        None => Some((text, &[])),
+    }
 }
 
-// The parts behind the slash that a path begins with, decoded.
-fn inner_parts(alloc: Global, inner: &[u8]) -> Result<Option<Vec<Text>>, OutOfMemory>
-    ensures { IfOk result (λ parts. MatchOption parts (HasNoInnerParts inner.now) (λ found. HasInnerParts inner.now found.items)) }
+// Whether nothing is escaped: no byte is a `%`.
+fn is_unescaped(raw: &[u8]) -> bool
+    ensures { IsTrue result → IsUnescaped raw.now }
 {
-    let mut parts = Vec::new(alloc);
-    let mut rest = inner;
-    while let Some((front, back)) = cut_at(rest, b'/') {
-        let Some(part) = read_part(alloc, front)? else {
-            return Ok(None);
-        };
-        parts.push(part)?;
-        rest = back;
-    }
-    if rest.is_empty() {
-        return Ok(Some(parts));
-    }
-    let Some(last) = read_part(alloc, rest)? else {
-        return Ok(None);
-    };
-    parts.push(last)?;
-    Ok(Some(parts))
+    !raw.contains(&b'%')
 }
 
-// The parts of a path between its slashes, decoded.
-fn read_parts(alloc: Global, path: &[u8]) -> Result<Option<Vec<Text>>, OutOfMemory>
-    ensures { IfOk result (λ parts. MatchOption parts (HasNoParts path.now) (λ found. HasParts path.now found.items)) }
+// A part of a path, decoded. It takes no memory where nothing is escaped.
+fn decoded(alloc: Global, raw: &[u8]) -> Result<CowSlice<'_, u8, Global>, OutOfMemory>
+    ensures { IfOk result (λ part. cow_slice_items part ≡ percent_decode raw.now) }
 {
-    match without_front(path, b"/") {
-        Some(inner) => inner_parts(alloc, inner),
-        None => Ok(None),
+    if is_unescaped(raw) {
+        return Ok(CowSlice::Borrowed(raw));
+    }
+    Ok(percent_encoding::percent_decode(raw).into_cow(alloc)?)
+}
+
+// An id, decoded.
+fn read_id(alloc: Global, raw: &[u8]) -> Result<Text, OutOfMemory>
+    ensures { IfOk result (λ id. id ≡ percent_decode raw.now) }
+{
+    match decoded(alloc, raw)? {
+        CowSlice::Borrowed(bytes) => Text::of(alloc, bytes),
+        CowSlice::Owned(bytes) => Ok(Text::from_vec(bytes)),
     }
 }
 
@@ -151,51 +148,80 @@ fn instance_page(collection: Text, name: &[u8], id: Text, last: &[u8]) -> Option
 // A collection, or what stands below it.
 fn collection_page(
     alloc: Global,
-    collection: &Text,
-    parts: &[Text],
+    collection: Text,
+    below: &[u8],
 ) -> Result<Option<Address>, OutOfMemory>
-    ensures { IfOk result (λ address. address ≡ collection_page collection.now parts.now) }
+    ensures { IfOk result (λ address. address ≡ collection_page collection (parts_in below.now)) }
 {
-    let collection = Text::of(alloc, collection.bytes())?;
-    match parts {
-        [] => Ok(Some(Address::Collection(collection))),
-        [name] => Ok(named_page(collection, name.bytes())),
-        [name, id] => {
-            let id = Text::of(alloc, id.bytes())?;
-            Ok(id_page(collection, name.bytes(), id))
-        }
-        [name, id, last] => {
-            let id = Text::of(alloc, id.bytes())?;
-            Ok(instance_page(collection, name.bytes(), id, last.bytes()))
-        }
-        _ => Ok(None),
+    let Some((name, below)) = first_part(below) else {
+        return Ok(Some(Address::Collection(collection)));
+    };
+    let name = decoded(alloc, name)?;
+    let Some((id, below)) = first_part(below) else {
+        return Ok(named_page(collection, name.as_slice()));
+    };
+    let id = read_id(alloc, id)?;
+    let Some((last, below)) = first_part(below) else {
+        return Ok(id_page(collection, name.as_slice(), id));
+    };
+    let last = decoded(alloc, last)?;
+    match first_part(below) {
+        Some(_) => Ok(None),
+        None => Ok(instance_page(collection, name.as_slice(), id, last.as_slice())),
     }
 }
 
-// A page below the collections.
-fn below_collections(
-    alloc: Global,
-    name: &[u8],
-    collection: &Text,
-    parts: &[Text],
-) -> Result<Option<Address>, OutOfMemory>
-    ensures { IfOk result (λ address. address ≡ below_collections name.now collection.now parts.now) }
+// The address that the parts behind a slash have, whatever its ids are.
+fn address_of(alloc: Global, inner: &[u8]) -> Result<Option<Address>, OutOfMemory>
+    ensures { IfOk result (λ address. address ≡ address_in (parts_in inner.now)) }
 {
-    if name == b"collections".as_slice() {
-        collection_page(alloc, collection, parts)
-    } else {
-        Ok(None)
+    let Some((name, below)) = first_part(inner) else {
+        return Ok(Some(Address::Landing));
+    };
+    let name = decoded(alloc, name)?;
+    let Some((collection, below)) = first_part(below) else {
+        return Ok(top_page(name.as_slice()));
+    };
+    if name.as_slice() != b"collections".as_slice() {
+        return Ok(None);
     }
+    let collection = read_id(alloc, collection)?;
+    collection_page(alloc, collection, below)
 }
 
-// The address that has these parts.
-fn address_of(alloc: Global, parts: &[Text]) -> Result<Option<Address>, OutOfMemory>
-    ensures { IfOk result (λ address. address ≡ address_in parts.now) }
+// Whether some bytes are a part of a path.
+fn is_part(bytes: &[u8]) -> bool
+    ensures { IsTrue result ↔ IsPart bytes.now }
 {
-    match parts {
-        [] => Ok(Some(Address::Landing)),
-        [name] => Ok(top_page(name.bytes())),
-        [name, collection, below @ ..] => below_collections(alloc, name.bytes(), collection, below),
+    !bytes.is_empty() && is_utf8(bytes)
+}
+
+// Whether two texts are parts of a path.
+fn are_parts(one: &[u8], other: &[u8]) -> bool
+    ensures { IsTrue result ↔ All IsPart (one.now ∷ other.now ∷ []) }
+{
+    is_part(one) && is_part(other)
+}
+
+// Whether the ids of an address are parts of a path.
+fn has_ids(address: &Address) -> bool
+    ensures { IsTrue result ↔ All IsPart (ids_of address.now) }
+{
+    match address {
+        Address::Landing | Address::Conformance | Address::Collections => true,
+        Address::Collection(id) | Address::Instances(id) | Address::Locations(id) => {
+            is_part(id.bytes())
+        }
+        Address::Instance(collection, instance) => are_parts(collection.bytes(), instance.bytes()),
+        Address::Location(collection, station) => are_parts(collection.bytes(), station.bytes()),
+        Address::Query {
+            collection,
+            instance,
+            ..
+        } => match instance {
+            Some(instance) => are_parts(collection.bytes(), instance.bytes()),
+            None => is_part(collection.bytes()),
+        },
     }
 }
 
@@ -205,8 +231,15 @@ fn address_of(alloc: Global, parts: &[Text]) -> Result<Option<Address>, OutOfMem
 pub fn read_address(alloc: Global, path: &[u8]) -> Result<Option<Address>, OutOfMemory>
     ensures { IfOk result (λ address. MatchOption address (HasNoAddress path.now) (λ named. IsPath path.now named)) }
 {
-    let Some(parts) = read_parts(alloc, path)? else {
+    let Some(inner) = without_front(path, b"/") else {
         return Ok(None);
     };
-    address_of(alloc, &parts)
+    let Some(address) = address_of(alloc, inner)? else {
+        return Ok(None);
+    };
+    if has_ids(&address) {
+        Ok(Some(address))
+    } else {
+        Ok(None)
+    }
 }

@@ -49,7 +49,7 @@ fn page_of(
     alloc: Global,
     address: Address,
     said: Said,
-    parameters: &Parameters,
+    parameters: &Parameters<'_>,
 ) -> Result<Page, OutOfMemory>
     requires parts { All IsPart (parts_of address) }
     requires said { IsAllSaid (page_kind address) parameters.now said }

@@ -40,7 +40,7 @@ fn is_format(page: PageKind, text: &[u8]) -> bool
 }
 
 // `f`, where it is given, is a format of the page.
-fn check_format(page: PageKind, parameters: &Parameters) -> Result<(), TargetFault>
+fn check_format(page: PageKind, parameters: &Parameters<'_>) -> Result<(), TargetFault>
     ensures { Checks result (λ done. ¬ (HasBadFormat page parameters.now)) BadFormat (HasBadFormat page parameters.now) }
 {
     match parameters.get(Parameter::Format) {
@@ -56,7 +56,7 @@ fn check_format(page: PageKind, parameters: &Parameters) -> Result<(), TargetFau
 }
 
 // Whether the parameters that a page can't do without are given.
-fn has_required(page: PageKind, parameters: &Parameters) -> bool
+fn has_required(page: PageKind, parameters: &Parameters<'_>) -> bool
     ensures { result ≡ has_required page parameters.now }
 {
     match page {
@@ -77,7 +77,7 @@ fn has_required(page: PageKind, parameters: &Parameters) -> bool
 }
 
 // The parameters that a page can't do without are given.
-fn check_required(page: PageKind, parameters: &Parameters) -> Result<(), TargetFault>
+fn check_required(page: PageKind, parameters: &Parameters<'_>) -> Result<(), TargetFault>
     ensures { Checks result (λ done. ¬ (LacksRequired page parameters.now)) MissingParameter (IsMissing page parameters.now) }
 {
     if has_required(page, parameters) {
@@ -88,7 +88,7 @@ fn check_required(page: PageKind, parameters: &Parameters) -> Result<(), TargetF
 }
 
 // The height of a corridor and its unit are both given, or neither.
-fn check_height(page: PageKind, parameters: &Parameters) -> Result<(), TargetFault>
+fn check_height(page: PageKind, parameters: &Parameters<'_>) -> Result<(), TargetFault>
     ensures { Checks result (λ done. IsHeightPaired page parameters.now) MissingParameter (IsMissing page parameters.now) }
 {
     if !is_corridor(page) {
@@ -108,7 +108,7 @@ fn check_height(page: PageKind, parameters: &Parameters) -> Result<(), TargetFau
 
 // The distance of a number and a unit, where both are given.
 fn read_metres(
-    parameters: &Parameters,
+    parameters: &Parameters<'_>,
     number: Parameter,
     unit: Parameter,
 ) -> Result<Option<i64>, TargetFault>
@@ -188,7 +188,7 @@ fn conflicts(said: &Said) -> bool
 pub fn read_said(
     alloc: Global,
     page: PageKind,
-    parameters: &Parameters,
+    parameters: &Parameters<'_>,
 ) -> Result<Said, TargetFault>
     requires { Passed page parameters.now 9 }
     ensures { Steps result (λ said. IsAllSaid page parameters.now said) page parameters.now }

@@ -1,7 +1,7 @@
 use Rattle.std.proofs.Common.{◌≡◌, length}
 use Rattle.std.specs.Prelude.{IsUtf8}
 use Rattle.edr_query.specs.Queries.{with_names, names_in}
-use Rattle.edr_query.specs.Seen.{AreSeen}
+use Rattle.edr_query.specs.Seen.{AreSeenIf}
 use Rattle.edr_query.proofs.NameLemmas.{pieces, AreKept}
 use Rattle.edr_query.proofs.filters.names_of.Given as goal
 
@@ -11,7 +11,7 @@ invariant-loop-front l =
     record {
       left : with_names l.names.items (pieces l.rest) ≡ names_in l.text;
       kept : AreKept l.names.items;
-      seen : AreSeen l.seen l.names.items;
+      seen : AreSeenIf l.many l.seen l.names.items;
       utf8 : IsUtf8 l.rest;
     }
 

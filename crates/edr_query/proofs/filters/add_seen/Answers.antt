@@ -1,7 +1,7 @@
-use Rattle.std.proofs.Common.{rules, ◌≡◌, ℕ, List, [], ◌∷◌, ◌++◌, sym, ◌∙◌, subst}
+use Rattle.std.proofs.Common.{rules, ◌≡◌, [], ◌∷◌, ◌++◌, sym, ◌∙◌, subst}
 use Rattle.edr_query.specs.Seen.{AreSeen}
 use Rattle.edr_query.proofs.SeenLemmas.{name_added, name_kept, seen_more}
-use Rattle.edr_query.proofs.filters.add_name.Goals as goal
+use Rattle.edr_query.proofs.filters.add_seen.Goals as goal
 
 pub returns-in_ok-push-clause-names : goal.returns-in_ok-push-clause-names
 returns-in_ok-push-clause-names c =
