@@ -13,3 +13,10 @@ mod stations;
 pub use inputs::{StationFault, StationInput};
 pub use station::Station;
 pub use stations::Stations;
+
+#[cfg(test)]
+mod block_tests;
+#[cfg(test)]
+mod tests;
+#[cfg(test)]
+mod words;
