@@ -1,13 +1,14 @@
 //! What texts are read as, and what broken ones are refused with: the first check that fails.
+ghost use Rattle.covjson_value.specs.Coverages.{IsValidDocument};
+
 use crate::{coverage_of, read_document};
 use covjson_checks::CovFault;
-use covjson_value::document_tree;
+use covjson_value::{Document, document_tree};
 use edr_base::Text;
 use serde_json::Value;
 use std::alloc::Global;
 use std::rt::HostRuntime;
 use std::string::String;
-use std::test::Fail;
 
 // A Grid of 3 columns, 2 rows and 2 times.
 const GRID: &str = r#"{"type":"Coverage",
@@ -339,94 +340,140 @@ fn named(name: &str) -> &'static str {
 }
 
 // A text in which the first place of another is exchanged.
-fn exchanged(alloc: Global, text: &str, exchange: &str) -> Result<String, Fail> {
-    let (old, new) = exchange.split_once(" >> ").ok_or("no exchange")?;
-    let (before, after) = text.split_once(old).ok_or("nothing to exchange")?;
-    Ok(format!(in alloc; "{before}{new}{after}")?)
+fn exchanged(alloc: Global, text: &str, exchange: &str) -> Option<String> {
+    let (old, new) = exchange.split_once(" >> ")?;
+    let (before, after) = text.split_once(old)?;
+    format!(in alloc; "{before}{new}{after}").ok()
+}
+
+// A text in which some others are exchanged, one after another.
+fn all_exchanged(alloc: Global, text: &str, exchanges: &str) -> Option<String> {
+    let mut text = String::from_str(alloc, text).ok()?;
+    for exchange in exchanges.split(" ~ ") {
+        text = exchanged(alloc, text.as_str(), exchange)?;
+    }
+    Some(text)
 }
 
 // The text of a document of the table.
-fn text_of(alloc: Global, words: &str) -> Result<String, Fail> {
+fn text_of(alloc: Global, words: &str) -> Option<String> {
     if let Some(text) = words.strip_prefix(": ") {
-        return Ok(String::from_str(alloc, text)?);
+        return String::from_str(alloc, text).ok();
     }
-    let mut parts = words.split(" ~ ");
-    let name = parts.next().ok_or("no document")?;
-    let mut text = String::from_str(alloc, named(name))?;
-    for exchange in parts {
-        text = exchanged(alloc, text.as_str(), exchange)?;
+    match words.split_once(" ~ ") {
+        Some((name, exchanges)) => all_exchanged(alloc, named(name), exchanges),
+        None => String::from_str(alloc, named(words)).ok(),
     }
-    Ok(text)
 }
 
-fn with_text(alloc: Global, name: &str, text: &Text) -> Result<String, Fail> {
-    let shown = std::str::from_utf8(text.bytes()).or(Err("no text"))?;
-    Ok(format!(in alloc; "{name}: {shown}")?)
+// Whether the answer is a name, and this text behind it.
+fn has_text(answer: &str, name: &str, text: &Text) -> bool {
+    match answer.split_once(": ") {
+        Some((first, rest)) => first == name && rest.as_bytes() == text.bytes(),
+        None => false,
+    }
 }
 
-// A fault as the table has it.
-fn shown(alloc: Global, fault: &CovFault) -> Result<String, Fail> {
+fn is_fault(alloc: Global, fault: &CovFault, answer: &str) -> bool {
     match fault {
-        CovFault::UnsupportedDomain(text) => with_text(alloc, "UnsupportedDomain", text),
-        CovFault::UnsupportedSystem(text) => with_text(alloc, "UnsupportedSystem", text),
-        CovFault::UnsupportedRange(text) => with_text(alloc, "UnsupportedRange", text),
-        _ => Ok(format!(in alloc; "{fault:?}")?),
+        CovFault::UnsupportedDomain(text) => has_text(answer, "UnsupportedDomain", text),
+        CovFault::UnsupportedSystem(text) => has_text(answer, "UnsupportedSystem", text),
+        CovFault::UnsupportedRange(text) => has_text(answer, "UnsupportedRange", text),
+        _ => match format!(in alloc; "{fault:?}") {
+            Ok(shown) => shown.as_str() == answer,
+            Err(_) => false,
+        },
     }
 }
 
-// What a document is read as, in the form that is written, or what it is refused with.
-fn read_as(alloc: Global, words: &str) -> Result<String, Fail> {
+// The text of a document, in the form that is written.
+fn written(alloc: Global, document: &Document) -> Option<String>
+    requires { IsValidDocument document.now }
+{
+    let tree = document_tree(alloc, document).ok()?;
+    tree.to_string(alloc).ok()
+}
+
+fn is_text(alloc: Global, document: &Document, answer: &str) -> bool
+    requires { IsValidDocument document.now }
+{
+    match written(alloc, document) {
+        Some(text) => text.as_str() == answer,
+        None => false,
+    }
+}
+
+// Whether some bytes are read as a document of this written text, or are refused so.
+fn is_read(alloc: Global, bytes: &[u8], answer: &str) -> bool {
+    match read_document(alloc, bytes) {
+        Ok(document) => is_text(alloc, &document, answer),
+        Err(fault) => is_fault(alloc, &fault, answer),
+    }
+}
+
+// Whether this is the answer to a document. A written text is also read as it stands.
+fn is_answered(alloc: Global, words: &str, answer: &str) -> bool {
+    match text_of(alloc, words) {
+        Some(text) => {
+            is_read(alloc, text.as_bytes(), answer)
+                && (!answer.starts_with('{') || is_read(alloc, answer.as_bytes(), answer))
+        }
+        None => false,
+    }
+}
+
+// The written text of a document of the table, unless it is refused.
+fn rewritten(alloc: Global, words: &str) -> Option<String> {
     let text = text_of(alloc, words)?;
-    match read_document(alloc, text.as_bytes()) {
-        Ok(document) => {
-            let tree = document_tree(alloc, &document)?;
-            Ok(tree.to_string(alloc)?)
+    let document = read_document(alloc, text.as_bytes()).ok()?;
+    written(alloc, &document)
+}
+
+fn are_same(alloc: Global, words: &str, same: &str) -> bool {
+    match rewritten(alloc, same) {
+        Some(text) => is_answered(alloc, words, text.as_str()),
+        None => false,
+    }
+}
+
+fn is_right(alloc: Global, line: &str) -> bool {
+    if let Some((words, answer)) = line.split_once(" => ") {
+        return is_answered(alloc, words, answer);
+    }
+    match line.split_once(" == ") {
+        Some((words, same)) => are_same(alloc, words, same),
+        None => line.starts_with('#'),
+    }
+}
+
+// The first line that isn't right; none is empty.
+fn first_wrong(alloc: Global, lines: &str) -> &str {
+    for line in lines.lines() {
+        if !is_right(alloc, line) {
+            return line;
         }
-        Err(fault) => shown(alloc, &fault),
+    }
+    ""
+}
+
+// Whether a tree is no coverage.
+fn is_no_coverage(alloc: Global, tree: &Value, answer: &str) -> bool {
+    match coverage_of(alloc, tree) {
+        Ok(_) => false,
+        Err(fault) => is_fault(alloc, &fault, answer),
+    }
+}
+
+fn is_refused(alloc: Global, text: &str, answer: &str) -> bool {
+    match Value::from_str(alloc, text) {
+        Ok(tree) => is_no_coverage(alloc, &tree, answer),
+        Err(_) => false,
     }
 }
 
 #[test]
-fn documents(rt: HostRuntime) -> Result<(), Fail> {
-    for line in TABLE.lines() {
-        if line.starts_with('#') {
-            continue;
-        }
-        if let Some((words, fault)) = line.split_once(" => ") {
-            let answer = read_as(rt.alloc(), words)?;
-            assert!(rt; answer.as_str() == fault, "{line} {answer}");
-        } else {
-            let (words, same) = line.split_once(" == ").ok_or("no answer")?;
-            let answer = read_as(rt.alloc(), words)?;
-            let wanted = read_as(rt.alloc(), same)?;
-            assert!(rt; answer.as_str() == wanted.as_str(), "{line} {answer}");
-            assert!(rt; answer.as_str().starts_with('{'), "{line} {answer}");
-        }
-    }
-    Ok(())
-}
-
-#[test]
-fn written_documents(rt: HostRuntime) -> Result<(), Fail> {
-    for line in WRITTEN.lines() {
-        let (name, text) = line.split_once(" => ").ok_or("no text")?;
-        let answer = read_as(rt.alloc(), name)?;
-        assert!(rt; answer.as_str() == text, "{answer}");
-        let again = read_document(rt.alloc(), text.as_bytes())?;
-        let tree = document_tree(rt.alloc(), &again)?;
-        let written = tree.to_string(rt.alloc())?;
-        assert!(rt; written.as_str() == text, "{written}");
-    }
-    Ok(())
-}
-
-#[test]
-fn a_tree_that_is_no_coverage(rt: HostRuntime) -> Result<(), Fail> {
-    let tree = Value::from_str(rt.alloc(), "[]")?;
-    let Err(fault) = coverage_of(rt.alloc(), &tree) else {
-        return Err(Fail::new("read"));
-    };
-    let answer = shown(rt.alloc(), &fault)?;
-    assert!(rt; answer.as_str() == "WrongType(Coverages)");
-    Ok(())
+fn documents_are_read_and_refused(rt: HostRuntime) {
+    assert_eq!(rt; first_wrong(rt.alloc(), TABLE), "");
+    assert_eq!(rt; first_wrong(rt.alloc(), WRITTEN), "");
+    assert!(rt; is_refused(rt.alloc(), "[]", "WrongType(Coverages)"));
 }

@@ -1,6 +1,7 @@
 //! Places that people can draw: a line for each case, cut here. `#` is a place that is taken, `.` one that isn't.
-ghost use Rattle.std.specs.Prelude.{◌≡◌, IfOk, length, ◌+◌, ◌<◌};
+ghost use Rattle.std.specs.Prelude.{◌≡◌, IfSome, length, ◌+◌, ◌<◌};
 ghost use Rattle.std.specs.List.{All};
+ghost use Rattle.edr_wkt.specs.Faults.{IsGeometry};
 ghost use Rattle.edr_geometry.specs.Limits.{IsCoordinate, IsSpot, IsDistance, IsPlacedPolygon};
 ghost use Rattle.edr_geometry.specs.Ways.{IsDisc, IsSegment};
 
@@ -11,10 +12,10 @@ use crate::{
     squared_distance,
 };
 use edr_axes::Axis;
-use edr_base::{COORDINATE_LIMIT, Items, Spot};
+use edr_base::{COORDINATE_LIMIT, Spot};
 use edr_wkt::{Geometry, Polygon, read_wkt};
+use std::alloc::Global;
 use std::rt::HostRuntime;
-use std::test::Fail;
 
 // A row's y, its x, a shape, and which of its places are taken.
 const ROWS: &str = "\
@@ -107,46 +108,42 @@ const SEGMENTS: &str = "\
 ";
 
 // A coordinate in metres.
-fn coordinate(text: &str) -> Result<i64, Fail>
-    ensures { IfOk result IsCoordinate }
+fn coordinate(text: &str) -> Option<i64>
+    ensures { IfSome result IsCoordinate }
 {
-    let number = text.parse::<i64>()?;
-    if number.unsigned_abs() <= COORDINATE_LIMIT {
-        Ok(number)
-    } else {
-        Err("no coordinate".into())
+    match text.parse::<i64>() {
+        Ok(number) if number.unsigned_abs() <= COORDINATE_LIMIT => Some(number),
+        _ => None,
     }
 }
 
 // A radius or a width in metres.
-fn distance(text: &str) -> Result<i64, Fail>
-    ensures { IfOk result IsDistance }
+fn distance(text: &str) -> Option<i64>
+    ensures { IfSome result IsDistance }
 {
-    let number = text.parse::<i64>()?;
-    if number < 0 || number > 400_000_000 {
-        return Err("no distance".into());
+    match text.parse::<i64>() {
+        Ok(number) if 0 <= number && number <= 400_000_000 => Some(number),
+        _ => None,
     }
-    Ok(number)
 }
 
 // Coordinates with blanks between.
-fn coordinates(rt: &HostRuntime, text: &str) -> Result<Vec<i64>, Fail>
-    ensures { IfOk result (λ numbers. All IsCoordinate numbers.items) }
+fn coordinates(alloc: Global, text: &str) -> Option<Vec<i64>>
+    ensures { IfSome result (λ numbers. All IsCoordinate numbers.items) }
 {
-    let mut numbers = Vec::new(rt.alloc());
+    let mut numbers = Vec::new(alloc);
     for word in text.split(' ') {
-        numbers.push(coordinate(word)?)?;
+        numbers.push(coordinate(word)?).ok()?;
     }
-    Ok(numbers)
+    Some(numbers)
 }
 
 // An axis of coordinates.
-fn axis_of(rt: &HostRuntime, text: &str) -> Result<Axis, Fail>
-    ensures { IfOk result (λ axis. All IsCoordinate axis) }
+fn axis_of(alloc: Global, text: &str) -> Option<Axis>
+    ensures { IfSome result (λ axis. All IsCoordinate axis) }
 {
-    let numbers = coordinates(rt, text)?;
-    let axis = Axis::of(rt.alloc(), &numbers)?;
-    Ok(axis)
+    let numbers = coordinates(alloc, text)?;
+    Axis::of(alloc, &numbers).ok()
 }
 
 // The place whose two numbers stand from this one on.
@@ -162,163 +159,204 @@ fn spot_at(numbers: &[i64], first: usize) -> Spot
 }
 
 // A disc: its radius and its centre.
-fn disc_of(rt: &HostRuntime, text: &str) -> Result<Disc, Fail>
-    ensures { IfOk result IsDisc }
+fn disc_of(alloc: Global, text: &str) -> Option<Disc>
+    ensures { IfSome result IsDisc }
 {
-    let (first, rest) = text.split_once(' ').ok_or("no radius")?;
+    let (first, rest) = text.split_once(' ')?;
     let radius = distance(first)?;
-    let numbers = coordinates(rt, rest)?;
+    let numbers = coordinates(alloc, rest)?;
     if numbers.len() != 2 {
-        return Err("no centre".into());
+        return None;
     }
     let centre = spot_at(&numbers, 0);
-    Ok(Disc { centre, radius })
+    Some(Disc { centre, radius })
 }
 
 // A segment: its width and its ends.
-fn segment_of(rt: &HostRuntime, text: &str) -> Result<Segment, Fail>
-    ensures { IfOk result IsSegment }
+fn segment_of(alloc: Global, text: &str) -> Option<Segment>
+    ensures { IfSome result IsSegment }
 {
-    let (first, rest) = text.split_once(' ').ok_or("no width")?;
+    let (first, rest) = text.split_once(' ')?;
     let width = distance(first)?;
-    let numbers = coordinates(rt, rest)?;
+    let numbers = coordinates(alloc, rest)?;
     if numbers.len() != 4 {
-        return Err("no ends".into());
+        return None;
     }
     let a = spot_at(&numbers, 0);
     let b = spot_at(&numbers, 2);
-    Ok(Segment { a, b, width })
+    Some(Segment { a, b, width })
 }
 
-// The polygons of a well-known text.
-fn polygons_of(rt: &HostRuntime, text: &str) -> Result<Items<Polygon>, Fail>
-    ensures { IfOk result (λ polygons. All IsPlacedPolygon polygons) }
+// The polygons of a geometry that is some.
+fn polygons_in(geometry: &Geometry) -> Option<&[Polygon]>
+    requires { IsGeometry geometry.now }
+    ensures { IfSome result (λ polygons. All IsPlacedPolygon polygons.now) }
 {
     geometries_are_placed();
-    match read_wkt(rt.alloc(), text.as_bytes())? {
-        Geometry::Polygons { polygons, .. } => Ok(polygons),
-        _ => Err("no polygons".into()),
+    match geometry {
+        Geometry::Polygons { polygons, .. } => Some(polygons.items()),
+        _ => None,
     }
 }
 
 // The mask of a shape.
-fn mask_of(rt: &HostRuntime, shape: &str, y: i64, xs: &Axis) -> Result<RowMask, Fail>
+fn mask_of(alloc: Global, shape: &str, y: i64, xs: &Axis) -> Option<RowMask>
     requires y_in { IsCoordinate y }
     requires xs_in { All IsCoordinate xs.now }
 {
     if let Some(text) = shape.strip_prefix("DISC ") {
-        let disc = disc_of(rt, text)?;
-        return Ok(RowMask::of_disc(rt.alloc(), disc.centre, disc.radius, y, xs)?);
+        let disc = disc_of(alloc, text)?;
+        return RowMask::of_disc(alloc, disc.centre, disc.radius, y, xs).ok();
     }
     if let Some(text) = shape.strip_prefix("SEGMENT ") {
-        let segment = segment_of(rt, text)?;
-        return Ok(RowMask::of_segment(rt.alloc(), segment.a, segment.b, segment.width, y, xs)?);
+        let segment = segment_of(alloc, text)?;
+        return RowMask::of_segment(alloc, segment.a, segment.b, segment.width, y, xs).ok();
     }
-    let polygons = polygons_of(rt, shape)?;
-    Ok(RowMask::of_polygons(rt.alloc(), polygons.items(), y, xs)?)
+    let geometry = read_wkt(alloc, shape.as_bytes()).ok()?;
+    RowMask::of_polygons(alloc, polygons_in(&geometry)?, y, xs).ok()
 }
 
 // The test of one place by a shape.
-fn is_taken(rt: &HostRuntime, shape: &str, p: Spot) -> Result<bool, Fail>
+fn is_taken(alloc: Global, shape: &str, p: Spot) -> Option<bool>
     requires p_in { IsSpot p }
 {
     if let Some(text) = shape.strip_prefix("DISC ") {
-        let disc = disc_of(rt, text)?;
-        return Ok(in_disc(p, disc.centre, disc.radius));
+        let disc = disc_of(alloc, text)?;
+        return Some(in_disc(p, disc.centre, disc.radius));
     }
     if let Some(text) = shape.strip_prefix("SEGMENT ") {
-        let segment = segment_of(rt, text)?;
-        return Ok(near_segment(p, segment.a, segment.b, segment.width));
+        let segment = segment_of(alloc, text)?;
+        return Some(near_segment(p, segment.a, segment.b, segment.width));
     }
-    let polygons = polygons_of(rt, shape)?;
-    Ok(in_polygons(p, polygons.items()))
+    let geometry = read_wkt(alloc, shape.as_bytes()).ok()?;
+    Some(in_polygons(p, polygons_in(&geometry)?))
 }
 
-// The places that a mask has, as text.
-fn shown(rt: &HostRuntime, mask: &RowMask) -> Result<String, Fail> {
-    let mut text = String::new(rt.alloc());
+// Whether a picture has a place as one that is taken.
+fn is_marked(picture: &str, place: usize) -> bool {
+    place < picture.len() && picture.as_bytes()[place] == b'#'
+}
+
+// Whether a mask has these places, and their first and last one.
+fn is_mask(mask: &RowMask, picture: &str) -> bool {
+    let mut whole = mask.len() == picture.len();
     for place in 0..mask.len() {
-        text.push(if mask.is_set(place) { '#' } else { '.' })?;
+        whole = mask.is_set(place) == is_marked(picture, place) && whole;
     }
-    Ok(text)
+    whole && mask.first() == picture.find('#') && mask.last() == picture.rfind('#')
 }
 
-// The places of a row by the test of one place each, as text.
-fn tested(rt: &HostRuntime, shape: &str, y: i64, xs: &Axis) -> Result<String, Fail>
+// Whether the test of one place each takes these.
+fn are_taken(alloc: Global, shape: &str, y: i64, xs: &Axis, picture: &str) -> bool
     requires y_in { IsCoordinate y }
     requires xs_in { All IsCoordinate xs.now }
 {
-    let mut text = String::new(rt.alloc());
+    let mut whole = xs.len() == picture.len();
     for place in 0..xs.len() {
         let p = Spot {
             x: xs.value(place),
             y,
         };
-        text.push(if is_taken(rt, shape, p)? { '#' } else { '.' })?;
+        whole = is_taken(alloc, shape, p) == Some(is_marked(picture, place)) && whole;
     }
-    Ok(text)
+    whole
 }
 
-// Whether a row is taken so: by its mask, by the test of each place, and by the first and the last place.
-fn is_row(rt: &HostRuntime, line: &str, picture: &str) -> Result<bool, Fail> {
-    let (first, rest) = line.split_once(';').ok_or("a line without x")?;
-    let (second, shape) = rest.split_once(';').ok_or("a line without a shape")?;
-    let y = coordinate(first)?;
-    let xs = axis_of(rt, second)?;
-    let mask = mask_of(rt, shape, y, &xs)?;
-    let by_mask = shown(rt, &mask)?;
-    let by_tests = tested(rt, shape, y, &xs)?;
-    let ends = mask.first() == picture.find('#') && mask.last() == picture.rfind('#');
-    Ok(by_mask.as_str() == picture && by_tests.as_str() == picture && ends)
+fn is_masked(alloc: Global, shape: &str, y: i64, xs: &Axis, picture: &str) -> bool
+    requires y_in { IsCoordinate y }
+    requires xs_in { All IsCoordinate xs.now }
+{
+    match mask_of(alloc, shape, y, xs) {
+        Some(mask) => is_mask(&mask, picture),
+        None => false,
+    }
 }
 
-#[test]
-fn rows(rt: HostRuntime) -> Result<(), Fail> {
-    for line in ROWS.lines() {
-        if line.starts_with('#') {
-            continue;
+// Whether a row is taken so by a shape: by its mask, and by the test of each place.
+fn is_row(alloc: Global, row: &str, shape: &str, picture: &str) -> bool {
+    let (first, second) = row.split_once(';').unwrap_or((row, ""));
+    match (coordinate(first), axis_of(alloc, second)) {
+        (Some(y), Some(xs)) => {
+            is_masked(alloc, shape, y, &xs, picture) && are_taken(alloc, shape, y, &xs, picture)
         }
-        let (row, picture) = line.split_once(" => ").ok_or("a line without an answer")?;
-        assert!(rt; is_row(&rt, row, picture)?, "{line}");
+        _ => false,
     }
-    Ok(())
 }
 
-// Whether a place is on a segment, and its squared distance to the first end.
-fn segment_answer(rt: &HostRuntime, text: &str) -> Result<String, Fail> {
-    let numbers = coordinates(rt, text)?;
+// Whether a place is on a segment, or not, and has this squared distance to the first end.
+fn is_apart(alloc: Global, text: &str, on: bool, square: i128) -> bool {
+    let Some(numbers) = coordinates(alloc, text) else {
+        return false;
+    };
     if numbers.len() != 6 {
-        return Err("no segment and place".into());
+        return false;
     }
     let a = spot_at(&numbers, 0);
     let b = spot_at(&numbers, 2);
     let p = spot_at(&numbers, 4);
-    let on = on_segment(p, a, b);
-    let square = squared_distance(a, p);
-    Ok(format!(in rt.alloc(); "{on} {square}")?)
+    on_segment(p, a, b) == on && squared_distance(a, p) == square
 }
 
-#[test]
-fn segments(rt: HostRuntime) -> Result<(), Fail> {
-    for line in SEGMENTS.lines() {
-        let (text, answer) = line.split_once(" => ").ok_or("a line without an answer")?;
-        let given = segment_answer(&rt, text)?;
-        assert_eq!(rt; given.as_str(), answer, "{line}");
+fn is_measured(alloc: Global, text: &str, answer: &str) -> bool {
+    let (on, square) = answer.split_once(' ').unwrap_or((answer, ""));
+    match square.parse::<i128>() {
+        Ok(square) => is_apart(alloc, text, on == "true", square),
+        Err(_) => false,
     }
-    Ok(())
+}
+
+// Whether a line is right: one with a shape behind the last `;` is a row, another one a segment and a place.
+fn is_right(alloc: Global, asked: &str, answer: &str) -> bool {
+    match asked.rsplit_once(';') {
+        Some((row, shape)) => is_row(alloc, row, shape, answer),
+        None => is_measured(alloc, asked, answer),
+    }
+}
+
+// The first line that isn't right; none is empty.
+fn first_wrong(alloc: Global, lines: &str) -> &str {
+    for line in lines.lines() {
+        let (asked, answer) = line.split_once(" => ").unwrap_or((line, ""));
+        if !line.starts_with('#') && !is_right(alloc, asked, answer) {
+            return line;
+        }
+    }
+    ""
+}
+
+// Whether a mask has the places of two once they are joined.
+fn are_joined(mask: &mut RowMask, other: &RowMask, picture: &str) -> bool {
+    if mask.len() != other.len() {
+        return false;
+    }
+    mask.join(other);
+    is_mask(mask, picture)
+}
+
+// Whether of a row of four places two shapes together take these.
+fn join_to(alloc: Global, first: &str, second: &str, picture: &str) -> bool {
+    let Some(xs) = axis_of(alloc, "0 100 200 300") else {
+        return false;
+    };
+    match (
+        mask_of(alloc, first, 0, &xs),
+        mask_of(alloc, second, 0, &xs),
+    ) {
+        (Some(mut mask), Some(other)) => are_joined(&mut mask, &other, picture),
+        _ => false,
+    }
 }
 
 #[test]
-fn joins(rt: HostRuntime) -> Result<(), Fail> {
-    let xs = axis_of(&rt, "0 100 200 300")?;
-    let mut mask = mask_of(&rt, "DISC 100 0 0", 0, &xs)?;
-    let other = mask_of(&rt, "DISC 0 300 0", 0, &xs)?;
-    assert_eq!(rt; shown(&rt, &mask)?.as_str(), "##..");
-    assert_eq!(rt; shown(&rt, &other)?.as_str(), "...#");
-    assert!(rt; mask.len() == other.len());
-    mask.join(&other);
-    assert_eq!(rt; shown(&rt, &mask)?.as_str(), "##.#");
-    assert_eq!(rt; mask.first(), Some(0));
-    assert_eq!(rt; mask.last(), Some(3));
-    Ok(())
+fn rows_and_segments(rt: HostRuntime) {
+    assert_eq!(rt; first_wrong(rt.alloc(), ROWS), "");
+    assert_eq!(rt; first_wrong(rt.alloc(), SEGMENTS), "");
+}
+
+#[test]
+fn masks_are_joined(rt: HostRuntime) {
+    let alloc = rt.alloc();
+    assert!(rt; is_row(alloc, "0;0 100 200 300", "DISC 100 0 0", "##.."));
+    assert!(rt; is_row(alloc, "0;0 100 200 300", "DISC 0 300 0", "...#"));
+    assert!(rt; join_to(alloc, "DISC 100 0 0", "DISC 0 300 0", "##.#"));
 }

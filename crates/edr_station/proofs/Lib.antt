@@ -6,4 +6,5 @@ pub mod SortedPlaces
 pub mod BlockNumbers
 pub mod KeptStations
 pub mod LeastIds
+pub mod SeenIds
 pub mod MadeOf

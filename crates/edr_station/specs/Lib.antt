@@ -10,3 +10,4 @@ pub mod Forks
 pub mod ForkDepths
 pub mod Places
 pub mod Least
+pub mod Seen

@@ -1,27 +1,30 @@
 //! Which inputs aren't the stations of a collection.
-ghost use Rattle.std.specs.Prelude.{◌≡◌, ◌≢◌, ◌↔◌, ◌<◌, length, All, IsTrue, IfSome, IfErr, OnOk};
+ghost use Rattle.std.specs.Prelude.{◌≡◌, ◌≢◌, ◌↔◌, ◌+◌, ◌<◌, length, All, IsTrue, IfSome, IfOk, IfErr, OnOk};
 ghost use Rattle.edr_base.specs.FirstThatApplies.{IsLeast, NoneApplies};
 ghost use Rattle.edr_station.specs.Stations.{values_along};
 ghost use Rattle.edr_station.specs.Inputs.{station_of, HasCounts, rank, Applies};
+ghost use Rattle.edr_station.specs.Seen.{AreSeen};
 ghost use Rattle.edr_station.specs.Least.{IsRepeatAt, IsMiscountedAt, IsLeastPlace, IsLesser, HaveOwnIds};
 
 use crate::inputs::{StationFault, StationInput};
-use edr_base::{Items, Text};
+use edr_base::{Items, OutOfMemory, Text};
 use std::alloc::Global;
 use std::cmp::Ordering;
+use std::collections::BTreeSet;
 
-// Whether an input before a place has the id of the one there.
-fn is_repeat(inputs: &[StationInput], place: usize) -> bool
-    requires { place < length inputs.now }
-    ensures { IsTrue result ↔ IsRepeatAt inputs.now place }
+// Whether an input before a place has the id of the one there: the ids of those before it were seen, and this one is too.
+fn is_repeat<'a>(
+    inputs: &'a [StationInput],
+    place: usize,
+    seen: &mut BTreeSet<&'a [u8]>,
+) -> Result<bool, OutOfMemory>
+    requires place { place < length inputs.now }
+    requires seen { AreSeen seen.old inputs.now place }
+    ensures repeat { IfOk result (λ repeat. IsTrue repeat ↔ IsRepeatAt inputs.now place) }
+    ensures seen { OnOk result (AreSeen seen.new inputs.now (place + 1)) }
 {
-    let id = inputs[place].id.bytes();
-    for other in 0..place {
-        if inputs[other].id.bytes() == id {
-            return true;
-        }
-    }
-    false
+    let added = seen.insert(inputs[place].id.bytes())?;
+    Ok(!added)
 }
 
 // Whether a list has one value for each time and level of an input.
@@ -80,17 +83,19 @@ fn lesser(inputs: &[StationInput], least: Option<usize>, place: usize) -> Option
     }
 }
 
-// The place of the least id that two inputs have, where there is such an id.
-fn least_repeated(inputs: &[StationInput]) -> Option<usize>
-    ensures { IsLeastPlace inputs.now (IsRepeatAt inputs.now) (length inputs.now) result }
+// The place of the least id that two inputs have, where there is such an id, in a time that grows with the number of inputs
+// and its logarithm; or want of memory.
+fn least_repeated(alloc: Global, inputs: &[StationInput]) -> Result<Option<usize>, OutOfMemory>
+    ensures { IfOk result (λ least. IsLeastPlace inputs.now (IsRepeatAt inputs.now) (length inputs.now) least) }
 {
+    let mut seen = BTreeSet::new(alloc);
     let mut least = None;
     for place in 0..inputs.len() {
-        if is_repeat(inputs, place) {
+        if is_repeat(inputs, place, &mut seen)? {
             least = lesser(inputs, least, place);
         }
     }
-    least
+    Ok(least)
 }
 
 // The place of the least id whose input has no list for each of so many parameters, or a list without one value for each
@@ -138,7 +143,7 @@ pub fn find_fault(
     ensures none { OnOk result (NoneApplies (Applies parameters inputs.now)) }
     ensures refused { IfErr result (λ fault. fault ≢ StationFault.OutOfMemory → IsLeast rank (Applies parameters inputs.now) fault) }
 {
-    match least_repeated(inputs) {
+    match least_repeated(alloc, inputs)? {
         Some(place) => {
             let id = Text::of(alloc, inputs[place].id.bytes())?;
             Err(StationFault::SameId(id))

@@ -15,3 +15,10 @@ pub use inputs::{StationFault, StationInput};
 pub use laws::stations_cross_threads;
 pub use station::Station;
 pub use stations::Stations;
+
+#[cfg(test)]
+mod block_tests;
+#[cfg(test)]
+mod tests;
+#[cfg(test)]
+mod words;
