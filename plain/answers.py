@@ -2,10 +2,11 @@
 
 from coverage_json_read import CoverageFault, read_document
 from coverage_json_written import write_document
-from editions import ChangeFault, Collection, Collections
+from editions import ChangeFault, Collection, Collections, Station
 from feeds import FeedFault, read_feed
 from levels import At, Between, Levels, Listed, Series, read_levels
 from limits import COORDINATE
+from needed import BLOCK
 from refusals import NUMBERS, Refused
 from targets import Area, Corridor, Cube, Description, Location, Position, Query, Radius, Shape, Trajectory, read_target
 from times import Times, read_instant, read_times, write_instant
@@ -118,12 +119,29 @@ def _edition_notation(number: int, edition: Collections) -> str:
 
 
 def _collection_notation(collection: Collection) -> str:
-    newest = collection.newest()
-    parameters = newest.parameters if newest else []
     head = f"\n collection {collection.id}: {collection.title}; {collection.crs}; {_or_dash(collection.vertical)}; "
-    for parameter in parameters:
+    for parameter in collection.parameters():
         head += f"{parameter.id},{parameter.language},{parameter.label},{_or_dash(parameter.unit)}; "
-    return head + "".join(_instance_notation(id_, collection.instances[id_]) for id_ in sorted(collection.instances))
+    head += "".join(_instance_notation(id_, collection.instances[id_]) for id_ in sorted(collection.instances))
+    return head + _stations_notation(collection) if collection.kind == "station" else head
+
+
+def _stations_notation(collection: Collection) -> str:
+    """The stations, and then their samples, block by block."""
+    stations = [(id_, collection.stations[id_]) for id_ in sorted(collection.stations)]
+    text = "".join(_station_notation(id_, station) for id_, station in stations) + "\n  blocks: "
+    for _, station in stations:
+        for values in station.coverage.ranges:
+            text += "".join(_numbers(values[first : first + BLOCK]) + "; " for first in range(0, len(values), BLOCK))
+    return text
+
+
+def _station_notation(id_: str, station: Station) -> str:
+    axes = station.coverage.domain.axes
+    text = f"\n  station {id_}: {station.label}; {_numbers(station.spot())}; "
+    for name in ("t", "z"):
+        text += _numbers(axes[name]) + "; " if name in axes else "- ; "
+    return text
 
 
 def _or_dash(text: str | None) -> str:
