@@ -1,20 +1,19 @@
 -- Texts in which nothing is escaped stand for themselves.
-use Rattle.std.proofs.Common.{◌≡◌, ◌≢◌, ℕ, List, [], ◌∷◌, All, IsUtf8, refl, ap, sym, ◌∙◌, Some, ne_eqb}
+use Rattle.std.proofs.Common.{◌≡◌, ◌≢◌, ℕ, List, [], ◌∷◌, IsUtf8, refl, ap, sym, ◌∙◌, Some, ne_eqb}
 use Rattle.std.specs.Str.Lossy.{utf8_lossy}
-use Rattle.std.proofs.lemmas.List.Elements.{All-head, All-tail, All-weaker}
+use Rattle.std.proofs.lemmas.List.Elements.{All-head, All-tail}
 use Rattle.std.proofs.lemmas.Str.{utf8_lossy-IsUtf8}
 use Rattle.percent_encoding.specs.Percent.{percent_decode}
-use Rattle.form_urlencoded.specs.Form.{decode, IsPlain}
+use Rattle.form_urlencoded.specs.Form.{decode}
 use Rattle.form_urlencoded.proofs.FormLemmas.{map-plus_to_space}
 use Rattle.edr_query.specs.declared.parameters.Parameter.{Parameter}
 use Rattle.edr_query.specs.declared.parameters.Parameter.TheVariants.{Format, Coords, Within, WithinUnits, Bbox, CorridorWidth, WidthUnits, CorridorHeight, HeightUnits, Datetime, Z, ParameterName, Crs}
 use Rattle.edr_query.specs.Parameters.{name_of}
-use Rattle.edr_query.specs.PathReads.{IsUnescaped}
-use Rattle.edr_query.specs.Reads.{parameter_in, read_text}
+use Rattle.edr_query.specs.Reads.{parameter_in, read_text, Lacks}
 use Rattle.edr_query.proofs.PairLemmas.{name_back, parameter_sound}
 use Rattle.edr_query.proofs.SpelledTexts.{name_utf8}
 
-unescaped : (bs : List ℕ) → All (λ b. b ≢ 37) bs → percent_decode bs ≡ bs
+unescaped : (bs : List ℕ) → Lacks 37 bs → percent_decode bs ≡ bs
 unfolding percent_decode
 unescaped [] all = refl
 unescaped (b ∷ []) all = refl
@@ -23,17 +22,16 @@ unescaped (b ∷ high ∷ low ∷ rest) all =
     rw (ne_eqb b 37 (All-head (λ x. x ≢ 37) b (high ∷ low ∷ rest) all), unescaped (high ∷ low ∷ rest) (All-tail (λ x. x ≢ 37) b (high ∷ low ∷ rest) all))
 
 -- a part in which nothing is escaped
-pub kept_part : (bs : List ℕ) → IsUnescaped bs → bs ≡ percent_decode bs
+pub kept_part : (bs : List ℕ) → Lacks 37 bs → bs ≡ percent_decode bs
 kept_part bs all = sym (unescaped bs all)
 
-decoded : (bs : List ℕ) → All IsPlain bs → decode bs ≡ bs
-decoded bs all =
-    ap percent_decode (map-plus_to_space bs (All-weaker IsPlain (λ b. b ≢ 43) (λ b h. h.0) bs all))
-    ∙ unescaped bs (All-weaker IsPlain (λ b. b ≢ 37) (λ b h. h.1) bs all)
+-- without a `+` only escapes are decoded
+pub escapes_only : (bs : List ℕ) → Lacks 43 bs → utf8_lossy (percent_decode bs) ≡ read_text bs
+escapes_only bs all = ap (λ l. utf8_lossy (percent_decode l)) (sym (map-plus_to_space bs all))
 
--- a plain text that is UTF-8 stands for itself
-pub kept_text : (bs : List ℕ) → All IsPlain bs → IsUtf8 bs → read_text bs ≡ bs
-kept_text bs all utf8 = ap utf8_lossy (decoded bs all) ∙ utf8_lossy-IsUtf8 bs utf8
+-- a text in which nothing is escaped stands for itself, if it is UTF-8
+pub kept_text : (bs : List ℕ) → Lacks 43 bs → Lacks 37 bs → IsUtf8 bs → bs ≡ read_text bs
+kept_text bs plus percent utf8 = sym (utf8_lossy-IsUtf8 bs utf8) ∙ ap utf8_lossy (kept_part bs percent) ∙ escapes_only bs plus
 
 name_decoded : (p : Parameter) → decode (name_of p) ≡ name_of p
 unfolding percent_decode

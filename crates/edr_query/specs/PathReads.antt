@@ -1,5 +1,5 @@
 -- For private clauses: what the calls that read a path answer.
-use Rattle.std.specs.Prelude.{◌≢◌, ℕ, ◌==◌, All, bytes_eq, if◌then◌else◌, List, [], ◌∷◌, ◌++◌, codes, map, Option, None, Some}
+use Rattle.std.specs.Prelude.{ℕ, ◌==◌, bytes_eq, if◌then◌else◌, List, [], ◌∷◌, ◌++◌, codes, map, Option, None, Some}
 use Rattle.std.specs.List.{slice_split}
 use Rattle.percent_encoding.specs.Percent.{percent_decode}
 use Rattle.edr_query.specs.declared.addresses.QueryKind.{QueryKind}
@@ -15,10 +15,6 @@ raw_in text = without_empty_last (slice_split (λ byte. byte == 47) text)
 -- the parts of what stands behind the first slash, decoded
 abbrev pub parts_in : List ℕ → List (List ℕ)
 parts_in text = map percent_decode (raw_in text)
-
--- no byte is a `%`
-abbrev pub IsUnescaped : List ℕ → Type 0
-IsUnescaped raw = All (λ byte. byte ≢ 37) raw
 
 abbrev pub HasNoAddress : List ℕ → Type 0
 HasNoAddress path = (address : Address) → ¬ (IsPath path address)

@@ -1,5 +1,5 @@
 -- For private clauses: what the calls that read the parameters of a target answer.
-use Rattle.std.specs.Prelude.{◌≡◌, ◌⊎◌, ◌<◌, ℕ, ℤ, Bool, true, false, ◌&&◌, is_some, bytes_eq, if◌then◌else◌, List, [], ◌∷◌, ◌++◌, codes, Option, None, Some, Result, Ok, Err, MatchResult}
+use Rattle.std.specs.Prelude.{◌≡◌, ◌≢◌, All, ◌⊎◌, ◌<◌, ℕ, ℤ, Bool, true, false, ◌&&◌, is_some, bytes_eq, if◌then◌else◌, List, [], ◌∷◌, ◌++◌, codes, Option, None, Some, Result, Ok, Err, MatchResult}
 use Rattle.std.specs.Str.Lossy.{utf8_lossy}
 use Rattle.form_urlencoded.specs.Form.{decode}
 use Rattle.edr_base.specs.FirstThatApplies.{IsLeast, NoneApplies}
@@ -50,6 +50,10 @@ parameter_in name =
 -- what a name or a value stands for
 abbrev pub read_text : List ℕ → List ℕ
 read_text raw = utf8_lossy (decode raw)
+
+-- no byte of the text is this one
+abbrev pub Lacks : ℕ → List ℕ → Type 0
+Lacks byte text = All (λ other. other ≢ byte) text
 
 -- no refusal whose number is below this one applies
 abbrev pub Passed : PageKind → List Pair → ℕ → Type 0

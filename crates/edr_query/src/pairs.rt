@@ -1,11 +1,10 @@
 //! Reading the pairs of a query text.
 ghost use Rattle.std.specs.Prelude.{◌≡◌, ◌++◌, ◌∷◌, [], Some, None, true, is_some, MatchOption, OnOk, map};
-ghost use Rattle.std.specs.Prelude.{IfOk, IsTrue, All};
-ghost use Rattle.form_urlencoded.specs.Form.{IsPlain};
+ghost use Rattle.std.specs.Prelude.{IfOk, IsTrue};
 ghost use Rattle.std.specs.Cow.{cow_str_bytes};
 ghost use Rattle.edr_base.specs.declared.refusals.Refusal.TheVariants.{UnknownParameter};
 ghost use Rattle.edr_query.specs.Parameters.{name_of, value_of, is_taken, pairs_in, IsUnknown};
-ghost use Rattle.edr_query.specs.Reads.{parameter_in, read_text, Checks, Steps, AreRead, with_pair};
+ghost use Rattle.edr_query.specs.Reads.{parameter_in, read_text, Lacks, Checks, Steps, AreRead, with_pair};
 
 use crate::addresses::PageKind;
 use crate::parameters::{Parameter, is_taken, parameter_of};
@@ -72,23 +71,26 @@ impl<'a> Parameters<'a> {
     }
 }
 
-// Whether nothing is escaped: no byte is a `+` or a `%`.
-fn are_plain(raw: &[u8]) -> bool
-    ensures { IsTrue result → All IsPlain raw.now }
+/// Whether a text lacks a byte.
+pub fn lacks(text: &[u8], byte: u8) -> bool
+    ensures { IsTrue result → Lacks byte text.now }
 {
-    !raw.contains(&b'+') && !raw.contains(&b'%')
+    !text.contains(&byte)
 }
 
 // A value, decoded. It takes no memory where nothing is escaped.
 fn read_value(alloc: Global, raw: &[u8]) -> Result<CowStr<'_, Global>, OutOfMemory>
     ensures { IfOk result (λ text. cow_str_bytes text ≡ read_text raw.now) }
 {
-    if are_plain(raw) {
+    if !lacks(raw, b'+') {
+        return Ok(form_urlencoded::decode(alloc, raw)?);
+    }
+    if lacks(raw, b'%') {
         if let Ok(text) = str::from_utf8(raw) {
             return Ok(CowStr::Borrowed(text));
         }
     }
-    Ok(form_urlencoded::decode(alloc, raw)?)
+    Ok(percent_encoding::percent_decode(raw).decode_utf8_lossy(alloc)?)
 }
 
 // The parameter of a name as it is written. It takes no memory where nothing is escaped.

@@ -3,9 +3,10 @@ ghost use Rattle.std.specs.Prelude.{◌≡◌, ◌∷◌, [], ◌↔◌, All, If
 ghost use Rattle.std.specs.Cow.{cow_slice_items};
 ghost use Rattle.percent_encoding.specs.Percent.{percent_decode};
 ghost use Rattle.edr_query.specs.Paths.{IsPart, IsPath, ids_of, path_in, query_in};
-ghost use Rattle.edr_query.specs.PathReads.{HasNoAddress, IsUnescaped, parts_in, kind_in, top_page, named_page, id_page, instance_page, collection_page, address_in};
+ghost use Rattle.edr_query.specs.PathReads.{HasNoAddress, parts_in, kind_in, top_page, named_page, id_page, instance_page, collection_page, address_in};
 
 use crate::addresses::{Address, QueryKind};
+use crate::pairs::lacks;
 use edr_base::{OutOfMemory, Text, cut_at, is_utf8, without_front};
 use std::alloc::Global;
 use std::borrow::CowSlice;
@@ -34,18 +35,11 @@ fn first_part(text: &[u8]) -> Option<(&[u8], &[u8])>
     }
 }
 
-// Whether nothing is escaped: no byte is a `%`.
-fn is_unescaped(raw: &[u8]) -> bool
-    ensures { IsTrue result → IsUnescaped raw.now }
-{
-    !raw.contains(&b'%')
-}
-
 // A part of a path, decoded. It takes no memory where nothing is escaped.
 fn decoded(alloc: Global, raw: &[u8]) -> Result<CowSlice<'_, u8, Global>, OutOfMemory>
     ensures { IfOk result (λ part. cow_slice_items part ≡ percent_decode raw.now) }
 {
-    if is_unescaped(raw) {
+    if lacks(raw, b'%') {
         return Ok(CowSlice::Borrowed(raw));
     }
     Ok(percent_encoding::percent_decode(raw).into_cow(alloc)?)
