@@ -1,4 +1,6 @@
 //! Shelves of editions.
+ghost use Rattle.std.specs.Prelude.{◌≡◌, []};
+
 use crate::{Edition, Editions, LocalShelf, SteppedShelf, editions_cross_threads};
 use edr_base::OutOfMemory;
 use edr_ids::ById;
@@ -6,7 +8,9 @@ use std::alloc::Global;
 use std::rt::HostRuntime;
 
 // An edition without collections.
-fn empty(number: u64) -> Edition {
+fn empty(number: u64) -> Edition
+    ensures { result ≡ record { number = number; collections = [] } }
+{
     Edition::of(number, ById::empty())
 }
 
