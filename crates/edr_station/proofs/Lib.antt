@@ -7,3 +7,4 @@ pub mod BlockNumbers
 pub mod KeptStations
 pub mod LeastIds
 pub mod MadeOf
+pub mod TallySteps

@@ -10,3 +10,5 @@ pub mod Forks
 pub mod ForkDepths
 pub mod Places
 pub mod Least
+pub mod Tallies
+pub mod TallyLaws
