@@ -1,24 +1,12 @@
--- Tallies of one sample more, and of one range more.
-use Rattle.std.proofs.Common.{◌≡◌, ℕ, ◌+◌, ◌<◌, ℤ, List, [], ◌∷◌, ◌++◌, length, take, get_or, Option, sym, ap, ◌∙◌, append-nil}
+-- Tallies of one range more.
+use Rattle.std.proofs.Common.{◌≡◌, ℕ, ◌+◌, ◌<◌, ℤ, List, [], ◌∷◌, ◌++◌, length, take, get_or, sym, ap, ◌∙◌, append-nil}
 use Rattle.std.proofs.lemmas.Grind.{flat_map-append}
 use Rattle.std.proofs.lemmas.List.{take_more}
 use Rattle.covjson_value.specs.declared.coverages.NdArray.{NdArray}
-use Rattle.edr_edition.specs.declared.tallies.Tally.{Tally}
+use Rattle.edr_station.specs.declared.tallies.Tally.{Tally}
+use Rattle.edr_station.specs.Tallies.{tally_of, and_of}
+use Rattle.edr_station.specs.TallyLaws.{tally-append}
 use Rattle.edr_edition.specs.Instances.{values_of}
-use Rattle.edr_edition.specs.Tallies.{tally_of, and_of}
-use Rattle.edr_edition.specs.TallyLaws.{tally-append, and-assoc}
-
--- one sample more
-pub tally_step : (self now next : Tally) (xs : List (Option ℤ)) (i : ℕ) (d : Option ℤ) → now ≡ and_of self (tally_of (take i xs)) → i < length xs
-    → next ≡ and_of now (tally_of (get_or xs i d ∷ [])) → next ≡ and_of self (tally_of (take (i + 1) xs))
-tally_step self now next xs i d before inside step =
-    let x = get_or xs i d in
-    step ∙ (ap (λ t. and_of t (tally_of (x ∷ []))) before
-    ∙ (and-assoc self (tally_of (take i xs)) (tally_of (x ∷ []))
-    ∙ (ap (and_of self) (sym (tally-append (take i xs) (x ∷ [])))
-    ∙ ap (λ list. and_of self (tally_of list)) (sym (take_more xs i d inside)))))
-
--- ---- ranges
 
 -- the values of one range more
 pub values_more : (ranges : List NdArray) (i : ℕ) (d : NdArray) → i < length ranges → values_of (take (i + 1) ranges) ≡ values_of (take i ranges) ++ (get_or ranges i d).values

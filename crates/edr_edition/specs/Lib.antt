@@ -1,6 +1,4 @@
 pub mod Values
-pub mod Tallies
-pub mod TallyLaws
 pub mod Instances
 pub mod InstanceLaws
 pub mod ShapeLaws

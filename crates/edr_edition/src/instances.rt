@@ -4,15 +4,15 @@ ghost use Rattle.edr_chunk.specs.Places.{IsShape};
 ghost use Rattle.covjson_value.specs.declared.coverages.NdArray.{NdArray as NdArrayValue};
 ghost use Rattle.edr_base.specs.Names.{IsName};
 ghost use Rattle.edr_edition.specs.Instances.{IsTimedGrid, instance_of, values_of, IsInstance, shape_over, FillsNodes};
-ghost use Rattle.edr_edition.specs.Tallies.{tally_of};
+ghost use Rattle.edr_station.specs.Tallies.{tally_of};
 ghost use Rattle.std.specs.Arc.{arc_value};
 
-use crate::tallies::Tally;
 use covjson_value::{Coverage, Domain, NdArray, Parameter};
 use edr_axes::Axis;
 use edr_base::{Items, OutOfMemory, Text};
 use edr_chunk::{GridPacker, GridShape, PackedGrid};
 use edr_ids::Identified;
+use edr_station::Tally;
 use std::alloc::Global;
 use std::marker::Model;
 use std::sync::Arc;
@@ -38,7 +38,7 @@ impl Model for GridInstance {
     ghost use Rattle.std.specs.Prelude.{◌≡◌};
     ghost use Rattle.edr_edition.specs.Values.{InstanceValue};
     ghost use Rattle.edr_edition.specs.Instances.{IsInstance};
-    ghost use Rattle.edr_edition.specs.Tallies.{tally_of};
+    ghost use Rattle.edr_station.specs.Tallies.{tally_of};
     ghost use Rattle.std.specs.Arc.{arc_value};
 
     ghost Value = { InstanceValue };

@@ -8,3 +8,4 @@ pub mod KeptStations
 pub mod LeastIds
 pub mod SeenIds
 pub mod MadeOf
+pub mod TallySteps

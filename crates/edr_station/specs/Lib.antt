@@ -11,3 +11,5 @@ pub mod ForkDepths
 pub mod Places
 pub mod Least
 pub mod Seen
+pub mod Tallies
+pub mod TallyLaws

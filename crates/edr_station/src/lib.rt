@@ -10,11 +10,13 @@ mod series;
 mod shelves;
 mod station;
 mod stations;
+mod tallies;
 
 pub use inputs::{StationFault, StationInput};
 pub use laws::stations_cross_threads;
 pub use station::Station;
 pub use stations::Stations;
+pub use tallies::{Tally, tallies_add_up};
 
 #[cfg(test)]
 mod block_tests;

@@ -3,8 +3,10 @@ ghost use Rattle.std.specs.Prelude.{◌≡◌, ◌<◌, ◌*◌, length, IfOk};
 ghost use Rattle.edr_chunk.specs.Samples.{AreSamples};
 ghost use Rattle.edr_station.specs.Blocks.{blocks_along, cut_block};
 ghost use Rattle.edr_station.specs.KeptBlocks.{Filled};
+ghost use Rattle.edr_station.specs.Tallies.{tally_of};
 
 use crate::few::Few;
+use crate::tallies::Tally;
 use edr_base::OutOfMemory;
 use edr_chunk::Packed;
 use std::alloc::Global;
@@ -70,5 +72,18 @@ impl Series {
         ensures { result.now ≡ cut_block block self.now }
     {
         self.blocks.at(block)
+    }
+
+    /// The tally of its values, one block after another. Want of memory, its only error, also stands for a count or a sum above
+    /// what can be held.
+    pub fn tally(&self, alloc: Global) -> Result<Tally, OutOfMemory>
+        ensures { IfOk result (λ tally. tally ≡ tally_of self.now) }
+    {
+        let mut tally = Tally::none();
+        for block in 0..self.blocks.len() {
+            let values = self.blocks.at(block).unpack(alloc)?;
+            tally = tally.with_all(&values)?;
+        }
+        Ok(tally)
     }
 }

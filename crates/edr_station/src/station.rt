@@ -1,15 +1,18 @@
 //! One station.
-ghost use Rattle.std.specs.Prelude.{◌≡◌, ◌<◌, ◌++◌, All, IsTrue, length, option_map, IfOk};
+ghost use Rattle.std.specs.Prelude.{◌≡◌, ◌<◌, ◌++◌, All, IsTrue, length, option_map, IfOk, ℤ, List, Option};
 ghost use Rattle.std.specs.Arc.{arc_value};
+ghost use Rattle.std.specs.List.{flat_map};
 ghost use Rattle.edr_base.specs.Names.{IsName};
 ghost use Rattle.edr_chunk.specs.Samples.{AreSamples};
 ghost use Rattle.edr_station.specs.Stations.{IsPlaced, HasSeries, IsStation, levels_along, values_along};
 ghost use Rattle.edr_station.specs.Blocks.{blocks_of, cut_block, place_in_series, series_at};
 ghost use Rattle.edr_station.specs.Inputs.{station_of};
+ghost use Rattle.edr_station.specs.Tallies.{tally_of};
 
 use crate::few::Few;
 use crate::inputs::StationInput;
 use crate::series::{BLOCK, Series};
+use crate::tallies::Tally;
 use edr_axes::Axis;
 use edr_base::{Items, OutOfMemory, Spot, Text};
 use edr_chunk::Packed;
@@ -226,6 +229,18 @@ impl Station {
         ensures { option_map (λ axis. axis.now) result ≡ self.now.zs }
     {
         self.axes.levels.as_ref()
+    }
+
+    /// How many samples it has, how many of them aren't missing, and their sum. Its packed blocks are opened one by one. Want of
+    /// memory, its only error, also stands for a count or a sum above what can be held.
+    pub fn tally(&self, alloc: Global) -> Result<Tally, OutOfMemory>
+        ensures { IfOk result (λ tally. tally ≡ tally_of (flat_map (λ (values : List (Option ℤ)). values) self.now.series)) }
+    {
+        let mut tally = Tally::none();
+        for parameter in 0..self.series.len() {
+            tally = tally.and(self.series.at(parameter).tally(alloc)?)?;
+        }
+        Ok(tally)
     }
 
     // Where the value of a time and a level stands among those of a parameter.

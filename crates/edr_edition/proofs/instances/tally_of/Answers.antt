@@ -1,6 +1,6 @@
 use Rattle.std.proofs.Common.{ap, ◌∙◌}
 use Rattle.covjson_value.specs.declared.coverages.NdArray.{NdArray}
-use Rattle.edr_edition.specs.Tallies.{tally_of, and_of}
+use Rattle.edr_station.specs.Tallies.{tally_of, and_of}
 use Rattle.edr_edition.proofs.TallySteps.{range_step}
 use Rattle.edr_edition.proofs.instances.tally_of.Goals as goal
 

@@ -1,8 +1,8 @@
 use Rattle.std.proofs.Common.{rules, ◌≡◌, ◌+◌, ◌+ℤ◌, pos, to_z, of_z, ◌∙◌, arith}
 use Rattle.std.specs.Int.{w128}
 use Rattle.std.proofs.lemmas.Int.{ints}
-use Rattle.edr_edition.specs.TallyLaws.{tally_same}
-use Rattle.edr_edition.proofs.tallies.Tally.with.Goals as goal
+use Rattle.edr_station.specs.TallyLaws.{tally_same}
+use Rattle.edr_station.proofs.tallies.Tally.with.Goals as goal
 
 pub returns-in_ok-checked_add-in-Some-2 : goal.returns-in_ok-checked_add-in-Some-2
 returns-in_ok-checked_add-in-Some-2 c =

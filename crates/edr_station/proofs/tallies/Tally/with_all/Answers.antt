@@ -1,7 +1,7 @@
 use Rattle.std.proofs.Common.{rules, ◌≡◌, [], ◌∷◌, get_or, None}
-use Rattle.edr_edition.specs.Tallies.{tally_of, and_of}
-use Rattle.edr_edition.proofs.TallySteps.{tally_step}
-use Rattle.edr_edition.proofs.tallies.Tally.with_all.Goals as goal
+use Rattle.edr_station.specs.Tallies.{tally_of, and_of}
+use Rattle.edr_station.proofs.TallySteps.{tally_step}
+use Rattle.edr_station.proofs.tallies.Tally.with_all.Goals as goal
 
 pub loop-sample-preserved : goal.loop-sample-preserved
 loop-sample-preserved c =

@@ -1,7 +1,7 @@
 use Rattle.std.proofs.Common.{rules, ◌≡◌, ◌+◌, ◌+ℤ◌, to_z, of_z, ◌∙◌}
 use Rattle.std.specs.Int.{w128}
-use Rattle.edr_edition.specs.TallyLaws.{tally_same}
-use Rattle.edr_edition.proofs.tallies.Tally.and.Goals as goal
+use Rattle.edr_station.specs.TallyLaws.{tally_same}
+use Rattle.edr_station.proofs.tallies.Tally.and.Goals as goal
 
 pub returns : goal.returns
 returns c =

@@ -1,6 +1,6 @@
 -- How many samples a list has, how many of them aren't missing, and the sum of those.
 use Rattle.std.specs.Prelude.{◌≡◌, ℕ, suc, ◌+◌, ℤ, pos, ◌+ℤ◌, List, [], ◌∷◌, ◌++◌, length, Option, None, Some}
-use Rattle.edr_edition.specs.declared.tallies.Tally.{Tally}
+use Rattle.edr_station.specs.declared.tallies.Tally.{Tally}
 
 -- how many samples aren't missing
 abbrev pub present_in : List (Option ℤ) → ℕ

@@ -2,8 +2,8 @@
 use Rattle.std.proofs.Common.{◌≡◌, ℕ, ◌+◌, ℤ, ◌+ℤ◌, List, [], ◌∷◌, ◌++◌, Option, Some, None, ap, ◌∙◌, arith}
 use Rattle.std.proofs.lemmas.Int.{ints}
 use Rattle.std.proofs.lemmas.List.{length-append}
-use Rattle.edr_edition.specs.declared.tallies.Tally.{Tally}
-use Rattle.edr_edition.specs.Tallies.{present_in, sum_of, tally_of, and_of}
+use Rattle.edr_station.specs.declared.tallies.Tally.{Tally}
+use Rattle.edr_station.specs.Tallies.{present_in, sum_of, tally_of, and_of}
 
 abbrev pub tally : ℕ → ℕ → ℤ → Tally
 tally samples present sum = record { samples = samples; present = present; sum = sum }

@@ -1,6 +1,6 @@
 //! How many samples there are, and their sum.
 ghost use Rattle.std.specs.Prelude.{◌≡◌, ◌∷◌, [], IfOk, IfSome};
-ghost use Rattle.edr_edition.specs.Tallies.{tally_of, and_of, TalliesAddUp};
+ghost use Rattle.edr_station.specs.Tallies.{tally_of, and_of, TalliesAddUp};
 
 use edr_base::OutOfMemory;
 
