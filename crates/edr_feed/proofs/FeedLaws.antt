@@ -5,9 +5,9 @@ use Rattle.edr_base.specs.FirstThatApplies.{Gives}
 use Rattle.edr_base.specs.Limits.{line_limit, feed_limit}
 use Rattle.edr_json.specs.Json.{IsJson, TextsHaveOneTree}
 use Rattle.edr_edition.specs.Values.{EditionValue}
-use Rattle.edr_edition.specs.Outcomes.{ChangesHaveOneOutcome}
-use Rattle.edr_edition.specs.declared.changes.Change.{Change as DraftChange}
-use Rattle.edr_edition.specs.declared.changes.Change.TheVariants.{Collection, Grid, DropCollection, DropInstance, Bare}
+use Rattle.edr_draft.specs.Outcomes.{ChangesHaveOneOutcome}
+use Rattle.edr_draft.specs.declared.changes.Change.{Change as DraftChange}
+use Rattle.edr_draft.specs.declared.changes.Change.TheVariants.{Collection, Grid, Station, DropCollection, DropInstance, DropStation, Bare}
 use Rattle.edr_feed.specs.declared.entries.Entry.{Entry}
 use Rattle.edr_feed.specs.declared.entries.Entry.TheVariants.{Change, Publish}
 use Rattle.edr_feed.specs.declared.refusals.FeedRefusal.{FeedRefusal}
@@ -74,8 +74,10 @@ publish_numbers now n = numbered_more 1 now.editions (record { number = length n
 bare_numbers : (change : DraftChange) (now : Progress) → AreNumberedFrom 1 now.editions → AreNumberedFrom 1 (published_if_bare change now).editions
 bare_numbers (Collection id kind title crs vertical) now n = n
 bare_numbers (Grid collection instance coverage) now n = n
+bare_numbers (Station collection id label coverage) now n = n
 bare_numbers (DropCollection collection) now n = n
 bare_numbers (DropInstance collection instance) now n = n
+bare_numbers (DropStation collection id) now n = n
 bare_numbers (Bare coverage) now n = publish_numbers now n
 
 entry_numbers : (old : Progress) (entry : Entry) (new : Progress) → AreNumberedFrom 1 old.editions → EntryMakes old entry new → AreNumberedFrom 1 new.editions

@@ -5,9 +5,9 @@ use Rattle.std.proofs.lemmas.Bool.Decides.{leb_tells}
 use Rattle.std.proofs.lemmas.List.{take_all}
 use Rattle.serde_json.specs.Data.{Data}
 use Rattle.edr_base.specs.Limits.{line_limit}
-use Rattle.edr_edition.specs.declared.changes.Change.{Change as DraftChange}
-use Rattle.edr_edition.specs.declared.changes.ChangeFault.{ChangeFault}
-use Rattle.edr_edition.specs.Changes.{IsRefused}
+use Rattle.edr_draft.specs.declared.changes.Change.{Change as DraftChange}
+use Rattle.edr_draft.specs.declared.changes.ChangeFault.{ChangeFault}
+use Rattle.edr_draft.specs.Changes.{IsRefused}
 use Rattle.edr_feed.specs.declared.entries.Entry.{Entry}
 use Rattle.edr_feed.specs.declared.entries.Entry.TheVariants as entries
 use Rattle.edr_feed.specs.declared.faults.LineFault.{LineFault}

@@ -4,8 +4,8 @@ use Rattle.edr_json.specs.declared.reading.JsonFault.{JsonFault}
 use Rattle.edr_json.specs.declared.reading.JsonFault.TheVariants as json
 use Rattle.covjson_checks.specs.declared.faults.CovFault.{CovFault}
 use Rattle.covjson_checks.specs.declared.faults.CovFault.TheVariants as covjson
-use Rattle.edr_edition.specs.declared.changes.ChangeFault.{ChangeFault}
-use Rattle.edr_edition.specs.declared.changes.ChangeFault.TheVariants as changes
+use Rattle.edr_draft.specs.declared.changes.ChangeFault.{ChangeFault}
+use Rattle.edr_draft.specs.declared.changes.ChangeFault.TheVariants as changes
 use Rattle.edr_feed.specs.declared.faults.LineFault.{LineFault}
 use Rattle.edr_feed.specs.declared.faults.LineFault.TheVariants.{LineTooLong, NotJson, NotFeedLine, Cov, Change, OutOfMemory}
 use Rattle.edr_feed.specs.declared.faults.FeedFault.{FeedFault}

@@ -9,9 +9,9 @@ use Rattle.edr_base.specs.FirstThatApplies.{Check, Then, Gives}
 use Rattle.edr_base.specs.Limits.{feed_limit}
 use Rattle.edr_json.specs.Json.{IsJson}
 use Rattle.edr_edition.specs.Values.{EditionValue}
-use Rattle.edr_edition.specs.Changes.{IsRefused}
-use Rattle.edr_edition.specs.declared.changes.Change.{Change as DraftChange}
-use Rattle.edr_edition.specs.declared.changes.ChangeFault.{ChangeFault}
+use Rattle.edr_draft.specs.Changes.{IsRefused}
+use Rattle.edr_draft.specs.declared.changes.Change.{Change as DraftChange}
+use Rattle.edr_draft.specs.declared.changes.ChangeFault.{ChangeFault}
 use Rattle.edr_feed.specs.declared.entries.Entry.TheVariants as entries
 use Rattle.edr_feed.specs.declared.faults.FeedFault.{FeedFault}
 use Rattle.edr_feed.specs.declared.faults.FeedFault.TheVariants.{Cov, Change}

@@ -1,5 +1,5 @@
 -- What is found in the tree of a line, part by part; for private clauses.
-use Rattle.std.specs.Prelude.{◌≡◌, ℕ, suc, ◌==◌, Bool, false, List, ⊤, Result, Err, MatchResult, Option, None, Some, option_map, option_and_then}
+use Rattle.std.specs.Prelude.{◌≡◌, ℕ, suc, ◌==◌, Bool, false, codes, List, ⊤, Result, Err, MatchResult, Option, None, Some, option_map, option_and_then}
 use Rattle.serde_json.specs.Data.{Data, null, string, object, Members, no_members, member}
 use Rattle.serde_json.specs.Find.{get, as_object, as_str}
 use Rattle.covjson_read.specs.Rows.{CoverageRows}
@@ -7,12 +7,13 @@ use Rattle.covjson_read.specs.Standing.{Stands}
 use Rattle.covjson_checks.specs.declared.faults.CovFault.{CovFault}
 use Rattle.covjson_value.specs.declared.coverages.Coverage.{Coverage}
 use Rattle.edr_base.specs.Names.{IsName}
-use Rattle.edr_edition.specs.Changes.{IsChange}
+use Rattle.edr_draft.specs.Changes.{IsChange}
 use Rattle.edr_feed.specs.declared.faults.LineFault.{LineFault}
 use Rattle.edr_feed.specs.declared.faults.LineFault.TheVariants.{NotFeedLine, Cov, OutOfMemory}
 use Rattle.edr_feed.specs.declared.entries.Entry.{Entry}
 use Rattle.edr_feed.specs.declared.entries.Entry.TheVariants.{Change, Publish}
-use Rattle.edr_feed.specs.Forms.{HasForm, HasOutline, HoldsCoverage}
+use Rattle.edr_edition.specs.declared.kinds.Kind.{Kind}
+use Rattle.edr_feed.specs.Forms.{HasForm, HasOutline, HoldsCoverage, kind_word}
 
 -- ---- members
 
@@ -42,6 +43,10 @@ HasName key d name = HasText key d name × IsName name
 -- the text of a member that may be left out
 abbrev pub HasTextIfGiven : List ℕ → Data → Option (List ℕ) → Type 0
 HasTextIfGiven key d text = get key d ≡ option_map string text
+
+-- the kind of a collection
+abbrev pub HasKind : Data → Kind → Type 0
+HasKind d kind = HasText (codes "kind") d (kind_word kind)
 
 -- how many members a collection has: one more where the reference system of z is given
 abbrev pub collection_members : Option (List ℕ) → ℕ

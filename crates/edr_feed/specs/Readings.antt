@@ -6,9 +6,9 @@ use Rattle.serde_json.specs.Data.{Data}
 use Rattle.edr_base.specs.Limits.{line_limit, feed_limit}
 use Rattle.edr_json.specs.Json.{IsJson, IsNoJson}
 use Rattle.edr_edition.specs.Values.{EditionValue}
-use Rattle.edr_edition.specs.Changes.{IsRefused}
-use Rattle.edr_edition.specs.declared.changes.Change.{Change as DraftChange}
-use Rattle.edr_edition.specs.declared.changes.Change.TheVariants.{Bare}
+use Rattle.edr_draft.specs.Changes.{IsRefused}
+use Rattle.edr_draft.specs.declared.changes.Change.{Change as DraftChange}
+use Rattle.edr_draft.specs.declared.changes.Change.TheVariants.{Bare}
 use Rattle.edr_feed.specs.declared.entries.Entry.{Entry}
 use Rattle.edr_feed.specs.declared.entries.Entry.TheVariants as entries
 use Rattle.edr_feed.specs.declared.faults.LineFault.{LineFault}

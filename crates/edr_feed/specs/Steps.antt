@@ -4,9 +4,9 @@ use Rattle.edr_base.specs.FirstThatApplies.{Check, Find, Then, Gives}
 use Rattle.edr_base.specs.Limits.{line_limit}
 use Rattle.edr_json.specs.Json.{IsJson}
 use Rattle.edr_edition.specs.Values.{CollectionValue, EditionValue}
-use Rattle.edr_edition.specs.Changes.{Changes}
-use Rattle.edr_edition.specs.declared.changes.Change.{Change as DraftChange}
-use Rattle.edr_edition.specs.declared.changes.Change.TheVariants.{Bare}
+use Rattle.edr_draft.specs.Changes.{Changes}
+use Rattle.edr_draft.specs.declared.changes.Change.{Change as DraftChange}
+use Rattle.edr_draft.specs.declared.changes.Change.TheVariants.{Bare}
 use Rattle.edr_feed.specs.declared.entries.Entry.{Entry}
 use Rattle.edr_feed.specs.declared.entries.Entry.TheVariants.{Change, Publish}
 use Rattle.edr_feed.specs.declared.refusals.FeedRefusal.{FeedRefusal}

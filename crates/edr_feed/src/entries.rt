@@ -1,6 +1,6 @@
 //! What lines of a feed say.
 
-use edr_edition::Change as DraftChange;
+use edr_draft::Change as DraftChange;
 
 /// What a line says.
 #[derive(Debug, Drop)]

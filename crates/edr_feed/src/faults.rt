@@ -6,7 +6,7 @@ ghost use Rattle.edr_feed.specs.declared.faults.FeedFault.TheVariants.{OutOfMemo
 
 use covjson_checks::CovFault;
 use edr_base::{Failed, OutOfMemory};
-use edr_edition::ChangeFault;
+use edr_draft::ChangeFault;
 use edr_json::JsonFault;
 use std::alloc::{AllocError, AllocFailed};
 

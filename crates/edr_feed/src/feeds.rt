@@ -13,7 +13,8 @@ use crate::faults::FeedFault;
 use crate::forms::trees_have_one_form;
 use crate::reading::{Reading, begin, end, read_on};
 use edr_base::{Items, Source};
-use edr_edition::{Edition, changes_have_one_outcome};
+use edr_draft::changes_have_one_outcome;
+use edr_edition::Edition;
 use edr_json::texts_have_one_tree;
 use std::alloc::Global;
 

@@ -2,14 +2,15 @@
 ghost use Rattle.std.specs.Prelude.{◌≡◌, ◌≢◌, ◌↔◌, codes, IfOk, IfSome, IsTrue, IsUtf8, true, option_map};
 ghost use Rattle.serde_json.specs.View.{view};
 ghost use Rattle.edr_feed.specs.FormParts as parts;
-ghost use Rattle.edr_feed.specs.FormParts.{HasText, HasName, HasTextIfGiven, Finds, ReadsEntry, IsEntry, line_of};
+ghost use Rattle.edr_feed.specs.FormParts.{HasText, HasName, HasTextIfGiven, HasKind, Finds, ReadsEntry, IsEntry, line_of};
 ghost use Rattle.edr_feed.specs.Forms.{IsBare, TreesHaveOneForm, TreesHoldOneCoverage};
 
 use crate::entries::Entry;
 use crate::faults::LineFault;
 use covjson_read::{coverage_of, trees_stand_for_one};
 use edr_base::{Text, is_name};
-use edr_edition::{Change, Kind};
+use edr_draft::Change;
+use edr_edition::Kind;
 use serde_json::Value;
 use std::alloc::Global;
 
@@ -79,6 +80,19 @@ fn text_if_given(alloc: Global, tree: &Value, key: &str) -> Result<Option<Text>,
     }
 }
 
+// What a collection has.
+fn kind_in(tree: &Value) -> Result<Kind, LineFault>
+    ensures { Finds (HasKind (view tree.now)) result }
+{
+    if has_text(tree, "kind", "grid") {
+        return Ok(Kind::Grid);
+    }
+    if has_text(tree, "kind", "station") {
+        return Ok(Kind::Station);
+    }
+    Err(LineFault::NotFeedLine)
+}
+
 // How many members a collection has: one more where the reference system of z is given.
 fn collection_members(vertical: &Option<Text>) -> usize
     ensures { result ≡ parts.collection_members vertical.now }
@@ -86,15 +100,13 @@ fn collection_members(vertical: &Option<Text>) -> usize
     if vertical.is_some() { 5 } else { 4 }
 }
 
-// A new collection; none but those of grids are read yet.
+// A new collection, of grids or of stations.
 fn collection_entry(alloc: Global, tree: &Value) -> Result<Entry, LineFault>
     ensures reads { ReadsEntry (line_of (codes "collection") (view tree.now)) result }
     ensures is { IfOk result IsEntry }
 {
     let id = name_in(alloc, tree, "id")?;
-    if !has_text(tree, "kind", "grid") {
-        return Err(LineFault::NotFeedLine);
-    }
+    let kind = kind_in(tree)?;
     let title = kept_text_in(alloc, tree, "title")?;
     let crs = kept_text_in(alloc, tree, "crs")?;
     let vertical = text_if_given(alloc, tree, "vertical")?;
@@ -103,7 +115,7 @@ fn collection_entry(alloc: Global, tree: &Value) -> Result<Entry, LineFault>
     }
     Ok(Entry::Change(Change::Collection {
         id,
-        kind: Kind::Grid,
+        kind,
         title,
         crs,
         vertical,
@@ -131,6 +143,29 @@ fn grid_entry(alloc: Global, tree: &Value) -> Result<Entry, LineFault>
     }))
 }
 
+// A station: first its form, and then its coverage.
+fn station_entry(alloc: Global, tree: &Value) -> Result<Entry, LineFault>
+    ensures reads { ReadsEntry (line_of (codes "station") (view tree.now)) result }
+    ensures is { IfOk result IsEntry }
+{
+    let collection = name_in(alloc, tree, "collection")?;
+    let id = name_in(alloc, tree, "id")?;
+    let label = kept_text_in(alloc, tree, "label")?;
+    let Some(found) = tree.get("coverage") else {
+        return Err(LineFault::NotFeedLine);
+    };
+    if !has_members(tree, 4) {
+        return Err(LineFault::NotFeedLine);
+    }
+    let coverage = coverage_of(alloc, found)?;
+    Ok(Entry::Change(Change::Station {
+        collection,
+        id,
+        label,
+        coverage,
+    }))
+}
+
 fn drop_entry(alloc: Global, tree: &Value) -> Result<Entry, LineFault>
     ensures reads { ReadsEntry (line_of (codes "drop") (view tree.now)) result }
     ensures is { IfOk result IsEntry }
@@ -142,8 +177,16 @@ fn drop_entry(alloc: Global, tree: &Value) -> Result<Entry, LineFault>
     if !has_members(tree, 2) {
         return Err(LineFault::NotFeedLine);
     }
-    let instance = name_in(alloc, tree, "instance")?;
-    Ok(Entry::Change(Change::DropInstance(collection, instance)))
+    match tree.get("station") {
+        Some(_) => {
+            let id = name_in(alloc, tree, "station")?;
+            Ok(Entry::Change(Change::DropStation(collection, id)))
+        }
+        None => {
+            let instance = name_in(alloc, tree, "instance")?;
+            Ok(Entry::Change(Change::DropInstance(collection, instance)))
+        }
+    }
 }
 
 fn publish_entry(tree: &Value) -> Result<Entry, LineFault>
@@ -169,6 +212,9 @@ fn member_entry(alloc: Global, tree: &Value) -> Result<Entry, LineFault>
     }
     if let Some(found) = tree.get("grid") {
         return grid_entry(alloc, found);
+    }
+    if let Some(found) = tree.get("station") {
+        return station_entry(alloc, found);
     }
     if let Some(found) = tree.get("drop") {
         return drop_entry(alloc, found);

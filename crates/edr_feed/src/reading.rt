@@ -5,7 +5,8 @@ ghost use Rattle.edr_feed.specs.Readings.{IsPlain, HasRead, IsReading, TakesLine
 use crate::faults::FeedFault;
 use crate::steps::{Drafting, do_line};
 use edr_base::{FEED_LIMIT, LINE_LIMIT, cut_at};
-use edr_edition::{Draft, Edition};
+use edr_draft::Draft;
+use edr_edition::Edition;
 use std::alloc::Global;
 
 /// How far a feed was read: what its lines made, and the line that goes on.

@@ -7,7 +7,8 @@ ghost use Rattle.edr_feed.specs.Readings.{progress_of, is_bare, DoesEntry, DoesL
 use crate::entries::Entry;
 use crate::faults::LineFault;
 use crate::lines::{is_blank_line, line_says};
-use edr_edition::{Change, Draft, Edition};
+use edr_draft::{Change, Draft};
+use edr_edition::Edition;
 use std::alloc::Global;
 use std::mem;
 

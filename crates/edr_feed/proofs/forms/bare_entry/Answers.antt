@@ -8,4 +8,4 @@ pub returns-in_err-coverage-clause-reads : goal.returns-in_err-coverage-clause-r
 returns-in_err-coverage-clause-reads c =
     let d = view c.args.tree.now in
     let p = err_from_is_err_and c.from_residual.result c.from_residual.ensures.1 in
-    rw (p.1, p.2) (cov_fails d d _ (inr (c.requires, refl)) c.in_err-coverage.ensures.none c.in_err-coverage.ensures.first_fault)
+    rw (p.1, p.2) (cov_fails d d _ (inr (inr (c.requires, refl))) c.in_err-coverage.ensures.none c.in_err-coverage.ensures.first_fault)

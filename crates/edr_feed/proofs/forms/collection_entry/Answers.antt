@@ -1,8 +1,7 @@
 use Rattle.std.proofs.Common.{sym, ◌∙◌, ap, codes}
 use Rattle.std.proofs.lemmas.Result.{err_from_is_err_and}
 use Rattle.serde_json.specs.View.{view}
-use Rattle.edr_base.specs.TestLaws.{fails, holds}
-use Rattle.edr_feed.specs.FormParts.{has_members, HasText, HasName, HasTextIfGiven, line_of}
+use Rattle.edr_feed.specs.FormParts.{has_members, HasText, HasName, HasTextIfGiven, HasKind, line_of}
 use Rattle.edr_feed.proofs.FormLemmas.{just_line, no_entry_by}
 use Rattle.edr_feed.proofs.FormOutlines.{collection_outline, collection_whole}
 use Rattle.edr_feed.proofs.FormFaults.{collection_counts}
@@ -14,10 +13,11 @@ returns-in_err-id-clause-reads c =
     let p = err_from_is_err_and c.from_residual.result c.from_residual.ensures.1 in
     rw (p.1, p.2) (no_entry_by (HasName (codes "id") d) (line_of (codes "collection") d) _ c.in_err-id.ensures (λ outline. let adds = (collection_outline d outline).1 in (adds.id, adds.parts.has_id)))
 
-pub returns-then-not-has_text-clause-reads : goal.returns-then-not-has_text-clause-reads
-returns-then-not-has_text-clause-reads c = λ outline.
-    let adds = (collection_outline (view c.args.tree.now) outline).1 in
-    fails _ _ c.has_text.ensures c.if-not-has_text.true adds.parts.has_kind
+pub returns-in_err-kind-clause-reads : goal.returns-in_err-kind-clause-reads
+returns-in_err-kind-clause-reads c =
+    let d = view c.args.tree.now in
+    let p = err_from_is_err_and c.from_residual-in_err-kind.result c.from_residual-in_err-kind.ensures.1 in
+    rw (p.1, p.2) (no_entry_by (HasKind d) (line_of (codes "collection") d) _ c.in_err-kind.ensures (λ outline. let adds = (collection_outline d outline).1 in (adds.kind, adds.parts.has_kind)))
 
 pub returns-in_err-title-clause-reads : goal.returns-in_err-title-clause-reads
 returns-in_err-title-clause-reads c =
@@ -49,9 +49,9 @@ returns-clause-reads c =
     let wanted = ap (λ n. has_members n d) (sym c.collection_members.ensures) in (
       d,
       just_line (codes "collection") d,
-      collection_whole _ _ _ _ d (record {
+      collection_whole _ _ _ _ _ d (record {
         has_id = c.in_ok-id.ensures;
-        has_kind = holds _ _ c.has_text.ensures c.if-not-has_text.false;
+        has_kind = c.in_ok-kind.ensures;
         has_title = c.in_ok-title.ensures.finds;
         has_crs = c.in_ok-crs.ensures.finds;
         has_vertical = c.in_ok-vertical.ensures.finds;

@@ -25,13 +25,20 @@ pub returns-in-Some-get-2-clause-reads : goal.returns-in-Some-get-2-clause-reads
 returns-in-Some-get-2-clause-reads c =
     let d = view c.args.tree.now in
     let found = view c.in-Some-get-2.found.now in
-    let some : get (codes "drop") d ≡ Some found = search rules in
-    subst (λ (t : Data). ReadsEntry t c.drop_entry.result) (sym (line_is (codes "drop") d found c.requires.one some)) c.drop_entry.ensures.reads
+    let some : get (codes "station") d ≡ Some found = search rules in
+    subst (λ (t : Data). ReadsEntry t c.station_entry.result) (sym (line_is (codes "station") d found c.requires.one some)) c.station_entry.ensures.reads
 
 pub returns-in-Some-get-3-clause-reads : goal.returns-in-Some-get-3-clause-reads
 returns-in-Some-get-3-clause-reads c =
     let d = view c.args.tree.now in
     let found = view c.in-Some-get-3.found.now in
+    let some : get (codes "drop") d ≡ Some found = search rules in
+    subst (λ (t : Data). ReadsEntry t c.drop_entry.result) (sym (line_is (codes "drop") d found c.requires.one some)) c.drop_entry.ensures.reads
+
+pub returns-in-Some-get-4-clause-reads : goal.returns-in-Some-get-4-clause-reads
+returns-in-Some-get-4-clause-reads c =
+    let d = view c.args.tree.now in
+    let found = view c.in-Some-get-4.found.now in
     let some : get (codes "publish") d ≡ Some found = search rules in
     subst (λ (t : Data). ReadsEntry t c.publish_entry.result) (sym (line_is (codes "publish") d found c.requires.one some)) c.publish_entry.ensures.reads
 
@@ -40,6 +47,7 @@ returns-in-None-clause-reads c =
     let d = view c.args.tree.now in
     let collection : get (codes "collection") d ≡ None = search rules in
     let grid : get (codes "grid") d ≡ None = search rules in
+    let station : get (codes "station") d ≡ None = search rules in
     let drop : get (codes "drop") d ≡ None = search rules in
     let publish : get (codes "publish") d ≡ None = search rules in
-    no_name d c.requires.not_bare collection grid drop publish
+    no_name d c.requires.not_bare collection grid station drop publish

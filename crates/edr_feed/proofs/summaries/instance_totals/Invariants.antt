@@ -1,9 +1,9 @@
 use Rattle.std.proofs.Common.{◌≡◌, length, take}
-use Rattle.edr_edition.specs.Tallies.{tally_of}
+use Rattle.edr_station.specs.Tallies.{tally_of}
 use Rattle.edr_feed.specs.Summaries.{instances_of, samples_of}
-use Rattle.edr_feed.proofs.summaries.totals_of.Given as goal
+use Rattle.edr_feed.proofs.summaries.instance_totals.Given as goal
 
 abbrev pub invariant-loop-place : goal.invariant-loop-place
 invariant-loop-place l =
-    (l.totals.instances ≡ length (instances_of (take l.place l.edition.collections)))
+    (l.totals.count ≡ length (instances_of (take l.place l.edition.collections)))
     × (l.totals.tally ≡ tally_of (samples_of (instances_of (take l.place l.edition.collections))))

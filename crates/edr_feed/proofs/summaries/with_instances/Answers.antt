@@ -1,8 +1,8 @@
 use Rattle.std.proofs.Common.{◌<◌, length, ap, ◌∙◌, arith}
 use Rattle.edr_edition.specs.Values.{InstanceValue}
-use Rattle.edr_edition.specs.Tallies.{tally_of, and_of}
+use Rattle.edr_station.specs.Tallies.{tally_of, and_of}
 use Rattle.edr_feed.proofs.SummaryLemmas.{instance_step}
-use Rattle.edr_feed.proofs.summaries.with_collection.Goals as goal
+use Rattle.edr_feed.proofs.summaries.with_instances.Goals as goal
 
 pub loop-place-preserved : goal.loop-place-preserved
 loop-place-preserved c =
