@@ -85,7 +85,7 @@ fn levels_of(alloc: Global, count: u16) -> Option<Axis>
 }
 
 // A value for each place of a parameter, some of them missing.
-pub fn sample_at(x: i64, parameter: u32, place: u32) -> Option<i64>
+pub(crate) fn sample_at(x: i64, parameter: u32, place: u32) -> Option<i64>
     ensures { HasSample result }
 {
     let number = x.saturating_mul(1_000_000);
@@ -162,7 +162,7 @@ fn axes_of(alloc: Global, word: &Word<'_>) -> Option<(Axis, Option<Axis>)>
 }
 
 // The station of a word, with this label.
-pub fn input_of(alloc: Global, text: &str, label: &str) -> Option<StationInput>
+pub(crate) fn input_of(alloc: Global, text: &str, label: &str) -> Option<StationInput>
     ensures { IfSome result IsInput }
 {
     let word = word_of(text)?;
@@ -192,7 +192,7 @@ fn is_set(alloc: Global, stations: &mut Stations, input: StationInput) -> bool
     stations.set(alloc, input).is_ok()
 }
 
-pub fn is_word_set(alloc: Global, stations: &mut Stations, text: &str, label: &str) -> bool {
+pub(crate) fn is_word_set(alloc: Global, stations: &mut Stations, text: &str, label: &str) -> bool {
     match input_of(alloc, text, label) {
         Some(input) => is_set(alloc, stations, input),
         None => false,
@@ -200,7 +200,7 @@ pub fn is_word_set(alloc: Global, stations: &mut Stations, text: &str, label: &s
 }
 
 // Stations of two parameters that are set one after another.
-pub fn stations_of(alloc: Global, words: &str) -> Option<Stations> {
+pub(crate) fn stations_of(alloc: Global, words: &str) -> Option<Stations> {
     let mut stations = Stations::new(2);
     for text in words.split(' ') {
         if !text.is_empty() && !is_word_set(alloc, &mut stations, text, text) {
@@ -227,7 +227,7 @@ fn has_levels(station: &Station, count: u16) -> bool {
     }
 }
 
-pub fn is_station(station: &Station, text: &str) -> bool {
+pub(crate) fn is_station(station: &Station, text: &str) -> bool {
     match word_of(text) {
         Some(word) => {
             station.id() == word.id.as_bytes()
@@ -241,7 +241,7 @@ pub fn is_station(station: &Station, text: &str) -> bool {
 }
 
 // Whether these are the stations, in this order; `-` is none.
-pub fn are_stations(stations: &Stations, words: &str) -> bool {
+pub(crate) fn are_stations(stations: &Stations, words: &str) -> bool {
     let mut place = 0;
     for text in words.split(' ') {
         if text != "-" {
