@@ -1,7 +1,8 @@
 -- The least and the greatest value of an axis stand at its ends.
-use Rattle.std.proofs.Common.{◌≡◌, ℕ, zero, suc, ◌+◌, ◌-◌, ◌<◌, ◌≤◌, ℤ, pos, ◌≤ℤ◌, ◌<ℤ◌, int_le, Bool, true, false, List, [], ◌∷◌, length, All, refl, ap, sym, ◌∙◌, subst, arith}
+use Rattle.std.proofs.Common.{◌≡◌, ℕ, suc, ◌+◌, ◌-◌, ℤ, pos, ◌<ℤ◌, List, [], ◌∷◌, length, All, refl, ap, sym, ◌∙◌, subst, arith}
 use Rattle.std.proofs.lemmas.Int.{ints}
-use Rattle.edr_axes.specs.Axes.{value_at, IsAscending, AscendsBelow, IsAxis}
+use Rattle.std.proofs.lemmas.List.Elements.{All-get_or}
+use Rattle.edr_axes.specs.Axes.{value_at, IsAscending, IsAxis}
 use Rattle.edr_axes.specs.Instants.{IsTime}
 use Rattle.edr_axes.specs.AxisLaws.{ascending_far}
 use Rattle.edr_edition.specs.Values.{InstanceValue}
@@ -44,3 +45,11 @@ greatest_last (v ∷ (w ∷ values)) axis =
 -- an instance's times are within their limits
 pub times_within : InstancesHaveGrids → (i : InstanceValue) → IsInstance i → All IsTime i.ts
 times_within law i is = (law i is).ts.within
+
+-- ---- times within their limits
+
+pub least_time : (values : List ℤ) → IsAxis values → All IsTime values → IsTime (least values)
+least_time values axis all = rw (least_first values axis) (All-get_or IsTime values 0 (pos 0) axis.some all)
+
+pub greatest_time : (values : List ℤ) → IsAxis values → All IsTime values → IsTime (greatest values)
+greatest_time values axis all = rw (greatest_last values axis) (All-get_or IsTime values (length values - 1) (pos 0) (omega (arith, axis.some)) all)

@@ -1,6 +1,9 @@
 pub mod NoFloat
 pub mod Ends
 pub mod Parts
-pub mod NoStations
+pub mod MoreLevels
+pub mod ReachesMore
+pub mod ReachPages
 pub mod PageMembers
 pub mod MoreTrees
+pub mod StationPages

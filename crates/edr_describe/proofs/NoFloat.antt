@@ -1,19 +1,20 @@
 -- The tree of a description has no float.
-use Rattle.std.proofs.Common.{◌≡◌, ℕ, ℤ, List, [], ◌∷◌, map, Option, Some, None, IfSome, option_map, false, refl, subst, sym, ap, ◌∙◌}
+use Rattle.std.proofs.Common.{◌≡◌, ℕ, ℤ, List, [], ◌∷◌, Option, Some, None, IfSome, option_map, false, refl, subst}
 use Rattle.std.specs.Prelude.{option_and_then}
-use Rattle.serde_json.specs.Data.{Data, string, object}
+use Rattle.serde_json.specs.Data.{Data, object}
 use Rattle.serde_json.specs.Written.{has_float}
 use Rattle.covjson_value.specs.Trees.{array_of, integer, members_in_order, parameters_data}
 use Rattle.covjson_value.specs.NoFloatLaws.{NoFloat, items_of-NoFloat, member_if-NoFloat, integer-NoFloat, parameters-NoFloat}
 use Rattle.edr_ids.specs.Ids.{item_of}
+use Rattle.edr_station.specs.Stations.{StationValue}
 use Rattle.edr_edition.specs.declared.kinds.Kind.{Kind}
 use Rattle.edr_edition.specs.declared.kinds.Kind.TheVariants.{Grid, Station}
-use Rattle.edr_edition.specs.Values.{InstanceValue, StationValue, CollectionValue, EditionValue, instance_id}
+use Rattle.edr_edition.specs.Values.{InstanceValue, CollectionValue, EditionValue, instance_id}
 use Rattle.edr_edition.specs.Stores.{Held, of_grid, held_in}
 use Rattle.edr_query.specs.declared.pages.Page.{Page}
 use Rattle.edr_query.specs.declared.pages.Page.TheVariants.{Landing, Conformance, Collections, Collection, Instances, Instance, Locations, Ask}
 use Rattle.edr_describe.specs.Extents.{Coordinates, coordinates_of, time_data, interval_data, box_of, spatial_data, vertical_data, extent_data}
-use Rattle.edr_describe.specs.Descriptions.{queries_of, parameters_of_held, page_object, data_page, collection_page, instance_page, list_page, collections_page, instances_page, point_data, feature_data, locations_page, collection_in, page_of_instance, description}
+use Rattle.edr_describe.specs.Descriptions.{queries_of, parameters_of_held, page_object, data_page, collection_page, instance_page, collections_page, instances_page, point_data, feature_data, locations_page, collection_in, page_of_instance, description}
 
 integers-NoFloat : (values : List ℤ) → NoFloat (array_of integer values)
 integers-NoFloat values = items_of-NoFloat integer integer-NoFloat values

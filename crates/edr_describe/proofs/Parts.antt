@@ -1,5 +1,5 @@
 -- The paths of a collection and of an instance, part by part.
-use Rattle.std.proofs.Common.{◌≡◌, ℕ, List, [], Option, ◌∷◌, ◌++◌, None, Some, refl, ap, sym, ◌∙◌}
+use Rattle.std.proofs.Common.{◌≡◌, ℕ, List, [], Option, ◌∷◌, ◌++◌, None, Some, ap, sym, ◌∙◌}
 use Rattle.std.specs.Prelude.{codes}
 use Rattle.std.proofs.lemmas.List.{append-nil, append_assoc}
 use Rattle.percent_encoding.specs.Percent.{percent_encode as escaped}

@@ -14,7 +14,8 @@ use Rattle.edr_query.specs.declared.pages.Page.TheVariants.{Landing, Conformance
 use Rattle.edr_select.specs.Refusals.{refused}
 use Rattle.edr_describe.specs.declared.describing.DescribeFault.{DescribeFault}
 use Rattle.edr_describe.specs.declared.describing.DescribeFault.TheVariants.{Refused, OutOfMemory}
-use Rattle.edr_describe.specs.Extents.{Coordinates, extent_data}
+use Rattle.edr_describe.specs.Extents.{extent_data}
+use Rattle.edr_describe.specs.Reaches.{coordinates_of_grid}
 use Rattle.edr_describe.specs.Descriptions.{link_data, parameters_of_held, page_object, description}
 
 -- a page that isn't of data
@@ -58,9 +59,6 @@ with_spots c i members = put_link c i Trajectory (put_link c i Radius (put_link 
 abbrev pub data_path : List ℕ → Option (List ℕ) → List ℕ
 data_path c None = path_text (to.Collection c)
 data_path c (Some i) = path_text (to.Instance c i)
-
-abbrev pub coordinates_of_grid : InstanceValue → Coordinates
-coordinates_of_grid i = record { xs = i.xs; ys = i.ys; ts = i.ts; zs = i.zs }
 
 -- the first members of a page, and those with the others behind them
 abbrev pub head_members : List ℕ → Data → Option Data → List ℕ → Members

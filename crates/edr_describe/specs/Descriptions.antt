@@ -1,12 +1,13 @@
 -- The pages that describe what an edition holds (OGC 19-086r6, section 7), as JSON whose keys ascend.
-use Rattle.std.specs.Prelude.{ℕ, codes, List, [], ◌∷◌, ◌++◌, map, Option, None, Some, option_map, option_and_then}
+use Rattle.std.specs.Prelude.{ℕ, codes, List, [], ◌∷◌, Option, None, Some, option_map, option_and_then}
 use Rattle.serde_json.specs.Data.{Data, string, array, object, no_items, item, no_members, member}
 use Rattle.covjson_value.specs.declared.coverages.Parameter.{Parameter}
 use Rattle.covjson_value.specs.Trees.{member_if, array_of, members_in_order, integer, parameters_data}
 use Rattle.edr_ids.specs.Ids.{item_of}
+use Rattle.edr_station.specs.Stations.{StationValue}
 use Rattle.edr_edition.specs.declared.kinds.Kind.{Kind}
 use Rattle.edr_edition.specs.declared.kinds.Kind.TheVariants.{Grid, Station}
-use Rattle.edr_edition.specs.Values.{InstanceValue, StationValue, CollectionValue, EditionValue, instance_id, collection_id}
+use Rattle.edr_edition.specs.Values.{InstanceValue, CollectionValue, EditionValue, instance_id, collection_id}
 use Rattle.edr_edition.specs.Stores.{Held, of_grid, held_in}
 use Rattle.edr_query.specs.declared.addresses.QueryKind.{QueryKind}
 use Rattle.edr_query.specs.declared.addresses.QueryKind.TheVariants.{Position, Radius, Area, Cube, Trajectory, Corridor}
@@ -96,9 +97,12 @@ feature_data s =
     (member (codes "properties") (object (member (codes "label") (string s.label) no_members))
     (member (codes "type") (string (codes "Feature")) no_members))))
 
+abbrev pub features_page : List StationValue → Data
+features_page stations =
+    object (member (codes "features") (array_of feature_data stations) (member (codes "type") (string (codes "FeatureCollection")) no_members))
+
 abbrev pub locations_page : CollectionValue → Data
-locations_page collection =
-    object (member (codes "features") (array_of feature_data collection.stations) (member (codes "type") (string (codes "FeatureCollection")) no_members))
+locations_page collection = features_page collection.stations
 
 -- ---- the service
 

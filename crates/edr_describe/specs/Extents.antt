@@ -1,11 +1,11 @@
 -- Where, when and at which levels data lie (OGC 19-086r6, the member `extent`).
-use Rattle.std.specs.Prelude.{ℕ, ℤ, pos, int_le, Bool, if◌then◌else◌, List, [], ◌∷◌, map, Option, None, Some, is_some, codes}
+use Rattle.std.specs.Prelude.{ℕ, ℤ, pos, int_le, if◌then◌else◌, List, [], ◌∷◌, map, Option, None, Some, is_some, codes}
 use Rattle.std.specs.List.{flat_map, list_any}
 use Rattle.serde_json.specs.Data.{Data, string, object, no_members, member}
 use Rattle.edr_axes.specs.Instants.{instant_text}
 use Rattle.covjson_value.specs.Trees.{member_if, array_of, integer}
 use Rattle.covjson_value.specs.Samples.{values_or_none}
-use Rattle.edr_edition.specs.Values.{StationValue}
+use Rattle.edr_station.specs.Stations.{StationValue}
 use Rattle.edr_edition.specs.Stores.{Held, of_grid, of_stations}
 
 abbrev pub lower : ℤ → ℤ → ℤ
@@ -46,11 +46,15 @@ coordinates_of_stations stations = record {
   zs = levels_of_stations stations;
 }
 
--- those of a grid, or of all stations; there are none where there is no station
+-- those of all stations; there are none where there is no station
+abbrev pub coordinates_where_some : List StationValue → Option Coordinates
+coordinates_where_some [] = None
+coordinates_where_some (s ∷ stations) = Some (coordinates_of_stations (s ∷ stations))
+
+-- those of a grid, or of all stations
 abbrev pub coordinates_of : Held → Option Coordinates
 coordinates_of (of_grid i) = Some (record { xs = i.xs; ys = i.ys; ts = i.ts; zs = i.zs })
-coordinates_of (of_stations []) = None
-coordinates_of (of_stations (s ∷ stations)) = Some (coordinates_of_stations (s ∷ stations))
+coordinates_of (of_stations parameters stations) = coordinates_where_some stations
 
 abbrev pub time_data : ℤ → Data
 time_data time = string (instant_text time)

@@ -1,3 +1,4 @@
 pub mod Extents
+pub mod Reaches
 pub mod Descriptions
 pub mod Describing

@@ -5,9 +5,10 @@ ghost use Rattle.serde_json.specs.Written.{compact_text, has_float};
 ghost use Rattle.edr_query.specs.declared.pages.Page.TheVariants.{Collection, Instances, Instance, Locations};
 ghost use Rattle.edr_base.specs.declared.refusals.Refusal.TheVariants.{UnknownCollection};
 ghost use Rattle.edr_describe.specs.declared.describing.DescribeFault.TheVariants as why;
-ghost use Rattle.edr_describe.specs.Descriptions.{landing_page, conformance_page, locations_page, collection_in};
+ghost use Rattle.edr_describe.specs.Descriptions.{landing_page, conformance_page, collection_in};
 ghost use Rattle.edr_describe.specs.Describing.{IsDescription, MatchDescription, IsTreeOf, IsFaultOf};
 
+use crate::locations::locations_tree;
 use crate::pages::{collection_tree, collections_tree, instance_tree, instances_tree};
 use crate::paths::link_tree;
 use edr_base::{OutOfMemory, Refusal, Text};
@@ -46,15 +47,6 @@ fn conformance_tree(alloc: Global) -> Result<Value, OutOfMemory>
     ensures { IfOk result (λ v. view v ≡ conformance_page) }
 {
     Ok(json!(in alloc; {"conformsTo": []})?)
-}
-
-// The page of the stations of a collection: none are kept yet.
-#[tactic(auto, using(crate::proofs::NoStations::no_locations_is))]
-fn locations_tree(alloc: Global, collection: &CollectionData) -> Result<Value, OutOfMemory>
-    ensures { IfOk result (λ v. view v ≡ locations_page collection.now) }
-{
-    let _ = collection.stations();
-    Ok(json!(in alloc; {"features": [], "type": "FeatureCollection"})?)
 }
 
 // The collection of an id.
@@ -114,9 +106,9 @@ fn locations_page_of(alloc: Global, edition: &Edition, id: &[u8]) -> Result<Valu
     ensures fault { IfErr result (IsFaultOf edition.now (Locations id.now)) }
 {
     let collection = found(edition, id)?;
-    match collection.kind() {
-        Kind::Grid => Err(DescribeFault::Refused(Refusal::QueryNotOffered)),
-        Kind::Station => Ok(locations_tree(alloc, collection)?),
+    match collection.stations() {
+        None => Err(DescribeFault::Refused(Refusal::QueryNotOffered)),
+        Some(stations) => Ok(locations_tree(alloc, stations)?),
     }
 }
 

@@ -3,8 +3,10 @@
 
 mod describing;
 mod extents;
+mod locations;
 mod pages;
 mod paths;
 mod queries;
+mod reaches;
 
 pub use describing::{DescribeFault, describe};

@@ -2,15 +2,16 @@
 ghost use Rattle.std.specs.Prelude.{◌≡◌, None, Some, IfOk, OnOk, option_map};
 ghost use Rattle.serde_json.specs.View.{view, members_view};
 ghost use Rattle.covjson_value.specs.Trees.{array_of};
-ghost use Rattle.edr_edition.specs.declared.kinds.Kind.TheVariants.{Grid};
+ghost use Rattle.edr_edition.specs.declared.kinds.Kind.TheVariants.{Grid, Station};
 ghost use Rattle.edr_describe.specs.Descriptions.{page_object, collection_page, instance_page, instances_page, collections_page};
 ghost use Rattle.edr_describe.specs.Describing.{data_object, head_members, with_rest};
 
-use crate::extents::extent_tree;
+use crate::extents::{extent_tree, stations_extent};
 use crate::queries::{grid_queries, instance_queries, station_queries};
 use covjson_value::{parameters_tree, put_given, put_text, text_of};
 use edr_base::OutOfMemory;
-use edr_edition::{CollectionData, Edition, GridInstance, Kind};
+use edr_edition::{CollectionData, Edition, GridInstance};
+use edr_station::Stations;
 use serde_json::{Map, Value, json};
 use std::alloc::Global;
 
@@ -94,22 +95,37 @@ fn grid_page(
     }
 }
 
-#[tactic(auto, using(crate::proofs::NoStations::station_page_is))]
-/// The page of a collection, with what its newest instance has.
+// The page of a collection of stations, with what all of them have.
+#[tactic(auto, using(crate::proofs::ReachPages::station_page_is))]
+fn station_page(
+    alloc: Global,
+    collection: &CollectionData,
+    stations: &Stations,
+) -> Result<Value, OutOfMemory>
+    requires kind { collection.now.kind ≡ Station }
+    requires stations { stations.now.stations ≡ collection.now.stations }
+    ensures { IfOk result (λ v. view v ≡ collection_page collection.now) }
+{
+    let crs = text_of(collection.referencing().crs.bytes());
+    let title = text_of(collection.title());
+    let id = text_of(collection.id());
+    let queries = station_queries(alloc, collection.id())?;
+    let extent = stations_extent(alloc, crs, stations)?;
+    let parameters = parameters_tree(alloc, collection.parameters())?;
+    page_of(alloc, crs, queries, extent, id, parameters, title)
+}
+
+/// The page of a collection, with what its newest instance has, or all its stations.
 pub fn collection_tree(alloc: Global, collection: &CollectionData) -> Result<Value, OutOfMemory>
     ensures { IfOk result (λ v. view v ≡ collection_page collection.now) }
 {
-    let id = text_of(collection.id());
-    match collection.kind() {
-        Kind::Grid => {
+    match collection.stations() {
+        None => {
             let queries = grid_queries(alloc, collection.id())?;
+            let id = text_of(collection.id());
             grid_page(alloc, collection, queries, id, collection.newest())
         }
-        Kind::Station => {
-            let queries = station_queries(alloc, collection.id())?;
-            let _ = collection.stations();
-            grid_page(alloc, collection, queries, id, None)
-        }
+        Some(stations) => station_page(alloc, collection, stations),
     }
 }
 
