@@ -18,6 +18,4 @@ pub use refusals::FeedRefusal;
 pub use summaries::summary;
 
 #[cfg(test)]
-mod test_lines;
-#[cfg(test)]
 mod tests;
