@@ -9,6 +9,7 @@ mod packed_grid;
 mod packers;
 mod reads;
 mod shapes;
+mod shared;
 mod spans;
 mod tile_numbers;
 mod tiles;

@@ -88,16 +88,6 @@ impl Packed {
         }
     }
 
-    /// The list again, as it is packed, or want of memory.
-    pub(crate) fn copy(&self, alloc: Global) -> Result<Packed, OutOfMemory>
-        ensures { IfOk result (λ packed. packed ≡ self.now) }
-    {
-        Ok(Packed {
-            floor: self.floor,
-            codes: copy_codes(alloc, &self.codes, self.floor)?,
-        })
-    }
-
     /// Puts the samples from a place on into a list, as many as it has. It takes no memory.
     pub(crate) fn copy_to(&self, place: usize, into: &mut [Option<i64>])
         requires { place + length into.old ≤ length self.now }
@@ -128,23 +118,6 @@ impl Packed {
             Codes::Whole(numbers) => sample_in(numbers, place, self.floor),
         }
     }
-}
-
-// The same codes again, or want of memory.
-fn copy_codes(alloc: Global, codes: &Codes, floor: i64) -> Result<Codes, OutOfMemory>
-    ensures { IfOk result (λ copy. samples floor copy ≡ samples floor codes.now) }
-{
-    Ok(match codes {
-        Codes::Same { value, count } => Codes::Same {
-            value: *value,
-            count: *count,
-        },
-        Codes::Bytes(codes) => Codes::Bytes(Vec::from_slice(alloc, codes)?),
-        Codes::Pairs(codes) => Codes::Pairs(Vec::from_slice(alloc, codes)?),
-        Codes::Triples(codes) => Codes::Triples(Vec::from_slice(alloc, codes)?),
-        Codes::Words(codes) => Codes::Words(Vec::from_slice(alloc, codes)?),
-        Codes::Whole(numbers) => Codes::Whole(Vec::from_slice(alloc, numbers)?),
-    })
 }
 
 // The codes of samples between a floor and the greatest of them.

@@ -6,10 +6,11 @@ ghost use Rattle.edr_chunk.specs.AllPlaces.{places};
 ghost use Rattle.edr_chunk.specs.Tiles.{tiles, tile_of, IsTile};
 ghost use Rattle.edr_chunk.specs.KeptTiles.{stored, IsPacked};
 
-use crate::reads::open_copy;
+use crate::reads::open_shared;
+use crate::shared::SharedPacked;
 use crate::tile_numbers::{nodes_of, place_of, tile_number, tile_shape_of, tiles_in};
 use crate::tiles::tile_from;
-use crate::{GridPacker, GridPlace, GridShape, Packed, Reads, Tile};
+use crate::{GridPacker, GridPlace, GridShape, Reads, Tile};
 use edr_base::OutOfMemory;
 use std::alloc::Global;
 use std::marker::Model;
@@ -19,7 +20,7 @@ use std::marker::Model;
 #[derive(Drop)]
 pub struct PackedGrid {
     shape: GridShape,
-    kept: Vec<Packed>,
+    kept: Vec<SharedPacked>,
 }
 
 impl Model for PackedGrid {
@@ -58,7 +59,7 @@ impl PackedGrid {
     }
 
     // The grid that tiles are kept of.
-    pub(crate) fn of_tiles(shape: GridShape, kept: Vec<Packed>) -> PackedGrid
+    pub(crate) fn of_tiles(shape: GridShape, kept: Vec<SharedPacked>) -> PackedGrid
         requires { IsPacked shape kept.items }
         ensures { result ≡ record { shape = shape; values = map (stored shape kept.items) (places shape) } }
     {
@@ -101,7 +102,7 @@ impl PackedGrid {
         ensures read { OnOk result (reads.new ≡ reads.old ++ tile ∷ []) }
         ensures err { OnErr result (reads.new ≡ reads.old) }
     {
-        let samples = open_copy(alloc, &self.kept[tile as usize], tile, reads)?;
+        let samples = open_shared(&self.kept[tile as usize], tile, reads)?;
         let corner = place_of(tile_shape_of(self.shape), tile);
         Ok(tile_from(self.shape, corner, samples))
     }

@@ -6,6 +6,7 @@ ghost use Rattle.edr_chunk.specs.Tiles.{tiles, with_parameters};
 ghost use Rattle.edr_chunk.specs.KeptTiles.{one_of, one_more, Filled};
 
 use crate::cutting::cut;
+use crate::shared::SharedPacked;
 use crate::tile_numbers::{nodes_of, place_of, tile_shape_of, tiles_in};
 use crate::{GridShape, Packed, PackedGrid};
 use edr_base::OutOfMemory;
@@ -18,7 +19,7 @@ use std::marker::Model;
 #[derive(Drop)]
 pub struct GridPacker {
     shape: GridShape,
-    kept: Vec<Packed>,
+    kept: Vec<SharedPacked>,
 }
 
 impl Model for GridPacker {
@@ -102,7 +103,7 @@ fn packed_tiles(
     alloc: Global,
     shape: GridShape,
     values: &[Option<i64>],
-) -> Result<Vec<Packed>, OutOfMemory>
+) -> Result<Vec<SharedPacked>, OutOfMemory>
     requires shape { IsShape shape }
     requires fits { count shape < 2 ^ 64 }
     requires whole { length values.now ≡ count shape }
@@ -114,7 +115,7 @@ fn packed_tiles(
     let mut kept = Vec::new(alloc);
     for tile in 0..tiles {
         let part = cut(alloc, shape, values, place_of(coarse, tile))?;
-        kept.push(Packed::pack(alloc, &part)?)?;
+        kept.push(SharedPacked::of(alloc, Packed::pack(alloc, &part)?)?)?;
     }
     Ok(kept)
 }

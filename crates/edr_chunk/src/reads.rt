@@ -2,6 +2,7 @@
 ghost use Rattle.std.specs.Prelude.{◌≡◌, ◌++◌, ◌∷◌, [], IfOk, OnOk, OnErr};
 
 use crate::Packed;
+use crate::shared::SharedPacked;
 use edr_base::OutOfMemory;
 use std::alloc::Global;
 use std::marker::Model;
@@ -63,19 +64,18 @@ pub fn open_packed(
     Ok(samples)
 }
 
-/// A tile's packed list again, as it is packed, or want of memory. The tile's number is appended to `reads`, which want of
-/// memory leaves as it was.
-pub(crate) fn open_copy(
-    alloc: Global,
-    packed: &Packed,
+/// A tile's packed list, shared, or want of memory. The tile's number is appended to `reads`, which want of memory leaves as it
+/// was.
+pub(crate) fn open_shared(
+    packed: &SharedPacked,
     tile: u64,
     reads: &mut Reads,
-) -> Result<Packed, OutOfMemory>
-    ensures ok { IfOk result (λ copy. copy ≡ packed.now) }
+) -> Result<SharedPacked, OutOfMemory>
+    ensures ok { IfOk result (λ shared. shared ≡ packed.now) }
     ensures read { OnOk result (reads.new ≡ reads.old ++ tile ∷ []) }
     ensures err { OnErr result (reads.new ≡ reads.old) }
 {
-    let copy = packed.copy(alloc)?;
+    let shared = packed.share()?;
     reads.append(tile)?;
-    Ok(copy)
+    Ok(shared)
 }

@@ -4,17 +4,18 @@ ghost use Rattle.std.specs.List.{slice_index_or};
 ghost use Rattle.edr_chunk.specs.Places.{Within};
 ghost use Rattle.edr_chunk.specs.Tiles.{tile_shape, tile_width, value_in, LiesIn};
 
-use crate::{GridPlace, GridShape, Packed};
+use crate::shared::SharedPacked;
+use crate::{GridPlace, GridShape};
 use std::marker::Model;
 
-/// The samples of one tile: up to 64 rows and 64 columns of a grid, of one parameter, time and level. They stay packed, so a
-/// tile takes 1, 2, 3, 4 or 8 bytes a sample, or none where all are equal.
+/// The samples of one tile: up to 64 rows and 64 columns of a grid, of one parameter, time and level. They stay packed, and are
+/// shared with the grid, so a tile takes no memory of its own.
 #[derive(Drop)]
 pub struct Tile {
     row: u32,
     column: u32,
     width: u32,
-    samples: Packed,
+    samples: SharedPacked,
 }
 
 impl Model for Tile {
@@ -32,7 +33,7 @@ impl Tile {
         ensures { result ≡ value_in self.now row column }
     {
         let place = (row - self.row) as u64 * self.width as u64 + (column - self.column) as u64;
-        self.samples.sample_at(place as usize)
+        self.samples.packed().sample_at(place as usize)
     }
 
     /// Puts the samples of a row of the grid, from a column on, into a list, as many as it has; None for a missing one. It
@@ -46,12 +47,12 @@ impl Tile {
             return;
         }
         let place = (row - self.row) as u64 * self.width as u64 + (column - self.column) as u64;
-        self.samples.copy_to(place as usize, into);
+        self.samples.packed().copy_to(place as usize, into);
     }
 }
 
 /// The tile at a place among the tiles of a shape. It takes no memory.
-pub fn tile_from(shape: GridShape, corner: GridPlace, samples: Packed) -> Tile
+pub fn tile_from(shape: GridShape, corner: GridPlace, samples: SharedPacked) -> Tile
     requires { Within (tile_shape shape) corner }
     ensures { result ≡ record { row = corner.y * 64; column = corner.x * 64; width = tile_width shape corner; values = samples } }
 {
