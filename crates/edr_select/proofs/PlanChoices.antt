@@ -47,10 +47,9 @@ module _ (c : CollectionValue) (q : QueryValue) (i : InstanceValue) (asked : IsA
 
     pub plan_made : (form : Form) → IsForm geometry choice form
         → (nat_lt value_limit (value_count choice) || nat_lt coverage_limit (coverage_count choice form)) ≡ false
-        → (copy : QueryValue) → copy ≡ q → (listing : ListingValue) → listing.shape ≡ i.grid.shape → listing.parameters ≡ choice.parameters → listing.many ≡ is_many form
-        → listing.coverages ≡ planned_in c.referencing i choice form → IsPlanIn c q i (record { query = copy; reply = Listed listing })
-    plan_made form h fits copy query listing same parameters many are =
-        subst (λ (other : QueryValue). IsPlanIn c q i (record { query = other; reply = Listed listing })) (sym query)
-        (subst (λ (ch : Chosen). IsForm geometry ch form → (nat_lt value_limit (value_count ch) || nat_lt coverage_limit (coverage_count ch form)) ≡ false
+        → (listing : ListingValue) → listing.shape ≡ i.grid.shape → listing.parameters ≡ choice.parameters → listing.many ≡ is_many form
+        → listing.coverages ≡ planned_in c.referencing i choice form → IsPlanIn c q i (record { query = q; reply = Listed listing })
+    plan_made form h fits listing same parameters many are =
+        subst (λ (ch : Chosen). IsForm geometry ch form → (nat_lt value_limit (value_count ch) || nat_lt coverage_limit (coverage_count ch form)) ≡ false
         → listing.parameters ≡ ch.parameters → listing.coverages ≡ planned_in c.referencing i ch form → IsPlanIn c q i (record { query = q; reply = Listed listing })) (sym made.is)
-        (λ is fits parameters are. is_plan_in c q i geometry asked shape some_chosen form is listing same parameters many are made.refused_is fits) h fits parameters are)
+        (λ is fits parameters are. is_plan_in c q i geometry asked shape some_chosen form is listing same parameters many are made.refused_is fits) h fits parameters are

@@ -3,22 +3,21 @@ ghost use Rattle.std.specs.Prelude.{◌≡◌, IfOk, IfErr};
 ghost use Rattle.edr_select.specs.AreaPlans.{IsFramingIn};
 ghost use Rattle.edr_select.specs.Checks.{refused_query};
 ghost use Rattle.edr_select.specs.Masks.{IsArea};
-ghost use Rattle.edr_select.specs.Steps.{IsAsked, IsFaultOf, IsPlanIn};
+ghost use Rattle.edr_select.specs.Steps.{IsAsked, IsFaultOf};
 
 use crate::frame_domains::domain_of;
 use crate::frame_sizes::is_too_large;
 use crate::frames::Framing;
 use crate::heads::head_of;
 use crate::planning::PlanFault;
-use crate::plans::{Plan, Reply};
 use crate::taken_frames::frame_taken;
 use edr_base::{Items, Refusal};
 use edr_edition::{CollectionData, GridInstance};
 use edr_query::Query;
 use std::alloc::Global;
 
-// The frame that the reply to such a query is read from, or the first refusal that applies from that of names on.
-fn framing_of(
+// The frame that the reply to a query of a disc, of polygons or of a box is read from, or the first refusal that applies from that of names on.
+pub(crate) fn framing_of(
     alloc: Global,
     query: &Query,
     collection: &CollectionData,
@@ -47,24 +46,5 @@ fn framing_of(
         parameters: Items::of(parameters),
         head,
         frame,
-    })
-}
-
-// The plan of the reply to a query of a disc, of polygons or of a box, or the first refusal that applies from that of names on.
-pub(crate) fn plan_area(
-    alloc: Global,
-    query: &Query,
-    collection: &CollectionData,
-    instance: &GridInstance,
-) -> Result<Plan, PlanFault>
-    requires asked { IsAsked collection.now query.now instance.now }
-    requires area { IsArea query.now.shape }
-    ensures planned { IfOk result (λ plan. IsPlanIn collection.now query.now instance.now plan) }
-    ensures refused { IfErr result (IsFaultOf (refused_query collection.now query.now)) }
-{
-    let framing = framing_of(alloc, query, collection, instance)?;
-    Ok(Plan {
-        query: query.copy(alloc)?,
-        reply: Reply::Framed(framing),
     })
 }

@@ -33,5 +33,5 @@ mod taken_frames;
 
 pub use frames::{Frame, Framing, framing_stands};
 pub use laws::{documents_are_valid, refusal_is_least, selections_go_by_axes};
-pub use planning::{PlanFault, plan};
+pub use planning::{PlanFault, plan, plan_of};
 pub use plans::{GridNode, Listing, Plan, Planned, Reply, listing_stands};

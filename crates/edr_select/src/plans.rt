@@ -87,7 +87,7 @@ pub enum Reply {
 
 /// What a reply to a query will be: its coverages but for their values, and the nodes that these are read from.
 ///
-/// It is plain data and holds no sample. Only `plan` makes one.
+/// It is plain data and holds no sample. Only `plan` and `plan_of` make one.
 #[derive(Drop)]
 pub struct Plan {
     pub(crate) query: Query,

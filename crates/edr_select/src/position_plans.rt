@@ -1,12 +1,13 @@
 //! Plans of queries that take the nodes nearest to points.
 ghost use Rattle.std.specs.Prelude.{◌≡◌, IfOk, IfErr};
 ghost use Rattle.edr_query.specs.declared.shapes.Shape.TheVariants as at;
+ghost use Rattle.edr_select.specs.declared.plans.Reply.TheVariants.{Listed};
 ghost use Rattle.edr_select.specs.Checks.{refused_query};
 ghost use Rattle.edr_select.specs.Steps.{IsAsked, IsFaultOf, IsPlanIn};
 
 use crate::forms::form_of;
 use crate::planning::PlanFault;
-use crate::plans::{Listing, Plan, Reply};
+use crate::plans::Listing;
 use crate::reply_coverages::coverages_of;
 use crate::sizes::is_too_large;
 use crate::steps::choice_of;
@@ -16,20 +17,19 @@ use edr_query::Query;
 use edr_wkt::Geometry;
 use std::alloc::Global;
 
-// The plan of the reply to a position that is asked of an instance, or the first refusal that applies from that of names on.
-pub(crate) fn plan_points(
+// The list that the reply to a position that is asked of an instance is read from, or the first refusal that applies from that of names on.
+pub(crate) fn listing_of(
     alloc: Global,
     query: &Query,
     collection: &CollectionData,
     instance: &GridInstance,
     geometry: &Geometry,
-) -> Result<Plan, PlanFault>
+) -> Result<Listing, PlanFault>
     requires asked { IsAsked collection.now query.now instance.now }
     requires shape { query.now.shape ≡ at.Position geometry.now }
-    ensures planned { IfOk result (λ plan. IsPlanIn collection.now query.now instance.now plan) }
+    ensures planned { IfOk result (λ listing. IsPlanIn collection.now query.now instance.now (record { query = query.now; reply = Listed listing })) }
     ensures refused { IfErr result (IsFaultOf (refused_query collection.now query.now)) }
 {
-    let copy = query.copy(alloc)?;
     let choice = choice_of(alloc, query, collection, instance, geometry)?;
     let form = form_of(geometry, &choice);
     if is_too_large(&choice, form) {
@@ -37,14 +37,10 @@ pub(crate) fn plan_points(
     }
     let referencing = collection.referencing();
     let coverages = coverages_of(alloc, referencing, instance, geometry, &choice, form)?;
-    let listing = Listing {
+    Ok(Listing {
         shape: instance.grid().shape(),
         parameters: Items::of(choice.parameters),
         many: form.is_many(),
         coverages: Items::of(coverages),
-    };
-    Ok(Plan {
-        query: copy,
-        reply: Reply::Listed(listing),
     })
 }

@@ -186,6 +186,15 @@ same_ok x y text a b written = record { whole = written.whole; front = written.f
 pub same_err : {T E : Type 0} (U : Type 0) (e f : E) (text : List ℕ) (a b : Option (List ℕ)) → Writes {T = T} (Err e) text a b → Writes {T = U} (Err f) text a b
 same_err U e f text a b written = record { whole = tt; front = written.front }
 
+-- a plan stands for the query that it keeps
+pub plan_own : (e : EditionValue) (q : QueryValue) (plan : PlanValue) → IsPlanFor e q plan → IsPlanFor e plan.query plan
+plan_own e q plan x = subst (λ (p : QueryValue). IsPlanFor e p plan) (sym x.query_is) x
+
+-- the query that a plan keeps is that which it stands for
+pub plan_written : {T E : Type 0} (r : Result T E) (a b : Option (List ℕ)) (e : EditionValue) (q : QueryValue) (plan : PlanValue) (number : Option ℕ) (head last : Bool)
+    → IsPlanFor e q plan → Writes r (reply_text (body_from e (Ask plan.query)) number head last) a b → Writes r (reply_text (body_from e (Ask q)) number head last) a b
+plan_written r a b e q plan number head last x written = subst (λ (p : QueryValue). Writes r (reply_text (body_from e (Ask p)) number head last) a b) x.query_is written
+
 -- what a store is over, by the names in the query
 pub named_subject : (e : EditionValue) (q : QueryValue) (s : Subject) (collection : List ℕ) (instance : Option (List ℕ))
     → collection ≡ q.collection → instance ≡ q.instance → Some s ≡ subject_of e collection instance → Some s ≡ subject_of e q.collection q.instance

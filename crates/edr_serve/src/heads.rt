@@ -77,13 +77,13 @@ pub(crate) fn refuse<K: Sink>(
 fn reply_from<K: Sink>(
     alloc: Global,
     sink: &mut K,
-    page: &Page,
+    page: Page,
     edition: &Edition,
     is_head: bool,
     end: Option<End>,
 ) -> Result<OneReport, SendFault>
-    ensures bytes { Writes result (reply_text (body_from edition.now page.now) (Some edition.now.number) is_head (is_some end)) (K.written sink.old) (K.written sink.new) }
-    ensures report { IfOk result (λ report. report ≡ record { edition = Some edition.now.number; reads = chunks_from edition.now page.now is_head; end = end }) }
+    ensures bytes { Writes result (reply_text (body_from edition.now page) (Some edition.now.number) is_head (is_some end)) (K.written sink.old) (K.written sink.new) }
+    ensures report { IfOk result (λ report. report ≡ record { edition = Some edition.now.number; reads = chunks_from edition.now page is_head; end = end }) }
     ensures flushed { OnOk result (IsFlushed (K.written sink.new) (K.flushed sink.new)) }
     ensures lent { SinkLent (K.beside sink.old) (K.beside sink.new) (K.faults sink.old) (K.faults sink.new) }
     ensures cause { IsErrOf result SendFault.WriteFault → Rose (K.faults sink.old) (K.faults sink.new) }
@@ -106,13 +106,13 @@ fn answer_page<K: Sink, E: Editions>(
     alloc: Global,
     sink: &mut K,
     shelf: &mut E,
-    page: &Page,
+    page: Page,
     is_head: bool,
     end: Option<End>,
 ) -> Result<OneReport, SendFault>
-    ensures done { IfOk result (λ report. IsReplied (record { is_head = is_head; asked = Ok page.now; end = end })
+    ensures done { IfOk result (λ report. IsReplied (record { is_head = is_head; asked = Ok page; end = end })
         (state (K.written sink.old) (E.seen shelf.old) (E.taken shelf.old)) (state (K.written sink.new) (E.seen shelf.new) (E.taken shelf.new)) report) }
-    ensures broke { OnErr result (BrokeOff (record { is_head = is_head; asked = Ok page.now; end = end } ∷ [])
+    ensures broke { OnErr result (BrokeOff (record { is_head = is_head; asked = Ok page; end = end } ∷ [])
         (state (K.written sink.old) (E.seen shelf.old) (E.taken shelf.old)) (state (K.written sink.new) (E.seen shelf.new) (E.taken shelf.new))) }
     ensures stock { E.stock shelf.new ≡ E.stock shelf.old }
     ensures end { IfOk result (λ report. report.end ≡ end) }
@@ -154,7 +154,7 @@ pub(crate) fn answer_head<K: Sink, E: Editions>(
     match read_target(alloc, head.target.bytes()) {
         Ok(page) => {
             let end = end_by_turns(turn, ask.close);
-            answer_page(alloc, sink, shelf, &page, ask.is_head, end)
+            answer_page(alloc, sink, shelf, page, ask.is_head, end)
         }
         Err(TargetFault::Refused(refusal)) => {
             let end = end_refused(turn, ask.close, refusal);

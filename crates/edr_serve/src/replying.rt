@@ -18,7 +18,7 @@ use edr_describe::{DescribeFault, describe};
 use edr_edition::{Edition, Store};
 use edr_http::{send_body, write_head, write_refusal};
 use edr_query::{Page, Query};
-use edr_select::{Plan, PlanFault, plan};
+use edr_select::{Plan, PlanFault, plan_of};
 use std::alloc::Global;
 
 // Writes the reply that has a text of JSON.
@@ -75,16 +75,16 @@ fn reply_description<K: Sink>(
 fn send_data<K: Sink>(
     alloc: Global,
     sink: &mut K,
-    query: &Query,
     plan: &Plan,
     edition: &Edition,
 ) -> Result<Reads, SendFault>
-    requires { IsPlanFor edition.now query.now plan.now }
-    ensures bytes { Writes result (chunked (unwrap_or (data_text edition.now query.now) [])) (K.written sink.old) (K.written sink.new) }
-    ensures reads { IfOk result (λ reads. reads ≡ chunks_needed edition.now query.now) }
+    requires { IsPlanFor edition.now plan.now.query plan.now }
+    ensures bytes { Writes result (chunked (unwrap_or (data_text edition.now plan.now.query) [])) (K.written sink.old) (K.written sink.new) }
+    ensures reads { IfOk result (λ reads. reads ≡ chunks_needed edition.now plan.now.query) }
     ensures lent { SinkLent (K.beside sink.old) (K.beside sink.new) (K.faults sink.old) (K.faults sink.new) }
     ensures cause { IsErrOf result SendFault.WriteFault → Rose (K.faults sink.old) (K.faults sink.new) }
 {
+    let query = plan.query();
     let collection = query.collection.bytes();
     let mut store = Store::of(alloc, edition, collection, instance_named(query));
     match send_in_chunks(alloc, plan, &mut store, sink) {
@@ -93,21 +93,20 @@ fn send_data<K: Sink>(
     }
 }
 
-// Writes the reply to a query that is planned.
+// Writes the reply to the query of a plan.
 #[tactic(auto, using(crate::proofs::ReplyTexts::planned_whole, crate::proofs::ReplyTexts::planned_headed, crate::proofs::ReplyTexts::planned_broke, crate::proofs::ReplyTexts::planned_chunks, crate::proofs::ReplyTexts::headed_chunks))]
 fn reply_planned<K: Sink>(
     alloc: Global,
     sink: &mut K,
-    query: &Query,
     plan: &Plan,
     edition: &Edition,
     number: Option<u64>,
     is_head: bool,
     close: bool,
 ) -> Result<Reads, SendFault>
-    requires { IsPlanFor edition.now query.now plan.now }
-    ensures bytes { Writes result (reply_text (body_from edition.now (Ask query.now)) number is_head close) (K.written sink.old) (K.written sink.new) }
-    ensures reads { IfOk result (λ reads. reads ≡ chunks_from edition.now (Ask query.now) is_head) }
+    requires { IsPlanFor edition.now plan.now.query plan.now }
+    ensures bytes { Writes result (reply_text (body_from edition.now (Ask plan.now.query)) number is_head close) (K.written sink.old) (K.written sink.new) }
+    ensures reads { IfOk result (λ reads. reads ≡ chunks_from edition.now (Ask plan.now.query) is_head) }
     ensures lent { SinkLent (K.beside sink.old) (K.beside sink.new) (K.faults sink.old) (K.faults sink.new) }
     ensures cause { IsErrOf result SendFault.WriteFault → Rose (K.faults sink.old) (K.faults sink.new) }
 {
@@ -116,7 +115,7 @@ fn reply_planned<K: Sink>(
             if is_head {
                 return Ok(Reads::new(alloc));
             }
-            send_data(alloc, sink, query, plan, edition)
+            send_data(alloc, sink, plan, edition)
         }
         Err(fault) => Err(fault),
     }
@@ -147,19 +146,19 @@ fn reply_refused<K: Sink>(
 fn reply_query<K: Sink>(
     alloc: Global,
     sink: &mut K,
-    query: &Query,
+    query: Query,
     edition: &Edition,
     number: Option<u64>,
     is_head: bool,
     close: bool,
 ) -> Result<Reads, SendFault>
-    ensures bytes { Writes result (reply_text (body_from edition.now (Ask query.now)) number is_head close) (K.written sink.old) (K.written sink.new) }
-    ensures reads { IfOk result (λ reads. reads ≡ chunks_from edition.now (Ask query.now) is_head) }
+    ensures bytes { Writes result (reply_text (body_from edition.now (Ask query)) number is_head close) (K.written sink.old) (K.written sink.new) }
+    ensures reads { IfOk result (λ reads. reads ≡ chunks_from edition.now (Ask query) is_head) }
     ensures lent { SinkLent (K.beside sink.old) (K.beside sink.new) (K.faults sink.old) (K.faults sink.new) }
     ensures cause { IsErrOf result SendFault.WriteFault → Rose (K.faults sink.old) (K.faults sink.new) }
 {
-    match plan(alloc, query, edition) {
-        Ok(plan) => reply_planned(alloc, sink, query, &plan, edition, number, is_head, close),
+    match plan_of(alloc, query, edition) {
+        Ok(plan) => reply_planned(alloc, sink, &plan, edition, number, is_head, close),
         Err(PlanFault::Refused(refusal)) => {
             reply_refused(alloc, sink, refusal, number, is_head, close)
         }
@@ -167,27 +166,46 @@ fn reply_query<K: Sink>(
     }
 }
 
-/// Writes the reply to a page from an edition, and says which chunks were opened for it.
+// Writes the reply to a page that describes, for which no chunk is opened.
 #[tactic(auto, using(crate::proofs::ReplyTexts::described_chunks))]
-pub(crate) fn reply_page<K: Sink>(
+fn reply_unopened<K: Sink>(
     alloc: Global,
     sink: &mut K,
     page: &Page,
     edition: &Edition,
+    number: Option<u64>,
     is_head: bool,
     close: bool,
 ) -> Result<Reads, SendFault>
-    ensures bytes { Writes result (reply_text (body_from edition.now page.now) (Some edition.now.number) is_head close) (K.written sink.old) (K.written sink.new) }
+    requires { IsDescription page.now }
+    ensures bytes { Writes result (reply_text (body_from edition.now page.now) number is_head close) (K.written sink.old) (K.written sink.new) }
     ensures reads { IfOk result (λ reads. reads ≡ chunks_from edition.now page.now is_head) }
+    ensures lent { SinkLent (K.beside sink.old) (K.beside sink.new) (K.faults sink.old) (K.faults sink.new) }
+    ensures cause { IsErrOf result SendFault.WriteFault → Rose (K.faults sink.old) (K.faults sink.new) }
+{
+    match reply_description(alloc, sink, page, edition, number, is_head, close) {
+        Ok(()) => Ok(Reads::new(alloc)),
+        Err(fault) => Err(fault),
+    }
+}
+
+/// Writes the reply to a page from an edition, and says which chunks were opened for it.
+pub(crate) fn reply_page<K: Sink>(
+    alloc: Global,
+    sink: &mut K,
+    page: Page,
+    edition: &Edition,
+    is_head: bool,
+    close: bool,
+) -> Result<Reads, SendFault>
+    ensures bytes { Writes result (reply_text (body_from edition.now page) (Some edition.now.number) is_head close) (K.written sink.old) (K.written sink.new) }
+    ensures reads { IfOk result (λ reads. reads ≡ chunks_from edition.now page is_head) }
     ensures lent { SinkLent (K.beside sink.old) (K.beside sink.new) (K.faults sink.old) (K.faults sink.new) }
     ensures cause { IsErrOf result SendFault.WriteFault → Rose (K.faults sink.old) (K.faults sink.new) }
 {
     let number = Some(edition.number());
     match page {
         Page::Ask(query) => reply_query(alloc, sink, query, edition, number, is_head, close),
-        _ => match reply_description(alloc, sink, page, edition, number, is_head, close) {
-            Ok(()) => Ok(Reads::new(alloc)),
-            Err(fault) => Err(fault),
-        },
+        page => reply_unopened(alloc, sink, &page, edition, number, is_head, close),
     }
 }

@@ -4,7 +4,7 @@ use Rattle.edr_chunk.specs.Grids as chunk
 use Rattle.edr_select.specs.Steps.{planned_in}
 use Rattle.edr_select.proofs.PlanForms.{small}
 use Rattle.edr_select.proofs.PlanChoices.{choice_alone, choice_inside, choice_axes, too_large, listing_valid, plan_made}
-use Rattle.edr_select.proofs.position_plans.plan_points.Goals as goal
+use Rattle.edr_select.proofs.position_plans.listing_of.Goals as goal
 
 pub form_of-form-requires : goal.form_of-form-requires
 form_of-form-requires c =
@@ -26,8 +26,8 @@ pub coverages_of-requires-clause-axes : goal.coverages_of-requires-clause-axes
 coverages_of-requires-clause-axes c =
     choice_axes c.args.collection.now c.args.query.now c.args.instance.now c.requires.asked c.in_ok-choice.choice c.in_ok-choice.ensures.choice
 
-pub invariant_of-listing : goal.invariant_of-listing
-invariant_of-listing c =
+pub invariant_of-result : goal.invariant_of-result
+invariant_of-result c =
     let shape : c.shape.result ≡ c.args.instance.now.grid.shape = c.shape.ensures.same ∙ ap (λ (grid : chunk.Values). grid.shape) c.grid.ensures in
     let parameters : c.of.result ≡ c.in_ok-choice.choice.parameters = search rules in
     let coverages : c.of-2.result ≡ planned_in c.args.collection.now.referencing c.args.instance.now c.in_ok-choice.choice c.form_of-form.result =
@@ -51,6 +51,5 @@ returns-clause-planned c =
     ∙ ap (λ (r : Referencing). planned_in r c.args.instance.now c.in_ok-choice.choice c.form_of-form.result) c.referencing-referencing.ensures.referencing) in
     plan_made c.args.collection.now c.args.query.now c.args.instance.now c.requires.asked c.in_ok-choice.choice c.in_ok-choice.ensures.choice c.args.geometry.now c.requires.shape
     c.form_of-form.result c.form_of-form.ensures (sym c.is_too_large.ensures ∙ c.if-is_too_large.false)
-    c.in_ok-copy.copy c.in_ok-copy.ensures.same
     (record { shape = c.shape.result; parameters = c.of.result; many = c.is_many.result; coverages = c.of-2.result })
     shape parameters c.is_many.ensures coverages
