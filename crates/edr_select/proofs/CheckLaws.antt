@@ -1,11 +1,11 @@
 -- The refusals of a query from step to step.
-use Rattle.std.proofs.Common.{◌≡◌, ℕ, false, List, [], Option, Some, None, refl, ap, ◌∙◌}
+use Rattle.std.proofs.Common.{◌≡◌, false, Option, Some, None, refl, ap, ◌∙◌}
 use Rattle.std.specs.Prelude.{cond}
 use Rattle.std.specs.List.{find}
 use Rattle.edr_base.specs.declared.refusals.Refusal.{Refusal}
-use Rattle.edr_base.specs.declared.refusals.Refusal.TheVariants.{UnknownCollection, UnknownInstance, UnknownLocation}
+use Rattle.edr_base.specs.declared.refusals.Refusal.TheVariants.{UnknownCollection, UnknownInstance}
 use Rattle.edr_ids.specs.Ids.{item_of}
-use Rattle.edr_edition.specs.declared.kinds.Kind.TheVariants.{Grid, Station}
+use Rattle.edr_edition.specs.declared.kinds.Kind.TheVariants.{Grid}
 use Rattle.edr_edition.specs.Values.{InstanceValue, CollectionValue, EditionValue, collection_id}
 use Rattle.edr_edition.specs.Stores.{Subject, instance_named, subject_in, subject_of}
 use Rattle.edr_query.specs.declared.pages.Page.TheVariants.{Ask}

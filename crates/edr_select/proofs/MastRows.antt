@@ -19,7 +19,7 @@ use Rattle.edr_station.specs.Blocks.{blocks_of}
 use Rattle.edr_select.specs.Selections.{needed}
 use Rattle.edr_select.specs.Documents.{document}
 use Rattle.edr_select.specs.Checks.{refused_query}
-use Rattle.edr_select.proofs.RowData.{has, t0, t1, hour, at_level, at_both, spot, temp, space, sites, among, ask_sites, only, coverage}
+use Rattle.edr_select.proofs.RowData.{has, t0, t1, hour, at_level, at_both, spot, space, sites, among, ask_sites, only, coverage}
 
 -- two times and two levels; the last time lacks the lower one
 abbrev mast : StationValue

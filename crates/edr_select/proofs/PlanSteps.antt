@@ -9,13 +9,12 @@ use Rattle.edr_base.specs.declared.refusals.Refusal.TheVariants.{UnknownParamete
 use Rattle.covjson_value.specs.declared.coverages.Parameter.{Parameter}
 use Rattle.covjson_value.specs.Coverages.{ids_of}
 use Rattle.edr_ids.specs.Ids.{order, has_id, item_of}
-use Rattle.edr_edition.specs.declared.kinds.Kind.{Kind}
 use Rattle.edr_edition.specs.declared.kinds.Kind.TheVariants.{Grid}
 use Rattle.edr_edition.specs.Values.{InstanceValue, CollectionValue, instance_id}
 use Rattle.edr_edition.specs.Stores.{Subject, instance_named, newest, greater, subject_in}
 use Rattle.edr_query.specs.Values.{QueryValue}
 use Rattle.edr_select.specs.Limits.{value_limit, coverage_limit}
-use Rattle.edr_select.specs.Refusals.{applies_if, applies_to_query, applies_to_subject, names_other, crs_is_other, ids_in}
+use Rattle.edr_select.specs.Refusals.{applies_if, applies_to_query, applies_to_subject, names_other, crs_is_other}
 use Rattle.edr_select.specs.Selections.{picked}
 use Rattle.edr_select.specs.Heads.{is_some_stored}
 use Rattle.edr_select.specs.Documents.{document, coverages_in, values_in}

@@ -14,7 +14,7 @@ use Rattle.edr_query.specs.declared.shapes.Shape.TheVariants as shape
 use Rattle.edr_select.specs.Selections.{needed}
 use Rattle.edr_select.specs.Documents.{document}
 use Rattle.edr_select.specs.Checks.{refused_query}
-use Rattle.edr_select.proofs.RowData.{has, t0, t1, at, at_time, spot, point, line, polygon, temp, plane, sites, among, ask_sites, only, coverage}
+use Rattle.edr_select.proofs.RowData.{has, t0, t1, at, at_time, spot, point, line, polygon, plane, sites, among, ask_sites, only, coverage}
 
 -- A at 0, 0 has two times, B at 100, 0 has the second one alone
 abbrev alpha : StationValue
