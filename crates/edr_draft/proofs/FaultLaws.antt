@@ -1,6 +1,5 @@
 -- The first fault of a coverage that is set in a collection.
-use Rattle.std.proofs.Common.{◌≡◌, ◌≢◌, ◌⊎◌, inl, inr, ℕ, ◌<◌, ◌≤◌, Bool, true, false, List, [], Option, Some, None, MatchOption, Result, Ok, Err, IsTrue, refl, sym, subst, arith}
-use denote.Ref.{Bor}
+use Rattle.std.proofs.Common.{◌≡◌, ◌≢◌, ◌⊎◌, inl, inr, ℕ, ◌<◌, ◌≤◌, true, false, List, [], Some, Result, Ok, Err, refl, subst, arith}
 use Rattle.std.proofs.lemmas.Bool.{cases_Bool, cases_lt}
 use Rattle.covjson_value.specs.declared.domains.CoordinateName.TheVariants.{T}
 use Rattle.covjson_value.specs.declared.coverages.Coverage.{Coverage}

@@ -1,5 +1,5 @@
 -- The first fault of a change, by the collection that it is about.
-use Rattle.std.proofs.Common.{◌≡◌, ◌≢◌, ◌⊎◌, inl, inr, ℕ, ◌<◌, is_some, List, Option, Some, None, IsSome, IsNone, refl, sym, ap, subst, arith}
+use Rattle.std.proofs.Common.{◌≡◌, ◌≢◌, inl, inr, ℕ, ◌<◌, is_some, List, Option, Some, None, IsSome, IsNone, refl, sym, ap, subst, arith}
 use Rattle.std.proofs.lemmas.Bool.{cases_Bool}
 use Rattle.covjson_value.specs.declared.coverages.Coverage.{Coverage}
 use Rattle.edr_base.specs.FirstThatApplies.{IsLeast, NoneApplies}

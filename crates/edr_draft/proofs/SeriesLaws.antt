@@ -1,12 +1,11 @@
 -- What the series of one place is as a station.
-use Rattle.std.proofs.Common.{◌≡◌, ◌≢◌, ◌⊎◌, inl, inr, ℕ, zero, suc, ◌+◌, ◌*◌, ◌≤◌, ℤ, Bool, true, false, ◌==◌, ◌&&◌, is_some, List, [], ◌∷◌, length, map, All, Any, Contains, Option, Some, None, IfSome, IsSome, IsNone, IsTrue, MatchOption, ◌↔◌, IsUtf8, refl, sym, ap, ◌∙◌, subst, arith}
+use Rattle.std.proofs.Common.{◌≡◌, ◌≢◌, ◌⊎◌, inl, inr, ℕ, suc, ◌*◌, ◌≤◌, ℤ, Bool, true, false, ◌==◌, ◌&&◌, is_some, List, [], ◌∷◌, length, All, Any, Contains, Option, Some, None, IfSome, IsSome, IsNone, IsTrue, MatchOption, ◌↔◌, IsUtf8, refl, sym, ap, ◌∙◌, subst, arith}
 use denote.Ref.{Bor}
-use Rattle.std.proofs.lemmas.Bool.{and_parts, eqb-true, cases_Bool}
+use Rattle.std.proofs.lemmas.Bool.{and_parts, eqb-true}
 use Rattle.std.proofs.lemmas.List.{length-map}
 use Rattle.std.proofs.lemmas.List.Elements.{All-nil, All-cons, All-map, All-weaker}
 use Rattle.edr_base.specs.Limits.{node_limit}
 use Rattle.edr_base.specs.Names.{IsName}
-use Rattle.edr_axes.specs.Axes.{value_at}
 use Rattle.edr_axes.specs.Instants.{IsTime}
 use Rattle.covjson_value.specs.declared.domains.CoordinateName.{CoordinateName}
 use Rattle.covjson_value.specs.declared.domains.CoordinateName.TheVariants.{T, Z, Y, X}

@@ -4,7 +4,7 @@ use Rattle.edr_station.specs.Stations.{station_id}
 use Rattle.edr_edition.specs.declared.kinds.Kind.TheVariants.{Station}
 use Rattle.edr_draft.specs.Changes.{as_station}
 use Rattle.edr_draft.proofs.KindLaws.{kind_is}
-use Rattle.edr_draft.proofs.FaultLaws.{first_beside, levels_first, none_first}
+use Rattle.edr_draft.proofs.FaultLaws.{levels_first, none_first}
 use Rattle.edr_draft.proofs.SeriesLaws.{found_others, others_found, found_differs, found_alike, alike_without}
 use Rattle.edr_draft.proofs.checks.check_series.Goals as goal
 

@@ -1,10 +1,8 @@
-use Rattle.std.proofs.Common.{Some, subst}
+use Rattle.std.proofs.Common.{subst}
 use Rattle.edr_edition.specs.Editions.{IsCollection}
-use Rattle.edr_draft.specs.Changes.{as_station, AppliesToSet}
-use Rattle.edr_draft.specs.Steps.{Finds}
+use Rattle.edr_draft.specs.Changes.{as_station}
 use Rattle.edr_draft.proofs.FaultLaws.{fits}
 use Rattle.edr_draft.proofs.SeriesLaws.{fits_input, fits_counts, fits_few, fits_same, fits_alike}
-use Rattle.edr_draft.proofs.StepLaws.{still_finds}
 use Rattle.edr_draft.proofs.steps.set_series.Goals as goal
 
 pub input_of-requires-clause-place : goal.input_of-requires-clause-place

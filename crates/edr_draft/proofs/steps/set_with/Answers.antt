@@ -1,6 +1,4 @@
-use Rattle.std.proofs.Common.{Some, subst, sym, ap}
-use Rattle.edr_edition.specs.Values.{InstanceValue}
-use Rattle.edr_edition.specs.Instances.{instance_of}
+use Rattle.std.proofs.Common.{Some, subst}
 use Rattle.edr_edition.specs.Editions.{IsCollection}
 use Rattle.edr_draft.specs.Changes.{as_instance, AppliesToSet}
 use Rattle.edr_draft.specs.Steps.{Finds}

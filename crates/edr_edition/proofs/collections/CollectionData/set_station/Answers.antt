@@ -1,7 +1,7 @@
-use Rattle.std.proofs.Common.{◌≡◌, List, [], sym, ap, ◌∙◌, subst}
+use Rattle.std.proofs.Common.{◌≡◌, List, sym, ap, ◌∙◌, subst}
 use Rattle.std.specs.Arc.{arc_value}
 use Rattle.edr_ids.specs.Ids.{with_item}
-use Rattle.edr_station.specs.Stations.{IsStation, station_id}
+use Rattle.edr_station.specs.Stations.{station_id}
 use Rattle.edr_station.specs.Inputs.{station_of}
 use Rattle.edr_edition.specs.Values.{InstanceValue}
 use Rattle.edr_edition.specs.Editions.{IsCollection}

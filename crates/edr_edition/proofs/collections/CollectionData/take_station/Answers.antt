@@ -1,7 +1,7 @@
-use Rattle.std.proofs.Common.{◌≡◌, List, [], length, sym, ap, ◌∙◌, subst}
+use Rattle.std.proofs.Common.{List, length, sym, ap, ◌∙◌, subst}
 use Rattle.edr_ids.specs.Ids.{without_id}
 use Rattle.edr_station.specs.Stations.{StationValue, StationsValue, station_id}
-use Rattle.edr_edition.specs.Values.{CollectionValue, InstanceValue}
+use Rattle.edr_edition.specs.Values.{InstanceValue}
 use Rattle.edr_edition.specs.Editions.{IsCollection}
 use Rattle.edr_edition.specs.Collections.{holding, parameters_in}
 use Rattle.edr_edition.specs.CollectionLaws.{take_station_keeps}
