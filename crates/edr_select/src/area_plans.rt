@@ -16,7 +16,7 @@ use edr_edition::{CollectionData, GridInstance};
 use edr_query::Query;
 use std::alloc::Global;
 
-// The frame that the reply to a query of a disc, of polygons or of a box is read from, or the first refusal that applies from that of names on.
+// The frame that the reply to such a query is read from, or the first refusal that applies from that of names on.
 pub(crate) fn framing_of(
     alloc: Global,
     query: &Query,

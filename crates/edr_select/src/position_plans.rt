@@ -17,7 +17,7 @@ use edr_query::Query;
 use edr_wkt::Geometry;
 use std::alloc::Global;
 
-// The list that the reply to a position that is asked of an instance is read from, or the first refusal that applies from that of names on.
+// The list that the reply to a position is read from, or the first refusal that applies from that of names on.
 pub(crate) fn listing_of(
     alloc: Global,
     query: &Query,
