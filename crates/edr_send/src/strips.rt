@@ -1,5 +1,5 @@
 //! Strips: the values of the rows of a frame in one row of tiles, which are read tile by tile.
-ghost use Rattle.std.specs.Prelude.{◌≡◌, ◌≢◌, ◌<◌, ◌≤◌, ◌+◌, ◌-◌, ◌*◌, ◌/◌, ◌++◌, ◌⊎◌, ℕ, None, if◌then◌else◌, length, map, slice_index_or, OnOk, OnErr};
+ghost use Rattle.std.specs.Prelude.{◌≡◌, ◌≢◌, ◌<◌, ◌≤◌, ◌+◌, ◌-◌, ◌*◌, ◌/◌, ◌++◌, ◌⊎◌, ℕ, None, if◌then◌else◌, length, map, slice_index_or, OnOk, OnErr, IsTrue, true};
 ghost use Rattle.std.specs.List.{list_any, range_with_len};
 ghost use Rattle.edr_chunk.specs.Tiles.{LiesIn, value_in, tiles};
 ghost use Rattle.edr_select.specs.Samples.{ascending_once};
@@ -59,9 +59,26 @@ fn has_taken(frame: &Frame, from: u32, to: u32, left: u32, right: u32) -> bool
     false
 }
 
-// Puts the values of a tile at the nodes of a row that are taken, from one column up to another. The value of the frame's
-// first column stands at a place of the values.
-fn fill_row(
+// Whether each node of a row is taken, from one column up to another.
+fn row_is_taken(frame: &Frame, y: u32, left: u32, right: u32) -> bool
+    requires mask { HasMask frame.now }
+    requires low { frame.now.row ≤ y }
+    requires high { y < frame.now.row + frame.now.rows }
+    requires columns { HasColumns frame.now left right }
+    ensures { IsTrue result → (x : ℕ) → left ≤ x → x < right → is_set frame.now y x ≡ true }
+{
+    let bits = frame.mask.items();
+    let start = row_start(frame, y);
+    for x in left..right {
+        if !bits[start + (x - frame.left) as usize] {
+            return false;
+        }
+    }
+    true
+}
+
+// Puts the values of a tile at the nodes of a row that are taken, one by one.
+fn fill_taken(
     tile: &Tile,
     frame: &Frame,
     y: u32,
@@ -90,6 +107,37 @@ fn fill_row(
         if bits[start + (x - frame.left) as usize] {
             values[first + (x - frame.column) as usize] = samples[(x - left) as usize];
         }
+    }
+}
+
+// Puts the values of a tile at the nodes of a row that are taken, from one column up to another. The value of the frame's
+// first column stands at a place of the values.
+fn fill_row(
+    tile: &Tile,
+    frame: &Frame,
+    y: u32,
+    left: u32,
+    right: u32,
+    first: usize,
+    values: &mut [Option<i64>],
+)
+    requires mask { HasMask frame.now }
+    requires low { frame.now.row ≤ y }
+    requires high { y < frame.now.row + frame.now.rows }
+    requires columns { HasColumns frame.now left right }
+    requires narrow { right ≤ left + 64 }
+    requires inside { first + frame.now.columns ≤ length values.old }
+    requires lies { (x : ℕ) → left ≤ x → x < right → LiesIn tile.now y x }
+    ensures long { length values.new ≡ length values.old }
+    ensures here { (x : ℕ) → left ≤ x → x < right → slice_index_or values.new (first + (x - frame.now.column)) None ≡ (if is_set frame.now y x then value_in tile.now y x else slice_index_or values.old (first + (x - frame.now.column)) None) }
+    ensures before { (k : ℕ) → k + frame.now.column < first + left → slice_index_or values.new k None ≡ slice_index_or values.old k None }
+    ensures behind { (k : ℕ) → first + right ≤ k + frame.now.column → slice_index_or values.new k None ≡ slice_index_or values.old k None }
+{
+    if row_is_taken(frame, y, left, right) {
+        let place = first + (left - frame.column) as usize;
+        tile.copy_row(y, left, &mut values[place..place + (right - left) as usize]);
+    } else {
+        fill_taken(tile, frame, y, left, right, first, values);
     }
 }
 
