@@ -132,13 +132,15 @@ def _grid(inner: dict) -> SetGrid:
 
 
 def _station(inner: dict) -> SetStation:
+    if not built.STATIONS_ARE_READ:
+        raise NotFeedLine
     _has_members(inner, "collection id label coverage")
     collection, id_, label = _name(inner["collection"]), _name(inner["id"]), _text(inner["label"])
     return SetStation(collection, id_, label, read_coverage(inner["coverage"]))
 
 
 def _drop(inner: dict) -> DropCollection | DropInstance | DropStation:
-    if "station" in inner:
+    if "station" in inner and built.STATIONS_ARE_READ:
         _has_members(inner, "collection station")
         return DropStation(_name(inner["collection"]), _name(inner["station"]))
     _has_members(inner, "collection", "instance")

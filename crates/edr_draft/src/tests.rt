@@ -1,11 +1,8 @@
 //! A draft from its first change to its second edition. The faults of changes are tested by the lines of feeds.
-ghost use Rattle.std.specs.Prelude.{IfOk};
-ghost use Rattle.edr_base.specs.Names.{IsName};
-
 use crate::{Change, Draft, drafts_cross_threads};
 use covjson_value::{Coverage, Domain, NdArray, Parameter, Referencing};
 use edr_axes::{Axis, AxisFault};
-use edr_base::{Items, OutOfMemory, Text, is_name};
+use edr_base::{Items, OutOfMemory, Text};
 use edr_chunk::Reads;
 use edr_edition::{Edition, GridInstance, Kind, Store, editions_cross_threads};
 use std::alloc::Global;
@@ -120,105 +117,6 @@ fn opened(alloc: Global, edition: &Edition) -> Result<Reads, OutOfMemory> {
     Ok(store.into_reads())
 }
 
-// The series of one place at two times.
-fn series(alloc: Global, numbers: &str) -> Result<Coverage, OutOfMemory> {
-    Ok(Coverage {
-        id: None,
-        domain: Domain::PointSeries {
-            t: Axis::of(alloc, &[0, 3600]).or(Err(OutOfMemory))?,
-            z: None,
-            y: 7,
-            x: 5,
-        },
-        referencing: Referencing {
-            crs: Text::of(alloc, b"")?,
-            vertical: None,
-        },
-        parameters: parameters(alloc, b"Temperature")?,
-        ranges: ranges(alloc, numbers)?,
-    })
-}
-
-fn name(alloc: Global, text: &str) -> Result<Text, OutOfMemory>
-    ensures { IfOk result IsName }
-{
-    if !is_name(text.as_bytes()) {
-        return Err(OutOfMemory);
-    }
-    Text::of(alloc, text.as_bytes())
-}
-
-// A draft of one collection of stations, which has none.
-fn draft_of_stations(alloc: Global) -> Result<Draft, OutOfMemory> {
-    let mut draft = Draft::empty(alloc);
-    let change = Change::Collection {
-        id: name(alloc, "sites")?,
-        kind: Kind::Station,
-        title: name(alloc, "sites")?,
-        crs: name(alloc, "local")?,
-        vertical: None,
-    };
-    draft.apply(change).or(Err(OutOfMemory))?;
-    Ok(draft)
-}
-
-// Sets a station of these numbers, and says whether it could.
-fn is_station_set(
-    alloc: Global,
-    draft: &mut Draft,
-    id: &str,
-    numbers: &str,
-) -> Result<bool, OutOfMemory> {
-    let coverage = series(alloc, numbers)?;
-    if !coverage.is_valid() {
-        return Ok(false);
-    }
-    let change = Change::Station {
-        collection: name(alloc, "sites")?,
-        id: name(alloc, id)?,
-        label: name(alloc, id)?,
-        coverage,
-    };
-    Ok(draft.apply(change).is_ok())
-}
-
-fn is_station_dropped(alloc: Global, draft: &mut Draft, id: &str) -> Result<bool, OutOfMemory> {
-    let change = Change::DropStation(name(alloc, "sites")?, name(alloc, id)?);
-    Ok(draft.apply(change).is_ok())
-}
-
-// How many stations an edition has, and the sum of the samples of the first one.
-fn count_and_sum(alloc: Global, edition: &Edition) -> Result<(usize, i128), OutOfMemory> {
-    let Some(collection) = edition.collection(b"sites") else {
-        return Err(OutOfMemory);
-    };
-    let Some(stations) = collection.stations() else {
-        return Err(OutOfMemory);
-    };
-    if stations.len() == 0 {
-        return Ok((0, 0));
-    }
-    Ok((stations.len(), stations.station(0).tally(alloc)?.sum))
-}
-
-// Whether stations are set, replaced and dropped, one by one.
-fn stations_are_kept(alloc: Global) -> Result<bool, OutOfMemory> {
-    let mut draft = draft_of_stations(alloc)?;
-    let set = is_station_set(alloc, &mut draft, "b", "1 2")?
-        && is_station_set(alloc, &mut draft, "a", "3 -")?
-        && is_station_set(alloc, &mut draft, "a", "3 4")?;
-    let first = draft.finish(1);
-    let mut draft = Draft::from_edition(alloc, &first)?;
-    let dropped = is_station_dropped(alloc, &mut draft, "a")?
-        && !is_station_dropped(alloc, &mut draft, "a")?;
-    let second = draft.finish(2);
-    Ok(
-        set && dropped
-            && count_and_sum(alloc, &first)? == (2, 7)
-            && count_and_sum(alloc, &second)? == (1, 3),
-    )
-}
-
 fn is_shared_by_threads<T: Send + Sync + Drop>(_: &T) {}
 
 fn editions_are_shared_by_threads(edition: &Edition) {
@@ -238,12 +136,6 @@ fn editions_stay_and_are_counted(rt: HostRuntime) -> Result<(), OutOfMemory> {
     assert!(rt; stays(alloc, &first)?);
     assert!(rt; is_summed(&first));
     assert!(rt; opened(alloc, &first)?.numbers() == [0u64].as_slice());
-    Ok(())
-}
-
-#[test]
-fn stations_are_set_and_dropped(rt: HostRuntime) -> Result<(), OutOfMemory> {
-    assert!(rt; stations_are_kept(rt.alloc())?);
     Ok(())
 }
 

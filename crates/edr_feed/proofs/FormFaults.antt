@@ -29,10 +29,10 @@ collection_counts d vertical given counts outline =
     let same = same_given (codes "vertical") d adds.vertical vertical adds.parts.has_vertical given in
     not_both d (collection_members vertical) (subst (λ (v : Option (List ℕ)). has_members (collection_members v) d ≡ true) same adds.parts.counts) counts
 
--- the kind isn't that of grids
-pub no_kind : (d : Data) → ¬ (HasText (codes "kind") d (codes "grid")) → (kind : Kind) → ¬ (HasKind d kind)
-no_kind d grid Grids has = grid has.0
-no_kind d grid Stations has = (let grids = has.1 in cc)
+-- neither of the two words is the kind
+pub no_kind : (d : Data) → ¬ (HasText (codes "kind") d (codes "grid")) → ¬ (HasText (codes "kind") d (codes "station")) → (kind : Kind) → ¬ (HasKind d kind)
+no_kind d grid station Grids has = grid has
+no_kind d grid station Stations has = station has
 
 -- an instance or a station is dropped where there isn't one member
 drops_some : (d : Data) (entry : Entry) → has_members 1 d ≡ false → Drops d entry → DropsInstance d entry ⊎ DropsStation d entry

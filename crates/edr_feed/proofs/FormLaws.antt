@@ -32,7 +32,7 @@ same_kinds Stations Stations same = refl
 same_collections : (d : Data) (one other : Entry) → AddsCollection d one → AddsCollection d other → one ≡ other
 same_collections d one other p q =
     let ids = same_text (codes "id") d p.id q.id p.parts.has_id.0 q.parts.has_id.0 in
-    let kinds = same_kinds p.kind q.kind (same_text (codes "kind") d (kind_word p.kind) (kind_word q.kind) p.parts.has_kind.0 q.parts.has_kind.0) in
+    let kinds = same_kinds p.kind q.kind (same_text (codes "kind") d (kind_word p.kind) (kind_word q.kind) p.parts.has_kind q.parts.has_kind) in
     let titles = same_text (codes "title") d p.title q.title p.parts.has_title q.parts.has_title in
     let systems = same_text (codes "crs") d p.crs q.crs p.parts.has_crs q.parts.has_crs in
     let verticals = same_given (codes "vertical") d p.vertical q.vertical p.parts.has_vertical q.parts.has_vertical in

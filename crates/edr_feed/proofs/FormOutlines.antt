@@ -31,7 +31,7 @@ collection_parts id kind title crs None d is =
     let finds = object_finds these d refl is.members in
     record {
       has_id = (is_text (codes "id") d id finds.0, is.id_is_name);
-      has_kind = (is_text (codes "kind") d (kind_word kind) finds.1.0, is.grids);
+      has_kind = is_text (codes "kind") d (kind_word kind) finds.1.0;
       has_title = is_text (codes "title") d title finds.1.1.0;
       has_crs = is_text (codes "crs") d crs finds.1.1.1.0;
       has_vertical = object_lacks these d is.members (codes "vertical") refl;
@@ -42,7 +42,7 @@ collection_parts id kind title crs (Some vertical) d is =
     let finds = object_finds these d refl is.members in
     record {
       has_id = (is_text (codes "id") d id finds.0, is.id_is_name);
-      has_kind = (is_text (codes "kind") d (kind_word kind) finds.1.0, is.grids);
+      has_kind = is_text (codes "kind") d (kind_word kind) finds.1.0;
       has_title = is_text (codes "title") d title finds.1.1.0;
       has_crs = is_text (codes "crs") d crs finds.1.1.1.0;
       has_vertical = finds.1.1.1.1.0;
@@ -53,24 +53,22 @@ collection_parts id kind title crs (Some vertical) d is =
 pub collection_whole : (id : List ℕ) (kind : Kind) (title crs : List ℕ) (vertical : Option (List ℕ)) (d : Data) → CollectionParts d id kind title crs vertical
     → IsCollection id kind title crs vertical d
 collection_whole id kind title crs None d parts = record {
-  grids = parts.has_kind.1;
   id_is_name = parts.has_id.1;
   members = object_is ((codes "id", string id) ∷ (codes "kind", string (kind_word kind)) ∷ (codes "title", string title) ∷ (codes "crs", string crs) ∷ []) d refl parts.counts (
     text_is (codes "id") d id parts.has_id.0,
     (
-      text_is (codes "kind") d (kind_word kind) parts.has_kind.0,
+      text_is (codes "kind") d (kind_word kind) parts.has_kind,
       (text_is (codes "title") d title parts.has_title, (text_is (codes "crs") d crs parts.has_crs, tt)),
     ),
   );
 }
 collection_whole id kind title crs (Some vertical) d parts = record {
-  grids = parts.has_kind.1;
   id_is_name = parts.has_id.1;
   members = object_is ((codes "id", string id) ∷ (codes "kind", string (kind_word kind)) ∷ (codes "title", string title) ∷ (codes "crs", string crs) ∷ (codes "vertical", string vertical) ∷ [])
       d refl parts.counts (
         text_is (codes "id") d id parts.has_id.0,
         (
-          text_is (codes "kind") d (kind_word kind) parts.has_kind.0,
+          text_is (codes "kind") d (kind_word kind) parts.has_kind,
           (text_is (codes "title") d title parts.has_title, (text_is (codes "crs") d crs parts.has_crs, (parts.has_vertical, tt))),
         ),
       );

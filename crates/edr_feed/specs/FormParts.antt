@@ -13,7 +13,6 @@ use Rattle.edr_feed.specs.declared.faults.LineFault.TheVariants.{NotFeedLine, Co
 use Rattle.edr_feed.specs.declared.entries.Entry.{Entry}
 use Rattle.edr_feed.specs.declared.entries.Entry.TheVariants.{Change, Publish}
 use Rattle.edr_edition.specs.declared.kinds.Kind.{Kind}
-use Rattle.edr_edition.specs.declared.kinds.Kind.TheVariants.{Grid as Grids}
 use Rattle.edr_feed.specs.Forms.{HasForm, HasOutline, HoldsCoverage, kind_word}
 
 -- ---- members
@@ -45,9 +44,9 @@ HasName key d name = HasText key d name × IsName name
 abbrev pub HasTextIfGiven : List ℕ → Data → Option (List ℕ) → Type 0
 HasTextIfGiven key d text = get key d ≡ option_map string text
 
--- the kind of a collection, which is one of grids
+-- the kind of a collection
 abbrev pub HasKind : Data → Kind → Type 0
-HasKind d kind = HasText (codes "kind") d (kind_word kind) × (kind ≡ Grids)
+HasKind d kind = HasText (codes "kind") d (kind_word kind)
 
 -- how many members a collection has: one more where the reference system of z is given
 abbrev pub collection_members : Option (List ℕ) → ℕ

@@ -36,9 +36,8 @@ abbrev pub kind_word : Kind → List ℕ
 kind_word Grids = codes "grid"
 kind_word Stations = codes "station"
 
--- a new collection; those of stations aren't read until their data are answered
+-- a new collection of a kind
 pub record IsCollection (id : List ℕ) (kind : Kind) (title crs : List ℕ) (vertical : Option (List ℕ)) (d : Data) : Type 0 where
-  pub grids : kind ≡ Grids
   pub id_is_name : IsName id
   pub members : IsObjectOf ((codes "id", string id) ∷ (codes "kind", string (kind_word kind)) ∷ (codes "title", string title) ∷ (codes "crs", string crs) ∷ vertical_if vertical) d
 

@@ -80,12 +80,15 @@ fn text_if_given(alloc: Global, tree: &Value, key: &str) -> Result<Option<Text>,
     }
 }
 
-// What a collection has: grids; those of stations aren't read until their data are answered.
+// What a collection has.
 fn kind_in(tree: &Value) -> Result<Kind, LineFault>
     ensures { Finds (HasKind (view tree.now)) result }
 {
     if has_text(tree, "kind", "grid") {
         return Ok(Kind::Grid);
+    }
+    if has_text(tree, "kind", "station") {
+        return Ok(Kind::Station);
     }
     Err(LineFault::NotFeedLine)
 }
@@ -97,7 +100,7 @@ fn collection_members(vertical: &Option<Text>) -> usize
     if vertical.is_some() { 5 } else { 4 }
 }
 
-// A new collection, of grids.
+// A new collection, of grids or of stations.
 fn collection_entry(alloc: Global, tree: &Value) -> Result<Entry, LineFault>
     ensures reads { ReadsEntry (line_of (codes "collection") (view tree.now)) result }
     ensures is { IfOk result IsEntry }

@@ -18,4 +18,6 @@ pub use refusals::FeedRefusal;
 pub use summaries::summary;
 
 #[cfg(test)]
+mod test_lines;
+#[cfg(test)]
 mod tests;

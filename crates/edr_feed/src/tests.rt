@@ -1,123 +1,14 @@
 //! Feeds line by line, each as a case of a table.
 ghost use Rattle.std.specs.Prelude.{◌≤◌};
 
-use crate::{Feed, FeedFault, read_feed};
+use crate::test_lines::{BYTES, FEEDS, LABELS, LINES, SUMMARIES};
+use crate::{Feed, FeedFault, read_feed, summary};
 use edr_base::MemorySource;
 use edr_draft::ChangeFault;
 use edr_edition::Edition;
 use std::alloc::{AllocError, Global};
 use std::fmt::Debug;
 use std::rt::HostRuntime;
-
-// One line and a place each; a feed names them.
-const LINES: &str =
-    r#"G {"domain":{"axes":{"t":{"values":["2024-01-01T00:00:00Z"]},"x":{"values":[0,100]},"y":{"values":[0]}},"domainType":"Grid","referencing":[{"coordinates":["x","y"],"system":{"id":"local","type":"ProjectedCRS"}}],"type":"Domain"},"parameters":{"temp":{"observedProperty":{"label":{"en":"Temperature"}},"type":"Parameter"}},"ranges":{"temp":{"axisNames":["t","y","x"],"dataType":"integer","shape":[1,1,2],"type":"NdArray","values":[10,null]}},"type":"Coverage"}
-H {"domain":{"axes":{"t":{"values":["2024-01-01T00:00:00Z"]},"x":{"values":[0,100]},"y":{"values":[0]}},"domainType":"Grid","referencing":[{"coordinates":["x","y"],"system":{"id":"local","type":"ProjectedCRS"}}],"type":"Domain"},"parameters":{"temp":{"observedProperty":{"label":{"en":"Heat"}},"type":"Parameter"}},"ranges":{"temp":{"axisNames":["t","y","x"],"dataType":"integer","shape":[1,1,2],"type":"NdArray","values":[10,null]}},"type":"Coverage"}
-P {"domain":{"axes":{"t":{"values":["2024-01-01T00:00:00Z"]},"x":{"values":[0]},"y":{"values":[0]}},"domainType":"Point","referencing":[{"coordinates":["x","y"],"system":{"id":"local","type":"ProjectedCRS"}}],"type":"Domain"},"parameters":{"temp":{"observedProperty":{"label":{"en":"Temperature"}},"type":"Parameter"}},"ranges":{"temp":{"dataType":"integer","type":"NdArray","values":[10]}},"type":"Coverage"}
-N {"domain":{"axes":{"x":{"values":[0,100]},"y":{"values":[0]}},"domainType":"Grid","referencing":[{"coordinates":["x","y"],"system":{"id":"local","type":"ProjectedCRS"}}],"type":"Domain"},"parameters":{"temp":{"observedProperty":{"label":{"en":"Temperature"}},"type":"Parameter"}},"ranges":{"temp":{"axisNames":["y","x"],"dataType":"integer","shape":[1,2],"type":"NdArray","values":[10,null]}},"type":"Coverage"}
-O {"domain":{"axes":{"t":{"values":["2024-01-01T00:00:00Z"]},"x":{"values":[0,100]},"y":{"values":[0]}},"domainType":"Grid","referencing":[{"coordinates":["x","y"],"system":{"id":"other","type":"ProjectedCRS"}}],"type":"Domain"},"parameters":{"temp":{"observedProperty":{"label":{"en":"Temperature"}},"type":"Parameter"}},"ranges":{"temp":{"axisNames":["t","y","x"],"dataType":"integer","shape":[1,1,2],"type":"NdArray","values":[10,null]}},"type":"Coverage"}
-U {"domain":{"axes":{"t":{"values":["2024-01-01T00:00:00Z"]},"x":{"values":[0,100]},"y":{"values":[0]}},"domainType":"Grid","referencing":[{"coordinates":["x","y"],"system":{"type":"ProjectedCRS"}}],"type":"Domain"},"parameters":{"temp":{"observedProperty":{"label":{"en":"Temperature"}},"type":"Parameter"}},"ranges":{"temp":{"axisNames":["t","y","x"],"dataType":"integer","shape":[1,1,2],"type":"NdArray","values":[10,null]}},"type":"Coverage"}
-wind {"domain":{"axes":{"t":{"values":["2024-01-01T00:00:00Z"]},"x":{"values":[0,100]},"y":{"values":[0]}},"domainType":"Grid","referencing":[{"coordinates":["x","y"],"system":{"id":"local","type":"ProjectedCRS"}}],"type":"Domain"},"parameters":{"temp":{"observedProperty":{"label":{"en":"Temperature"}},"type":"Parameter"},"wind":{"observedProperty":{"label":{"en":"Wind"}},"type":"Parameter"}},"ranges":{"temp":{"axisNames":["t","y","x"],"dataType":"integer","shape":[1,1,2],"type":"NdArray","values":[10,null]},"wind":{"axisNames":["t","y","x"],"dataType":"integer","shape":[1,1,2],"type":"NdArray","values":[1,2]}},"type":"Coverage"}
-baremore {"domain":{"axes":{"t":{"values":["2024-01-01T00:00:00Z"]},"x":{"values":[0,100]},"y":{"values":[0]}},"domainType":"Grid","referencing":[{"coordinates":["x","y"],"system":{"id":"local","type":"ProjectedCRS"}}],"type":"Domain"},"parameters":{"temp":{"observedProperty":{"label":{"en":"Temperature"}},"type":"Parameter"}},"ranges":{"temp":{"axisNames":["t","y","x"],"dataType":"integer","shape":[1,1,2],"type":"NdArray","values":[10,null]}},"type":"Coverage","publish":{}}
-publish {"publish":{}}
-collection {"collection":{"id":"a","kind":"grid","title":"A","crs":"local"}}
-vertical {"collection":{"id":"a","kind":"grid","title":"A","crs":"local","vertical":"height"}}
-drop {"drop":{"collection":"a"}}
-dropgrid {"drop":{"collection":"grid"}}
-dropinstance {"drop":{"collection":"grid","instance":"1"}}
-dropother {"drop":{"collection":"grid","instance":"2"}}
-dropofnone {"drop":{"collection":"none","instance":"1"}}
-blank  
-brace {
-list []
-number 1
-other {"a":1}
-two {"publish":{},"drop":{"collection":"a"}}
-published {"publish":{"now":true}}
-publishlist {"publish":[]}
-coverage {"type":"Coverage"}
-typeonly {"type":"Collection"}
-stationkind {"collection":{"id":"a","kind":"station","title":"A","crs":"local"}}
-station {"station":{"collection":"a","id":"s","label":"S","coverage":{}}}
-dropstation {"drop":{"collection":"a","station":"s"}}
-dropmore {"drop":{"collection":"a","instance":"1","more":1}}
-comma {"collection":{"id":"a,b","kind":"grid","title":"A","crs":"local"}}
-noname {"collection":{"id":"","kind":"grid","title":"A","crs":"local"}}
-notitle {"collection":{"id":"a","kind":"grid","crs":"local"}}
-titlenumber {"collection":{"id":"a","kind":"grid","title":1,"crs":"local"}}
-verticalnull {"collection":{"id":"a","kind":"grid","title":"A","crs":"local","vertical":null}}
-more {"collection":{"id":"a","kind":"grid","title":"A","crs":"local","more":1}}
-nocoverage {"grid":{"collection":"a","instance":"1"}}
-badcoverage {"grid":{"collection":"a","instance":"1","coverage":{"type":"Coverage"}}}
-numbercoverage {"grid":{"collection":"a","instance":"1","coverage":7}}
-equalkeys {"publish":{"now":true},"publish":{}}
-equalmembers {"drop":{"collection":"b","collection":"a"}}
-longname {"collection":{"id":"nnnnnnnnnnnnnnnnnnnnnnnnnnnnnnnnnnnnnnnnnnnnnnnnnnnnnnnnnnnnnnnnnnnnnnnnnnnnnnnnnnnnnnnnnnnnnnnnnnnnnnnnnnnnnnnnnnnnnnnnnnnnnnnn","kind":"grid","title":"A","crs":"local"}}
-longername {"collection":{"id":"nnnnnnnnnnnnnnnnnnnnnnnnnnnnnnnnnnnnnnnnnnnnnnnnnnnnnnnnnnnnnnnnnnnnnnnnnnnnnnnnnnnnnnnnnnnnnnnnnnnnnnnnnnnnnnnnnnnnnnnnnnnnnnnnn","kind":"grid","title":"A","crs":"local"}}
-gridmore {"grid":{"collection":"a","instance":"1","coverage":7,"more":1}}"#;
-
-// The lines of a feed, and what it is read as. `a=G` sets the grid G as the instance 1 of the collection a, `a/2=G` as its 2.
-const FEEDS: &str = "=> NothingPublished
-G => 1: grid
-G publish blank => 2: grid
-G blank publish => 2: grid
-baremore => 1: grid
-equalkeys => 1:
-collection equalmembers publish => 1:
-longname publish => 1: nnnnnnnnnnnnnnnnnnnnnnnnnnnnnnnnnnnnnnnnnnnnnnnnnnnnnnnnnnnnnnnnnnnnnnnnnnnnnnnnnnnnnnnnnnnnnnnnnnnnnnnnnnnnnnnnnnnnnnnnnnnnnnnn
-longername publish => NotFeedLine(1)
-G brace => NotJson(2)
-G H => 2: grid
-G grid/2=H => Change(2) ParametersDiffer temp
-G grid/2=wind => Change(2) ParametersDiffer wind
-G grid/2=G publish => 2: grid
-G grid/2=G dropinstance grid/2=wind publish => 2: grid
-G grid/2=G grid=H => Change(3) ParametersDiffer temp
-publish => 1:
-collection publish => 1: a
-collection G => 1: a grid
-vertical a=G publish => 1: a
-collection collection publish => Change(2) SameCollection
-collection drop publish => 1:
-drop publish => Change(1) UnknownCollection
-a=G publish => Change(1) UnknownCollection
-dropofnone => Change(1) UnknownCollection
-P => Change(1) WrongKind
-collection a=P => Change(2) WrongKind
-N => Change(1) NoTimes
-G O => Change(2) CrsDiffers
-G dropgrid O => 2: grid
-G U => 2: grid
-U G => Change(2) CrsDiffers
-G dropinstance publish => 2: grid
-G dropother => Change(2) UnknownInstance
-brace => NotJson(1)
-blank brace => NotJson(2)
-G brace H => NotJson(2)
-list => NotFeedLine(1)
-number => NotFeedLine(1)
-other => NotFeedLine(1)
-two => NotFeedLine(1)
-published => NotFeedLine(1)
-publishlist => NotFeedLine(1)
-typeonly => NotFeedLine(1)
-coverage => Cov(1) Missing(Domain)
-stationkind => NotFeedLine(1)
-station => Cov(1) Missing(Kind)
-dropstation => Change(1) UnknownCollection
-dropmore => NotFeedLine(1)
-comma => NotFeedLine(1)
-noname => NotFeedLine(1)
-notitle => NotFeedLine(1)
-titlenumber => NotFeedLine(1)
-verticalnull => NotFeedLine(1)
-more => NotFeedLine(1)
-nocoverage => NotFeedLine(1)
-badcoverage => Cov(1) Missing(Domain)
-numbercoverage => Cov(1) WrongType(Coverages)
-gridmore => NotFeedLine(1)
-collection => NothingPublished
-G collection => 1: grid";
 
 fn line_named(name: &str) -> Option<&'static str> {
     for line in LINES.lines() {
@@ -135,8 +26,13 @@ fn line_of(alloc: Global, word: &str) -> Option<String> {
     let Some((place, grid)) = word.split_once('=') else {
         return String::from_str(alloc, line_named(word)?).ok();
     };
-    let (collection, instance) = place.split_once('/').unwrap_or((place, "1"));
     let coverage = line_named(grid)?;
+    if let Some((collection, id)) = place.split_once('@') {
+        return format!(in alloc;
+            "{{\"station\":{{\"collection\":\"{collection}\",\"id\":\"{id}\",\"label\":\"S\",\"coverage\":{coverage}}}}}"
+        ).ok();
+    }
+    let (collection, instance) = place.split_once('/').unwrap_or((place, "1"));
     format!(in alloc;
         "{{\"grid\":{{\"collection\":\"{collection}\",\"instance\":\"{instance}\",\"coverage\":{coverage}}}}}"
     ).ok()
@@ -247,15 +143,6 @@ fn is_answered(alloc: Global, words: &str, answer: &str) -> bool {
     }
 }
 
-// The bytes of a feed, one after the other, and what it is read as.
-const BYTES: &str = "publish return feed => 1:
-return feed space tab return feed publish => 1:
-publish other => NotJson(1)
-mark publish => NotJson(1)
-publish publish => NotJson(1)
-null => NotJson(1)
-feed feed null => NotJson(3)";
-
 fn bytes_of(word: &str) -> Option<&'static [u8]> {
     match word {
         "return" => Some(b"\r"),
@@ -266,6 +153,59 @@ fn bytes_of(word: &str) -> Option<&'static [u8]> {
         "other" => Some(b"\xff"),
         "mark" => Some(b"\xef\xbb\xbf"),
         _ => Some(line_named(word)?.as_bytes()),
+    }
+}
+
+// The feed of words.
+fn read_words(alloc: Global, words: &str) -> Option<Feed> {
+    let feed = feed_of(alloc, words)?;
+    let bytes = Vec::from_slice(alloc, feed.as_bytes()).ok()?;
+    let mut source = MemorySource::of(bytes, 1_000_000, Vec::new(alloc));
+    read_feed(alloc, &mut source).ok()
+}
+
+// Whether that line, with a line feed, is the summary of a feed's last edition.
+fn has_summary(alloc: Global, feed: &Feed, answer: &str) -> bool {
+    match feed.editions.items().last() {
+        Some(last) => match summary(alloc, last) {
+            Ok(line) => line.bytes().strip_suffix(b"\n") == Some(answer.as_bytes()),
+            Err(_) => false,
+        },
+        None => false,
+    }
+}
+
+// The label of the first station of the first collection of an edition.
+fn first_label(edition: &Edition) -> Option<&[u8]> {
+    if edition.len() == 0 {
+        return None;
+    }
+    let stations = edition.collection_at(0).stations()?;
+    if stations.len() == 0 {
+        return None;
+    }
+    Some(stations.station(0).label())
+}
+
+// Whether that is the label of the first station of the first collection of a feed's last edition.
+fn has_label(feed: &Feed, answer: &str) -> bool {
+    match feed.editions.items().last() {
+        Some(last) => first_label(last) == Some(answer.as_bytes()),
+        None => false,
+    }
+}
+
+fn is_summed(alloc: Global, words: &str, answer: &str) -> bool {
+    match read_words(alloc, words) {
+        Some(feed) => has_summary(alloc, &feed, answer),
+        None => false,
+    }
+}
+
+fn is_labelled(alloc: Global, words: &str, answer: &str) -> bool {
+    match read_words(alloc, words) {
+        Some(feed) => has_label(&feed, answer),
+        None => false,
     }
 }
 
@@ -289,6 +229,8 @@ fn are_answered(alloc: Global, words: &str, answer: &str) -> bool {
 enum Table {
     Feeds,
     Bytes,
+    Summaries,
+    Labels,
 }
 
 // The first line of a table that isn't answered so; none is empty.
@@ -298,6 +240,8 @@ fn first_wrong(alloc: Global, table: Table, lines: &str) -> &str {
         let is_right = match table {
             Table::Feeds => is_answered(alloc, words, answer),
             Table::Bytes => are_answered(alloc, words.trim_end(), answer),
+            Table::Summaries => is_summed(alloc, words, answer),
+            Table::Labels => is_labelled(alloc, words, answer),
         };
         if !is_right {
             return line;
@@ -359,6 +303,13 @@ fn feeds_are_read_and_refused(rt: HostRuntime) {
     assert_eq!(rt; first_wrong(alloc, Table::Feeds, FEEDS), "");
     assert_eq!(rt; first_wrong(alloc, Table::Bytes, BYTES), "");
     assert!(rt; is_failing(alloc, "G", "ReadFault"));
+}
+
+#[test]
+fn editions_have_summaries(rt: HostRuntime) {
+    let alloc = rt.alloc();
+    assert_eq!(rt; first_wrong(alloc, Table::Summaries, SUMMARIES), "");
+    assert_eq!(rt; first_wrong(alloc, Table::Labels, LABELS), "");
 }
 
 #[test]
