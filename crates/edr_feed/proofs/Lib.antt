@@ -12,3 +12,6 @@ pub mod FeedLaws
 pub mod SummaryLemmas
 pub mod ReadFaults
 pub mod FeedBounds
+pub mod MadeLists
+pub mod MadeHeads
+pub mod MadeTexts

@@ -6,6 +6,10 @@ mod faults;
 mod feeds;
 mod forms;
 mod lines;
+mod made_heads;
+mod made_texts;
+mod made_values;
+mod making;
 mod reading;
 mod refusals;
 mod steps;
@@ -14,6 +18,7 @@ mod summaries;
 pub use faults::FeedFault;
 pub use feeds::{Feed, feeds_have_one_answer, read_feed};
 pub use forms::{trees_have_one_form, trees_hold_one_coverage};
+pub use making::make_feed;
 pub use refusals::FeedRefusal;
 pub use summaries::summary;
 

@@ -2,8 +2,8 @@
 ghost use Rattle.std.specs.Prelude.{◌≤◌};
 
 use crate::test_lines::{BYTES, FEEDS, LABELS, LINES, SUMMARIES};
-use crate::{Feed, FeedFault, read_feed, summary};
-use edr_base::MemorySource;
+use crate::{Feed, FeedFault, make_feed, read_feed, summary};
+use edr_base::{MemorySink, MemorySource};
 use edr_draft::ChangeFault;
 use edr_edition::Edition;
 use std::alloc::{AllocError, Global};
@@ -310,6 +310,29 @@ fn editions_have_summaries(rt: HostRuntime) {
     let alloc = rt.alloc();
     assert_eq!(rt; first_wrong(alloc, Table::Summaries, SUMMARIES), "");
     assert_eq!(rt; first_wrong(alloc, Table::Labels, LABELS), "");
+}
+
+// Whether the feed that is made of a number is read, and has that summary.
+fn is_made(alloc: Global, number: u64, answer: &str) -> bool {
+    let mut sink = MemorySink::of(alloc, 1_000, Vec::new(alloc));
+    if make_feed(alloc, number, &mut sink).is_err() {
+        return false;
+    }
+    let Ok(bytes) = Vec::from_slice(alloc, sink.written()) else {
+        return false;
+    };
+    let mut source = MemorySource::of(bytes, 100_000, Vec::new(alloc));
+    match read_feed(alloc, &mut source) {
+        Ok(feed) => has_summary(alloc, &feed, answer),
+        Err(_) => false,
+    }
+}
+
+#[test]
+fn made_feeds_are_read(rt: HostRuntime) {
+    let summary =
+        "edition 1: collections 2, instances 1, stations 40, samples 532000, present 492000, sum 2214000";
+    assert!(rt; is_made(rt.alloc(), 7, summary));
 }
 
 #[test]

@@ -1,0 +1,111 @@
+//! Coverages of one parameter, written round their values.
+ghost use Rattle.std.specs.Prelude.{◌≡◌, ◌*◌, true, false, length, IfOk, OnOk, IsErrOf};
+ghost use Rattle.edr_base.specs.Outside.{Rose};
+ghost use Rattle.edr_base.specs.Calls.{SinkLent, Writes};
+ghost use Rattle.covjson_value.specs.Domains.{count_of};
+ghost use Rattle.covjson_write.specs.declared.stages.Stage.TheVariants.{Open};
+ghost use Rattle.covjson_write.specs.Writers.{IsHead, started, with_coverage, with_range};
+ghost use Rattle.edr_feed.specs.Made.{grid_values};
+ghost use Rattle.edr_feed.specs.MadeParts.{opening, closing, around};
+
+use crate::made_values::write_rows;
+use covjson_value::Coverage;
+use covjson_write::Writer;
+use edr_base::{SendFault, Sink};
+use std::alloc::Global;
+
+// Writes a coverage as far as the values of its first range.
+fn begin_coverage<K: Sink>(
+    alloc: Global,
+    sink: &mut K,
+    head: &Coverage,
+) -> Result<Writer, SendFault>
+    requires head { IsHead head.now }
+    ensures writer { IfOk result (λ writer. writer ≡ with_range (with_coverage (started false) head.now)) }
+    ensures bytes { Writes result (opening head.now) (K.written sink.old) (K.written sink.new) }
+    ensures lent { SinkLent (K.beside sink.old) (K.beside sink.new) (K.faults sink.old) (K.faults sink.new) }
+    ensures cause { IsErrOf result SendFault.WriteFault → Rose (K.faults sink.old) (K.faults sink.new) }
+{
+    let mut writer = match Writer::begin(alloc, sink, false) {
+        Ok(writer) => writer,
+        Err(fault) => return Err(fault),
+    };
+    match writer.coverage(alloc, sink, head) {
+        Ok(()) => {}
+        Err(fault) => return Err(fault),
+    }
+    match writer.range_begin(alloc, sink, 0) {
+        Ok(()) => Ok(writer),
+        Err(fault) => Err(fault),
+    }
+}
+
+// Writes what stands behind the values of the one range.
+fn end_coverage<K: Sink>(writer: Writer, sink: &mut K) -> Result<(), SendFault>
+    requires open { writer.stage ≡ Open }
+    requires begun { writer.begun ≡ true }
+    requires none { writer.ranges ≡ 0 }
+    requires one { length writer.head.keys ≡ 1 }
+    requires alone { writer.many ≡ false }
+    requires whole { writer.values ≡ writer.head.count }
+    ensures bytes { Writes result (closing writer.head) (K.written sink.old) (K.written sink.new) }
+    ensures lent { SinkLent (K.beside sink.old) (K.beside sink.new) (K.faults sink.old) (K.faults sink.new) }
+    ensures cause { IsErrOf result SendFault.WriteFault → Rose (K.faults sink.old) (K.faults sink.new) }
+{
+    let mut writer = writer;
+    match writer.range_end(sink) {
+        Ok(()) => {}
+        Err(fault) => return Err(fault),
+    }
+    writer.finish(sink)
+}
+
+/// Writes a coverage with these values.
+pub fn write_coverage<K: Sink>(
+    alloc: Global,
+    sink: &mut K,
+    head: &Coverage,
+    values: &[Option<i64>],
+) -> Result<(), SendFault>
+    requires head { IsHead head.now }
+    requires one { length head.now.parameters ≡ 1 }
+    requires count { length values.now ≡ count_of head.now.domain }
+    ensures text { Writes result (around head.now values.now) (K.written sink.old) (K.written sink.new) }
+    ensures lent { SinkLent (K.beside sink.old) (K.beside sink.new) (K.faults sink.old) (K.faults sink.new) }
+    ensures cause { IsErrOf result SendFault.WriteFault → Rose (K.faults sink.old) (K.faults sink.new) }
+{
+    let mut writer = match begin_coverage(alloc, sink, head) {
+        Ok(writer) => writer,
+        Err(fault) => return Err(fault),
+    };
+    match writer.values(sink, values) {
+        Ok(()) => end_coverage(writer, sink),
+        Err(fault) => Err(fault),
+    }
+}
+
+/// Writes a coverage with the values of the grid.
+pub fn write_grid_coverage<K: Sink>(
+    alloc: Global,
+    sink: &mut K,
+    head: &Coverage,
+    number: u64,
+    rows: u32,
+    columns: u32,
+) -> Result<(), SendFault>
+    requires head { IsHead head.now }
+    requires one { length head.now.parameters ≡ 1 }
+    requires count { rows * columns ≡ count_of head.now.domain }
+    ensures text { Writes result (around head.now (grid_values number rows columns)) (K.written sink.old) (K.written sink.new) }
+    ensures lent { SinkLent (K.beside sink.old) (K.beside sink.new) (K.faults sink.old) (K.faults sink.new) }
+    ensures cause { IsErrOf result SendFault.WriteFault → Rose (K.faults sink.old) (K.faults sink.new) }
+{
+    let mut writer = match begin_coverage(alloc, sink, head) {
+        Ok(writer) => writer,
+        Err(fault) => return Err(fault),
+    };
+    match write_rows(alloc, &mut writer, sink, number, rows, columns) {
+        Ok(()) => end_coverage(writer, sink),
+        Err(fault) => Err(fault),
+    }
+}
