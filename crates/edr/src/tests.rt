@@ -3,7 +3,7 @@ ghost use Rattle.std.specs.Prelude.{◌<◌};
 use crate::running::run;
 use edr_base::{MemoryFiles, MemoryLink, MemorySink, MemorySource, OutOfMemory, Text};
 use edr_edition::SteppedShelf;
-use edr_feed::read_feed;
+use edr_feed::{make_feed, read_feed};
 use edr_serve::{End, serve_session};
 use std::alloc::Global;
 use std::test::Fail;
@@ -60,6 +60,10 @@ const SEVERAL_REQUESTS: &[u8] =
 
 const SEVERAL_REPLIES: &[u8] =
     b"HTTP/1.1 200 OK\r\nContent-Type: application/json\r\nX-Edr-Edition: 1\r\nTransfer-Encoding: chunked\r\n\r\n11\r\n{\"conformsTo\":[]}\r\n0\r\n\r\nHTTP/1.1 200 OK\r\nContent-Type: application/json\r\nX-Edr-Edition: 2\r\nTransfer-Encoding: chunked\r\n\r\nHTTP/1.1 404 Not Found\r\nContent-Type: application/json\r\nX-Edr-Edition: 2\r\nTransfer-Encoding: chunked\r\n\r\n20\r\n{\"code\":\"NoSamples\",\"number\":25}\r\n0\r\n\r\nHTTP/1.1 405 Method Not Allowed\r\nContent-Type: application/json\r\nAllow: GET, HEAD\r\nTransfer-Encoding: chunked\r\n\r\n26\r\n{\"code\":\"MethodNotOffered\",\"number\":5}\r\n0\r\n\r\nHTTP/1.1 400 Bad Request\r\nContent-Type: application/json\r\nTransfer-Encoding: chunked\r\nConnection: close\r\n\r\n1d\r\n{\"code\":\"BadHead\",\"number\":1}\r\n0\r\n\r\n";
+
+// Two boxes on the feed that is made of a number: of 500,000 values, and of 500,500.
+const BOXES: &[u8] =
+    b"GET /collections/grid/cube?bbox=0,0,99900,49900 HTTP/1.1\r\nHost: a\r\n\r\nGET /collections/grid/cube?bbox=0,0,100000,49900 HTTP/1.1\r\nHost: a\r\n\r\n";
 
 const USAGE: &[u8] =
     b"usage: edr ask TARGET | replay FEED [--advance] | check [--summary] | make NUMBER | show | fetch URL\n";
@@ -405,5 +409,32 @@ fn requests_find_ascending_editions(rt: HostRuntime) -> Result<(), Fail> {
     assert_eq!(rt; report.requests, 3);
     assert!(rt; report.end == End::EndOfInput);
     assert!(rt; output.written() == FROM_EACH);
+    Ok(())
+}
+
+// Of the 136 tiles of the grid that is made, both boxes take values from 128.
+#[test]
+fn boxes_of_the_made_feed_open_their_tiles(rt: HostRuntime) -> Result<(), Fail> {
+    let alloc = rt.alloc();
+    let mut made = MemorySink::of(alloc, 4096, Vec::new(alloc));
+    make_feed(alloc, 7, &mut made).expect(&rt, "a feed that is made");
+    let mut file = MemorySource::of(
+        Vec::from_slice(alloc, made.written())?,
+        4096,
+        Vec::new(alloc),
+    );
+    let feed = read_feed(alloc, &mut file).expect(&rt, "a feed");
+    let mut shelf = SteppedShelf::of(alloc, feed.editions.into_vec())?;
+    let mut input = MemorySource::of(Vec::from_slice(alloc, BOXES)?, 4096, Vec::new(alloc));
+    let mut output = MemorySink::of(alloc, 4096, Vec::new(alloc));
+    let report = serve_session(alloc, &mut input, &mut output, &mut shelf).expect(
+        &rt,
+        "a whole session",
+    );
+    let reads = report.reads.items();
+    assert_eq!(rt; reads.len(), 2);
+    for opened in reads {
+        assert_eq!(rt; opened.numbers().len(), 128);
+    }
     Ok(())
 }

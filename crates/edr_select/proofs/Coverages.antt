@@ -24,21 +24,13 @@ use Rattle.edr_select.specs.ListLaws.{Each, map-map, map_agree_in, map_agree_eac
 use Rattle.edr_select.proofs.Grids.{IsGrid}
 use Rattle.edr_select.proofs.Picks.{picks_at, picked_is}
 use Rattle.edr_select.proofs.ChosenLaws as laws
-use Rattle.edr_select.proofs.Nodes.{one_level, nodes_at_spot, points_domain, nodes_along_spots}
-use Rattle.edr_select.proofs.Parameters.{parameter_at, same_id, parameters_are}
+use Rattle.edr_select.specs.NodeLaws.{one_level, nodes_at_spot, points_domain, nodes_along_spots}
+use Rattle.edr_select.specs.HeadLaws.{coverage_with}
+use Rattle.edr_select.specs.ParameterLaws.{parameter_at, same_id, parameters_are}
 
 -- the parameters that are chosen
 abbrev pub chosen_parameters : InstanceValue → Chosen → List Parameter
 chosen_parameters i c = map (parameter_at i.parameters) c.parameters
-
-abbrev pub coverage_with : Subject → Domain → List Parameter → List NdArray → Coverage
-coverage_with s domain parameters ranges = record {
-  id = None;
-  domain = domain;
-  referencing = referencing_over domain s.collection.referencing;
-  parameters = parameters;
-  ranges = ranges;
-}
 
 -- the head of a coverage over a domain: it has no ranges
 abbrev pub head_over : Subject → InstanceValue → Chosen → Domain → Coverage

@@ -26,9 +26,10 @@ use Rattle.edr_select.specs.ListLaws.{flat_map_agree, map-map, map_agree_in}
 use Rattle.edr_select.proofs.Boxes.{rows_of, planes_of, boxed, boxed_agree, map_boxed}
 use Rattle.edr_select.proofs.Grids.{IsGrid}
 use Rattle.edr_select.proofs.Picks.{picks_at, picked_is}
-use Rattle.edr_select.proofs.Nodes.{one_level, levels_shown}
-use Rattle.edr_select.proofs.Parameters.{parameter_at, same_id, parameters_are}
-use Rattle.edr_select.proofs.Coverages.{chosen_parameters, coverage_with, head_over}
+use Rattle.edr_select.specs.NodeLaws.{one_level, levels_shown}
+use Rattle.edr_select.specs.ParameterLaws.{parameter_at, same_id, parameters_are}
+use Rattle.edr_select.specs.HeadLaws.{coverage_with}
+use Rattle.edr_select.proofs.Coverages.{chosen_parameters, head_over}
 use Rattle.edr_select.proofs.FrameValues.{value_at_node}
 use Rattle.edr_select.proofs.FrameHeads.{heads_are}
 

@@ -7,7 +7,7 @@ use Rattle.std.proofs.lemmas.List.FromFn.{length-range_with_len, get_or-range_wi
 use Rattle.edr_axes.specs.Axes.{value_at, IsAscending, IsAxis}
 use Rattle.edr_axes.specs.AxisLaws.{ascending_far}
 use Rattle.edr_select.specs.Listings.{NumbersRise}
-use Rattle.edr_select.proofs.PlannedLaws.{some_length}
+use Rattle.edr_select.specs.LevelLaws.{some_length}
 
 pub part_is_axis : (values : List ℤ) (places : List ℕ) → IsAscending values → All (λ place. place < length values) places → NumbersRise places → places ≢ []
     → IsAxis (map (value_at values) places)

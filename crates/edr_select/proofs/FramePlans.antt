@@ -22,7 +22,7 @@ use Rattle.edr_select.specs.Plans.{IsReplyTo}
 use Rattle.edr_select.specs.Steps.{IsAsked, refused_sizes}
 use Rattle.edr_select.specs.AreaPlans.{domain_over, IsFrameOf, TakesSome, HasNodes, framed_count, IsFramed, IsFramingIn}
 use Rattle.edr_select.specs.ListLaws.{some_member}
-use Rattle.edr_select.proofs.Kept.{kept_below, kept_passes}
+use Rattle.edr_select.specs.KeptLaws.{kept_below, kept_passes}
 use Rattle.edr_select.proofs.Grids.{IsGrid}
 use Rattle.edr_select.proofs.Instances.{grid_from}
 use Rattle.edr_select.proofs.ChosenLaws as laws

@@ -4,8 +4,7 @@ use Rattle.std.specs.Prelude.{map, ◌&&◌, int_le}
 use Rattle.std.specs.List.{filter, list_any, range_with_len}
 use Rattle.std.proofs.lemmas.Bool.{false≢true}
 use Rattle.std.proofs.lemmas.List.{length-map}
-use Rattle.std.proofs.lemmas.List.FromFn.{length-range_with_len, get_or-range_with_len}
-use Rattle.std.proofs.lemmas.List.Kept.{AllPairs-filter}
+use Rattle.std.proofs.lemmas.List.FromFn.{length-range_with_len}
 use Rattle.edr_axes.specs.Axes.{value_at}
 use Rattle.covjson_value.specs.declared.domains.CoordinateName.{CoordinateName}
 use Rattle.covjson_value.specs.declared.domains.CoordinateName.TheVariants.{T, Z, Y, X}
@@ -29,20 +28,14 @@ use Rattle.edr_select.proofs.Grids.{IsGrid}
 use Rattle.edr_select.proofs.Instances.{grid_from}
 use Rattle.edr_select.proofs.Picks.{picks_at}
 use Rattle.edr_select.proofs.ChosenLaws as laws
-use Rattle.edr_select.proofs.Parameters.{parameter_at}
+use Rattle.edr_select.specs.ParameterLaws.{parameter_at}
 use Rattle.edr_select.proofs.Coverages.{chosen_parameters, head_over}
-use Rattle.edr_select.proofs.HeadLaws.{named_axis_filter, asked_are, asked_ascend, head_is}
-use Rattle.edr_select.proofs.PlannedLaws.{time_axis, level_axis, level_count, some_length}
+use Rattle.edr_select.specs.HeadLaws.{named_axis_filter, asked_are, asked_ascend, head_is}
+use Rattle.edr_select.specs.RiseLaws.{numbers_rise}
+use Rattle.edr_select.specs.LevelLaws.{level_axis, level_count, some_length}
+use Rattle.edr_select.proofs.PlannedLaws.{time_axis}
 use Rattle.edr_select.proofs.PlanForms.{all_from_members}
 use Rattle.edr_select.proofs.FrameHeads.{rows_are, columns_are}
-
--- ---- numbers
-
-numbers_rise : (t : ℕ → Bool) (a n : ℕ) → NumbersRise (filter t (range_with_len a n))
-numbers_rise t a n =
-    AllPairs-filter (λ k l. k < l) t (range_with_len a n) (λ k l d lt within.
-    let inside : l < n = omega (arith, length-range_with_len a n, within) in
-    omega (arith, get_or-range_with_len a n k d (omega (arith, lt, inside)), get_or-range_with_len a n l d inside, lt))
 
 -- ---- what is planned over a frame
 

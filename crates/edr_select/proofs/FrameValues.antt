@@ -17,7 +17,7 @@ use Rattle.edr_select.specs.Choices.{TakesEach, takes_node, spots_in, Chosen, ch
 use Rattle.edr_select.specs.Framings.{FrameValue, is_set, cell_at, cell_value}
 use Rattle.edr_select.specs.Masks.{MaskValue, NoneTaken, IsMask, frame_with}
 use Rattle.edr_select.specs.ListLaws.{find_none, filter_none, no_member}
-use Rattle.edr_select.proofs.Kept.{contains_kept, kept_agree}
+use Rattle.edr_select.specs.KeptLaws.{contains_kept, kept_agree}
 use Rattle.edr_select.proofs.Boxes.{from_contains}
 use Rattle.edr_select.proofs.Grids.{IsGrid, same_stored}
 use Rattle.edr_select.proofs.Picks.{picks_at, Taken, pick_found}

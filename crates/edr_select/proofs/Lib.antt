@@ -1,13 +1,10 @@
 mod AllPlaces
-mod Kept
 mod Grids
 mod Instances
 mod Picks
 mod Values
 mod ChosenLaws
 mod Occurring
-mod Nodes
-mod Parameters
 mod Coverages
 mod Nearest
 mod PlanDocuments
@@ -15,8 +12,6 @@ mod Chunks
 mod Counts
 mod PickLaws
 mod PlanLaws
-mod Domains
-mod HeadLaws
 mod PlannedLaws
 mod Positions
 mod DomainCases
@@ -36,7 +31,6 @@ mod LevelChoices
 mod SpotChoices
 mod TimeChoices
 mod PointDomains
-mod CheckLaws
 mod PlanSteps
 mod PlanForms
 mod PlanChoices

@@ -12,6 +12,7 @@ use Rattle.edr_wkt.specs.declared.geometry.Geometry.{Geometry}
 use Rattle.edr_wkt.specs.Geometries.{positions_of}
 use Rattle.edr_edition.specs.Values.{InstanceValue}
 use Rattle.edr_query.specs.declared.shapes.Shape.{Shape}
+use Rattle.edr_select.specs.KeptLaws.{one_kept}
 use Rattle.edr_query.specs.declared.shapes.Shape.TheVariants as at
 use Rattle.edr_query.specs.Values.{QueryValue}
 use Rattle.edr_select.specs.Wanted.{is_along, is_nearest}
@@ -70,29 +71,6 @@ one_nearest values c k l a b =
 pub one_passes : (values : List ℤ) (c : ℤ) → IsAscending values → (k l : ℕ) → k < length values → l < length values
     → is_nearest values c (value_at values k) ≡ true → is_nearest values c (value_at values l) ≡ true → k ≡ l
 one_passes values c ascend k l hk hl a b = one_nearest values c k l (nearest_from_test values c k ascend hk a) (nearest_from_test values c l ascend hl b)
-
--- ---- runs of which one number is kept
-
-kept_none : (t : ℕ → Bool) (a n : ℕ) → ((k : ℕ) → a ≤ k → k < a + n → t k ≡ false) → filter t (range_with_len a n) ≡ []
-kept_none t a zero h = refl
-kept_none t a (suc n) h =
-    ap (λ b. cond b (a ∷ filter t (range_with_len (a + 1) n)) (filter t (range_with_len (a + 1) n))) (h a (omega arith) (omega arith))
-    ∙ kept_none t (a + 1) n (λ k low high. h k (omega arith) (omega arith))
-
-pub one_kept : (t : ℕ → Bool) (a n k : ℕ) → a ≤ k → k < a + n → t k ≡ true → ((l : ℕ) → a ≤ l → l < a + n → t l ≡ true → l ≡ k)
-    → filter t (range_with_len a n) ≡ k ∷ []
-one_kept t a zero k low high h only = absurd (omega arith)
-one_kept t a (suc n) k low high h only =
-    elim (order a k low) [
-      | inl e ↦ ap (λ b. cond b (a ∷ filter t (range_with_len (a + 1) n)) (filter t (range_with_len (a + 1) n))) (ap t e ∙ h)
-          ∙ ap₂ (λ x xs. x ∷ xs) e (kept_none t (a + 1) n (λ l low high. false_from_ne_true (t l) (λ p. absurd (omega (arith, e, low, only l (omega arith) (omega arith) p)))))
-      | inr lt ↦ ap (λ b. cond b (a ∷ filter t (range_with_len (a + 1) n)) (filter t (range_with_len (a + 1) n)))
-          (false_from_ne_true (t a) (λ p. absurd (omega (arith, lt, only a (omega arith) (omega arith) p))))
-          ∙ one_kept t (a + 1) n k (omega arith) (omega arith) h (λ l low high. only l (omega arith) (omega arith))
-    ]
-  where
-    order : (a k : ℕ) → a ≤ k → (a ≡ k) ⊎ (a < k)
-    order a k h = grind arith
 
 -- ---- one point
 

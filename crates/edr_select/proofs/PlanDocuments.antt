@@ -24,7 +24,7 @@ use Rattle.edr_select.specs.ListLaws.{map-map, map_agree_in, member_here}
 use Rattle.edr_select.proofs.Grids.{IsGrid}
 use Rattle.edr_select.proofs.Picks.{picks_at, picked_is, takes_position}
 use Rattle.edr_select.proofs.Occurring.{times_are, levels_are, spots_are}
-use Rattle.edr_select.proofs.Nodes.{one_level, points_domain}
+use Rattle.edr_select.specs.NodeLaws.{one_level, points_domain}
 use Rattle.edr_select.proofs.Coverages.{planned_at, planned_along, coverage_at_spot, coverage_along}
 
 here : (x : ℕ) (xs : List ℕ) → xs ≡ x ∷ [] → Contains xs x

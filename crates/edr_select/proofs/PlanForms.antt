@@ -45,10 +45,11 @@ use Rattle.edr_select.proofs.Grids.{IsGrid}
 use Rattle.edr_select.proofs.Instances.{grid_from}
 use Rattle.edr_select.proofs.ChosenLaws as laws
 use Rattle.edr_select.proofs.Nearest.{one_spot}
-use Rattle.edr_select.proofs.Nodes as nodes_of_spots
+use Rattle.edr_select.specs.NodeLaws as nodes_of_spots
 use Rattle.edr_select.proofs.Coverages as coverages
 use Rattle.edr_select.proofs.Counts as counts
 use Rattle.edr_select.proofs.PlanLaws as plans
+use Rattle.edr_select.specs.LevelLaws.{level_axis}
 use Rattle.edr_select.proofs.PlannedLaws as valid
 use Rattle.edr_select.proofs.Positions.{ArePoints, one, several, position_points}
 use Rattle.edr_select.proofs.PlanSteps.{known_size, refused_size}
@@ -154,7 +155,7 @@ module _ (c : CollectionValue) (q : QueryValue) (i : InstanceValue) (asked : IsA
   pub axes : IsSome choice → AreAxes i choice
   axes some = record {
     times = (valid.time_axis (grid_of c i) q i asked.each asked.grid asked.is_collection.referencing some).ascending;
-    levels = axis_if (levels_of i choice) (valid.level_axis (levels_asked q) i.zs asked.grid.zs some.levels);
+    levels = axis_if (levels_of i choice) (level_axis (levels_asked q) i.zs asked.grid.zs some.levels);
   }
 
 same_grid : {i j : InstanceValue} → of_grid i ≡ of_grid j → i ≡ j

@@ -22,53 +22,17 @@ use Rattle.edr_select.specs.Heads.{domain_at}
 use Rattle.edr_select.specs.Choices.{TakesEach, takes_node, Chosen, chosen, IsSome, level_at, level_places, node_of, cells_at, cells_along, times_of, levels_of, row_of, column_of, spot_of}
 use Rattle.edr_select.specs.Listings.{PlannedValue, ListingValue, place_at, IsPlanned, IsListing}
 use Rattle.edr_select.specs.ListLaws.{Each, each-map_in, each-flat_map_in}
-use Rattle.edr_select.proofs.Kept.{filter_by_places}
+use Rattle.edr_select.specs.KeptLaws.{filter_by_places}
 use Rattle.edr_select.proofs.Grids.{IsGrid}
 use Rattle.edr_select.proofs.Instances.{grid_from}
 use Rattle.edr_select.proofs.ChosenLaws as laws
-use Rattle.edr_select.proofs.Nodes.{one_level}
-use Rattle.edr_select.proofs.Parameters.{parameter_at}
+use Rattle.edr_select.specs.LevelLaws.{some_length, all_from_each, kept_few, level_axis, level_count, level_value}
+use Rattle.edr_select.specs.LevelLaws as level_laws
+use Rattle.edr_select.specs.ParameterLaws.{parameter_at}
 use Rattle.edr_select.proofs.Coverages.{chosen_parameters, planned_at, planned_along, domain_along}
 use Rattle.edr_select.proofs.Counts.{count_cells_at}
-use Rattle.edr_select.proofs.Domains.{count_at, has_axes_at, no_tuples_at, one_value, count_along, has_axes_along, tuples_along, IsSpot}
-use Rattle.edr_select.proofs.HeadLaws.{named_axis_filter, asked_are, asked_ascend, head_is}
-
--- ---- lists
-
-pub some_length : {A : Type 0} (xs : List A) → xs ≢ [] → 0 < length xs
-some_length [] some = absurd (some refl)
-some_length (x ∷ xs) some = omega arith
-
-all_from_each : {A : Type 0} (P : A → Type 0) (xs : List A) → Each P xs → All P xs
-all_from_each P [] h k d l = absurd (omega arith)
-all_from_each P (x ∷ xs) h zero d l = h.0
-all_from_each P (x ∷ xs) h (suc k) d l = all_from_each P xs h.1 k d (omega arith)
-
-kept_few : {A : Type 0} (t : A → Bool) (xs : List A) → length (filter t xs) ≤ length xs
-kept_few t [] = omega arith
-kept_few t (x ∷ xs) =
-    let few : length (filter t xs) ≤ length xs = kept_few t xs in
-    elim (t x) as (λ b. length (cond b (x ∷ filter t xs) (filter t xs)) ≤ length (x ∷ xs)) [ true ↦ omega (arith, few) | false ↦ omega (arith, few) ]
-
--- ---- levels
-
-pub level_axis : (asked : Option Levels) (zs : Option (List ℤ)) → IfSome zs (IsNamedAxis Z) → level_places asked zs ≢ []
-    → IfSome (option_map (λ values. map (value_at values) (level_places asked zs)) zs) (IsNamedAxis Z)
-level_axis asked None h some = tt
-level_axis asked (Some values) h some =
-    let same = filter_by_places (λ l. takes_level asked (Some l)) values in
-    subst (IsNamedAxis Z) same
-    (named_axis_filter Z (λ l. takes_level asked (Some l)) values h
-    (omega (arith, some_length (level_places asked (Some values)) some, ap (λ (vs : List ℤ). length vs) same, length-map (level_places asked (Some values)) (value_at values))))
-
-pub level_count : (asked : Option Levels) (zs : Option (List ℤ)) → level_places asked zs ≢ []
-    → axis_length (option_map (λ values. map (value_at values) (level_places asked zs)) zs) ≡ length (level_places asked zs)
-level_count asked None some = sym (ap (λ (ls : List ℕ). length ls) (one_level asked None refl some))
-level_count asked (Some values) some = length-map (level_places asked (Some values)) (value_at values)
-
-level_value : (zs : Option (List ℤ)) (z : ℕ) → IfSome zs (IsNamedAxis Z) → z < axis_length zs → IfSome (level_at zs z) (IsAxisValue Z)
-level_value None z h below = tt
-level_value (Some values) z h below = h.within z (pos 0) below
+use Rattle.edr_select.specs.DomainLaws.{count_at, has_axes_at, no_tuples_at, one_value, count_along, has_axes_along, tuples_along, IsSpot}
+use Rattle.edr_select.specs.HeadLaws.{asked_are, asked_ascend, head_is}
 
 -- ---- a plane of few nodes
 
@@ -90,11 +54,7 @@ module _ (s : Subject) (q : QueryValue) (i : InstanceValue) (each : TakesEach q.
   some_parameters = omega (arith, some_length c.parameters some.parameters, length-map c.parameters (parameter_at i.parameters))
 
   pub time_axis : IsNamedAxis T (times_of i c)
-  time_axis =
-      let same = filter_by_places (λ t. takes_time q.times (Some t)) i.ts in
-      subst (IsNamedAxis T) same
-      (named_axis_filter T (λ t. takes_time q.times (Some t)) i.ts h.ts
-      (omega (arith, some_length c.times some.times, ap (λ (vs : List ℤ). length vs) same, length-map c.times (value_at i.ts))))
+  time_axis = level_laws.time_axis q.times i.ts h.ts some.times
 
   spot_is : (spot : ℕ) → Contains c.spots spot → IsSpot (spot_of i spot)
   spot_is spot m = record {

@@ -8,7 +8,7 @@ use Rattle.std.proofs.lemmas.List.Elements.{filter-append}
 use Rattle.edr_axes.specs.Axes.{value_at, IsAscending}
 use Rattle.edr_axes.specs.AxisLaws.{ascending_at_most, ascending_far}
 use Rattle.edr_select.specs.ListLaws.{filter_none, range-append}
-use Rattle.edr_select.proofs.Kept.{kept_agree, filter_by_places}
+use Rattle.edr_select.specs.KeptLaws.{kept_agree, filter_by_places}
 
 -- ---- what is kept of a run of numbers
 

@@ -11,6 +11,7 @@ pub mod Refusals
 pub mod Choices
 pub mod Listings
 pub mod Framings
+pub mod Series
 pub mod ReplyLaws
 pub mod Plans
 pub mod Planned
@@ -21,3 +22,11 @@ pub mod Steps
 pub mod PlacesOfIds
 pub mod Masks
 pub mod AreaPlans
+pub mod KeptLaws
+pub mod NodeLaws
+pub mod DomainLaws
+pub mod ParameterLaws
+pub mod HeadLaws
+pub mod LevelLaws
+pub mod NamedLaws
+pub mod RiseLaws

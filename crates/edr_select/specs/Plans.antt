@@ -1,47 +1,54 @@
 -- What a plan of a reply keeps, and when it stands for its query.
-use Rattle.std.specs.Prelude.{◌≡◌, ℕ, List, Option, Some}
+use Rattle.std.specs.Prelude.{◌≡◌, ℕ, ◌<◌, ◌^◌, List, length, All, Option, Some}
+use Rattle.covjson_value.specs.declared.coverages.Parameter.{Parameter}
 use Rattle.covjson_value.specs.declared.coverages.Document.{Document}
 use Rattle.covjson_value.specs.declared.coverages.Document.TheVariants.{One}
 use Rattle.edr_chunk.specs.declared.shapes.GridShape.{GridShape}
 use Rattle.edr_chunk.specs.Grids as chunk
 use Rattle.edr_chunk.specs.Tiles.{tiles}
+use Rattle.edr_station.specs.Stations.{StationValue}
+use Rattle.edr_station.specs.Blocks.{blocks}
 use Rattle.edr_edition.specs.Values.{InstanceValue}
-use Rattle.edr_edition.specs.Stores.{of_grid, Subject}
+use Rattle.edr_edition.specs.Stores.{of_grid, of_stations, stations_of, Subject}
 use Rattle.edr_query.specs.Values.{QueryValue}
 use Rattle.edr_select.specs.declared.plans.Reply.{Reply}
-use Rattle.edr_select.specs.declared.plans.Reply.TheVariants.{Listed, Framed}
+use Rattle.edr_select.specs.declared.plans.Reply.TheVariants.{Listed, Framed, Series}
 use Rattle.edr_select.specs.Samples.{ascending_once}
 use Rattle.edr_select.specs.Selections.{needed}
 use Rattle.edr_select.specs.Documents.{document}
 use Rattle.edr_select.specs.Listings.{listing_document, listing_tiles}
 use Rattle.edr_select.specs.Framings.{framed_coverage, framed_tiles}
+use Rattle.edr_select.specs.Series.{SeriesReplyValue, series_document, reply_blocks, IsOfStation}
 
 pub record PlanValue : Type 0 where
   pub query : QueryValue
   pub reply : Reply
 
--- the shape of the grid that a reply is read from
-abbrev pub shape_of : Reply → GridShape
-shape_of (Listed listing) = listing.shape
-shape_of (Framed framing) = framing.shape
-
--- the document that a reply gives over a grid
-abbrev pub reply_document : chunk.Values → Reply → Option Document
-reply_document grid (Listed listing) = listing_document grid listing
-reply_document grid (Framed framing) = Some (One (framed_coverage grid framing))
-
--- the tiles of its values, in the order of the text
-abbrev pub reply_tiles : Reply → List ℕ
-reply_tiles (Listed listing) = listing_tiles listing
-reply_tiles (Framed framing) = framed_tiles framing
-
--- a reply is that to a query, over what is asked
-pub record IsReplyTo (reply : Reply) (query : QueryValue) (subject : Subject) : Type 0 where
+-- a reply is that to a query over an instance of grids: it lies in the instance's shape, the document that it gives is the
+-- query's, and so are its tiles
+pub record IsOverGrid (sides : GridShape) (document_over : chunk.Values → Option Document) (tiles_read : List ℕ) (query : QueryValue) (subject : Subject) : Type 0 where
   pub instance : InstanceValue
   pub held : subject.held ≡ of_grid instance
-  pub shape : shape_of reply ≡ instance.grid.shape
-  pub document : reply_document instance.grid reply ≡ Some (document subject query)
-  pub chunks : ascending_once (tiles (shape_of reply)) (reply_tiles reply) ≡ needed subject query
+  pub shape : sides ≡ instance.grid.shape
+  pub document : document_over instance.grid ≡ Some (document subject query)
+  pub chunks : ascending_once (tiles sides) tiles_read ≡ needed subject query
+
+-- so it is over stations, whose blocks can be counted
+pub record IsOverStations (reply : SeriesReplyValue) (query : QueryValue) (subject : Subject) : Type 0 where
+  pub parameters : List Parameter
+  pub stations : List StationValue
+  pub held : subject.held ≡ of_stations parameters stations
+  pub counted : blocks (length parameters) stations < 2 ^ 64
+  pub asked : All (λ parameter. parameter < length parameters) reply.parameters
+  pub each : All (IsOfStation (stations_of parameters stations)) reply.series
+  pub document : series_document stations reply ≡ Some (document subject query)
+  pub chunks : ascending_once (blocks (length parameters) stations) (reply_blocks reply) ≡ needed subject query
+
+-- a reply is that to a query, over what is asked
+abbrev pub IsReplyTo : Reply → QueryValue → Subject → Type 0
+IsReplyTo (Listed listing) query subject = IsOverGrid listing.shape (λ grid. listing_document grid listing) (listing_tiles listing) query subject
+IsReplyTo (Framed framing) query subject = IsOverGrid framing.shape (λ grid. Some (One (framed_coverage grid framing))) (framed_tiles framing) query subject
+IsReplyTo (Series series) query subject = IsOverStations series query subject
 
 -- the plan stands for its query in what is asked
 abbrev pub StandsFor : PlanValue → Subject → Type 0

@@ -78,6 +78,10 @@ is_answered Grid (at.Position geometry) = true
 is_answered Grid (at.Radius geometry within) = true
 is_answered Grid (at.Area geometry) = true
 is_answered Grid (at.Cube lo hi levels) = true
+is_answered Station (at.Radius geometry within) = true
+is_answered Station (at.Area geometry) = true
+is_answered Station (at.Cube lo hi levels) = true
+is_answered Station (at.Location id) = true
 is_answered kind other = false
 
 abbrev pub is_answered_page : Kind → Page → Bool

@@ -88,7 +88,7 @@ pub record Told (many : Bool) (coverages : List Coverage) (d : Document) : Type 
   pub coverages_is : coverages_of d ≡ coverages
   pub valid : All IsValid coverages → IsValidDocument d
 
-told_by : (many : Bool) (coverages : List Coverage) (d : Document) → (many ≡ false → length coverages ≡ 1) → document_of many coverages ≡ Some d → Told many coverages d
+pub told_by : (many : Bool) (coverages : List Coverage) (d : Document) → (many ≡ false → length coverages ≡ 1) → document_of many coverages ≡ Some d → Told many coverages d
 told_by true coverages d one e = subst (λ (d : Document). Told true coverages d) (some_is e) (record { many_is = refl; coverages_is = refl; valid = λ all. all })
   where
     some_is : {d : Document} → Some (Many coverages) ≡ Some d → Many coverages ≡ d

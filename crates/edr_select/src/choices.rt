@@ -94,8 +94,8 @@ fn levels_of_shape(shape: &Shape) -> Option<Levels>
     }
 }
 
-// The places of the levels that a query asks for, by `z` or by its shape.
-pub(crate) fn levels_of_query(
+/// The places of the levels that a query asks for, by `z` or by its shape.
+pub fn levels_of_query(
     alloc: Global,
     query: &Query,
     axis: Option<&Axis>,

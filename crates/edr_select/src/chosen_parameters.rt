@@ -40,8 +40,8 @@ fn places_of_names(
     Ok(Some(ascending_once(places)))
 }
 
-// The places of the parameters that are asked, or None exactly where a name is no parameter's id. Without names all are asked.
-pub(crate) fn parameters_taken(
+/// The places of the parameters that are asked, or None exactly where a name is no parameter's id. Without names all are asked.
+pub fn parameters_taken(
     alloc: Global,
     names: &Option<Items<Text>>,
     parameters: &[Parameter],

@@ -49,8 +49,8 @@ fn places_of_times(alloc: Global, times: Times, axis: &Axis) -> Result<Vec<u64>,
     }
 }
 
-// The places of the times that are asked, of all without any asked.
-pub(crate) fn times_taken(
+/// The places of the times that are asked, of all without any asked.
+pub fn times_taken(
     alloc: Global,
     times: &Option<Times>,
     axis: &Axis,

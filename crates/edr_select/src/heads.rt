@@ -9,8 +9,8 @@ use edr_axes::Axis;
 use edr_base::{Items, OutOfMemory, Text};
 use std::alloc::Global;
 
-// The values of an axis at some places.
-pub(crate) fn values_at(alloc: Global, axis: &Axis, places: &[u64]) -> Result<Vec<i64>, OutOfMemory>
+/// The values of an axis at some places.
+pub fn values_at(alloc: Global, axis: &Axis, places: &[u64]) -> Result<Vec<i64>, OutOfMemory>
     requires { All (λ place. place < length axis.now) places.now }
     ensures { IfOk result (λ values. values.items ≡ map (value_at axis.now) places.now) }
 {
@@ -76,8 +76,8 @@ fn referencing_over(
     Ok(Referencing { crs, vertical })
 }
 
-// The head of a coverage over a domain, with the parameters at some places.
-pub(crate) fn head_of(
+/// The head of a coverage over a domain, with the parameters at some places.
+pub fn head_of(
     alloc: Global,
     referencing: &Referencing,
     parameters: &[Parameter],

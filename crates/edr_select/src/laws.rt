@@ -1,5 +1,5 @@
-//! Laws of refusals, of selections and of documents.
-ghost use Rattle.edr_select.specs.DocumentLaws.{DocumentsAreValid};
+//! Laws of refusals, of selections and of documents over grids.
+ghost use Rattle.edr_select.specs.DocumentLaws.{GridDocumentsAreValid};
 ghost use Rattle.edr_select.specs.Refusals.{RefusalIsLeast};
 ghost use Rattle.edr_select.specs.WantedLaws.{SelectionsGoByAxes};
 
@@ -14,7 +14,7 @@ pub fn selections_go_by_axes()
     ensures { SelectionsGoByAxes }
 {}
 
-/// The document of a query that no refusal applies to is valid (OGC 21-069r2).
-pub fn documents_are_valid()
-    ensures { DocumentsAreValid }
+/// The document of a query that is asked of an instance of grids and selects something is valid (OGC 21-069r2).
+pub fn grid_documents_are_valid()
+    ensures { GridDocumentsAreValid }
 {}

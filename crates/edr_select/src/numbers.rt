@@ -40,8 +40,8 @@ pub(crate) fn alone(alloc: Global, number: u64) -> Result<Vec<u64>, OutOfMemory>
     Ok(numbers)
 }
 
-// Adds a number where it is taken.
-pub(crate) fn keep(numbers: &mut Vec<u64>, number: u64, taken: bool) -> Result<(), OutOfMemory>
+/// Adds a number where it is taken. The only error is want of memory.
+pub fn keep(numbers: &mut Vec<u64>, number: u64, taken: bool) -> Result<(), OutOfMemory>
     ensures { OnOk result (numbers.new.items ≡ numbers.old.items ++ cond taken (number ∷ []) []) }
 {
     if taken {

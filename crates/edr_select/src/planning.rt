@@ -1,16 +1,13 @@
-//! Plans of queries.
+//! Plans of queries of grids.
 ghost use Rattle.std.specs.Prelude.{◌≡◌, IfOk, IfErr};
-ghost use Rattle.edr_query.specs.Queries.{IsQuery};
 ghost use Rattle.edr_select.specs.Checks.{refused_query};
-ghost use Rattle.edr_select.specs.Planning.{MatchPlan};
 ghost use Rattle.edr_select.specs.Steps.{IsAsked, IsFaultOf, IsPlanIn};
 
 use crate::area_plans::framing_of;
-use crate::checks::{Asked, found};
-use crate::plans::{Plan, Reply};
+use crate::plans::Reply;
 use crate::position_plans::listing_of;
 use edr_base::{OutOfMemory, Refusal};
-use edr_edition::{CollectionData, Edition, GridInstance, instances_have_grids};
+use edr_edition::{CollectionData, GridInstance};
 use edr_query::{Query, Shape};
 use std::alloc::Global;
 
@@ -33,15 +30,9 @@ impl From<OutOfMemory> for PlanFault {
     }
 }
 
-// Every query is one.
-fn query_stands(query: &Query)
-    ensures { IsQuery query.now }
-{
-    let _ = &query.shape;
-}
-
-// How the reply to a query that is asked of an instance is read, or the first refusal that applies from that of names on.
-fn reply_in(
+/// How the values of the reply to a query are read that is asked of an instance of grids, or the first refusal that applies from
+/// that of names on. It opens no chunk. The document that is planned is valid (OGC 21-069r2).
+pub fn reply_over_grid(
     alloc: Global,
     query: &Query,
     collection: &CollectionData,
@@ -61,33 +52,4 @@ fn reply_in(
             Ok(Reply::Framed(framing))
         }
     }
-}
-
-/// The plan of the reply to a query (OGC 19-086r6, section 8) from an edition, or the first refusal that applies. It keeps the
-/// query, and opens no chunk. The document that is planned is valid (OGC 21-069r2).
-pub fn plan_of(alloc: Global, query: Query, edition: &Edition) -> Result<Plan, PlanFault>
-    ensures { MatchPlan result edition.now query }
-{
-    instances_have_grids();
-    query_stands(&query);
-    match found(&query, edition) {
-        Ok(
-            Asked {
-                collection,
-                instance,
-            },
-        ) => {
-            let reply = reply_in(alloc, &query, collection, instance)?;
-            Ok(Plan { query, reply })
-        }
-        Err(refusal) => Err(PlanFault::Refused(refusal)),
-    }
-}
-
-/// The plan of the reply to a query (OGC 19-086r6, section 8) from an edition, or the first refusal that applies. It opens no
-/// chunk. The document that is planned is valid (OGC 21-069r2).
-pub fn plan(alloc: Global, query: &Query, edition: &Edition) -> Result<Plan, PlanFault>
-    ensures { MatchPlan result edition.now query.now }
-{
-    plan_of(alloc, query.copy(alloc)?, edition)
 }

@@ -5,6 +5,7 @@ ghost use Rattle.edr_chunk.specs.Places.{count};
 ghost use Rattle.edr_select.specs.Listings.{IsListing};
 
 use crate::frames::Framing;
+use crate::series::SeriesReply;
 use covjson_value::Coverage;
 use edr_base::Items;
 use edr_chunk::GridShape;
@@ -83,15 +84,17 @@ pub enum Reply {
     Listed(Listing),
     /// Each from a node of a frame, where it is taken.
     Framed(Framing),
+    /// Each from a place among the values of a station.
+    Series(SeriesReply),
 }
 
-/// What a reply to a query will be: its coverages but for their values, and the nodes that these are read from.
+/// What a reply to a query will be: its coverages but for their values, and the nodes or places that these are read from.
 ///
-/// It is plain data and holds no sample. Only `plan` and `plan_of` make one.
+/// It is plain data and holds no sample.
 #[derive(Drop)]
 pub struct Plan {
-    pub(crate) query: Query,
-    pub(crate) reply: Reply,
+    query: Query,
+    reply: Reply,
 }
 
 impl Model for Plan {
@@ -103,6 +106,13 @@ impl Model for Plan {
 }
 
 impl Plan {
+    /// The plan of a query whose reply's values are read so. It takes no memory.
+    pub fn of(query: Query, reply: Reply) -> Plan
+        ensures { result ≡ record { query = query; reply = reply } }
+    {
+        Plan { query, reply }
+    }
+
     /// The query that it is a plan of.
     pub fn query(&self) -> &Query
         ensures { result.now ≡ self.now.query }

@@ -97,8 +97,8 @@ fn domain_over_times(
     }
 }
 
-// The domain of a place, by how many times and levels there are (OGC 21-069r2, domain types).
-pub(crate) fn domain_at(
+/// The domain of a place, by how many times and levels there are (OGC 21-069r2, domain types).
+pub fn domain_at(
     alloc: Global,
     times: &[i64],
     levels: Option<&[i64]>,

@@ -19,8 +19,8 @@ pub struct Reach {
     pub high: i64,
 }
 
-// The place of a point.
-pub(crate) fn centre_of(geometry: &Geometry) -> Spot
+/// The place of a point.
+pub fn centre_of(geometry: &Geometry) -> Spot
     requires { IsTaken Radius geometry.now }
     ensures { IsCentre geometry.now result }
 {
@@ -34,8 +34,8 @@ pub(crate) fn centre_of(geometry: &Geometry) -> Spot
     }
 }
 
-// The polygons of a geometry.
-pub(crate) fn polygons_of(geometry: &Geometry) -> &[Polygon]
+/// The polygons of a geometry.
+pub fn polygons_of(geometry: &Geometry) -> &[Polygon]
     requires { IsTaken Area geometry.now }
     ensures { HasPolygons geometry.now result.now }
 {
@@ -91,8 +91,8 @@ fn reach_of_polygons(polygons: &[Polygon]) -> Reach
     reach
 }
 
-// How far a shape reaches.
-pub(crate) fn reach_of(shape: &Shape) -> Reach
+/// How far a disc, some polygons or a box reaches: no place beyond is taken.
+pub fn reach_of(shape: &Shape) -> Reach
     requires area { IsArea shape.now }
     requires shape { IsShape shape.now }
     ensures { LiesIn shape.now result }

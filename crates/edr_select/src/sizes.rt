@@ -13,8 +13,8 @@ const VALUE_LIMIT: u64 = 2_000_000;
 // How many coverages a reply has at most.
 const COVERAGE_LIMIT: usize = 5_000;
 
-// The product of two counts, or None where it is above the limit of values.
-pub(crate) fn product(count: u64, other: u64) -> Option<u64>
+/// The product of two counts, or None where it is above the limit of values.
+pub fn value_product(count: u64, other: u64) -> Option<u64>
     ensures { MatchOption result (value_limit < count * other) (λ product. (product ≡ count * other) × (product ≤ value_limit)) }
 {
     let product = count.checked_mul(other)?;
@@ -29,9 +29,9 @@ fn value_count(choice: &Choice) -> Option<u64>
     requires { IsSome choice.now }
     ensures { MatchOption result (value_limit < steps.value_count choice.now) (λ count. (count ≡ steps.value_count choice.now) × (count ≤ value_limit)) }
 {
-    let planes = product(choice.levels.len() as u64, choice.spots.len() as u64)?;
-    let nodes = product(choice.times.len() as u64, planes)?;
-    product(choice.parameters.len() as u64, nodes)
+    let planes = value_product(choice.levels.len() as u64, choice.spots.len() as u64)?;
+    let nodes = value_product(choice.times.len() as u64, planes)?;
+    value_product(choice.parameters.len() as u64, nodes)
 }
 
 // How many coverages a reply has.

@@ -11,7 +11,7 @@ use Rattle.serde_json.specs.Written.{comma_if}
 use Rattle.edr_select.specs.Listings.{PlannedValue}
 use Rattle.edr_send.specs.Gathered.{ranges_cut, coverage_cut, coverages_cut, size_of, sizes_of}
 
-drop_next : {X : Type 0} (xs : List X) (i : ℕ) (x : X) → i < length xs → x ≡ get_or xs i x → drop i xs ≡ x ∷ drop (i + 1) xs
+pub drop_next : {X : Type 0} (xs : List X) (i : ℕ) (x : X) → i < length xs → x ≡ get_or xs i x → drop i xs ≡ x ∷ drop (i + 1) xs
 drop_next xs i x l e = drop-cons xs i x l ∙ ap (λ y. y ∷ drop (suc i) xs) (sym e) ∙ ap (λ (k : ℕ). x ∷ drop k xs) (next i)
   where
     next : (n : ℕ) → suc n ≡ n + 1

@@ -4,7 +4,7 @@ use Rattle.std.specs.Prelude.{Result, Err, min}
 use Rattle.std.specs.Io.KnownBytes.{append_known}
 use Rattle.std.specs.Prelude.{map, option_to_list}
 use Rattle.std.proofs.lemmas.Grind.{flat_map-append}
-use Rattle.std.proofs.lemmas.List.{length-map, map-append, get_or_append_left}
+use Rattle.std.proofs.lemmas.List.{length-map, map-append}
 use Rattle.std.proofs.lemmas.List.Elements.{All-from_get_or, All-get_or}
 use Rattle.edr_base.specs.Calls.{Front, Writes}
 use Rattle.covjson_write.specs.Pieces.{values_from}
@@ -21,6 +21,7 @@ use Rattle.edr_select.specs.Framings.{taken, cell_value}
 use Rattle.edr_send.specs.Gathered.{AllBut}
 use Rattle.edr_send.proofs.Additions.{adds_fault, adds_all, added_on}
 use Rattle.edr_send.proofs.Ascending.{once_append, once_none}
+use Rattle.edr_send.proofs.Parted.{first_of}
 use Rattle.edr_send.proofs.RunSteps.{with_none, with_more}
 use Rattle.edr_send.proofs.TextSteps.{all_but_same, all_but_on, all_but_front, all_but_all, all_but_none}
 
@@ -59,9 +60,6 @@ once_apart shape p xs ys a =
     ap (ascending_once (tiles shape)) (tiles-append shape p xs ys)
     ∙ once_append (tiles shape) (min a.bound (tiles shape)) (tiles_in shape p xs) (tiles_in shape p ys) (omega arith) (all_least (tiles shape) a.bound (tiles_in shape p xs) a.inside a.below)
     (all_from_least (tiles shape) a.bound (tiles_in shape p ys) a.behind)
-
-first_of : (P : ℕ → Type 0) (xs ys : List ℕ) → All P (xs ++ ys) → All P xs
-first_of P xs ys all = All-from_get_or P xs 0 (λ i l. subst P (get_or_append_left xs ys 0 i l) (All-get_or P (xs ++ ys) i 0 (omega (arith, length-append xs ys, l)) all))
 
 -- of the others the first
 apart_first : (shape : GridShape) (p : ℕ) (xs ys piece later : Cells) → ys ≡ piece ++ later → Apart shape p xs ys → Apart shape p xs piece

@@ -117,10 +117,10 @@ from_place xs k x rise c =
     still : (k i : ℕ) → i ≤ 0 → k + i ≡ k
     still k i none = omega (arith, none)
 
-no_place : (xs : List ℕ) (k x : ℕ) → length xs ≤ k → Contains (drop k xs) x → ⊥
+pub no_place : (xs : List ℕ) (k x : ℕ) → length xs ≤ k → Contains (drop k xs) x → ⊥
 no_place xs k x l c = omega (arith, c.1, length-drop k xs, l)
 
-taken_place : (xs : List ℕ) (k x : ℕ) → Contains (take k xs) x → Contains xs x
+pub taken_place : (xs : List ℕ) (k x : ℕ) → Contains (take k xs) x → Contains xs x
 taken_place xs k x c =
     let low : c.0 < k = omega (arith, c.1, length-take k xs) in
     (c.0, omega (arith, c.1, length-take k xs), sym (get_or-take k xs c.0 x low) ∙ c.2)

@@ -1,5 +1,5 @@
 -- The document over a frame is valid, and its text is that of its pieces.
-use Rattle.std.proofs.Common.{◌≡◌, ℕ, List, ◌++◌, All, false, ap, sym, ◌∙◌, append-nil}
+use Rattle.std.proofs.Common.{◌≡◌, ℕ, List, ◌++◌, All, Some, false, ap, sym, ◌∙◌, subst, append-nil}
 use Rattle.std.specs.Prelude.{IfSome}
 use Rattle.covjson_value.specs.declared.coverages.Document.TheVariants.{One}
 use Rattle.covjson_value.specs.Coverages.{IsSample}
@@ -7,9 +7,18 @@ use Rattle.covjson_value.specs.Trees.{document_text}
 use Rattle.covjson_write.specs.Laws.{DocumentOfPieces}
 use Rattle.covjson_write.specs.Pieces.{document_begin, document_end}
 use Rattle.edr_chunk.specs.Grids as chunk
-use Rattle.edr_select.specs.Framings.{FramingValue, IsFraming, framed_coverage}
+use Rattle.edr_edition.specs.Stores.{Subject}
+use Rattle.edr_select.specs.declared.plans.Reply.{Reply}
+use Rattle.edr_select.specs.declared.plans.Reply.TheVariants.{Framed}
+use Rattle.edr_select.specs.Framings.{FramingValue, IsFraming, framed_coverage, framed_tiles}
+use Rattle.edr_select.specs.Plans.{PlanValue, IsReplyTo, StandsFor, IsOverGrid}
 use Rattle.edr_send.specs.FrameTexts.{framed_coverage_text, framed_text}
 use Rattle.edr_select.specs.ReplyLaws.{framed_valid}
+
+-- a plan of a framing stands for its query as the framing does
+pub framed_stands : (plan : PlanValue) (framing : FramingValue) (s : Subject) → plan.reply ≡ Framed framing → StandsFor plan s
+    → IsOverGrid framing.shape (λ grid. Some (One (framed_coverage grid framing))) (framed_tiles framing) plan.query s
+framed_stands plan framing s framed stands = subst (λ (r : Reply). IsReplyTo r plan.query s) framed stands
 
 -- its text is that of its pieces
 pub framed_text_is : DocumentOfPieces → (grid : chunk.Values) (framing : FramingValue) → IsFraming framing → All (λ v. IfSome v IsSample) grid.values → framed_text grid framing ≡ document_text (One (framed_coverage grid framing))

@@ -1,6 +1,7 @@
 mod ReplyTexts
 mod Additions
 mod Ascending
+mod Parted
 mod Cuts
 mod Puts
 mod SlotLists
@@ -16,3 +17,7 @@ mod StripReads
 mod FrameSteps
 mod FrameTiles
 mod FramingTexts
+mod BlockRuns
+mod BlockNumbers
+mod SeriesSteps
+mod SeriesValid

@@ -22,7 +22,7 @@ use Rattle.edr_select.specs.declared.plans.GridNode.{GridNode}
 use Rattle.edr_select.specs.declared.plans.Reply.{Reply}
 use Rattle.edr_select.specs.declared.plans.Reply.TheVariants.{Listed}
 use Rattle.edr_select.specs.Listings.{PlannedValue, ListingValue, IsListing, place_at, range_over, coverage_of, listing_document, tiles_of_range, tiles_of_coverage, listing_tiles}
-use Rattle.edr_select.specs.Plans.{PlanValue, IsReplyTo, StandsFor}
+use Rattle.edr_select.specs.Plans.{PlanValue, IsReplyTo, StandsFor, IsOverGrid}
 use Rattle.edr_select.specs.ReplyLaws.{told_of, document_valid}
 use Rattle.edr_send.specs.Bands.{listing_text}
 use Rattle.edr_send.specs.Gathered.{places_of_range, places_of_coverage, places_of_coverages, ranges_cut, coverages_cut, size_of, sizes_of}
@@ -151,7 +151,8 @@ coverages_are grid parameters (planned ∷ coverages) values e =
 -- ---- the document
 
 -- a plan of a listing stands for its query as the listing does
-pub listed_stands : (plan : PlanValue) (listing : ListingValue) (s : Subject) → plan.reply ≡ Listed listing → StandsFor plan s → IsReplyTo (Listed listing) plan.query s
+pub listed_stands : (plan : PlanValue) (listing : ListingValue) (s : Subject) → plan.reply ≡ Listed listing → StandsFor plan s
+    → IsOverGrid listing.shape (λ grid. listing_document grid listing) (listing_tiles listing) plan.query s
 listed_stands plan listing s listed stands = subst (λ (r : Reply). IsReplyTo r plan.query s) listed stands
 
 -- its text is that of its pieces

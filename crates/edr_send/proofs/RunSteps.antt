@@ -195,7 +195,7 @@ module _ (shape : GridShape) (tiled : TilesAreNumbered shape) (numbered : Number
 
 -- ---- text
 
-drop_on : {X : Type 0} (xs : List X) (a b : ℕ) → a ≤ b → drop a xs ≡ slice_range xs a b ++ drop b xs
+pub drop_on : {X : Type 0} (xs : List X) (a b : ℕ) → a ≤ b → drop a xs ≡ slice_range xs a b ++ drop b xs
 drop_on xs a b l =
     sym (take-append-drop (b - a) (drop a xs)) ∙ ap (λ ys. take (b - a) (drop a xs) ++ ys) (drop-drop (b - a) a xs ∙ ap (λ (k : ℕ). drop k xs) (whole a b l))
   where

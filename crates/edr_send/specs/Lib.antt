@@ -3,4 +3,5 @@ pub mod Filling
 pub mod Gathered
 pub mod Strips
 pub mod FrameTexts
+pub mod SeriesTexts
 pub mod Sending

@@ -2,10 +2,12 @@
 #![tactic(auto)]
 
 mod bands;
+mod block_runs;
 mod filling;
 mod frame_streams;
 mod gathering;
 mod sending;
+mod series;
 mod slots;
 mod streaming;
 mod strips;

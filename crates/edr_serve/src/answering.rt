@@ -9,8 +9,9 @@ ghost use Rattle.edr_serve.specs.Answers.{IsAnswer, IsAnswerTo, Answers};
 use edr_base::{Refusal, SendFault, Sink};
 use edr_describe::{DescribeFault, describe};
 use edr_edition::{Edition, Store};
+use edr_plan::plan;
 use edr_query::{Page, Query, TargetFault, read_target};
-use edr_select::{PlanFault, plan};
+use edr_select::PlanFault;
 use edr_send::send;
 use std::alloc::Global;
 

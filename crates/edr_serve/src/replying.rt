@@ -17,8 +17,9 @@ use edr_chunk::Reads;
 use edr_describe::{DescribeFault, describe};
 use edr_edition::{Edition, Store};
 use edr_http::{send_body, write_head, write_refusal};
+use edr_plan::plan_of;
 use edr_query::{Page, Query};
-use edr_select::{Plan, PlanFault, plan_of};
+use edr_select::{Plan, PlanFault};
 use std::alloc::Global;
 
 // Writes the reply that has a text of JSON.

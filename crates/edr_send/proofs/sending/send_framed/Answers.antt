@@ -2,22 +2,18 @@ use Rattle.std.proofs.Common.{◌≡◌, ◌∙◌, ap, sym, subst, ℕ, List, A
 use Rattle.std.specs.Prelude.{IfSome}
 use Rattle.edr_base.specs.Calls.{Writes}
 use Rattle.covjson_value.specs.declared.coverages.Document.{Document}
-use Rattle.covjson_value.specs.declared.coverages.Document.TheVariants.{One}
 use Rattle.covjson_value.specs.Coverages.{IsSample}
 use Rattle.covjson_value.specs.Trees.{document_text}
 use Rattle.edr_chunk.specs.Tiles.{tiles}
 use Rattle.edr_edition.specs.Values.{InstanceValue}
 use Rattle.edr_edition.specs.Stores.{Held, of_grid, IsHeld}
-use Rattle.edr_select.specs.declared.plans.Reply.{Reply}
 use Rattle.edr_select.specs.Samples.{ascending_once}
 use Rattle.edr_select.specs.Selections.{needed}
-use Rattle.edr_select.specs.Documents.{document}
-use Rattle.edr_select.specs.Plans.{shape_of, reply_document, reply_tiles}
-use Rattle.edr_select.specs.Framings.{FramingValue, framed_coverage, framed_tiles}
+use Rattle.edr_select.specs.Framings.{FramingValue, framed_tiles}
 use Rattle.edr_send.specs.FrameTexts.{framed_text}
 use Rattle.edr_send.specs.Filling.{grid_of}
 use Rattle.edr_send.proofs.Additions.{opens_adds}
-use Rattle.edr_send.proofs.FramingTexts.{framed_text_is}
+use Rattle.edr_send.proofs.FramingTexts.{framed_stands, framed_text_is}
 use Rattle.edr_select.specs.ReplyLaws.{instance_samples}
 use Rattle.edr_send.proofs.sending.send_framed.Goals as goal
 
@@ -26,30 +22,27 @@ some_is e = cc
 
 pub stream_framing-requires : goal.stream_framing-requires
 stream_framing-requires g c =
-    let instance : InstanceValue = c.requires.stands.instance in
-    let shape : c.args.framing.now.shape ≡ instance.grid.shape = subst (λ (r : Reply). shape_of r ≡ instance.grid.shape) c.requires.framed c.requires.stands.shape in
-    record { grid = shape ∙ ap (λ (h : Held). (grid_of h).shape) (sym c.requires.stands.held) }
+    let stands = framed_stands c.args.plan.now c.args.framing.now c.args.store.now.subject c.requires.framed c.requires.stands in
+    record { grid = stands.shape ∙ ap (λ (h : Held). (grid_of h).shape) (sym stands.held) }
 
 pub returns-clause-text : goal.returns-clause-text
 returns-clause-text g c =
     let framing : FramingValue = c.args.framing.now in
     let subject = c.args.store.now.subject in
     let query = c.args.plan.now.query in
-    let instance : InstanceValue = c.requires.stands.instance in
-    let held : subject.held ≡ of_grid instance = c.requires.stands.held in
+    let stands = framed_stands c.args.plan.now framing subject c.requires.framed c.requires.stands in
+    let instance : InstanceValue = stands.instance in
+    let held : subject.held ≡ of_grid instance = stands.held in
     let samples : All (λ v. IfSome v IsSample) instance.grid.values = instance_samples instance (subst (λ (h : Held). IsHeld h) held c.subject_stands.ensures.held) in
-    let told : One (framed_coverage instance.grid framing) ≡ document subject query =
-    some_is (subst (λ (r : Reply). reply_document instance.grid r ≡ Some (document subject query)) c.requires.framed c.requires.stands.document) in
     subst (λ (text : List ℕ). Writes c.stream_framing.result text (g.K.Sink.written c.args.sink.now) (g.K.Sink.written c.stream_framing.new.sink))
     (ap (λ (h : Held). framed_text (grid_of h) framing) held
     ∙ framed_text_is c.document_of_pieces.ensures instance.grid framing c.framing_stands.ensures.is samples
-    ∙ ap document_text told)
+    ∙ ap document_text (some_is stands.document))
     c.stream_framing.ensures.bytes
 
 pub returns-clause-reads : goal.returns-clause-reads
 returns-clause-reads g c =
     let framing : FramingValue = c.args.framing.now in
+    let stands = framed_stands c.args.plan.now framing c.args.store.now.subject c.requires.framed c.requires.stands in
     opens_adds c.stream_framing.result (ascending_once (tiles framing.shape) (framed_tiles framing)) (needed c.args.store.now.subject c.args.plan.now.query)
-    c.args.store.now.numbers c.stream_framing.new.store.numbers c.requires.unread
-    (subst (λ (r : Reply). ascending_once (tiles (shape_of r)) (reply_tiles r) ≡ needed c.args.store.now.subject c.args.plan.now.query) c.requires.framed c.requires.stands.chunks)
-    c.stream_framing.ensures.reads
+    c.args.store.now.numbers c.stream_framing.new.store.numbers c.requires.unread stands.chunks c.stream_framing.ensures.reads

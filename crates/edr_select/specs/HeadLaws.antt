@@ -18,15 +18,16 @@ use Rattle.covjson_value.specs.declared.domains.Domain.{Domain}
 use Rattle.covjson_value.specs.declared.coverages.Parameter.{Parameter}
 use Rattle.covjson_value.specs.declared.coverages.NdArray.{NdArray}
 use Rattle.covjson_value.specs.declared.coverages.Referencing.{Referencing}
+use Rattle.covjson_value.specs.declared.coverages.Coverage.{Coverage}
 use Rattle.covjson_value.specs.Domains.{has_coordinate, count_of}
 use Rattle.covjson_value.specs.Coverages.{IsAxisValue, IsNamedAxis, HasAxes, HasTuples, IsParameter, IsReferencing, IsSample, IsRange, AscendById, ids_of}
 use Rattle.covjson_write.specs.Writers.{IsHead}
 use Rattle.edr_edition.specs.Stores.{Subject}
 use Rattle.edr_select.specs.Selections.{is_asked}
+use Rattle.edr_select.specs.Documents.{referencing_over}
 use Rattle.edr_select.specs.Choices.{parameter_places}
 use Rattle.edr_select.specs.ListLaws.{Each, each-filter, filter-map}
-use Rattle.edr_select.proofs.Parameters.{parameter_at, asked_by_places}
-use Rattle.edr_select.proofs.Coverages.{coverage_with}
+use Rattle.edr_select.specs.ParameterLaws.{parameter_at, asked_by_places}
 
 -- ---- some values of an axis are an axis
 
@@ -91,6 +92,15 @@ asked_ascend names ps h =
     (IsStrictlySortedBy-filter (slice_cmp nat_cmp) (is_asked names) (ids_of ps) h))
 
 -- ---- heads
+
+abbrev pub coverage_with : Subject → Domain → List Parameter → List NdArray → Coverage
+coverage_with s domain parameters ranges = record {
+  id = None;
+  domain = domain;
+  referencing = referencing_over domain s.collection.referencing;
+  parameters = parameters;
+  ranges = ranges;
+}
 
 -- a range of missing samples
 abbrev missing : ℕ → NdArray

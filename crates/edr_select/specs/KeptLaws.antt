@@ -1,6 +1,7 @@
 -- The numbers below a count that pass a test, and nodes of a plane by row and column.
-use Rattle.std.proofs.Common.{◌≡◌, ℕ, zero, suc, ◌+◌, ◌*◌, ◌/◌, ◌%◌, ◌<◌, ◌≤◌, Bool, true, false, cond, List, [], ◌∷◌, ◌++◌, length, refl, ap, ap₂, sym, ◌∙◌, subst, arith, zero-add, zero-mul, add-zero, ℤ, Contains, All}
-use Rattle.std.specs.Prelude.{map}
+use Rattle.std.proofs.Common.{◌≡◌, ℕ, zero, suc, ◌+◌, ◌*◌, ◌/◌, ◌%◌, ◌<◌, ◌≤◌, Bool, true, false, cond, List, [], ◌∷◌, ◌++◌, length, refl, ap, ap₂, sym, ◌∙◌, subst, arith, zero-add, zero-mul, add-zero, ℤ, Contains, All, inl, inr}
+use Rattle.std.specs.Prelude.{map, ◌⊎◌}
+use Rattle.std.proofs.lemmas.Bool.{false_from_ne_true}
 use Rattle.std.specs.List.{range_with_len, filter, flat_map, slice_index_or}
 use Rattle.std.proofs.lemmas.List.{map-append}
 use Rattle.std.proofs.lemmas.List.Elements.{All-filter, filter_passes}
@@ -122,3 +123,26 @@ pairs_numbered ys xs =
     (λ k. map-map (λ (x : ℤ). pair (value_at ys k) x) (value_at xs) (range_with_len 0 (length xs))) (range_with_len 0 (length ys))
     ∙ (rows_numbered (λ k l. pair (value_at ys k) (value_at xs l)) (length xs) 0 (length ys)
     ∙ ap (λ m. map (λ k. pair (value_at ys (k / length xs)) (value_at xs (k % length xs))) (range_with_len m (length ys * length xs))) (zero-mul (length xs)))))
+
+-- ---- one number that passes
+
+kept_none : (t : ℕ → Bool) (a n : ℕ) → ((k : ℕ) → a ≤ k → k < a + n → t k ≡ false) → filter t (range_with_len a n) ≡ []
+kept_none t a zero h = refl
+kept_none t a (suc n) h =
+    ap (λ b. cond b (a ∷ filter t (range_with_len (a + 1) n)) (filter t (range_with_len (a + 1) n))) (h a (omega arith) (omega arith))
+    ∙ kept_none t (a + 1) n (λ k low high. h k (omega arith) (omega arith))
+
+pub one_kept : (t : ℕ → Bool) (a n k : ℕ) → a ≤ k → k < a + n → t k ≡ true → ((l : ℕ) → a ≤ l → l < a + n → t l ≡ true → l ≡ k)
+    → filter t (range_with_len a n) ≡ k ∷ []
+one_kept t a zero k low high h only = absurd (omega arith)
+one_kept t a (suc n) k low high h only =
+    elim (order a k low) [
+      | inl e ↦ ap (λ b. cond b (a ∷ filter t (range_with_len (a + 1) n)) (filter t (range_with_len (a + 1) n))) (ap t e ∙ h)
+          ∙ ap₂ (λ x xs. x ∷ xs) e (kept_none t (a + 1) n (λ l low high. false_from_ne_true (t l) (λ p. absurd (omega (arith, e, low, only l (omega arith) (omega arith) p)))))
+      | inr lt ↦ ap (λ b. cond b (a ∷ filter t (range_with_len (a + 1) n)) (filter t (range_with_len (a + 1) n)))
+          (false_from_ne_true (t a) (λ p. absurd (omega (arith, lt, only a (omega arith) (omega arith) p))))
+          ∙ one_kept t (a + 1) n k (omega arith) (omega arith) h (λ l low high. only l (omega arith) (omega arith))
+    ]
+  where
+    order : (a k : ℕ) → a ≤ k → (a ≡ k) ⊎ (a < k)
+    order a k h = grind arith

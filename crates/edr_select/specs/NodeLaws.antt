@@ -58,7 +58,7 @@ pub levels_shown : (zs : Option (List ℤ)) (levels : List ℕ) → (zs ≡ None
 levels_shown None levels one = sym (ap (map (level_at None)) (one refl))
 levels_shown (Some values) levels one = map-map Some (value_at values) levels
 
-place_nodes_chosen : (tv : ℕ → ℤ) (zv : ℕ → Option ℤ) (times levels : List ℕ) (spot : Spot)
+pub place_nodes_chosen : (tv : ℕ → ℤ) (zv : ℕ → Option ℤ) (times levels : List ℕ) (spot : Spot)
     → place_nodes (map tv times) (map zv levels) spot ≡ flat_map (λ t. map (λ z. node (Some (tv t)) (zv z) spot.0 spot.1) levels) times
 place_nodes_chosen tv zv times levels spot =
     flat_map-map (λ t. map (λ z. node (Some t) z spot.0 spot.1) (map zv levels)) tv times

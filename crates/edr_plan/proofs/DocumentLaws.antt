@@ -1,0 +1,130 @@
+-- The document of a query that no refusal applies to is that of a reply, and so it is valid.
+use Rattle.std.proofs.Common.{◌≡◌, Bool, true, false, Some, None, refl, ap, sym, ◌∙◌, subst, arith}
+use Rattle.std.specs.declared.option.Option.{Option}
+use Rattle.std.specs.Prelude.{not, ◌&&◌, is_none, option_and_then}
+use Rattle.covjson_value.specs.Coverages.{IsValidDocument}
+use Rattle.edr_base.specs.FirstThatApplies.{NoneApplies}
+use Rattle.edr_base.specs.declared.refusals.Refusal.{Refusal}
+use Rattle.edr_base.specs.declared.refusals.Refusal.TheVariants.{UnknownCollection, UnknownInstance, QueryNotOffered, NoSamples}
+use Rattle.edr_ids.specs.Ids.{item_of}
+use Rattle.edr_edition.specs.declared.kinds.Kind.{Kind}
+use Rattle.edr_edition.specs.declared.kinds.Kind.TheVariants.{Grid, Station}
+use Rattle.edr_edition.specs.Values.{InstanceValue, CollectionValue, EditionValue, collection_id}
+use Rattle.edr_edition.specs.Instances.{IsInstance, HasGrid}
+use Rattle.edr_edition.specs.Editions.{IsCollection, AreCollections}
+use Rattle.edr_edition.specs.Stores.{Subject, instance_named, subject_in, subject_of}
+use Rattle.edr_ids.specs.ListLaws.{item_found}
+use Rattle.edr_edition.specs.GridLaws.{instance_has}
+use Rattle.edr_query.specs.declared.pages.Page.TheVariants.{Ask}
+use Rattle.edr_query.specs.declared.shapes.Shape.{Shape}
+use Rattle.edr_query.specs.declared.shapes.Shape.TheVariants as at
+use Rattle.edr_query.specs.Values.{QueryValue}
+use Rattle.edr_query.specs.Queries.{IsQuery}
+use Rattle.edr_select.specs.Refusals.{Applies, applies_if, applies_if_found, applies_in, applies_to_subject, is_answered, is_of_grids, refused, IsRefusedLeast, RefusalIsLeast}
+use Rattle.edr_select.specs.Selections.{picked}
+use Rattle.edr_select.specs.Heads.{is_some_stored}
+use Rattle.edr_select.specs.Documents.{document}
+use Rattle.edr_select.specs.DocumentLaws.{GridDocumentsAreValid}
+use Rattle.edr_select.specs.Checks.{grid_of, stations_in}
+use Rattle.edr_select.specs.Choices.{TakesEach}
+use Rattle.edr_select.specs.Steps.{IsAsked}
+use Rattle.edr_select.specs.ListLaws.{all_member}
+use Rattle.edr_select.specs.NamedLaws.{named_member, subject_found}
+use Rattle.edr_plan.specs.DocumentLaws.{DocumentsAreValid}
+use Rattle.edr_plan.specs.StationPlaces.{IsOfStations}
+use Rattle.edr_plan.proofs.StationReplies.{stations_valid}
+
+-- there is one
+abbrev Is : {V : Type 0} → Option V → Type 0
+Is {V} o = (v : V) × (o ≡ Some v)
+
+-- ---- what no refusal tells
+
+collection_at : (q : QueryValue) (o : Option CollectionValue) → ¬ (applies_if_found (Ask q) UnknownCollection o ≡ true) → Is o
+collection_at q None n = absurd (n refl)
+collection_at q (Some collection) n = (collection, refl)
+
+in_found : (q : QueryValue) (refusal : Refusal) (o : Option CollectionValue) (collection : CollectionValue) → o ≡ Some collection
+    → ¬ (applies_if_found (Ask q) refusal o ≡ true) → ¬ (applies_in collection (Ask q) refusal ≡ true)
+in_found q refusal o collection e n = subst (λ (p : Option CollectionValue). ¬ (applies_if_found (Ask q) refusal p ≡ true)) e n
+
+-- a query is answered of grids or of stations
+abbrev IsAnswered : Kind → Shape → Type 0
+IsAnswered Grid shape = TakesEach shape
+IsAnswered Station shape = IsOfStations shape
+
+not_both : (b : Bool) → not (b && false) ≡ true
+not_both true = refl
+not_both false = refl
+
+answered : (kind : Kind) (shape : Shape) (b : Bool) → ¬ (not (b && is_answered kind shape) ≡ true) → IsAnswered kind shape
+answered Grid (at.Position geometry) b n = tt
+answered Grid (at.Radius geometry within) b n = tt
+answered Grid (at.Area geometry) b n = tt
+answered Grid (at.Cube lo hi levels) b n = tt
+answered Grid (at.Trajectory geometry) b n = absurd (n (not_both b))
+answered Grid (at.Corridor geometry width height) b n = absurd (n (not_both b))
+answered Grid (at.Location id) b n = absurd (n (not_both b))
+answered Station (at.Position geometry) b n = absurd (n (not_both b))
+answered Station (at.Radius geometry within) b n = tt
+answered Station (at.Area geometry) b n = tt
+answered Station (at.Cube lo hi levels) b n = tt
+answered Station (at.Trajectory geometry) b n = absurd (n (not_both b))
+answered Station (at.Corridor geometry width height) b n = absurd (n (not_both b))
+answered Station (at.Location id) b n = tt
+
+instance_at : (kind : Kind) (o : Option InstanceValue) → kind ≡ Grid → ¬ (is_of_grids kind && is_none o ≡ true) → Is o
+instance_at Grid None e n = absurd (n refl)
+instance_at Station None e n = cc
+instance_at kind (Some instance) e n = (instance, refl)
+
+same_subject : {s t : Subject} → Some s ≡ Some t → s ≡ t
+same_subject e = grind (arith, e)
+
+-- ---- the document
+
+module _ (of_grids : GridDocumentsAreValid) (e : EditionValue) (q : QueryValue) (subject : Subject) (are : AreCollections e.collections) (query : IsQuery q)
+    (none_applies : NoneApplies (Applies e (Ask q))) (named : subject_of e q.collection q.instance ≡ Some subject) (c : CollectionValue)
+    (found : item_of collection_id q.collection e.collections ≡ Some c) where
+  collection : IsCollection c
+  collection = all_member IsCollection e.collections c are.each (item_found collection_id q.collection e.collections c found).0
+
+  refused_here : (refusal : Refusal) → ¬ (applies_in c (Ask q) refusal ≡ true)
+  refused_here refusal = in_found q refusal (item_of collection_id q.collection e.collections) c found (none_applies refusal)
+
+  answers : IsAnswered c.kind q.shape
+  answers = answered c.kind q.shape _ (refused_here QueryNotOffered)
+
+  -- something is picked of what it is asked of
+  some_of : (s : Subject) → subject_in q.instance c ≡ Some s → is_some_stored (picked s q) ≡ true
+  some_of s is =
+      of_not (is_some_stored (picked s q)) (subst (λ (o : Option Subject). ¬ (applies_if (applies_to_subject q NoSamples) o ≡ true)) is (refused_here NoSamples))
+    where
+      of_not : (b : Bool) → ¬ (not b ≡ true) → b ≡ true
+      of_not true n = refl
+      of_not false n = absurd (n refl)
+
+  -- what it is asked of is this
+  same : (s : Subject) → subject_in q.instance c ≡ Some s → s ≡ subject
+  same s is = same_subject (sym (ap (λ (o : Option CollectionValue). option_and_then (subject_in q.instance) o) found ∙ is) ∙ named)
+
+  over : (kind : Kind) → c.kind ≡ kind → IsAnswered kind q.shape → IsValidDocument (document subject q)
+  over Grid kind each =
+      let held = instance_at c.kind (instance_named q.instance c.instances) kind (refused_here UnknownInstance) in
+      let i : InstanceValue = held.0 in
+      let grid : HasGrid i = instance_has i (all_member IsInstance c.instances i collection.instances.each (named_member q.instance c.instances i held.1)) in
+      let asked : IsAsked c q i = record { is_collection = collection; kind = kind; instance_is = held.1; each = each; shape = query.shape; grid = grid } in
+      let is : subject_in q.instance c ≡ Some (grid_of c i) = subject_found c q i kind held.1 in
+      subst (λ (s : Subject). IsValidDocument (document s q)) (same (grid_of c i) is) (of_grids c q i asked (some_of (grid_of c i) is))
+  over Station kind of =
+      let is : subject_in q.instance c ≡ Some (stations_in c) = rw kind refl in
+      subst (λ (s : Subject). IsValidDocument (document s q)) (same (stations_in c) is) (stations_valid c q collection of (some_of (stations_in c) is))
+
+  pub document_valid : IsValidDocument (document subject q)
+  document_valid = over c.kind refl answers
+
+pub documents_are_valid : RefusalIsLeast → GridDocumentsAreValid → DocumentsAreValid
+documents_are_valid least of_grids e q subject are query none named =
+    let none_applies : NoneApplies (Applies e (Ask q)) = subst (IsRefusedLeast e (Ask q)) none (least e (Ask q)) in
+    let found = collection_at q (item_of collection_id q.collection e.collections) (none_applies UnknownCollection) in
+    document_valid of_grids e q subject are query none_applies named found.0 found.1

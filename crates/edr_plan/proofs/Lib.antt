@@ -1,0 +1,14 @@
+mod StationSamples
+mod StationPicks
+mod StationHeads
+mod StationCells
+mod StationSizes
+mod StationValid
+mod StationCoverages
+mod StationDocuments
+mod StationLevels
+mod StationReplies
+mod DocumentLaws
+mod TakenStations
+mod ChosenPlaces
+mod SeriesSteps

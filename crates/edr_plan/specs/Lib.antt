@@ -1,0 +1,4 @@
+pub mod StationPlaces
+pub mod StationPlans
+pub mod Found
+pub mod DocumentLaws

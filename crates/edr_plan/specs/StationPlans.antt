@@ -1,0 +1,142 @@
+-- What is planned for the stations that a query takes; for private clauses.
+use Rattle.std.specs.Prelude.{⊤, ◌≡◌, ◌≢◌, ◌⊎◌, ℕ, ◌+◌, ◌*◌, ◌<◌, ◌≤◌, nat_lt, nat_le, Bool, true, false, ◌&&◌, if◌then◌else◌, ℤ, List, [], ◌∷◌, ◌++◌, map, length, All, sum_by, Option, None, Some, option_map}
+use Rattle.std.specs.List.{filter, flat_map, range_with_len}
+use Rattle.edr_axes.specs.Axes.{value_at}
+use Rattle.covjson_value.specs.declared.domains.Domain.{Domain}
+use Rattle.covjson_value.specs.declared.coverages.Coverage.{Coverage}
+use Rattle.covjson_value.specs.Domains.{axis_length}
+use Rattle.covjson_value.specs.Coverages.{IsValidDocument}
+use Rattle.edr_base.specs.Limits.{node_limit}
+use Rattle.edr_ids.specs.Ids.{item_of}
+use Rattle.edr_station.specs.Stations.{StationValue, station_id, station_at, values_along}
+use Rattle.edr_station.specs.Blocks.{blocks_of, first_block}
+use Rattle.edr_edition.specs.declared.kinds.Kind.TheVariants.{Station}
+use Rattle.edr_edition.specs.Values.{CollectionValue}
+use Rattle.edr_edition.specs.Stores.{stations_of}
+use Rattle.edr_query.specs.declared.shapes.Shape.{Shape}
+use Rattle.edr_query.specs.declared.shapes.Shape.TheVariants as at
+use Rattle.edr_query.specs.Values.{QueryValue}
+use Rattle.edr_select.specs.Choices.{parameter_places, time_places, level_places}
+use Rattle.edr_select.specs.Wanted.{levels_asked}
+use Rattle.edr_select.specs.Heads.{domain_at}
+use Rattle.edr_select.specs.Planned as planned
+use Rattle.edr_select.specs.Planned.{parameters_at}
+use Rattle.edr_select.specs.Checks.{refused_query, stations_in}
+use Rattle.edr_select.specs.Documents.{document}
+use Rattle.edr_select.specs.Limits.{value_limit, coverage_limit}
+use Rattle.edr_select.specs.Series.{StationSeriesValue, SeriesReplyValue}
+use Rattle.edr_select.specs.Plans.{IsOverStations}
+use Rattle.edr_plan.specs.StationPlaces.{IsOfStations, cell_of, is_taken}
+
+-- ---- what is asked
+
+abbrev pub IsThere : Shape → List StationValue → Type 0
+IsThere (at.Location id) stations = item_of station_id id stations ≢ None
+IsThere other stations = ⊤
+
+-- a query is asked of the stations of a collection
+pub record AsksStations (collection : CollectionValue) (q : QueryValue) : Type 0 where
+  pub kind : collection.kind ≡ Station
+  pub shape : IsOfStations q.shape
+  pub there : IsThere q.shape collection.stations
+
+-- only the reply to a query of one station isn't a collection
+abbrev pub is_many : Shape → Bool
+is_many (at.Location id) = false
+is_many other = true
+
+-- ---- what is taken of a station
+
+pub record ChoiceValue : Type 0 where
+  pub times : List ℕ
+  pub levels : List ℕ
+
+-- of a station that the shape takes
+abbrev pub choice_of : QueryValue → StationValue → ChoiceValue
+choice_of q s = record { times = time_places q.times s.ts; levels = level_places (levels_asked q) s.zs }
+
+-- some of its times and levels, of both at least one
+pub record IsChoiceOf (s : StationValue) (choice : ChoiceValue) : Type 0 where
+  pub query : QueryValue
+  pub is : choice ≡ choice_of query s
+  pub times : choice.times ≢ []
+  pub levels : choice.levels ≢ []
+  pub few : values_along s ≤ node_limit
+
+-- how many values some parameters have
+abbrev pub value_count : ℕ → ChoiceValue → ℕ
+value_count parameters choice = parameters * (length choice.times * length choice.levels)
+
+-- ---- the coverage of a station
+
+abbrev pub domain_of : StationValue → ChoiceValue → Domain
+domain_of s choice = domain_at (map (value_at s.ts) choice.times) (option_map (λ zs. map (value_at zs) choice.levels) s.zs) (s.y, s.x)
+
+-- a head of an id
+abbrev pub with_id : List ℕ → Coverage → Coverage
+with_id id head = record { id = Some id; domain = head.domain; referencing = head.referencing; parameters = head.parameters; ranges = head.ranges }
+
+abbrev pub head_of_station : CollectionValue → List ℕ → StationValue → ChoiceValue → Coverage
+head_of_station collection parameters s choice =
+    with_id s.id (planned.head_of collection.referencing (parameters_at collection.parameters parameters) (domain_of s choice))
+
+-- of the station at a place, with what is taken of it
+abbrev pub series_at : CollectionValue → List ℕ → ℕ → ChoiceValue → StationSeriesValue
+series_at collection parameters k choice =
+    let s = station_at collection.stations k in
+    record {
+      head = head_of_station collection parameters s choice;
+      station = k;
+      first = first_block (stations_of collection.parameters collection.stations) k;
+      blocks = blocks_of s;
+      cells = flat_map (λ t. map (cell_of s t) choice.levels) choice.times;
+    }
+
+abbrev pub series_of : CollectionValue → QueryValue → ℕ → StationSeriesValue
+series_of collection q k = series_at collection (parameter_places q.parameters collection.parameters) k (choice_of q (station_at collection.stations k))
+
+-- where something is taken of it
+abbrev pub series_where_taken : CollectionValue → QueryValue → ℕ → List StationSeriesValue
+series_where_taken collection q k = if is_taken q collection.parameters (station_at collection.stations k) then series_of collection q k ∷ [] else []
+
+-- of all stations of which something is taken
+abbrev pub all_series : CollectionValue → QueryValue → List StationSeriesValue
+all_series collection q =
+    map (series_of collection q) (filter (λ k. is_taken q collection.parameters (station_at collection.stations k)) (range_with_len 0 (length collection.stations)))
+
+-- ---- sizes
+
+-- how many values coverages have, of so many parameters
+abbrev pub values_of_series : ℕ → List StationSeriesValue → ℕ
+values_of_series parameters series = sum_by (λ (s : StationSeriesValue). parameters * length s.cells) series
+
+-- more than a reply has
+abbrev pub IsTooMany : ℕ → List StationSeriesValue → Type 0
+IsTooMany parameters series = (value_limit < values_of_series parameters series) ⊎ (coverage_limit < length series)
+
+pub record IsFew (parameters : ℕ) (series : List StationSeriesValue) : Type 0 where
+  pub values : values_of_series parameters series ≤ value_limit
+  pub coverages : length series ≤ coverage_limit
+
+pub record GatheredValue : Type 0 where
+  pub series : List StationSeriesValue
+  pub values : ℕ
+
+pub record IsGathered (parameters : ℕ) (gathered : GatheredValue) : Type 0 where
+  pub values : gathered.values ≡ values_of_series parameters gathered.series
+  pub few : IsFew parameters gathered.series
+
+-- a coverage more, of so many values, is few still
+abbrev pub has_room : GatheredValue → ℕ → Bool
+has_room gathered values = nat_le (gathered.values + values) value_limit && nat_lt (length gathered.series) coverage_limit
+
+abbrev pub with_series : GatheredValue → StationSeriesValue → ℕ → GatheredValue
+with_series gathered series values = record { series = gathered.series ++ series ∷ []; values = gathered.values + values }
+
+-- ---- the reply
+
+-- no refusal applies to the query, its document is valid, and the reply is that to it
+pub record IsPlanOfStations (collection : CollectionValue) (q : QueryValue) (reply : SeriesReplyValue) : Type 0 where
+  pub none : refused_query collection q ≡ None
+  pub valid : IsValidDocument (document (stations_in collection) q)
+  pub stands : IsOverStations reply q (stations_in collection)

@@ -1,0 +1,68 @@
+//! The places among a station's values that a query takes.
+ghost use Rattle.std.specs.Prelude.{◌≡◌, ◌<◌, ◌≤◌, ◌++◌, All, length, map, IfOk, OnOk};
+ghost use Rattle.std.specs.List.{flat_map};
+ghost use Rattle.edr_base.specs.Limits.{node_limit};
+ghost use Rattle.edr_station.specs.Stations.{levels_along, values_along};
+ghost use Rattle.edr_station.specs.Blocks as blocks;
+ghost use Rattle.edr_plan.specs.StationPlaces.{cell_of};
+
+use edr_base::OutOfMemory;
+use edr_station::Station;
+use std::alloc::Global;
+
+// How many levels a station has, and 1 where it has no axis of levels.
+fn levels_in(station: &Station) -> u64
+    ensures { result ≡ levels_along station.now.zs }
+{
+    match station.levels() {
+        Some(levels) => levels.len() as u64,
+        None => 1,
+    }
+}
+
+// How many blocks each parameter of a station has.
+pub(crate) fn blocks_of(station: &Station) -> u64
+    requires { values_along station.now ≤ node_limit }
+    ensures { result ≡ blocks.blocks_of station.now }
+{
+    let values = station.times().len() as u64 * levels_in(station);
+    values.div_ceil(256)
+}
+
+// Adds the places of a time, each level in turn.
+fn push_levels(
+    cells: &mut Vec<u64>,
+    station: &Station,
+    time: u64,
+    levels: &[u64],
+) -> Result<(), OutOfMemory>
+    requires few { values_along station.now ≤ node_limit }
+    requires time { time < length station.now.ts }
+    requires levels { All (λ z. z < levels_along station.now.zs) levels.now }
+    ensures { OnOk result (cells.new.items ≡ cells.old.items ++ map (cell_of station.now time) levels.now) }
+{
+    let first = time * levels_in(station);
+    for level in levels {
+        cells.push(first + *level)?;
+    }
+    Ok(())
+}
+
+// The places of some times and levels, in the order t, z.
+pub(crate) fn cells_at(
+    alloc: Global,
+    station: &Station,
+    times: &[u64],
+    levels: &[u64],
+) -> Result<Vec<u64>, OutOfMemory>
+    requires few { values_along station.now ≤ node_limit }
+    requires times { All (λ t. t < length station.now.ts) times.now }
+    requires levels { All (λ z. z < levels_along station.now.zs) levels.now }
+    ensures { IfOk result (λ cells. cells.items ≡ flat_map (λ t. map (cell_of station.now t) levels.now) times.now) }
+{
+    let mut cells = Vec::new(alloc);
+    for time in times {
+        push_levels(&mut cells, station, *time, levels)?;
+    }
+    Ok(cells)
+}

@@ -1,0 +1,12 @@
+//! Laws of documents.
+ghost use Rattle.edr_plan.specs.DocumentLaws.{DocumentsAreValid};
+
+use edr_select::{grid_documents_are_valid, refusal_is_least};
+
+/// The document of a query that no refusal applies to is valid (OGC 21-069r2).
+pub fn documents_are_valid()
+    ensures { DocumentsAreValid }
+{
+    refusal_is_least();
+    grid_documents_are_valid();
+}

@@ -1,0 +1,58 @@
+//! The heads of stations' coverages.
+ghost use Rattle.std.specs.Prelude.{◌≡◌, ◌<◌, All, length, IfOk};
+ghost use Rattle.edr_plan.specs.StationPlans.{domain_of, head_of_station, IsChoiceOf};
+
+use crate::station_choices::{StationChoice, station_stands};
+use covjson_value::{Coverage, Domain};
+use edr_base::{OutOfMemory, Text};
+use edr_edition::CollectionData;
+use edr_select::{domain_at, head_of, values_at};
+use edr_station::Station;
+use std::alloc::Global;
+
+// The domain of a station at the times and levels that are taken (OGC 21-069r2, domain types).
+fn domain_of(
+    alloc: Global,
+    station: &Station,
+    choice: &StationChoice,
+) -> Result<Domain, OutOfMemory>
+    requires { IsChoiceOf station.now choice.now }
+    ensures { IfOk result (λ domain. domain ≡ domain_of station.now choice.now) }
+{
+    station_stands(station);
+    let times = values_at(alloc, station.times(), &choice.times)?;
+    match station.levels() {
+        None => domain_at(alloc, &times, None, station.y(), station.x()),
+        Some(axis) => {
+            let levels = values_at(alloc, axis, &choice.levels)?;
+            domain_at(alloc, &times, Some(&levels), station.y(), station.x())
+        }
+    }
+}
+
+// The head of a station's coverage, which has the station's id.
+pub(crate) fn head_at(
+    alloc: Global,
+    collection: &CollectionData,
+    parameters: &[u64],
+    station: &Station,
+    choice: &StationChoice,
+) -> Result<Coverage, OutOfMemory>
+    requires choice { IsChoiceOf station.now choice.now }
+    requires parameters { All (λ place. place < length collection.now.parameters) parameters.now }
+    ensures { IfOk result (λ head. head ≡ head_of_station collection.now parameters.now station.now choice.now) }
+{
+    let domain = domain_of(alloc, station, choice)?;
+    let head = head_of(
+        alloc,
+        collection.referencing(),
+        collection.parameters(),
+        parameters,
+        domain,
+    )?;
+    let id = Text::of(alloc, station.id())?;
+    Ok(Coverage {
+        id: Some(id),
+        ..head
+    })
+}
