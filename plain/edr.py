@@ -1,6 +1,7 @@
-"""The commands of the program: python3 plain/edr.py ask TARGET < input, check [--summary], or replay FEED [--advance]"""
+"""The commands of the program: python3 plain/edr.py ask TARGET < input, check [--summary], replay FEED [--advance], or make NUMBER"""
 
 import os
+import re
 import sys
 from dataclasses import dataclass
 from typing import Callable
@@ -8,6 +9,7 @@ from typing import Callable
 from ask import answer
 from editions import Collections
 from feeds import FeedFault, read_feed
+from making import made_feed
 from names import is_utf8
 from sessions import serve
 from summaries import count_line, summary_lines
@@ -40,7 +42,14 @@ def run(words: list[bytes], read_input: Read, open_file: Callable[[bytes], Read]
         return _of_feed(read_input(), lambda editions: _answered(words[1], editions[-1]))
     if words[:1] == [b"replay"] and len(words) > 1 and words[2:] in ([], [b"--advance"]) and is_utf8(words[1]):
         return _of_file(words[1], open_file, lambda feed: _replayed(feed, len(words) > 2, read_input))
+    if len(words) == 2 and words[0] == b"make" and _is_number(words[1]):
+        return Ending(0, made_feed(int(words[1])).encode("utf-8"))
     return _ended(1, USAGE)
+
+
+def _is_number(word: bytes) -> bool:
+    """Whether a word is 1 to 20 digits of a number within 64 bits."""
+    return re.fullmatch(rb"[0-9]{1,20}", word) is not None and int(word) < 2**64
 
 
 def _of_file(name: bytes, open_file: Callable[[bytes], Read], ending_of: Callable[[bytes], Ending]) -> Ending:

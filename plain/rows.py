@@ -1,10 +1,12 @@
-"""Runs the plain program on worked rows of `ask`, `check` and `replay`.
+"""Runs the plain program, or the built ones, on worked rows of `ask`, `check`, `replay` and `make`, and of what feeds are.
 
-    python3 plain/rows.py ROWS [--request N] [--show]
+    python3 plain/rows.py ROWS [--request N] [--show] [--edr PROGRAM] [--answers PROGRAM]
 
 Each line of ROWS is an object with `words`, `input`, `files` by their names, and `answers`, a list of [first, last, status, output,
-errors]: what is answered from one stage of the product to another. Without `--request`, all queries and stations are switched on and the last
-answers are wanted; with it, the switches stay as they are, and the answers are those at that stage. The last line is
+errors]: what is answered from one stage of the product to another. The word `feed` is no command of the program: its output is what
+the reader of feeds answers, as in `edr_answers`. Without `--request`, all queries and stations are switched on and the last
+answers are wanted; with it, the switches stay as they are, and the answers are those at that stage. `--edr` runs the commands on the
+program, and `--answers` the rows of `feed` on `edr_answers`; what neither of them runs is left out then. The last line is
 `N agree, M differ`.
 """
 
@@ -13,7 +15,10 @@ import json
 import sys
 
 import built
+from answers import feed_answer
 from edr import Ending, held_files, run
+from inputs.asks import Ask
+from programs import endings, reader_answers
 
 
 def wanted(row: dict, request: int | None) -> Ending | None:
@@ -25,11 +30,20 @@ def wanted(row: dict, request: int | None) -> Ending | None:
     return Ending(status, output.encode("latin-1"), errors.encode("latin-1"))
 
 
-def ending(row: dict) -> Ending:
-    """How the row's run ends."""
+def ending(row: dict, edr: str | None, answers: str | None) -> Ending | None:
+    """How the row's run ends; None where it isn't run."""
     words = [word.encode("latin-1") for word in row["words"]]
     files = {name.encode("latin-1"): content.encode("latin-1") for name, content in row["files"].items()}
-    return run(words, lambda: row["input"].encode("latin-1"), held_files(files))
+    content, is_plain = row["input"].encode("latin-1"), edr is None and answers is None
+    if words == [b"feed"]:
+        if is_plain:
+            return Ending(0, feed_answer(content).encode("utf-8"))
+        return Ending(0, reader_answers(answers, [("f", content)])[0]) if answers else None
+    if words[:1] not in ([b"ask"], [b"check"], [b"replay"], [b"make"]):
+        return None
+    if is_plain:
+        return run(words, lambda: content, held_files(files))
+    return endings(edr, [Ask(tuple(words), content, tuple(files.items()))])[0] if edr else None
 
 
 def main() -> int:
@@ -37,6 +51,8 @@ def main() -> int:
     parser.add_argument("rows")
     parser.add_argument("--request", type=int)
     parser.add_argument("--show", action="store_true", help="print what differs")
+    parser.add_argument("--edr", help="the program edr")
+    parser.add_argument("--answers", help="the program edr_answers")
     given = parser.parse_args()
     if given.request is None:
         built.build("whole")
@@ -45,9 +61,9 @@ def main() -> int:
         for number, line in enumerate(rows, 1):
             row = json.loads(line)
             want = wanted(row, given.request)
-            if want is None or row["words"][:1] not in (["ask"], ["check"], ["replay"]):
+            got = want and ending(row, given.edr, given.answers)
+            if got is None:
                 continue
-            got = ending(row)
             agree, differ = agree + (got == want), differ + (got != want)
             if got != want:
                 print(f"differs: row {number}: {' '.join(row['words'])[:200]}")

@@ -17,6 +17,7 @@ use Rattle.edr.specs.declared.endings.Ending.TheVariants.{Done, Usage, NotFeed, 
 use Rattle.edr.specs.Checking.{fault_ends}
 use Rattle.edr.specs.Replays.{IsReplayOf, IsReplayBegun, AreReplies, AreBegun}
 use Rattle.edr.specs.Asking.{AnswerCause}
+use Rattle.edr.specs.Making.{MakeCause}
 use Rattle.edr.specs.Ends.{OutputEnds, IsReadByEnd, AtReadFault, Settles, Counts, FileFailed}
 use Rattle.edr.specs.Replaying.{ServeCause, ReplayCause, IsBefore, session_ends}
 use Rattle.edr.proofs.ReplayLemmas.{stands_opened}
@@ -80,6 +81,16 @@ settled_answer WriteFault IsThe first before after new flushed h s = rose_earlie
 settled_answer OutOfMemory IsThe first before after new flushed h s = tt
 settled_answer (Refused refusal) IsThe first before after new flushed h s = absurd s
 settled_answer OpenFault IsThe first before after new flushed h s = s
+
+pub settled_make : (ending : Ending) (first before after : ℕ) (new : Option (List ℕ)) (flushed : Option ℕ) → first ≤ before → Settles ending before after new flushed → MakeCause ending first after
+settled_make Done first before after new flushed h s = tt
+settled_make Usage first before after new flushed h s = s
+settled_make (NotFeed refusal) first before after new flushed h s = s
+settled_make ReadFault first before after new flushed h s = s
+settled_make WriteFault first before after new flushed h s = rose_earlier first before after h s
+settled_make OutOfMemory first before after new flushed h s = tt
+settled_make (Refused refusal) first before after new flushed h s = s
+settled_make OpenFault first before after new flushed h s = s
 
 pub settled_begun : (ending : Ending) (before after : ℕ) (new : Option (List ℕ)) (flushed : Option ℕ) → Settles ending before after new flushed → ¬ (IsBefore ending)
 settled_begun Done before after new flushed s x = x

@@ -4,6 +4,7 @@ use Rattle.std.specs.Prelude.{◌≡◌, ◌+◌, ℕ, true, false, bytes_eq, co
 use Rattle.std.specs.declared.option.Option.{Option}
 use Rattle.std.specs.Fmt.{decimal}
 use Rattle.std.specs.Str.{is_utf8}
+use Rattle.std.specs.Str.Parse.{digits_value}
 use Rattle.std.specs.List.{flat_map}
 use Rattle.edr_base.specs.Outside.{Asked as AskedOf}
 use Rattle.edr_base.specs.Limits.{feed_limit}
@@ -12,12 +13,14 @@ use Rattle.edr_base.specs.declared.refusals.Refusal.{Refusal}
 use Rattle.edr_edition.specs.Values.{EditionValue}
 use Rattle.edr_edition.specs.Shelves.{EndsWith}
 use Rattle.edr_feed.specs.Feeds.{FeedStandsIn}
+use Rattle.edr_feed.specs.Made.{made}
 use Rattle.edr_feed.specs.Summaries.{summary_line}
 use Rattle.edr_feed.specs.declared.refusals.FeedRefusal.{FeedRefusal}
 use Rattle.edr_serve.specs.Answers.{IsAnswerTo}
+use Rattle.edr.specs.Numbers.{is_number}
 use Rattle.edr.specs.Replays.{IsReplayOf, IsReplayBegun, ReplayReads, ReplayWaits}
 use Rattle.edr.specs.declared.commands.Command.{Command}
-use Rattle.edr.specs.declared.commands.Command.TheVariants.{Ask, Replay, ReplayAdvance, Check, CheckSummary}
+use Rattle.edr.specs.declared.commands.Command.TheVariants.{Ask, Replay, ReplayAdvance, Check, CheckSummary, Make}
 
 -- a command, and the word behind it that it goes by, where it has one
 pub record Asked : Type 0 where
@@ -35,6 +38,7 @@ asked_by (word ∷ next ∷ []) =
     if bytes_eq word (codes "ask") then asks Ask next
     else if bytes_eq word (codes "replay") && is_utf8 next then asks Replay next
     else if bytes_eq word (codes "check") && bytes_eq next (codes "--summary") then asks CheckSummary []
+    else if bytes_eq word (codes "make") && is_number next then asks (Make (digits_value 10 next)) []
     else None
 asked_by (word ∷ next ∷ more ∷ []) =
     if bytes_eq word (codes "replay") && is_utf8 next && bytes_eq more (codes "--advance") then asks ReplayAdvance next else None
@@ -48,6 +52,7 @@ files_asked Replay feed = Some ((feed, 0) ∷ [])
 files_asked ReplayAdvance feed = Some ((feed, 0) ∷ [])
 files_asked Check argument = None
 files_asked CheckSummary argument = None
+files_asked (Make number) argument = None
 
 abbrev pub link_asked : Command → List ℕ → Option (List AskedOf)
 link_asked Ask argument = None
@@ -55,6 +60,7 @@ link_asked Replay feed = None
 link_asked ReplayAdvance feed = None
 link_asked Check argument = None
 link_asked CheckSummary argument = None
+link_asked (Make number) argument = None
 
 -- ---- what each command gives from what the input holds, and from what the files of each name hold
 
@@ -92,6 +98,7 @@ ReadsOf Replay feed content input left old new = ReplayReads false (content feed
 ReadsOf ReplayAdvance feed content input left old new = ReplayReads true (content feed) input left old new
 ReadsOf Check argument content input left old new = ReadsAtMost (feed_limit + buffer_size) input left
 ReadsOf CheckSummary argument content input left old new = ReadsAtMost (feed_limit + buffer_size) input left
+ReadsOf (Make number) argument content input left old new = left ≡ input
 
 -- where a read failed: of a connection all requests that had come were answered, and their replies are flushed
 
@@ -101,14 +108,17 @@ WaitsOf Replay feed content input left old new flushed = ReplayWaits false (cont
 WaitsOf ReplayAdvance feed content input left old new flushed = ReplayWaits true (content feed) input left old new flushed
 WaitsOf Check argument content input left old new flushed = ⊤
 WaitsOf CheckSummary argument content input left old new flushed = ⊤
+WaitsOf (Make number) argument content input left old new flushed = ⊤
 
--- the text that is asked for: the answer to the target, what is told of the feed, or the replies to the requests of the input
+-- the text that is asked for: the answer to the target, what is told of the feed, the replies to the requests of the input, or
+-- the feed that is made
 abbrev pub IsOutputOf : Command → List ℕ → Contents → Option (List ℕ) → List ℕ → Type 0
 IsOutputOf Ask target content input text = IsAnswerFrom input target (Ok text)
 IsOutputOf Replay feed content input text = IsReplayOf false (content feed) input text
 IsOutputOf ReplayAdvance feed content input text = IsReplayOf true (content feed) input text
 IsOutputOf Check argument content input text = IsTextOfFeed count_line input text
 IsOutputOf CheckSummary argument content input text = IsTextOfFeed summary_lines input text
+IsOutputOf (Make number) argument content input text = text ≡ made number
 
 -- the text of which a beginning is written where a fault comes: that which is asked for, or the replies to the requests that
 -- were begun, which are the first of the input's
@@ -118,6 +128,7 @@ IsBegunOf Replay feed content input text = IsReplayBegun false (content feed) in
 IsBegunOf ReplayAdvance feed content input text = IsReplayBegun true (content feed) input text
 IsBegunOf Check argument content input text = IsTextOfFeed count_line input text
 IsBegunOf CheckSummary argument content input text = IsTextOfFeed summary_lines input text
+IsBegunOf (Make number) argument content input text = text ≡ made number
 
 -- the input is no feed, or the file is none, for that reason
 abbrev pub IsNoInputOf : Command → List ℕ → Contents → Option (List ℕ) → FeedRefusal → Type 0
@@ -126,6 +137,7 @@ IsNoInputOf Replay feed content input refusal = FeedStandsIn (content feed) (Err
 IsNoInputOf ReplayAdvance feed content input refusal = FeedStandsIn (content feed) (Err refusal)
 IsNoInputOf Check argument content input refusal = FeedStandsIn input (Err refusal)
 IsNoInputOf CheckSummary argument content input refusal = FeedStandsIn input (Err refusal)
+IsNoInputOf (Make number) argument content input refusal = ⊥
 
 -- what is asked for is refused: the answer to the target is a refusal
 abbrev pub IsRefusedBy : Command → List ℕ → Option (List ℕ) → Refusal → Type 0
@@ -134,6 +146,7 @@ IsRefusedBy Replay feed input refusal = ⊥
 IsRefusedBy ReplayAdvance feed input refusal = ⊥
 IsRefusedBy Check argument input refusal = ⊥
 IsRefusedBy CheckSummary argument input refusal = ⊥
+IsRefusedBy (Make number) argument input refusal = ⊥
 
 -- ---- the same of words, which may ask for nothing
 
@@ -166,3 +179,4 @@ IsNamed Replay feed = IsUtf8 feed
 IsNamed ReplayAdvance feed = IsUtf8 feed
 IsNamed Check argument = ⊤
 IsNamed CheckSummary argument = ⊤
+IsNamed (Make number) argument = ⊤

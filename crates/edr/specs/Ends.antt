@@ -12,7 +12,7 @@ use Rattle.edr_base.specs.declared.sending.SendFault.TheVariants.{WriteFault as 
 use Rattle.edr_feed.specs.declared.refusals.FeedRefusal.{FeedRefusal}
 use Rattle.edr_feed.specs.declared.refusals.FeedRefusal.TheVariants.{TooLong, LineTooLong, NotJson, NotFeedLine, Cov, Change, NothingPublished}
 use Rattle.edr.specs.declared.commands.Command.{Command}
-use Rattle.edr.specs.declared.commands.Command.TheVariants.{Ask, Replay, ReplayAdvance, Check, CheckSummary}
+use Rattle.edr.specs.declared.commands.Command.TheVariants.{Ask, Replay, ReplayAdvance, Check, CheckSummary, Make}
 use Rattle.edr.specs.declared.endings.Ending.{Ending}
 use Rattle.edr.specs.declared.endings.Ending.TheVariants.{Done, Usage, NotFeed, ReadFault, WriteFault, OutOfMemory, Refused, OpenFault}
 use Rattle.edr.specs.Commands.{Asked, Contents, IsOutput, IsBegun, IsNoInput, IsRefused, files_asked, link_asked, ReadsOf, WaitsFor}
@@ -71,6 +71,7 @@ writes_early Replay = true
 writes_early ReplayAdvance = true
 writes_early Check = false
 writes_early CheckSummary = false
+writes_early (Make number) = false
 
 abbrev pub is_early : Option Asked → Bool
 is_early None = false
@@ -111,6 +112,7 @@ ReadFailed Replay before after = Rose before.input after.input ⊎ FileFailed be
 ReadFailed ReplayAdvance before after = Rose before.input after.input ⊎ FileFailed before after
 ReadFailed Check before after = Rose before.input after.input
 ReadFailed CheckSummary before after = Rose before.input after.input
+ReadFailed (Make number) before after = ⊥
 
 -- a write failed: on the output
 abbrev pub WriteFailed : Command → Counts → Counts → Type 0
@@ -119,6 +121,7 @@ WriteFailed Replay before after = Rose before.output after.output
 WriteFailed ReplayAdvance before after = Rose before.output after.output
 WriteFailed Check before after = Rose before.output after.output
 WriteFailed CheckSummary before after = Rose before.output after.output
+WriteFailed (Make number) before after = Rose before.output after.output
 
 -- a file couldn't be opened
 abbrev pub OpenFailed : Command → Counts → Counts → Type 0
@@ -127,6 +130,7 @@ OpenFailed Replay before after = Rose before.files after.files × (after.closed 
 OpenFailed ReplayAdvance before after = Rose before.files after.files × (after.closed ≡ true)
 OpenFailed Check before after = ⊥
 OpenFailed CheckSummary before after = ⊥
+OpenFailed (Make number) before after = ⊥
 
 -- the same of words, which may ask for nothing, and then nothing fails
 abbrev pub FailsIn : (Command → Counts → Counts → Type 0) → Option Asked → Counts → Counts → Type 0
@@ -160,6 +164,7 @@ IsReadBy Replay input left = IsServed input left
 IsReadBy ReplayAdvance input left = IsServed input left
 IsReadBy Check input left = IsAtEnd left
 IsReadBy CheckSummary input left = IsAtEnd left
+IsReadBy (Make number) input left = left ≡ input
 
 abbrev pub IsRead : Option Asked → Option (List ℕ) → Option (List ℕ) → Type 0
 IsRead None input left = ⊤
@@ -194,11 +199,25 @@ LeavesInput Replay status = (status ≡ 2) ⊎ (status ≡ 9)
 LeavesInput ReplayAdvance status = (status ≡ 2) ⊎ (status ≡ 9)
 LeavesInput Check status = ⊥
 LeavesInput CheckSummary status = ⊥
+LeavesInput (Make number) status = ⊥
 
 -- the same of words: where they ask for nothing, the input is left as it is
 abbrev pub IsUnread : Option Asked → ℕ → Type 0
 IsUnread None status = ⊤
 IsUnread (Some asked) status = LeavesInput asked.command status
+
+-- whether a command takes anything from the input
+abbrev pub uses_input : Command → Bool
+uses_input Ask = true
+uses_input Replay = true
+uses_input ReplayAdvance = true
+uses_input Check = true
+uses_input CheckSummary = true
+uses_input (Make number) = false
+
+abbrev pub is_input_used : Option Asked → Bool
+is_input_used None = false
+is_input_used (Some asked) = uses_input asked.command
 
 -- a text was written, or a beginning of it: then a fault of that sink was counted, or memory was wanting
 pub record Tells (text : List ℕ) (old new : Option (List ℕ)) (before after : ℕ) : Type 0 where

@@ -1,6 +1,8 @@
 pub mod Replays
+pub mod Numbers
 pub mod Commands
 pub mod Ends
 pub mod Checking
 pub mod Asking
 pub mod Replaying
+pub mod Making

@@ -3,6 +3,7 @@ ghost use Rattle.std.specs.Prelude.{◌≡◌, true, option_map, IfSome, IsUtf8}
 ghost use Rattle.std.specs.Str.{is_utf8};
 ghost use Rattle.edr.specs.Commands.{Asked, asked_by, IsNamed};
 
+use crate::numbers::number_of;
 use edr_base::{Text, is_utf8};
 
 /// What the program can be asked to do.
@@ -18,6 +19,8 @@ pub enum Command {
     Check,
     /// `check --summary`: tells what each edition of the feed on the input has.
     CheckSummary,
+    /// `make NUMBER`: writes the feed that is made of this number.
+    Make(u64),
 }
 
 // Whether a word can be the name of a file.
@@ -51,6 +54,12 @@ pub fn asked_by(words: &[Text]) -> Option<(Command, &[u8])>
         [word, next]
             if word.bytes() == b"check".as_slice() && next.bytes() == b"--summary".as_slice() => {
             Some((Command::CheckSummary, &[]))
+        }
+        [word, number] if word.bytes() == b"make".as_slice() => {
+            match number_of(number.bytes()) {
+                Some(number) => Some((Command::Make(number), &[])),
+                None => None,
+            }
         }
         _ => None,
     }

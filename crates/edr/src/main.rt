@@ -5,6 +5,8 @@ mod asking;
 mod checking;
 mod commands;
 mod endings;
+mod making;
+mod numbers;
 mod replaying;
 mod running;
 mod words;
@@ -44,5 +46,7 @@ fn main(rt: HostRuntime) -> ExitCode {
     ExitCode::from(status)
 }
 
+#[cfg(test)]
+mod station_tests;
 #[cfg(test)]
 mod tests;

@@ -1,13 +1,14 @@
 //! The program over its objects.
-ghost use Rattle.std.specs.Prelude.{◌≡◌};
+ghost use Rattle.std.specs.Prelude.{◌≡◌, false};
 ghost use Rattle.edr_base.specs.Calls.{SourceLent, SinkLent};
 ghost use Rattle.edr.specs.Commands.{asked_by, IsOutput, IsBegun, WaitsFor};
-ghost use Rattle.edr.specs.Ends.{Ends, EndsByWords, OutputEnds, is_early, HasCause, IsRead, IsReadByEnd, AtReadFault, ReadsBy, IsUnread, AskedBeside, of_files, of_link, status_of};
+ghost use Rattle.edr.specs.Ends.{Ends, EndsByWords, OutputEnds, is_early, HasCause, IsRead, IsReadByEnd, AtReadFault, ReadsBy, IsUnread, is_input_used, AskedBeside, of_files, of_link, status_of};
 
 use crate::asking::ask;
 use crate::checking::check;
 use crate::commands::{Command, asked_by};
 use crate::endings::{Ending, tell};
+use crate::making::make;
 use crate::replaying::replay;
 use edr_base::{Files, Link, Sink, Source, Text};
 use std::alloc::Global;
@@ -28,6 +29,7 @@ fn carry_out<S: Source, K: Sink, F: Files, L: Link>(
         (record { input = S.faults input.old; output = K.faults output.old; files = F.faults files.old; link = L.faults link.old; closed = (F.aside files.old).idle })
         (record { input = S.faults input.new; output = K.faults output.new; files = F.faults files.new; link = L.faults link.new; closed = (F.aside files.new).idle }) }
     ensures unread { IsUnread (asked_by words.now) (status_of result) → (input.new ≡ input.old) × (output.new ≡ output.old) }
+    ensures untouched { is_input_used (asked_by words.now) ≡ false → input.new ≡ input.old }
     ensures ended { IsReadByEnd result (IsRead (asked_by words.now) (S.left input.old) (S.left input.new)) }
     ensures waits { AtReadFault result (WaitsFor (asked_by words.now) (F.aside files.old).content (S.left input.old) (S.left input.new)
         (K.written output.old) (K.written output.new) (K.flushed output.new)) }
@@ -44,6 +46,7 @@ fn carry_out<S: Source, K: Sink, F: Files, L: Link>(
         Some((Command::ReplayAdvance, feed)) => replay(alloc, true, feed, input, output, files),
         Some((Command::Check, _)) => check(alloc, false, input, output),
         Some((Command::CheckSummary, _)) => check(alloc, true, input, output),
+        Some((Command::Make(number), _)) => make(alloc, number, output),
         None => Ending::Usage,
     }
 }
@@ -53,7 +56,8 @@ fn carry_out<S: Source, K: Sink, F: Files, L: Link>(
 /// `ask TARGET` reads a feed from `input`, and writes to `output` what its last edition answers to the target. `replay FEED` reads
 /// the feed in the file of that name, and serves `input` as one connection to `output`, from the feed's first edition; with
 /// `--advance` each request but the first finds the feed's next edition. `check` reads a feed from `input` and writes how many
-/// editions it has; `check --summary` writes what each of them has. The answer is the status of the program; with each but 0 one
+/// editions it has; `check --summary` writes what each of them has. `make NUMBER` writes the feed that is made of the number, and
+/// takes nothing from `input`. The answer is the status of the program; with each but 0 one
 /// line says why on `errors`. Of files and of the link nothing is asked that the words don't ask for, and where they ask for
 /// nothing there neither is touched.
 pub fn run<S: Source, K: Sink, D: Sink, F: Files, L: Link>(
@@ -83,6 +87,7 @@ pub fn run<S: Source, K: Sink, D: Sink, F: Files, L: Link>(
           errors = D.faults errors.new;
         }) }
     ensures unread { IsUnread (asked_by words.now) result → (input.new ≡ input.old) × (output.new ≡ output.old) }
+    ensures untouched { is_input_used (asked_by words.now) ≡ false → input.new ≡ input.old }
     ensures input { SourceLent (S.aside input.old) (S.aside input.new) (S.faults input.old) (S.faults input.new) }
     ensures output { SinkLent (K.beside output.old) (K.beside output.new) (K.faults output.old) (K.faults output.new) }
     ensures errors { SinkLent (D.beside errors.old) (D.beside errors.new) (D.faults errors.old) (D.faults errors.new) }

@@ -61,21 +61,17 @@ const SEVERAL_REQUESTS: &[u8] =
 const SEVERAL_REPLIES: &[u8] =
     b"HTTP/1.1 200 OK\r\nContent-Type: application/json\r\nX-Edr-Edition: 1\r\nTransfer-Encoding: chunked\r\n\r\n11\r\n{\"conformsTo\":[]}\r\n0\r\n\r\nHTTP/1.1 200 OK\r\nContent-Type: application/json\r\nX-Edr-Edition: 2\r\nTransfer-Encoding: chunked\r\n\r\nHTTP/1.1 404 Not Found\r\nContent-Type: application/json\r\nX-Edr-Edition: 2\r\nTransfer-Encoding: chunked\r\n\r\n20\r\n{\"code\":\"NoSamples\",\"number\":25}\r\n0\r\n\r\nHTTP/1.1 405 Method Not Allowed\r\nContent-Type: application/json\r\nAllow: GET, HEAD\r\nTransfer-Encoding: chunked\r\n\r\n26\r\n{\"code\":\"MethodNotOffered\",\"number\":5}\r\n0\r\n\r\nHTTP/1.1 400 Bad Request\r\nContent-Type: application/json\r\nTransfer-Encoding: chunked\r\nConnection: close\r\n\r\n1d\r\n{\"code\":\"BadHead\",\"number\":1}\r\n0\r\n\r\n";
 
-// Two boxes on the feed that is made of a number: of 500,000 values, and of 500,500.
-const BOXES: &[u8] =
-    b"GET /collections/grid/cube?bbox=0,0,99900,49900 HTTP/1.1\r\nHost: a\r\n\r\nGET /collections/grid/cube?bbox=0,0,100000,49900 HTTP/1.1\r\nHost: a\r\n\r\n";
-
 const USAGE: &[u8] =
     b"usage: edr ask TARGET | replay FEED [--advance] | check [--summary] | make NUMBER | show | fetch URL\n";
 
 // What is run, and what has to come of it.
 #[derive(Drop)]
-struct Case<'a> {
-    words: &'a [&'a [u8]],
-    input: &'a [u8],
-    status: u8,
-    output: &'a [u8],
-    errors: &'a [u8],
+pub(crate) struct Case<'a> {
+    pub(crate) words: &'a [&'a [u8]],
+    pub(crate) input: &'a [u8],
+    pub(crate) status: u8,
+    pub(crate) output: &'a [u8],
+    pub(crate) errors: &'a [u8],
 }
 
 fn words_of(alloc: Global, words: &[&[u8]]) -> Result<Vec<Text>, OutOfMemory> {
@@ -101,7 +97,7 @@ fn files(alloc: Global) -> Result<Vec<(Vec<u8>, Vec<u8>)>, OutOfMemory> {
 }
 
 // The status, the output and the errors of a run over objects in memory that give and take at most `cut` bytes a call.
-fn run_cut(
+pub(crate) fn run_cut(
     alloc: Global,
     case: &Case<'_>,
     cut: usize,
@@ -355,6 +351,41 @@ fn runs_end_as_they_have_to(rt: HostRuntime) -> Result<(), Fail> {
             errors: USAGE,
         },
         Case {
+            words: &[b"make", b"18446744073709551616"],
+            input: GRID,
+            status: 1,
+            output: b"",
+            errors: USAGE,
+        },
+        Case {
+            words: &[b"make", b"000000000000000000007"],
+            input: GRID,
+            status: 1,
+            output: b"",
+            errors: USAGE,
+        },
+        Case {
+            words: &[b"make", b"7a"],
+            input: GRID,
+            status: 1,
+            output: b"",
+            errors: USAGE,
+        },
+        Case {
+            words: &[b"make", b""],
+            input: GRID,
+            status: 1,
+            output: b"",
+            errors: USAGE,
+        },
+        Case {
+            words: &[b"make"],
+            input: GRID,
+            status: 1,
+            output: b"",
+            errors: USAGE,
+        },
+        Case {
             words: &[],
             input: GRID,
             status: 1,
@@ -412,29 +443,28 @@ fn requests_find_ascending_editions(rt: HostRuntime) -> Result<(), Fail> {
     Ok(())
 }
 
-// Of the 136 tiles of the grid that is made, both boxes take values from 128.
+// The greatest number that is one, and one with zeros before it.
 #[test]
-fn boxes_of_the_made_feed_open_their_tiles(rt: HostRuntime) -> Result<(), Fail> {
+fn feeds_are_made(rt: HostRuntime) -> Result<(), Fail> {
     let alloc = rt.alloc();
-    let mut made = MemorySink::of(alloc, 4096, Vec::new(alloc));
-    make_feed(alloc, 7, &mut made).expect(&rt, "a feed that is made");
-    let mut file = MemorySource::of(
-        Vec::from_slice(alloc, made.written())?,
-        4096,
-        Vec::new(alloc),
-    );
-    let feed = read_feed(alloc, &mut file).expect(&rt, "a feed");
-    let mut shelf = SteppedShelf::of(alloc, feed.editions.into_vec())?;
-    let mut input = MemorySource::of(Vec::from_slice(alloc, BOXES)?, 4096, Vec::new(alloc));
-    let mut output = MemorySink::of(alloc, 4096, Vec::new(alloc));
-    let report = serve_session(alloc, &mut input, &mut output, &mut shelf).expect(
-        &rt,
-        "a whole session",
-    );
-    let reads = report.reads.items();
-    assert_eq!(rt; reads.len(), 2);
-    for opened in reads {
-        assert_eq!(rt; opened.numbers().len(), 128);
+    let table = [
+        (b"18446744073709551615".as_slice(), u64::MAX),
+        (b"00000000000000000007".as_slice(), 7),
+    ];
+    for (word, number) in table.iter() {
+        let mut made = MemorySink::of(alloc, 4096, Vec::new(alloc));
+        make_feed(alloc, *number, &mut made).expect(&rt, "a feed that is made");
+        let case = Case {
+            words: &[b"make", word],
+            input: GRID,
+            status: 0,
+            output: made.written(),
+            errors: b"",
+        };
+        let (status, output, errors) = run_cut(alloc, &case, 4096, &[])?;
+        assert_eq!(rt; status, case.status);
+        assert!(rt; output.written() == case.output);
+        assert!(rt; errors.written() == case.errors);
     }
     Ok(())
 }

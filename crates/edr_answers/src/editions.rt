@@ -10,8 +10,8 @@ use edr_base::MemorySource;
 use edr_chunk::{GridPlace, GridShape, PackedGrid, Reads};
 use edr_draft::ChangeFault;
 use edr_edition::{CollectionData, Edition, GridInstance};
-use edr_station::{Station, Stations};
 use edr_feed::{Feed, FeedFault, read_feed};
+use edr_station::{Station, Stations};
 use std::alloc::Global;
 
 // How many bytes a read of the feed gives at most.
