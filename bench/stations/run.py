@@ -126,7 +126,8 @@ def main():
                 print(f"| {stations:,} | {size:,} | {seconds:.3f} | | {peak / 1e6:.1f} | |")
                 continue
             over = (peak - empty) / stations - HOURS
-            print(f"| {stations:,} | {size:,} | {seconds:.3f} | {size / seconds / 1e6:.0f} | {peak / 1e6:.1f} | {over:.0f} |")
+            told = f"{over:.0f}" if over > 0 else ""  # below the peak of the program itself it can't be told
+            print(f"| {stations:,} | {size:,} | {seconds:.3f} | {size / seconds / 1e6:.0f} | {peak / 1e6:.1f} | {told} |")
         print()
         print("| stations | query | microseconds an answer | bytes |")
         print("|---|---|---|---|")
