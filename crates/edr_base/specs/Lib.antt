@@ -21,3 +21,4 @@ pub mod LentParts
 pub mod Quiet
 pub mod QuietParts
 pub mod RealFilesParts
+pub mod RealLinkParts

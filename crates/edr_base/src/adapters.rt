@@ -120,7 +120,7 @@ impl<T: Write> RealSink<T> {
 
 // Writes, again where a signal interrupts it. Of a piece that isn't empty at least one byte is taken.
 #[tactic(auto, using(crate::proofs::KnownBytes::keeps_none))]
-fn write_to<T: Write>(writer: &mut T, piece: &[u8]) -> Result<usize, Failed>
+pub(crate) fn write_to<T: Write>(writer: &mut T, piece: &[u8]) -> Result<usize, Failed>
     requires { 0 < length piece.now }
     ensures bound { IfOk result (λ n. (n ≤ length piece.now) × (0 < n)) }
     ensures passes { WriteAppends (T.contents writer.old) (T.contents writer.new) result piece.now }
@@ -140,7 +140,7 @@ fn write_to<T: Write>(writer: &mut T, piece: &[u8]) -> Result<usize, Failed>
 }
 
 // Flushes, again where a signal interrupts it.
-fn flush_of<T: Write>(writer: &mut T) -> Result<(), Failed>
+pub(crate) fn flush_of<T: Write>(writer: &mut T) -> Result<(), Failed>
     ensures passes { Keeps (T.contents writer.old) (T.contents writer.new) }
 {
     for _ in 0..u64::MAX {
