@@ -1,7 +1,7 @@
 //! A publisher and its readers, one after the other and at once.
 ghost use Rattle.std.specs.Prelude.{◌≡◌, []};
 
-use crate::{Places, Publisher, SharedShelf, open_shelf};
+use crate::{Places, Publisher, SharedShelf, open_shelf, shelves_cross_threads};
 use edr_edition::{Edition, Editions};
 use edr_ids::ById;
 use std::alloc::Global;
@@ -9,7 +9,7 @@ use std::rt::HostRuntime;
 use std::sync::Wait;
 use std::sync::atomic::{AtomicU64, Ordering};
 use std::test::Fail;
-use std::thread;
+use std::thread::{self, Threads};
 use std::time::{Clock, Duration};
 
 // How often a thread looks whether another one has come as far as it waits for, a millisecond apart.
@@ -17,6 +17,9 @@ const LOOKS: u64 = 20_000;
 
 // The last edition that is published.
 const LAST: u64 = 50;
+
+// So many readers take editions at once.
+const READERS: usize = 2;
 
 // An edition without collections.
 fn empty(number: u64) -> Edition
@@ -72,6 +75,11 @@ impl Reading {
         }
     }
 
+    // What it took first and last, and whether a take went back.
+    fn ends(&self) -> (u64, u64, bool) {
+        (self.first, self.last, self.went_back)
+    }
+
     // Takes editions until the last one comes, and says that it has begun.
     fn read(&mut self, clock: &impl Clock, begun: &AtomicU64) {
         self.first = taken(&mut self.shelf);
@@ -96,14 +104,14 @@ fn publish_next<R: Wait>(rt: &R, alloc: Global, publisher: &mut Publisher) -> bo
     }
 }
 
-// Publishes up to the last edition once so many readers have begun, and says whether all went well.
+// Publishes up to the last edition once all readers have begun, and says whether all went well.
 fn publish_to_last<R: Wait + Clock>(
     rt: &R,
     alloc: Global,
     publisher: &mut Publisher,
     begun: &AtomicU64,
-    readers: u64,
 ) -> bool {
+    let readers = READERS as u64;
     for _ in 0..LOOKS {
         if begun.load(Ordering::SeqCst) == readers {
             break;
@@ -117,38 +125,37 @@ fn publish_to_last<R: Wait + Clock>(
     done
 }
 
+// Each reader takes editions in a thread of its own.
+fn read_all<R: Threads + Clock + Sync>(rt: &R, readings: &mut [Reading], begun: &AtomicU64) {
+    shelves_cross_threads();
+    thread::for_each_mut(
+        rt,
+        readings,
+        READERS,
+        &|_, reading: &mut Reading| reading.read(rt, begun),
+    );
+}
+
 #[test]
 fn readers_take_while_editions_are_published(rt: HostRuntime) -> Result<(), Fail> {
     let alloc = rt.alloc();
     let mut places = Places::new();
-    let (mut publisher, mut shelves) = open_shelf(&rt, alloc, empty(1), 2, &mut places)?;
+    let (mut publisher, mut shelves) = open_shelf(&rt, alloc, empty(1), READERS, &mut places)?;
     let begun = AtomicU64::new(0);
     let mut done = false;
-    let mut read = (0, 0, true, 0, 0, true);
+    let mut ends = ((0, 0, true), (0, 0, true));
     if let (Some(one), Some(two)) = (shelves.pop(), shelves.pop()) {
         let mut readings = [Reading::of(one), Reading::of(two)];
+        shelves_cross_threads();
         thread::join_mut(
             &rt,
-            &mut || done = publish_to_last(&rt, alloc, &mut publisher, &begun, 2),
-            &mut || thread::for_each_mut(
-                &rt,
-                &mut readings,
-                2,
-                &|_, reading: &mut Reading| reading.read(&rt, &begun),
-            ),
+            &mut || done = publish_to_last(&rt, alloc, &mut publisher, &begun),
+            &mut || read_all(&rt, &mut readings, &begun),
         );
-        let [one, two] = readings;
-        read = (
-            one.first,
-            one.last,
-            one.went_back,
-            two.first,
-            two.last,
-            two.went_back,
-        );
+        ends = (readings[0].ends(), readings[1].ends());
     }
     publisher.end(&rt);
     assert!(rt; done);
-    assert_eq!(rt; read, (1, LAST, false, 1, LAST, false));
+    assert_eq!(rt; ends, ((1, LAST, false), (1, LAST, false)));
     Ok(())
 }
