@@ -1,0 +1,5 @@
+mod KnownLines
+pub mod Near
+pub mod Halves
+pub mod Lines
+pub mod MaskedRows

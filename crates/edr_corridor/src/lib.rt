@@ -1,0 +1,15 @@
+//! Corridors: what the segments of a line take of times, levels and places.
+#![tactic(auto)]
+
+mod bands;
+mod boxes;
+mod laws;
+mod segment;
+mod segments;
+mod strips;
+#[cfg(test)]
+mod tests;
+
+pub use boxes::SegmentBox;
+pub use laws::{boxes_are_wanted, corridors_are_cut};
+pub use segments::Segments;
