@@ -4,4 +4,3 @@ pub mod NameLemmas
 pub mod ReplayLemmas
 pub mod AdvanceLemmas
 pub mod EndLemmas
-pub mod NumberLemmas

@@ -17,7 +17,7 @@ use Rattle.edr_feed.specs.Made.{made}
 use Rattle.edr_feed.specs.Summaries.{summary_line}
 use Rattle.edr_feed.specs.declared.refusals.FeedRefusal.{FeedRefusal}
 use Rattle.edr_serve.specs.Answers.{IsAnswerTo}
-use Rattle.edr.specs.Numbers.{is_number}
+use Rattle.edr_program.specs.Numbers.{is_number}
 use Rattle.edr.specs.Replays.{IsReplayOf, IsReplayBegun, ReplayReads, ReplayWaits}
 use Rattle.edr.specs.declared.commands.Command.{Command}
 use Rattle.edr.specs.declared.commands.Command.TheVariants.{Ask, Replay, ReplayAdvance, Check, CheckSummary, Make}

@@ -1,16 +1,13 @@
 -- How a run ends: its status, and what it leaves on each object. Each table goes by the ending, and by the command where it
 -- differs from command to command.
-use Rattle.std.specs.Prelude.{◌≡◌, ◌⊎◌, ℕ, Bool, true, false, ◌++◌, ⊤, codes, List, [], Result, IsErrOf, IsNone, None, Some, option_map}
+use Rattle.std.specs.Prelude.{◌≡◌, ◌⊎◌, ℕ, Bool, true, false, ◌++◌, ⊤, codes, List, [], IsNone, None, Some, option_map}
 use Rattle.std.specs.declared.option.Option.{Option}
-use Rattle.std.specs.Fmt.{decimal}
 use Rattle.std.specs.Io.KnownBytes.{IsAtEnd}
 use Rattle.edr_base.specs.RefusalTable.{body_of}
 use Rattle.edr_base.specs.Outside.{Aside, Asked as AskedOf, Rose}
-use Rattle.edr_base.specs.Calls.{Writes, WrittenWhole, WrittenInPart, IsFlushed}
-use Rattle.edr_base.specs.declared.sending.SendFault.{SendFault}
-use Rattle.edr_base.specs.declared.sending.SendFault.TheVariants.{WriteFault as ErrorsFault}
+use Rattle.edr_base.specs.Calls.{WrittenWhole, WrittenInPart, IsFlushed}
 use Rattle.edr_feed.specs.declared.refusals.FeedRefusal.{FeedRefusal}
-use Rattle.edr_feed.specs.declared.refusals.FeedRefusal.TheVariants.{TooLong, LineTooLong, NotJson, NotFeedLine, Cov, Change, NothingPublished}
+use Rattle.edr_program.specs.Lines.{feed_said, Tells}
 use Rattle.edr.specs.declared.commands.Command.{Command}
 use Rattle.edr.specs.declared.commands.Command.TheVariants.{Ask, Replay, ReplayAdvance, Check, CheckSummary, Make}
 use Rattle.edr.specs.declared.endings.Ending.{Ending}
@@ -28,25 +25,11 @@ status_of OutOfMemory = 5
 status_of (Refused refusal) = 6
 status_of OpenFault = 9
 
--- a line of the feed
-abbrev pub at_line : ℕ → List ℕ
-at_line line = codes " line " ++ decimal line
-
--- the name of a refusal, and the line where it has one
-abbrev pub name_of : FeedRefusal → List ℕ
-name_of TooLong = codes "TooLong"
-name_of (LineTooLong line) = codes "LineTooLong" ++ at_line line
-name_of (NotJson line) = codes "NotJson" ++ at_line line
-name_of (NotFeedLine line) = codes "NotFeedLine" ++ at_line line
-name_of (Cov line) = codes "Cov" ++ at_line line
-name_of (Change line) = codes "Change" ++ at_line line
-name_of NothingPublished = codes "NothingPublished"
-
 -- what is said on errors
 abbrev pub said_of : Ending → List ℕ
 said_of Done = []
 said_of Usage = codes "usage: edr ask TARGET | replay FEED [--advance] | check [--summary] | make NUMBER | show | fetch URL"
-said_of (NotFeed refusal) = codes "feed: " ++ name_of refusal
+said_of (NotFeed refusal) = feed_said refusal
 said_of ReadFault = codes "read fault"
 said_of WriteFault = codes "write fault"
 said_of OutOfMemory = codes "out of memory"
@@ -219,12 +202,6 @@ abbrev pub is_input_used : Option Asked → Bool
 is_input_used None = false
 is_input_used (Some asked) = uses_input asked.command
 
--- a text was written, or a beginning of it: then a fault of that sink was counted, or memory was wanting
-pub record Tells (text : List ℕ) (old new : Option (List ℕ)) (before after : ℕ) : Type 0 where
-  pub outcome : Result (Unit {0}) SendFault
-  pub writes : Writes outcome text old new
-  pub cause : IsErrOf outcome ErrorsFault → Rose before after
-
 -- just this more was asked; with want of memory, whose status is 5, that or nothing
 abbrev pub Asks : List AskedOf → ℕ → Option (List AskedOf) → Option (List AskedOf) → Type 0
 Asks more status before after = (after ≡ option_map (λ asked. asked ++ more) before) ⊎ ((status ≡ 5) × (after ≡ before))
@@ -276,8 +253,3 @@ Settles WriteFault before after written flushed = Rose before after
 Settles OutOfMemory before after written flushed = ⊤
 Settles (Refused refusal) before after written flushed = ⊥
 Settles OpenFault before after written flushed = ⊥
-
--- a line of the feed, where one is named
-abbrev pub place_of : Option ℕ → List ℕ
-place_of None = []
-place_of (Some line) = at_line line

@@ -1,5 +1,4 @@
 pub mod Replays
-pub mod Numbers
 pub mod Commands
 pub mod Ends
 pub mod Checking

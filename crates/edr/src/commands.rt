@@ -3,8 +3,8 @@ ghost use Rattle.std.specs.Prelude.{◌≡◌, true, option_map, IfSome, IsUtf8}
 ghost use Rattle.std.specs.Str.{is_utf8};
 ghost use Rattle.edr.specs.Commands.{Asked, asked_by, IsNamed};
 
-use crate::numbers::number_of;
 use edr_base::{Text, is_utf8};
+use edr_program::number_of;
 
 /// What the program can be asked to do.
 #[derive(Clone, Copy, Debug, PartialEq, Eq)]

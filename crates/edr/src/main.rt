@@ -6,17 +6,15 @@ mod checking;
 mod commands;
 mod endings;
 mod making;
-mod numbers;
 mod replaying;
 mod running;
-mod words;
 
 use edr_base::{MemoryLink, RealFiles, RealSink, RealSource};
+use edr_program::words_of;
 use endings::{Ending, tell};
 use running::run;
 use std::io::BufWriter;
 use std::process::ExitCode;
-use words::words_of;
 
 fn main(rt: HostRuntime) -> ExitCode {
     let alloc = rt.alloc();

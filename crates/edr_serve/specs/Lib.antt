@@ -5,3 +5,4 @@ pub mod Sessions
 pub mod SessionLaws
 pub mod AheadLaws
 pub mod Serving
+pub mod Connections

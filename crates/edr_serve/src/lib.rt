@@ -2,6 +2,7 @@
 #![tactic(auto)]
 
 mod answering;
+mod connections;
 mod ends;
 mod heads;
 mod laws;
@@ -12,6 +13,7 @@ mod sessions;
 mod streaming;
 
 pub use answering::{AnswerFault, answer};
+pub use connections::{Connection, Served, serve_connection};
 pub use ends::End;
 pub use laws::{answer_is_one, pages_have_answers, refusal_is_the_first};
 pub use reports::{OneReport, SessionFault, SessionReport};

@@ -3,7 +3,7 @@ ghost use Rattle.std.specs.Prelude.{◌≡◌, ◌^◌, ◌<◌, ◌≤◌, ◌�
 ghost use Rattle.std.specs.Char.{is_ascii_digit};
 ghost use Rattle.std.specs.List.{AllPass};
 ghost use Rattle.std.specs.Str.Parse.{digits_value};
-ghost use Rattle.edr.specs.Numbers.{is_number};
+ghost use Rattle.edr_program.specs.Numbers.{is_number};
 
 // How many digits a number has at most.
 const MOST_DIGITS: usize = 20;

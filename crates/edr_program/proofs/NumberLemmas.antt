@@ -11,7 +11,7 @@ use Rattle.std.specs.Int.{IsInRange}
 use Rattle.std.specs.List.{AllPass}
 use Rattle.std.specs.Str.Parse.{AllDigits, digits_value}
 use Rattle.std.specs.declared.option.Option.{Option}
-use Rattle.edr.specs.Numbers.{is_number}
+use Rattle.edr_program.specs.Numbers.{is_number}
 
 pub in_range : (c : ℕ) → is_ascii_digit c ≡ true → IsInRange 48 57 c
 in_range c h = grind (arith, nat_tests, h)
