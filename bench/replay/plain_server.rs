@@ -5,9 +5,13 @@
 //! refused for the same reasons, and so are targets of `/collections/C/position` and `/collections/C/instances/I/position`
 //! with a POINT. Each reply is gathered in a buffer, handed over by one write, and flushed.
 //!
+//! `plain_server FEED PORT WORKERS` serves so many connections at once at a port of 127.0.0.1 in the same way, each worker one
+//! connection at a time, without end: to be measured beside `edrd`.
+//!
 //! It has no other page, no other geometry and no levels, and reads no feed of another shape than the bench's.
 use std::borrow::Cow;
 use std::io::{self, Read, Write};
+use std::net::TcpListener;
 
 const HEAD_LIMIT: usize = 16_384;
 const FIELD_LIMIT: usize = 64;
@@ -877,10 +881,32 @@ fn serve(grid: &Grid, input: &mut impl Read, output: &mut impl Write) -> io::Res
     }
 }
 
+/// Serves connections at a port, each worker one after another.
+fn listen(grid: &Grid, port: u16, workers: usize) -> io::Result<()> {
+    let listener = TcpListener::bind(("127.0.0.1", port))?;
+    std::thread::scope(|scope| {
+        for _ in 0..workers {
+            scope.spawn(|| {
+                loop {
+                    let Ok((mut input, _)) = listener.accept() else {
+                        return;
+                    };
+                    if input.set_nodelay(true).is_ok()
+                        && let Ok(mut output) = input.try_clone()
+                    {
+                        // a fault is of that connection alone
+                        let _ = serve(grid, &mut input, &mut output);
+                    }
+                }
+            });
+        }
+    });
+    Ok(())
+}
+
 fn main() -> io::Result<()> {
-    let name = std::env::args_os()
-        .nth(1)
-        .expect("usage: plain_server FEED");
+    let usage = "usage: plain_server FEED [PORT WORKERS]";
+    let name = std::env::args_os().nth(1).expect(usage);
     let grid = {
         let bytes = std::fs::read(name)?;
         Line {
@@ -890,5 +916,9 @@ fn main() -> io::Result<()> {
         .grid()
         .expect("a feed of another shape")
     };
+    let number = |place| -> Option<usize> { Some(std::env::args().nth(place)?.parse().expect(usage)) };
+    if let (Some(port), Some(workers)) = (number(2), number(3)) {
+        return listen(&grid, port as u16, workers);
+    }
     serve(&grid, &mut io::stdin().lock(), &mut io::stdout().lock())
 }

@@ -1,0 +1,4 @@
+pub mod WordLemmas
+pub mod JobLemmas
+pub mod RunLemmas
+pub mod EndLemmas

@@ -1,0 +1,154 @@
+-- How a run ends: its status, what it says, and what became of the feed's files, of the doors, of the shelf's places and of the
+-- gate. Each table goes by the ending.
+use Rattle.std.specs.Prelude.{◌≡◌, ◌⊎◌, ℕ, ◌+◌, ◌-◌, ◌^◌, min, Bool, true, false, ◌++◌, ⊤, codes, List, [], ◌∷◌, length, Ok, Err, IsSome, IsSomeAnd, None, Some, option_map}
+use Rattle.std.specs.declared.option.Option.{Option}
+use Rattle.edr_base.specs.Outside.{Aside, Asked as AskedOf, Rose}
+use Rattle.edr_edition.specs.Values.{EditionValue}
+use Rattle.edr_feed.specs.Feeds.{FeedStandsIn}
+use Rattle.edr_feed.specs.declared.refusals.FeedRefusal.{FeedRefusal}
+use Rattle.edr_program.specs.Lines.{feed_said, Tells}
+use Rattle.edrd.specs.declared.doors.DoorsAsked.{DoorsAsked}
+use Rattle.edrd.specs.declared.words.Settings.{Settings}
+use Rattle.edrd.specs.declared.endings.Ending.{Ending}
+use Rattle.edrd.specs.declared.endings.Ending.TheVariants.{Done, Usage, NotFeed, ReadFault, OutOfMemory, OpenFault, BindFault, ShelfFault}
+
+abbrev pub status_of : Ending → ℕ
+status_of Done = 0
+status_of Usage = 1
+status_of (NotFeed refusal) = 2
+status_of ReadFault = 3
+status_of OutOfMemory = 5
+status_of OpenFault = 9
+status_of BindFault = 10
+status_of ShelfFault = 11
+
+-- what is said on errors
+abbrev pub said_of : Ending → List ℕ
+said_of Done = []
+said_of Usage = codes "usage: edrd FEED --port P [--workers W] [--every S] [--connections C]"
+said_of (NotFeed refusal) = feed_said refusal
+said_of ReadFault = codes "read fault"
+said_of OutOfMemory = codes "out of memory"
+said_of OpenFault = codes "open fault"
+said_of BindFault = codes "bind fault"
+said_of ShelfFault = codes "shelf fault"
+
+-- the line of an ending: none where all was done
+abbrev pub line_of : Ending → List ℕ
+line_of Done = []
+line_of Usage = said_of Usage ++ codes "\n"
+line_of (NotFeed refusal) = said_of (NotFeed refusal) ++ codes "\n"
+line_of ReadFault = said_of ReadFault ++ codes "\n"
+line_of OutOfMemory = said_of OutOfMemory ++ codes "\n"
+line_of OpenFault = said_of OpenFault ++ codes "\n"
+line_of BindFault = said_of BindFault ++ codes "\n"
+line_of ShelfFault = said_of ShelfFault ++ codes "\n"
+
+-- ---- the objects at a moment
+
+-- what is told of the doors
+pub record DoorsState : Type 0 where
+  pub last : Option DoorsAsked  -- what the last open with Ok asked for
+  pub tried : Option (DoorsAsked × Bool)  -- what the last open asked for, and whether it answered Ok
+  pub opens : ℕ
+  pub closed : ℕ
+  pub faults : ℕ
+
+-- what is told of a gate
+pub record GateState : Type 0 where
+  pub seconds : ℕ
+  pub granted : ℕ
+  pub shut : Bool
+
+pub record Moment : Type 0 where
+  pub files : Aside
+  pub file_faults : ℕ
+  pub doors : DoorsState
+  pub places : ℕ  -- the count of places that were refused
+
+-- what the words ask of the doors
+abbrev pub doors_asked : Settings → DoorsAsked
+doors_asked settings = record { port = settings.port; count = settings.workers; connections = settings.connections }
+
+-- ---- by what is asked for
+
+-- the feed's file is a feed of these editions; all of them were published but those behind the last that the gate let pass, the
+-- doors that were asked for were opened once and are closed, each served to its end
+pub record IsServed (settings : Settings) (before after : Moment) (gate ended : GateState) : Type 0 where
+  pub editions : List EditionValue
+  pub feed : FeedStandsIn (before.files.content settings.feed) (Ok editions)
+  pub opened : after.doors.last ≡ Some (doors_asked settings)
+  pub once : after.doors.opens ≡ min (before.doors.opens + 1) (2 ^ 64 - 1)
+  pub closed : after.doors.closed ≡ settings.workers
+  pub every : ended.seconds ≡ settings.every
+  pub published : (ended.granted + 1 ≡ gate.granted + length editions) ⊎ (ended.shut ≡ true)
+
+-- the cause of an ending
+abbrev pub HasCause : Ending → Settings → Moment → Moment → GateState → Option GateState → Type 0
+HasCause Done settings before after gate ended = IsSomeAnd ended (λ ended. IsServed settings before after gate ended)
+HasCause Usage settings before after gate ended = ⊥
+HasCause (NotFeed refusal) settings before after gate ended = FeedStandsIn (before.files.content settings.feed) (Err refusal)
+HasCause ReadFault settings before after gate ended = Rose before.file_faults after.file_faults × (after.files.idle ≡ false)
+HasCause OutOfMemory settings before after gate ended = ⊤
+HasCause OpenFault settings before after gate ended = Rose before.file_faults after.file_faults × (after.files.idle ≡ true)
+HasCause BindFault settings before after gate ended =
+    Rose before.doors.faults after.doors.faults × (after.doors.tried ≡ Some (doors_asked settings, false)) × (after.doors.opens ≡ before.doors.opens)
+HasCause ShelfFault settings before after gate ended = Rose before.places after.places
+
+-- the same of words, which may ask for nothing: then the run ends with the usage line, but for want of memory
+abbrev pub EndsBy : Ending → Option Settings → Moment → Moment → GateState → Option GateState → Type 0
+EndsBy ending None before after gate ended = (ending ≡ Usage) ⊎ (ending ≡ OutOfMemory)
+EndsBy ending (Some settings) before after gate ended = HasCause ending settings before after gate ended
+
+-- ---- what is left as it was
+
+-- the status says that the run didn't come to the shelf
+abbrev pub LeavesPlaces : ℕ → Type 0
+LeavesPlaces status = (status ≡ 1) ⊎ (status ≡ 2) ⊎ (status ≡ 3) ⊎ (status ≡ 9)
+
+-- the status says that it didn't come to the doors
+abbrev pub LeavesDoors : ℕ → Type 0
+LeavesDoors status = LeavesPlaces status ⊎ (status ≡ 11)
+
+-- the gate comes back but for want of memory: as it was, or with the pause that is asked for and nothing granted
+abbrev pub GateComesBack : Ending → Option Settings → GateState → Option GateState → Type 0
+GateComesBack Done asked gate ended = IsSome ended
+GateComesBack Usage asked gate ended = ended ≡ Some gate
+GateComesBack (NotFeed refusal) asked gate ended = ended ≡ Some gate
+GateComesBack ReadFault asked gate ended = ended ≡ Some gate
+GateComesBack OutOfMemory asked gate ended = ⊤
+GateComesBack OpenFault asked gate ended = ended ≡ Some gate
+GateComesBack BindFault asked gate ended = ended ≡ option_map (λ settings. record gate { seconds = settings.every }) asked
+GateComesBack ShelfFault asked gate ended = ended ≡ Some gate
+
+-- just the feed's file was asked for; with want of memory, whose status is 5, that or nothing, and where the words ask for
+-- nothing the files are as they were
+abbrev pub AsksFeed : {F : Type 0} → (F → Aside) → Option Settings → ℕ → F → F → Type 0
+AsksFeed aside None status old new = new ≡ old
+AsksFeed aside (Some settings) status old new =
+    ((aside new).asked ≡ option_map (λ asked. asked ++ (settings.feed, 0) ∷ []) (aside old).asked)
+    ⊎ ((status ≡ 5) × ((aside new).asked ≡ (aside old).asked))
+
+-- a whole run
+pub record Ends (ending : Ending) (asked : Option Settings) (status : ℕ) (before after : Moment) (gate : GateState) (ended : Option GateState)
+    (told told' : Option (List ℕ)) (faults faults' : ℕ) : Type 0 where
+  pub number : status ≡ status_of ending
+  pub cause : EndsBy ending asked before after gate ended
+  pub back : GateComesBack ending asked gate ended
+  pub line : Tells (line_of ending) told told' faults faults'
+
+-- ---- for private clauses: a run that came to the shelf, with so many editions behind the first
+
+abbrev pub ServeCause : Ending → Settings → DoorsState → DoorsState → ℕ → ℕ → ℕ → GateState → Option GateState → Type 0
+ServeCause Done settings before after places places' rest gate ended = IsSomeAnd ended (λ ended.
+    (after.last ≡ Some (doors_asked settings)) × (after.opens ≡ min (before.opens + 1) (2 ^ 64 - 1)) × (after.closed ≡ settings.workers)
+    × (ended.seconds ≡ settings.every) × ((ended.granted ≡ gate.granted + rest) ⊎ (ended.shut ≡ true)))
+ServeCause Usage settings before after places places' rest gate ended = ⊥
+ServeCause (NotFeed refusal) settings before after places places' rest gate ended = ⊥
+ServeCause ReadFault settings before after places places' rest gate ended = ⊥
+ServeCause OutOfMemory settings before after places places' rest gate ended = ⊤
+ServeCause OpenFault settings before after places places' rest gate ended = ⊥
+ServeCause BindFault settings before after places places' rest gate ended =
+    Rose before.faults after.faults × (after.tried ≡ Some (doors_asked settings, false)) × (after.opens ≡ before.opens)
+    × (ended ≡ Some (record gate { seconds = settings.every }))
+ServeCause ShelfFault settings before after places places' rest gate ended = Rose places places' × (ended ≡ Some gate)

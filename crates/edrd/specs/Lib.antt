@@ -1,0 +1,6 @@
+pub mod Doors
+pub mod Serving
+pub mod Words
+pub mod Ends
+pub mod Feeding
+pub mod Settled

@@ -1,0 +1,77 @@
+-- What the words after the program's name ask for.
+use Rattle.std.specs.Prelude.{ℕ, ◌&&◌, true, if◌then◌else◌, nat_le, List, [], ◌∷◌, codes, option_and_then, option_map}
+use Rattle.std.specs.declared.option.Option.{Option}
+use Rattle.std.specs.Prelude.{None, Some}
+use Rattle.std.specs.List.{list_all}
+use Rattle.std.specs.Str.{is_utf8}
+use Rattle.std.specs.Str.Parse.{digits_value}
+use Rattle.clap.specs.Words.{App, Kinds, Row, Rule, Text, first_of, new_app, new_rule, with_rule}
+use Rattle.clap.specs.Simple.{matches_of}
+use Rattle.clap.specs.Faults.{fault_of}
+use Rattle.edr_program.specs.Numbers.{is_number}
+use Rattle.edrd.specs.declared.words.Settings.{Settings}
+
+-- ---- the command: one positional argument, the feed, and four options of one value each
+
+abbrev pub feed_rule : Rule
+feed_rule = record (new_rule (codes "feed")) { required = true }
+
+abbrev pub port_rule : Rule
+port_rule = record (new_rule (codes "port")) { long = Some (codes "port"); required = true }
+
+abbrev pub option_rule : Text → Rule
+option_rule name = record (new_rule name) { long = Some name }
+
+abbrev pub command : App
+command =
+    with_rule (with_rule (with_rule (with_rule (with_rule (new_app (codes "edrd")) feed_rule) port_rule)
+    (option_rule (codes "workers"))) (option_rule (codes "every"))) (option_rule (codes "connections"))
+
+-- the words behind the name of the program
+abbrev pub all_words : List (List ℕ) → List (List ℕ)
+all_words words = codes "edrd" ∷ words
+
+-- ---- what the words ask for
+
+-- a number of digits between two limits
+abbrev pub number_within : ℕ → ℕ → List ℕ → Option ℕ
+number_within least most word =
+    if is_number word && (nat_le least (digits_value 10 word) && nat_le (digits_value 10 word) most) then Some (digits_value 10 word) else None
+
+-- the same of a word that may be left out
+abbrev pub number_or : ℕ → ℕ → ℕ → Option (List ℕ) → Option ℕ
+number_or other least most None = Some other
+number_or other least most (Some word) = number_within least most word
+
+-- what is asked for, of the values of the arguments
+abbrev pub settings_of : Option Text → Option Text → Option Text → Option Text → Option Text → Option Settings
+settings_of feed port workers every connections =
+    option_and_then (λ f.
+    option_and_then (λ p.
+    option_and_then (λ w.
+    option_and_then (λ e.
+    option_map (λ c. record { feed = f; port = p; workers = w; every = e; connections = c })
+    (number_or 0 0 1_000_000 connections))
+    (number_or 60 0 86_400 every))
+    (number_or 2 1 64 workers))
+    (option_and_then (number_within 0 65_535) port))
+    feed
+
+abbrev pub settings_in : List Row → Option Settings
+settings_in rows =
+    settings_of (first_of (codes "feed") rows) (first_of (codes "port") rows) (first_of (codes "workers") rows)
+    (first_of (codes "every") rows) (first_of (codes "connections") rows)
+
+-- nothing is asked for where a step of the parse fails
+abbrev pub unless : Kinds → Option Settings → Option Settings
+unless [] settings = settings
+unless (kind ∷ kinds) settings = None
+
+-- what texts ask for, the name of the program among them; None where the command doesn't take them, or a number lies outside
+-- its limits
+abbrev pub asked_of : App → List Text → Option Settings
+asked_of app texts = unless (fault_of app texts) (settings_in (matches_of app texts))
+
+-- what the words ask for: nothing where one isn't UTF-8
+abbrev pub asked_by : List (List ℕ) → Option Settings
+asked_by words = if list_all is_utf8 words then asked_of command (all_words words) else None

@@ -1,0 +1,64 @@
+//! What opens the doors through which connections come.
+ghost use Rattle.std.specs.Prelude.{◌≡◌, ◌⊎◌, ◌≤◌, ◌<◌, ◌+◌, ◌-◌, ◌^◌, ℕ, Bool, true, min, vec_len, All, IfOk, IsSomeAnd, MatchResult, Option, Some, is_ok};
+ghost use Rattle.edr_base.specs.Calls.{Cause};
+ghost use Rattle.edrd.specs.Doors.{IsNew};
+ghost use Rattle.edrd.specs.declared.doors.DoorsAsked.{DoorsAsked};
+
+use crate::accept::Accept;
+use edr_base::{Faults, Stop};
+use std::alloc::Global;
+
+/// What doors are asked for.
+#[derive(Clone, Copy, Debug, PartialEq, Eq)]
+pub struct DoorsAsked {
+    pub port: u16,
+    /// How many doors.
+    pub count: usize,
+    /// How many connections come through each at most; 0 is no end.
+    pub connections: u64,
+}
+
+/// What opens doors at a port, and closes them when no more connections come through them.
+pub trait Doors: Faults {
+    type Door: Accept + Send + Drop;
+
+    /// What the last `open` with `Ok` asked for.
+    ghost last: { Self → Option DoorsAsked };
+
+    /// What the last `open` asked for, and whether it answered `Ok`.
+    ghost tried: { Self → Option (DoorsAsked × Bool) };
+
+    /// How often `open` answered `Ok`. It stands still at 18,446,744,073,709,551,615.
+    ghost opens: { Self → ℕ };
+
+    /// How many doors were handed back since the last `open` with `Ok`.
+    ghost closed: { Self → ℕ };
+
+    /// Opens so many doors at a port, each for so many connections; 0 connections are no end of them.
+    ///
+    /// `Failed` is a fault that was counted.
+    fn open(
+        &mut self,
+        alloc: Global,
+        port: u16,
+        count: usize,
+        connections: u64,
+    ) -> Result<Vec<Self::Door>, Stop>
+        ensures doors { IfOk result (λ doors. (vec_len doors ≡ count)
+            × All (IsNew Self.Door.over Self.Door.given Self.Door.finished Self.Door.faulted Self.Door.faults) doors.items) }
+        ensures tried { tried self.new ≡ Some (record { port = port; count = count; connections = connections }, is_ok result) }
+        ensures last { MatchResult result
+            (λ _. (last self.new ≡ Some (record { port = port; count = count; connections = connections }))
+            × (opens self.new ≡ min (opens self.old + 1) (2 ^ 64 - 1)) × (closed self.new ≡ 0))
+            (λ _. (last self.new ≡ last self.old) × (opens self.new ≡ opens self.old) × (closed self.new ≡ closed self.old)) }
+        ensures cause { Cause result (Self.faults self.old) (Self.faults self.new) };
+
+    /// Takes a door back that is served to its end.
+    fn close(&mut self, door: Self::Door)
+        requires room { IsSomeAnd (last self.old) (λ asked. closed self.old < asked.count) }
+        requires ended { (Self.Door.over door ≡ true) ⊎ (0 < Self.Door.faults door) }
+        requires served { Self.Door.finished door ≡ Self.Door.given door }
+        ensures closed { closed self.new ≡ closed self.old + 1 }
+        ensures kept { (last self.new ≡ last self.old) × (tried self.new ≡ tried self.old) × (opens self.new ≡ opens self.old)
+            × (Self.faults self.new ≡ Self.faults self.old) };
+}

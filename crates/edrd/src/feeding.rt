@@ -1,0 +1,49 @@
+//! The editions of the feed's file.
+ghost use Rattle.std.specs.Prelude.{◌≡◌, ◌⊎◌, ◌++◌, ◌∷◌, [], IfErr, IfOk, IsUtf8, Ok, Err, option_map};
+ghost use Rattle.edr_edition.specs.Shelves.{IsLog};
+ghost use Rattle.edr_feed.specs.Feeds.{FeedStandsIn};
+ghost use Rattle.edrd.specs.Feeding.{IsCause, ending_of};
+
+use crate::endings::Ending;
+use edr_base::{Files, Stop};
+use edr_edition::Edition;
+use edr_feed::{FeedFault, read_feed};
+use std::alloc::Global;
+
+// How a run ends where the feed isn't read.
+fn ending_of(fault: &FeedFault) -> Ending
+    ensures { result ≡ ending_of fault.now }
+{
+    match fault.refusal() {
+        Some(refusal) => Ending::NotFeed(refusal),
+        None => match fault {
+            FeedFault::ReadFault => Ending::ReadFault,
+            _ => Ending::OutOfMemory,
+        },
+    }
+}
+
+/// The editions of the feed in the file of this name, or how the run ends without them.
+pub fn editions_in<F: Files>(
+    alloc: Global,
+    name: &[u8],
+    files: &mut F,
+) -> Result<Vec<Edition>, Ending>
+    requires { IsUtf8 name.now }
+    ensures feed { IfOk result (λ editions. FeedStandsIn ((F.aside files.old).content name.now) (Ok editions.items)) }
+    ensures log { IfOk result (λ editions. IsLog editions.items) }
+    ensures cause { IfErr result (λ ending. IsCause ending ((F.aside files.old).content name.now)
+        (F.faults files.old) (F.faults files.new) (F.aside files.new).idle) }
+    ensures asked { ((F.aside files.new).asked ≡ option_map (λ asked. asked ++ (name.now, 0) ∷ []) (F.aside files.old).asked)
+        ⊎ ((result ≡ Err Ending.OutOfMemory) × ((F.aside files.new).asked ≡ (F.aside files.old).asked)) }
+{
+    match files.open(name) {
+        Ok(()) => {}
+        Err(Stop::Failed) => return Err(Ending::OpenFault),
+        Err(Stop::OutOfMemory) => return Err(Ending::OutOfMemory),
+    }
+    match read_feed(alloc, files) {
+        Ok(feed) => Ok(feed.editions.into_vec()),
+        Err(fault) => Err(ending_of(&fault)),
+    }
+}

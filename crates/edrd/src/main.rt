@@ -1,0 +1,49 @@
+//! `edrd`: serves the editions of a feed over HTTP, and publishes one after another. This file makes the real objects;
+//! `edrd_run` does all else.
+#![tactic(auto)]
+
+mod accept;
+mod doors;
+mod endings;
+mod feeding;
+mod gate;
+mod publishing;
+mod real_door;
+mod real_doors;
+mod real_gate;
+mod running;
+mod serving;
+mod words;
+mod working;
+
+use edr_base::{RealFiles, RealSink};
+use edr_program::words_of;
+use edr_share::Places;
+use endings::{Ending, tell};
+use real_doors::RealDoors;
+use real_gate::RealGate;
+use running::edrd_run;
+use std::process::ExitCode;
+
+fn main(rt: HostRuntime) -> ExitCode {
+    let alloc = rt.alloc();
+    let mut errors = RealSink::of(rt.stderr());
+    let Ok(words) = words_of(&rt, alloc) else {
+        tell(Ending::OutOfMemory, &mut errors);
+        return ExitCode::from(Ending::OutOfMemory.status());
+    };
+    let mut files = RealFiles::new(rt);
+    let mut doors = RealDoors::new(rt);
+    let mut places = Places::new();
+    let (status, _gate) = edrd_run(
+        &rt,
+        alloc,
+        &words,
+        &mut files,
+        &mut doors,
+        &mut places,
+        RealGate::new(rt),
+        &mut errors,
+    );
+    ExitCode::from(status)
+}

@@ -1,0 +1,51 @@
+//! The job that publishes.
+ghost use Rattle.std.specs.Prelude.{◌≡◌, ◌⊎◌, ◌+◌, ◌++◌, length, take, true, false};
+ghost use Rattle.std.specs.Vec.Iter.{into_iter_items, into_iter_len};
+ghost use Rattle.edr_edition.specs.Shelves.{AreNumberedFrom};
+
+use crate::gate::Gate;
+use edr_edition::Edition;
+use edr_share::Publisher;
+use std::alloc::Global;
+use std::sync::Wait;
+use std::vec::IntoIter;
+
+/// What publishes some editions, one at each turn of a gate.
+pub struct Publishing<G> {
+    pub publisher: Publisher,
+    pub rest: IntoIter<Edition>,
+    pub gate: G,
+    /// How many it has published.
+    pub published: u64,
+    /// Whether memory was wanting.
+    pub wanting: bool,
+}
+
+/// Publishes the editions, in their order, one at each turn of the gate, until none is left, the gate is shut, or memory is
+/// wanting.
+pub fn publish_all<R: Wait, G: Gate>(rt: &R, alloc: Global, job: &mut Publishing<G>)
+    requires open_ { G.shut job.old.gate ≡ false }
+    requires counted { into_iter_len job.old.rest ≡ length (into_iter_items job.old.rest) }
+    requires numbers { AreNumberedFrom (length job.old.publisher.log + 1) (into_iter_items job.old.rest) }
+    ensures log { job.new.publisher.log ≡ job.old.publisher.log ++ take job.new.published (into_iter_items job.old.rest) }
+    ensures granted { job.new.wanting ≡ false → G.granted job.new.gate ≡ G.granted job.old.gate + job.new.published }
+    ensures ends { (job.new.published ≡ length (into_iter_items job.old.rest)) ⊎ (G.shut job.new.gate ≡ true) ⊎ (job.new.wanting ≡ true) }
+    ensures seconds { G.seconds job.new.gate ≡ G.seconds job.old.gate }
+{
+    let mut published: u64 = 0;
+    let mut wanting = false;
+    let mut next = job.rest.next();
+    'editions: while let Some(edition) = next {
+        if !job.gate.turn() {
+            break;
+        }
+        if job.publisher.publish(rt, alloc, edition).is_err() {
+            wanting = true;
+            break;
+        }
+        published += 1;
+        next = job.rest.next();
+    }
+    job.published = published;
+    job.wanting = wanting;
+}

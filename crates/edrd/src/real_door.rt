@@ -1,0 +1,174 @@
+//! A door over a socket that listens.
+ghost use Rattle.std.specs.Prelude.{◌≡◌, ◌≤◌, ◌<◌, ◌+◌, true, false, cond, is_err};
+ghost use Rattle.edr_serve.specs.Connections.{outcome_of};
+
+use crate::accept::Accept;
+use edr_base::{Failed, Faults, RealSink, RealSource};
+use edr_serve::{Connection, Served};
+use std::alloc::Global;
+use std::io::{BufWriter, ErrorKind};
+use std::net::{TcpListener, TcpStream};
+use std::rt::HostRuntime;
+use std::time::Duration;
+use std::{io, thread};
+
+/// How many connections a door takes where no end was asked for.
+pub const NO_END: u64 = 1_000_000_000_000;
+
+// How long a read or a write of a connection waits for its peer, in seconds.
+const PATIENCE: u64 = 30;
+
+// How long a door waits where the system had nothing left to accept with, in milliseconds.
+const PAUSE: u64 = 10;
+
+/// The two ends of a connection.
+pub type Input = RealSource<TcpStream>;
+
+pub type Output = RealSink<BufWriter<TcpStream>>;
+
+/// A door that takes so many connections.
+#[derive(Drop)]
+pub struct RealDoor {
+    rt: HostRuntime,
+    alloc: Global,
+    listener: TcpListener,
+    most: u64,
+    given: u64,
+    finished: u64,
+    faulted: u64,
+    over: bool,
+    faults: u64,
+    ghost bound: { (given ≤ most) × (most ≤ 1000000000000) × (faulted ≤ finished) × (finished ≤ given) × (given ≤ 1000000000000) },
+    ghost fits: { faults ≤ 18446744073709551615 },
+}
+
+// What is to be done where an accept failed.
+#[derive(Clone, Copy)]
+enum Step {
+    // The fault was of one peer alone.
+    GoOn,
+    // The system has nothing left for a moment.
+    Pause,
+    // No accept will do better.
+    Fail,
+}
+
+// The errors of Linux that accept(2) names as those of a peer: ENETDOWN, EPROTO, ENOPROTOOPT, EHOSTDOWN, ENONET,
+// EHOSTUNREACH, EOPNOTSUPP, ENETUNREACH, ECONNABORTED, ETIMEDOUT and EPERM; and of the system: ENFILE, EMFILE, ENOBUFS and ENOMEM.
+fn step_after(error: &io::Error) -> Step {
+    match error.kind() {
+        ErrorKind::Interrupted | ErrorKind::ConnectionAborted => return Step::GoOn,
+        ErrorKind::OutOfMemory => return Step::Pause,
+        _ => {}
+    }
+    match error.raw_os_error() {
+        Some(1 | 64 | 71 | 92 | 95 | 100 | 101 | 103 | 110 | 112 | 113) => Step::GoOn,
+        Some(12 | 23 | 24 | 105) => Step::Pause,
+        _ => Step::Fail,
+    }
+}
+
+// Both ends of a stream.
+fn ends_of(alloc: Global, stream: TcpStream) -> io::Result<(Input, Output)> {
+    let patience = Duration::from_secs(PATIENCE);
+    stream.set_nodelay(true)?;
+    stream.set_read_timeout(Some(patience))?;
+    stream.set_write_timeout(Some(patience))?;
+    let writer = BufWriter::new(alloc, stream.try_clone()?)?;
+    Ok((RealSource::of(stream), RealSink::of(writer)))
+}
+
+impl RealDoor {
+    /// A door through which nothing came yet.
+    pub fn of(rt: HostRuntime, alloc: Global, listener: TcpListener, most: u64) -> RealDoor
+        requires { most ≤ 1000000000000 }
+        ensures open_ { ⟦<RealDoor as Accept>⟧.over result ≡ false }
+        ensures counts { (⟦<RealDoor as Accept>⟧.given result ≡ 0) × (⟦<RealDoor as Accept>⟧.finished result ≡ 0)
+            × (⟦<RealDoor as Accept>⟧.faulted result ≡ 0) × (⟦<RealDoor as Faults>⟧.faults result ≡ 0) }
+    {
+        RealDoor {
+            rt,
+            alloc,
+            listener,
+            most,
+            given: 0,
+            finished: 0,
+            faulted: 0,
+            over: false,
+            faults: 0,
+        }
+    }
+
+    // The two ends of the next connection. A connection that its peer gave up meanwhile is passed over, and so is one that
+    // can't be set up; where the system has nothing left it waits a moment.
+    fn next(&self) -> Result<(Input, Output), Failed> {
+        for _ in 0..u64::MAX {
+            match self.listener.accept() {
+                Ok((stream, _peer)) => {
+                    if let Ok(ends) = ends_of(self.alloc, stream) {
+                        return Ok(ends);
+                    }
+                }
+                Err(error) => match step_after(&error) {
+                    Step::GoOn => {}
+                    Step::Pause => thread::sleep(&self.rt, Duration::from_millis(PAUSE)),
+                    Step::Fail => return Err(Failed),
+                },
+            }
+        }
+        Err(Failed)
+    }
+}
+
+impl Faults for RealDoor {
+    ghost faults = { λ s. s.faults };
+
+    ghost bounded = { λ s. s.fits };
+}
+
+impl Accept for RealDoor {
+    type In = RealSource<TcpStream>;
+
+    type Out = RealSink<BufWriter<TcpStream>>;
+
+    ghost given = { λ s. s.given };
+
+    ghost finished = { λ s. s.finished };
+
+    ghost faulted = { λ s. s.faulted };
+
+    ghost over = { λ s. s.over };
+
+    fn accept(&mut self) -> Result<Option<Connection<Input, Output>>, Failed> {
+        if self.given == self.most {
+            self.over = true;
+            return Ok(None);
+        }
+        self.over = false;
+        match self.next() {
+            Ok((input, output)) => {
+                self.given += 1;
+                Ok(Some(Connection::of(input, output)))
+            }
+            Err(Failed) => {
+                self.faults = self.faults.saturating_add(1);
+                Err(Failed)
+            }
+        }
+    }
+
+    fn finish(&mut self, served: Served<Input, Output>)
+        requires { self.old.finished < self.old.given }
+        ensures finished { self.new.finished ≡ self.old.finished + 1 }
+        ensures faulted { self.new.faulted ≡ self.old.faulted + cond (is_err (outcome_of served)) 1 0 }
+        ensures kept { (self.new.given ≡ self.old.given) × (self.new.over ≡ self.old.over) × (self.new.faults ≡ self.old.faults) }
+    {
+        let is_fault = served.outcome().is_err();
+        self.finished += 1;
+        if is_fault {
+            self.faulted += 1;
+        }
+    }
+
+    ghost within = { λ s. (s.bound.2, s.bound.3, s.bound.4) };
+}

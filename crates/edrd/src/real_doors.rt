@@ -1,0 +1,118 @@
+//! Doors at a port of this machine.
+ghost use Rattle.std.specs.Prelude.{◌≡◌, ◌≤◌, ◌<◌, ◌+◌, ◌^◌, min, vec_len, All, IfOk, IsSomeAnd, MatchResult, Some, None, true, false, is_ok, is_err, option_map};
+ghost use Rattle.edr_base.specs.Calls.{Cause};
+ghost use Rattle.edrd.specs.Doors.{IsNew};
+
+use crate::accept::Accept;
+use crate::doors::{Doors, DoorsAsked};
+use crate::real_door::{NO_END, RealDoor};
+use edr_base::{Faults, Stop};
+use std::alloc::Global;
+use std::io;
+use std::io::ErrorKind;
+use std::net::TcpListener;
+use std::rt::HostRuntime;
+
+/// Opens doors at ports of 127.0.0.1, by the runtime that main gives. Each error is a fault, but for want of memory.
+#[derive(Drop)]
+pub struct RealDoors {
+    rt: HostRuntime,
+    last: Option<DoorsAsked>,
+    tried: Option<(DoorsAsked, bool)>,
+    opens: u64,
+    closed: usize,
+    faults: u64,
+    ghost fits: { faults ≤ 18446744073709551615 },
+}
+
+impl RealDoors {
+    /// None was opened yet.
+    pub fn new(rt: HostRuntime) -> RealDoors
+        ensures { ⟦<RealDoors as Faults>⟧.faults result ≡ 0 }
+    {
+        RealDoors {
+            rt,
+            last: None,
+            tried: None,
+            opens: 0,
+            closed: 0,
+            faults: 0,
+        }
+    }
+}
+
+// Doors at a port, which the system chooses where it is 0.
+fn doors_at(rt: HostRuntime, alloc: Global, asked: DoorsAsked) -> io::Result<Vec<RealDoor>>
+    ensures { IfOk result (λ doors. (vec_len doors ≡ asked.count)
+        × All (IsNew ⟦<RealDoor as Accept>⟧.over ⟦<RealDoor as Accept>⟧.given ⟦<RealDoor as Accept>⟧.finished
+        ⟦<RealDoor as Accept>⟧.faulted ⟦<RealDoor as Faults>⟧.faults) doors.items) }
+{
+    let most = if asked.connections == 0 || asked.connections > NO_END {
+        NO_END
+    } else {
+        asked.connections
+    };
+    let listener = TcpListener::bind(&rt, ("127.0.0.1", asked.port))?;
+    let mut doors = Vec::new(alloc);
+    for _ in 0..asked.count {
+        doors.push(RealDoor::of(rt, alloc, listener.try_clone()?, most))?;
+    }
+    Ok(doors)
+}
+
+impl Faults for RealDoors {
+    ghost faults = { λ s. s.faults };
+
+    ghost bounded = { λ s. s.fits };
+}
+
+impl Doors for RealDoors {
+    type Door = RealDoor;
+
+    ghost last = { λ s. s.last };
+
+    ghost tried = { λ s. s.tried };
+
+    ghost opens = { λ s. s.opens };
+
+    ghost closed = { λ s. s.closed };
+
+    fn open(
+        &mut self,
+        alloc: Global,
+        port: u16,
+        count: usize,
+        connections: u64,
+    ) -> Result<Vec<RealDoor>, Stop> {
+        let asked = DoorsAsked {
+            port,
+            count,
+            connections,
+        };
+        match doors_at(self.rt, alloc, asked) {
+            Ok(doors) => {
+                self.last = Some(asked);
+                self.tried = Some((asked, true));
+                self.opens = self.opens.saturating_add(1);
+                self.closed = 0;
+                Ok(doors)
+            }
+            Err(error) => {
+                self.tried = Some((asked, false));
+                if error.kind() == ErrorKind::OutOfMemory {
+                    return Err(Stop::OutOfMemory);
+                }
+                self.faults = self.faults.saturating_add(1);
+                Err(Stop::Failed)
+            }
+        }
+    }
+
+    fn close(&mut self, door: RealDoor) {
+        let _ = door;
+        match self.last {
+            Some(asked) if self.closed < asked.count => self.closed += 1,
+            _ => unreachable!(),
+        }
+    }
+}

@@ -1,0 +1,215 @@
+//! The daemon over its objects.
+ghost use Rattle.std.specs.Prelude.{◌≡◌, ◌⊎◌, ◌≤◌, ◌+◌, ◌-◌, ℕ, false, length, vec_len, All, IsSomeAnd, None, option_map};
+ghost use Rattle.edr_base.specs.Calls.{SinkLent};
+ghost use Rattle.edr_edition.specs.Shelves.{IsLog, AreNumberedFrom};
+ghost use Rattle.edrd.specs.Words as spelled;
+ghost use Rattle.edrd.specs.Serving.{MayClose};
+ghost use Rattle.edrd.specs.Ends.{Ends, EndsBy, GateComesBack, ServeCause, LeavesDoors, LeavesPlaces, AsksFeed, status_of};
+
+use crate::accept::Accept;
+use crate::doors::Doors;
+use crate::endings::{Ending, tell};
+use crate::feeding::editions_in;
+use crate::gate::Gate;
+use crate::serving::{ServeReport, serve_connections};
+use crate::words::{Settings, asked_by};
+use edr_base::{Faults, Files, OutOfMemory, Sink, Stop, Text};
+use edr_edition::Edition;
+use edr_share::{Places, Publisher, SharedShelf, open_shelf};
+use std::alloc::Global;
+use std::sync::Wait;
+use std::thread::Threads;
+
+// Closes the doors, each of which is served to its end.
+fn close_all<B: Doors>(doors: &mut B, all: Vec<B::Door>)
+    requires room { IsSomeAnd (B.last doors.old) (λ asked. B.closed doors.old + vec_len all ≡ asked.count) }
+    requires ended { All (MayClose B.Door.given B.Door.finished B.Door.faults B.Door.over) all.items }
+    ensures closed { B.closed doors.new ≡ B.closed doors.old + vec_len all }
+    ensures kept { (B.last doors.new ≡ B.last doors.old) × (B.tried doors.new ≡ B.tried doors.old) × (B.opens doors.new ≡ B.opens doors.old)
+        × (B.faults doors.new ≡ B.faults doors.old) }
+{
+    let mut rest = all.into_iter();
+    'doors: while let Some(door) = rest.next() {
+        doors.close(door);
+    }
+}
+
+// Serves through the doors that are asked for, from a shelf that is open.
+fn serve_through<R: Threads + Wait + Sync, B: Doors, G: Gate + Send + Drop>(
+    rt: &R,
+    alloc: Global,
+    settings: &Settings,
+    publisher: Publisher,
+    rest: Vec<Edition>,
+    shelves: Vec<SharedShelf>,
+    doors: &mut B,
+    gate: G,
+) -> (Ending, Option<G>)
+    requires few { (1 ≤ settings.now.workers) × (settings.now.workers ≤ 64) }
+    requires shelves { vec_len shelves ≡ settings.now.workers }
+    requires own { All (λ shelf. shelf.origin ≡ publisher.origin) shelves.items }
+    requires numbers { AreNumberedFrom (length publisher.log + 1) rest.items }
+    requires gate { (G.shut gate ≡ false) × (G.seconds gate ≡ settings.now.every) }
+    ensures cause { (places : ℕ) → ServeCause result.0 settings.now
+        (record { last = B.last doors.old; tried = B.tried doors.old; opens = B.opens doors.old; closed = B.closed doors.old; faults = B.faults doors.old })
+        (record { last = B.last doors.new; tried = B.tried doors.new; opens = B.opens doors.new; closed = B.closed doors.new; faults = B.faults doors.new })
+        places places (vec_len rest)
+        (record { seconds = G.seconds gate; granted = G.granted gate; shut = G.shut gate })
+        (option_map (λ (g : G). record { seconds = G.seconds g; granted = G.granted g; shut = G.shut g }) result.1) }
+    ensures came { (result.0 ≡ Ending.Done) ⊎ (result.0 ≡ Ending.BindFault) ⊎ (result.0 ≡ Ending.OutOfMemory) }
+{
+    let acceptors = match doors.open(alloc, settings.port, settings.workers, settings.connections) {
+        Ok(acceptors) => acceptors,
+        Err(Stop::Failed) => {
+            publisher.end(rt);
+            return (Ending::BindFault, Some(gate));
+        }
+        Err(Stop::OutOfMemory) => {
+            publisher.end(rt);
+            return (Ending::OutOfMemory, None);
+        }
+    };
+    match serve_connections(rt, alloc, publisher, rest, shelves, acceptors, gate) {
+        Ok(report) => {
+            let ServeReport {
+                sessions: _,
+                session_faults: _,
+                accept_faults: _,
+                published: _,
+                acceptors,
+                gate,
+                publisher,
+            } = report;
+            publisher.end(rt);
+            close_all(doors, acceptors);
+            (Ending::Done, Some(gate))
+        }
+        Err(OutOfMemory) => (Ending::OutOfMemory, None),
+    }
+}
+
+// Opens a shelf of the editions, and serves from it.
+fn serve<R: Threads + Wait + Sync, B: Doors, G: Gate + Send + Drop>(
+    rt: &R,
+    alloc: Global,
+    settings: &Settings,
+    editions: Vec<Edition>,
+    doors: &mut B,
+    places: &mut Places,
+    gate: G,
+) -> (Ending, Option<G>)
+    requires few { (1 ≤ settings.now.workers) × (settings.now.workers ≤ 64) }
+    requires log { IsLog editions.items }
+    requires gate { G.shut gate ≡ false }
+    ensures cause { ServeCause result.0 settings.now
+        (record { last = B.last doors.old; tried = B.tried doors.old; opens = B.opens doors.old; closed = B.closed doors.old; faults = B.faults doors.old })
+        (record { last = B.last doors.new; tried = B.tried doors.new; opens = B.opens doors.new; closed = B.closed doors.new; faults = B.faults doors.new })
+        (⟦<Places as Faults>⟧.faults places.old) (⟦<Places as Faults>⟧.faults places.new) (vec_len editions - 1)
+        (record { seconds = G.seconds gate; granted = G.granted gate; shut = G.shut gate })
+        (option_map (λ (g : G). record { seconds = G.seconds g; granted = G.granted g; shut = G.shut g }) result.1) }
+    ensures doors { LeavesDoors (status_of result.0) → doors.new ≡ doors.old }
+    ensures places { ¬ (LeavesPlaces (status_of result.0)) }
+{
+    let mut editions = editions;
+    let first = editions.remove(0);
+    let (publisher, shelves) = match open_shelf(rt, alloc, first, settings.workers, places) {
+        Ok(opened) => opened,
+        Err(Stop::Failed) => return (Ending::ShelfFault, Some(gate)),
+        Err(Stop::OutOfMemory) => return (Ending::OutOfMemory, None),
+    };
+    let mut gate = gate;
+    gate.every(settings.every);
+    serve_through(
+        rt, alloc, settings, publisher, editions, shelves, doors, gate,
+    )
+}
+
+// Does what the words ask for.
+fn carry_out<R: Threads + Wait + Sync, F: Files, B: Doors, G: Gate + Send + Drop>(
+    rt: &R,
+    alloc: Global,
+    words: &[Text],
+    files: &mut F,
+    doors: &mut B,
+    places: &mut Places,
+    gate: G,
+) -> (Ending, Option<G>)
+    requires gate { G.shut gate ≡ false }
+    ensures cause { EndsBy result.0 (spelled.asked_by words.now)
+        (record {
+          files = F.aside files.old;
+          file_faults = F.faults files.old;
+          places = ⟦<Places as Faults>⟧.faults places.old;
+          doors = record { last = B.last doors.old; tried = B.tried doors.old; opens = B.opens doors.old; closed = B.closed doors.old; faults = B.faults doors.old };
+        })
+        (record {
+          files = F.aside files.new;
+          file_faults = F.faults files.new;
+          places = ⟦<Places as Faults>⟧.faults places.new;
+          doors = record { last = B.last doors.new; tried = B.tried doors.new; opens = B.opens doors.new; closed = B.closed doors.new; faults = B.faults doors.new };
+        })
+        (record { seconds = G.seconds gate; granted = G.granted gate; shut = G.shut gate })
+        (option_map (λ (g : G). record { seconds = G.seconds g; granted = G.granted g; shut = G.shut g }) result.1) }
+    ensures back { GateComesBack result.0 (spelled.asked_by words.now)
+        (record { seconds = G.seconds gate; granted = G.granted gate; shut = G.shut gate })
+        (option_map (λ (g : G). record { seconds = G.seconds g; granted = G.granted g; shut = G.shut g }) result.1) }
+    ensures files { AsksFeed F.aside (spelled.asked_by words.now) (status_of result.0) files.old files.new }
+    ensures doors { LeavesDoors (status_of result.0) → doors.new ≡ doors.old }
+    ensures places { LeavesPlaces (status_of result.0) → places.new ≡ places.old }
+    ensures none { result.1 ≡ None → result.0 ≡ Ending.OutOfMemory }
+{
+    let settings = match asked_by(alloc, words) {
+        Ok(Some(settings)) => settings,
+        Ok(None) => return (Ending::Usage, Some(gate)),
+        Err(OutOfMemory) => return (Ending::OutOfMemory, None),
+    };
+    match editions_in(alloc, settings.feed.bytes(), files) {
+        Ok(editions) => serve(rt, alloc, &settings, editions, doors, places, gate),
+        Err(ending) => (ending, Some(gate)),
+    }
+}
+
+/// All that the daemon does, over the objects that it is lent: `words` are those after the program's name.
+///
+/// It reads the editions of the feed in the file that the words name, opens a shelf of the first, opens the doors that the
+/// words ask for, and serves all connections that come through them, each from the newest edition that is published when its
+/// requests come; beside that it publishes the other editions, one at each turn of the gate. It ends when no more connections
+/// come, with all doors closed. The answer is the status of the program, and the gate, which is given up only with want of
+/// memory; with each status but 0 one line says why on `errors`.
+pub fn edrd_run<R: Threads + Wait + Sync, F: Files, B: Doors, G: Gate + Send + Drop, D: Sink>(
+    rt: &R,
+    alloc: Global,
+    words: &[Text],
+    files: &mut F,
+    doors: &mut B,
+    places: &mut Places,
+    gate: G,
+    errors: &mut D,
+) -> (u8, Option<G>)
+    requires gate { G.shut gate ≡ false }
+    ensures ends { (ending : Ending) × Ends ending (spelled.asked_by words.now) result.0
+        (record {
+          files = F.aside files.old;
+          file_faults = F.faults files.old;
+          places = ⟦<Places as Faults>⟧.faults places.old;
+          doors = record { last = B.last doors.old; tried = B.tried doors.old; opens = B.opens doors.old; closed = B.closed doors.old; faults = B.faults doors.old };
+        })
+        (record {
+          files = F.aside files.new;
+          file_faults = F.faults files.new;
+          places = ⟦<Places as Faults>⟧.faults places.new;
+          doors = record { last = B.last doors.new; tried = B.tried doors.new; opens = B.opens doors.new; closed = B.closed doors.new; faults = B.faults doors.new };
+        })
+        (record { seconds = G.seconds gate; granted = G.granted gate; shut = G.shut gate })
+        (option_map (λ (g : G). record { seconds = G.seconds g; granted = G.granted g; shut = G.shut g }) result.1)
+        (D.written errors.old) (D.written errors.new) (D.faults errors.old) (D.faults errors.new) }
+    ensures files { AsksFeed F.aside (spelled.asked_by words.now) result.0 files.old files.new }
+    ensures doors { LeavesDoors result.0 → doors.new ≡ doors.old }
+    ensures places { LeavesPlaces result.0 → places.new ≡ places.old }
+    ensures none { result.1 ≡ None → result.0 ≡ 5 }
+    ensures errors { SinkLent (D.beside errors.old) (D.beside errors.new) (D.faults errors.old) (D.faults errors.new) }
+{
+    let (ending, gate) = carry_out(rt, alloc, words, files, doors, places, gate);
+    tell(ending, errors);
+    (ending.status(), gate)
+}

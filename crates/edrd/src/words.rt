@@ -1,0 +1,159 @@
+//! What the words after the program's name ask for.
+ghost use Rattle.std.specs.Prelude.{◌≡◌, ◌≤◌, map, option_map, MatchOption, IfOk, IfSome, true, false};
+ghost use Rattle.std.specs.List.{list_all};
+ghost use Rattle.std.specs.Str.{is_utf8};
+ghost use Rattle.clap.specs.Words.{app_of, found_of, rows_of};
+ghost use Rattle.edrd.specs.Words as spelled;
+ghost use Rattle.edrd.specs.Words.{all_words, asked_of};
+ghost use Rattle.edrd.specs.Settled.{IsWithin};
+
+use clap::error::ErrorKind;
+use clap::{Arg, ArgMatches, Command, Error};
+use edr_base::{OutOfMemory, Text};
+use edr_program::number_of;
+use std::alloc::{AllocError, Global};
+
+/// What the words ask for.
+#[derive(Drop)]
+pub struct Settings {
+    /// The name of the feed's file.
+    pub feed: Text,
+    pub port: u16,
+    pub workers: usize,
+    /// How many seconds pass before each publish.
+    pub every: u32,
+    /// How many connections each worker serves at most; 0 is no end.
+    pub connections: u64,
+}
+
+// The words behind the name of the program; None where one isn't UTF-8.
+fn texts_of<'a>(alloc: Global, words: &'a [Text]) -> Result<Option<Vec<&'a str>>, OutOfMemory>
+    ensures { IfOk result (λ texts. MatchOption texts (list_all is_utf8 words.now ≡ false)
+        (λ texts. (list_all is_utf8 words.now ≡ true) × (map (λ text. text.now) texts.items ≡ all_words words.now))) }
+{
+    let mut texts = Vec::new(alloc);
+    texts.push("edrd")?;
+    for word in words {
+        match str::from_utf8(word.bytes()) {
+            Ok(text) => texts.push(text)?,
+            Err(_) => return Ok(None),
+        }
+    }
+    Ok(Some(texts))
+}
+
+// The command.
+fn command<'a>(alloc: Global) -> Result<Command<'a>, AllocError>
+    ensures { IfOk result (λ command. app_of command ≡ spelled.command) }
+{
+    Command::new(alloc, "edrd")
+        .arg(Arg::new(alloc, "feed").required(true))?
+        .arg(Arg::new(alloc, "port").long("port").required(true))?
+        .arg(Arg::new(alloc, "workers").long("workers"))?
+        .arg(Arg::new(alloc, "every").long("every"))?
+        .arg(Arg::new(alloc, "connections").long("connections"))
+}
+
+// The number that a word writes, where it lies between two limits.
+fn number_within(least: u64, most: u64, word: &str) -> Option<u64>
+    ensures is { result ≡ spelled.number_within least most word.now }
+    ensures within { IfSome result (λ number. (least ≤ number) × (number ≤ most)) }
+{
+    match number_of(word.as_bytes()) {
+        Some(number) if least <= number && number <= most => Some(number),
+        _ => None,
+    }
+}
+
+// The same of a word that may be left out.
+fn number_or(other: u64, least: u64, most: u64, word: Option<&str>) -> Option<u64>
+    requires { (least ≤ other) × (other ≤ most) }
+    ensures is { result ≡ spelled.number_or other least most (option_map (λ word. word.now) word.entry) }
+    ensures within { IfSome result (λ number. (least ≤ number) × (number ≤ most)) }
+{
+    match word {
+        Some(word) => number_within(least, most, word),
+        None => Some(other),
+    }
+}
+
+// What is asked for, of the values of the arguments.
+fn settings_of(
+    alloc: Global,
+    feed: Option<&str>,
+    port: Option<&str>,
+    workers: Option<&str>,
+    every: Option<&str>,
+    connections: Option<&str>,
+) -> Result<Option<Settings>, OutOfMemory>
+    ensures is { IfOk result (λ settings. settings ≡ spelled.settings_of (option_map (λ word. word.now) feed.entry) (option_map (λ word. word.now) port.entry)
+        (option_map (λ word. word.now) workers.entry) (option_map (λ word. word.now) every.entry) (option_map (λ word. word.now) connections.entry)) }
+    ensures within { IfOk result (λ settings. IfSome settings IsWithin) }
+{
+    let (Some(feed), Some(port)) = (feed, port) else {
+        return Ok(None);
+    };
+    let Some(port) = number_within(0, 65_535, port) else {
+        return Ok(None);
+    };
+    let Some(workers) = number_or(2, 1, 64, workers) else {
+        return Ok(None);
+    };
+    let Some(every) = number_or(60, 0, 86_400, every) else {
+        return Ok(None);
+    };
+    let Some(connections) = number_or(0, 0, 1_000_000, connections) else {
+        return Ok(None);
+    };
+    Ok(Some(Settings {
+        feed: Text::of(alloc, feed.as_bytes())?,
+        port: port as u16,
+        workers: workers as usize,
+        every: every as u32,
+        connections,
+    }))
+}
+
+// What is asked for where the command took the words.
+fn settings_in(alloc: Global, matches: &ArgMatches<'_>) -> Result<Option<Settings>, OutOfMemory>
+    ensures is { IfOk result (λ settings. settings ≡ spelled.settings_in (rows_of (found_of matches.now))) }
+    ensures within { IfOk result (λ settings. IfSome settings IsWithin) }
+{
+    settings_of(
+        alloc,
+        matches.get_str("feed"),
+        matches.get_str("port"),
+        matches.get_str("workers"),
+        matches.get_str("every"),
+        matches.get_str("connections"),
+    )
+}
+
+// What words that are UTF-8 ask for, behind the name of the program.
+fn parsed<'a>(alloc: Global, texts: &'a [&'a str]) -> Result<Option<Settings>, OutOfMemory>
+    ensures is { IfOk result (λ settings. settings ≡ asked_of spelled.command (map (λ text. text.now) texts.now)) }
+    ensures within { IfOk result (λ settings. IfSome settings IsWithin) }
+{
+    let Ok(command) = command(alloc) else {
+        return Err(OutOfMemory);
+    };
+    match command.try_get_matches_from(texts) {
+        Ok(matches) => settings_in(alloc, &matches),
+        Err(error) => match error.kind() {
+            ErrorKind::OutOfMemory => Err(OutOfMemory),
+            _ => Ok(None),
+        },
+    }
+}
+
+/// What the words after the program's name ask for, and `None` where they are refused: one isn't UTF-8, the command doesn't
+/// take them, or a number lies outside its limits.
+pub fn asked_by(alloc: Global, words: &[Text]) -> Result<Option<Settings>, OutOfMemory>
+    ensures is { IfOk result (λ settings. settings ≡ spelled.asked_by words.now) }
+    ensures within { IfOk result (λ settings. IfSome settings IsWithin) }
+{
+    match texts_of(alloc, words)? {
+        Some(texts) => parsed(alloc, &texts),
+        None => Ok(None),
+    }
+}
