@@ -119,8 +119,12 @@ def load(port, connections, seconds=SECONDS, path=None):
     return float(re.search(r"Requests/sec:\s+([\d.]+)", told)[1]), int(re.search(r"(\d+) requests in", told)[1])
 
 
-def replay_time(feed):
-    """The seconds of processor time that `edr replay` takes for one position, all requests on one connection."""
+def replay_time(folder):
+    """The seconds of processor time that `edr replay` takes for one position, all requests on one connection: in a grid of one
+    tile, whose feed is read in no time."""
+    feed, side = os.path.join(folder, "tile"), 64
+    with open(feed, "w") as file:
+        file.write(replay.grid(side, side, ["2024-01-01T00:00:00Z"]))
 
     def used(requests):
         before = resource.getrusage(resource.RUSAGE_CHILDREN)
@@ -128,12 +132,13 @@ def replay_time(feed):
         after = resource.getrusage(resource.RUSAGE_CHILDREN)
         return after.ru_utime + after.ru_stime - before.ru_utime - before.ru_stime
 
-    requests = replay.requests_for("GET", replay.position)
-    rounds = 12
+    path = "/collections/grid/position?coords=POINT({}%20{})"
+    requests = replay.requests_for("GET", lambda number: path.format(number * 37 % side, number * 91 % side))
+    rounds = 30
     return min(used(requests) for _ in range(rounds)) / len(requests) - min(used(requests[:1]) for _ in range(rounds)) / len(requests)
 
 
-def small(feed, plain):
+def small(folder, feed, plain):
     print(f"Positions in a grid of a million nodes, {WORKERS} workers:\n")
     print("| server | connections | requests a second | microseconds of processor time a request |")
     print("|---|---|---|---|")
@@ -148,7 +153,7 @@ def small(feed, plain):
             rates[name, connections], times[name, connections] = rate, took
             print(f"| {name} | {connections} | {rate:,.0f} | {took * 1e6:.1f} |")
         server.stop()
-    one = replay_time(feed)
+    one = replay_time(folder)
     ratio = times["edrd", 8] / one
     print(f"\n`edr replay` takes {one * 1e6:.1f} microseconds of processor time for one of these, all on one connection.")
     print(f"\nwanted: at least {LEAST_RATE:,} a second at 8 connections; found {rates['edrd', 8]:,.0f}")
@@ -221,7 +226,7 @@ def main():
             file.write(replay.grid(replay.SIDE, replay.SIDE, ["2024-01-01T00:00:00Z"]))
         with open(made, "wb") as file:
             subprocess.run([EDR, "make", "7"], stdout=file, check=True)
-        small(feed, plain)
+        small(folder, feed, plain)
         large(made)
         in_turn(feed)
         memory(feed)
