@@ -47,3 +47,24 @@ fn main(rt: HostRuntime) -> ExitCode {
     );
     ExitCode::from(status)
 }
+
+#[cfg(test)]
+mod run_tests;
+#[cfg(test)]
+mod test_coming;
+#[cfg(test)]
+mod test_doors;
+#[cfg(test)]
+mod test_gate;
+#[cfg(test)]
+mod test_serving;
+#[cfg(test)]
+mod test_sink;
+#[cfg(test)]
+mod test_texts;
+#[cfg(test)]
+mod tests;
+#[cfg(test)]
+mod thread_tests;
+#[cfg(test)]
+mod word_tests;

@@ -21,9 +21,10 @@ const PATIENCE: u64 = 30;
 // How long a door waits where the system had nothing left to accept with, in milliseconds.
 const PAUSE: u64 = 10;
 
-/// The two ends of a connection.
+/// What a peer sends.
 pub type Input = RealSource<TcpStream>;
 
+/// What is sent to a peer.
 pub type Output = RealSink<BufWriter<TcpStream>>;
 
 /// A door that takes so many connections.
