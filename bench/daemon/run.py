@@ -24,7 +24,6 @@ replay = importlib.util.module_from_spec(SPEC)
 SPEC.loader.exec_module(replay)
 EDR = os.path.join(TOP, "crates", "edr", "out", "edr")
 EDRD = os.path.join(TOP, "crates", "edrd", "out", "edrd")
-ENVIRONMENT = dict(os.environ, MALLOC_TRIM_THRESHOLD_="1073741824", GLIBC_TUNABLES="glibc.malloc.hugetlb=1")
 WORKERS = 4
 SECONDS = 8
 END = b"\r\n0\r\n\r\n"
@@ -46,7 +45,7 @@ class Server:
 
     def __init__(self, words_of):
         self.port = free_port()
-        self.process = subprocess.Popen(words_of(self.port), env=ENVIRONMENT, stdin=subprocess.DEVNULL)
+        self.process = subprocess.Popen(words_of(self.port), stdin=subprocess.DEVNULL)
         while True:
             try:
                 socket.create_connection(("127.0.0.1", self.port)).close()
@@ -119,16 +118,35 @@ def load(port, connections, seconds=SECONDS, path=None):
     return float(re.search(r"Requests/sec:\s+([\d.]+)", told)[1]), int(re.search(r"(\d+) requests in", told)[1])
 
 
-def replay_time(folder):
-    """The seconds of processor time that `edr replay` takes for one position, all requests on one connection: in a grid of one
-    tile, whose feed is read in no time."""
+def replay_time(folder, over_socket):
+    """The seconds of processor time that `edr replay` takes for one position, of 1,000 on one connection less those of one: in a
+    grid of one tile, whose feed is read in no time. The requests come over a socket, each when the last was answered, as they
+    come to the daemon; or else all at once in a pipe."""
     feed, side = os.path.join(folder, "tile"), 64
     with open(feed, "w") as file:
         file.write(replay.grid(side, side, ["2024-01-01T00:00:00Z"]))
 
+    def ask(requests, there):
+        held = b""
+        for request in requests:
+            there.sendall(request)
+            _, held = read_reply(there, held)
+        there.shutdown(socket.SHUT_WR)
+        while there.recv(1 << 16):
+            pass
+
     def used(requests):
         before = resource.getrusage(resource.RUSAGE_CHILDREN)
-        subprocess.run([EDR, "replay", feed], input=b"".join(requests), stdout=subprocess.DEVNULL, env=ENVIRONMENT, check=True)
+        if over_socket:
+            with socket.create_server(("127.0.0.1", 0)) as door, socket.create_connection(door.getsockname()) as there:
+                here, _ = door.accept()
+                here.setsockopt(socket.IPPROTO_TCP, socket.TCP_NODELAY, 1)
+                process = subprocess.Popen([EDR, "replay", feed], stdin=here, stdout=here)
+                here.close()
+                ask(requests, there)
+                process.wait()
+        else:
+            subprocess.run([EDR, "replay", feed], input=b"".join(requests), stdout=subprocess.DEVNULL, check=True)
         after = resource.getrusage(resource.RUSAGE_CHILDREN)
         return after.ru_utime + after.ru_stime - before.ru_utime - before.ru_stime
 
@@ -153,9 +171,9 @@ def small(folder, feed, plain):
             rates[name, connections], times[name, connections] = rate, took
             print(f"| {name} | {connections} | {rate:,.0f} | {took * 1e6:.1f} |")
         server.stop()
-    one = replay_time(folder)
+    one, in_pipe = replay_time(folder, True), replay_time(folder, False)
     ratio = times["edrd", 8] / one
-    print(f"\n`edr replay` takes {one * 1e6:.1f} microseconds of processor time for one of these, all on one connection.")
+    print(f"\n`edr replay` takes {one * 1e6:.1f} microseconds of processor time for one of these over a socket, one after the other, and {in_pipe * 1e6:.1f} where all come at once in a pipe.")
     print(f"\nwanted: at least {LEAST_RATE:,} a second at 8 connections; found {rates['edrd', 8]:,.0f}")
     print(f"wanted: at most {MOST_TIME:.1f} of the processor time of `edr replay`; found {ratio:.2f}")
 

@@ -18,6 +18,9 @@ pub const NO_END: u64 = 1_000_000_000_000;
 // How long a read or a write of a connection waits for its peer, in seconds.
 const PATIENCE: u64 = 30;
 
+// How many bytes of replies are gathered before they are written: the chunks of a long body go out many at a time.
+const GATHERED: usize = 65_536;
+
 // How long a door waits where the system had nothing left to accept with, in milliseconds.
 const PAUSE: u64 = 10;
 
@@ -75,7 +78,7 @@ fn ends_of(alloc: Global, stream: TcpStream) -> io::Result<(Input, Output)> {
     stream.set_nodelay(true)?;
     stream.set_read_timeout(Some(patience))?;
     stream.set_write_timeout(Some(patience))?;
-    let writer = BufWriter::new(alloc, stream.try_clone()?)?;
+    let writer = BufWriter::with_capacity(alloc, GATHERED, stream.try_clone()?)?;
     Ok((RealSource::of(stream), RealSink::of(writer)))
 }
 
