@@ -1,11 +1,11 @@
 -- How a run ends, from what became of its parts.
-use Rattle.std.proofs.Common.{◌≡◌, ◌≢◌, ◌∙◌, ◌⊎◌, ◌+◌, ◌-◌, ◌<◌, ℕ, true, List, [], ◌∷◌, length, refl, sym, ap, ap₂, subst, inl, inr, arith}
+use Rattle.std.proofs.Common.{◌≡◌, ◌≢◌, ◌∙◌, ◌⊎◌, ◌+◌, ◌-◌, ◌<◌, ℕ, true, List, [], ◌∷◌, length, refl, ap, ap₂, subst, inl, inr, arith}
 use Rattle.std.specs.declared.option.Option.{Option}
 use Rattle.std.specs.Prelude.{Ok, None, Some}
 use Rattle.edr_base.specs.Outside.{Aside}
 use Rattle.edr_edition.specs.Values.{EditionValue}
 use Rattle.edr_feed.specs.Feeds.{FeedStandsIn}
-use Rattle.edrd.specs.Ends.{Moment, GateState, DoorsState, IsServed, HasCause, EndsBy, ServeCause, AsksFeed}
+use Rattle.edrd.specs.Ends.{Moment, GateState, DoorsState, HasCause, EndsBy, ServeCause, AsksFeed}
 use Rattle.edrd.specs.declared.words.Settings.{Settings}
 use Rattle.edrd.specs.declared.endings.Ending.{Ending}
 use Rattle.edrd.specs.declared.endings.Ending.TheVariants.{Done, Usage, NotFeed, ReadFault, OutOfMemory, OpenFault, BindFault, ShelfFault}

@@ -1,5 +1,5 @@
 -- What a run rests on: the feed in its file, and doors that are closed one by one.
-use Rattle.std.proofs.Common.{◌≡◌, ◌+◌, ◌<◌, ◌≤◌, ◌⊎◌, ℕ, Bool, true, false, inl, inr, List, [], ◌∷◌, length, Err, None, Some, IfSome, refl, sym, ap, subst, arith}
+use Rattle.std.proofs.Common.{◌≡◌, ◌+◌, ◌<◌, ◌≤◌, ◌⊎◌, ℕ, Bool, true, false, inl, inr, List, ◌∷◌, length, Err, None, Some, IfSome, refl, subst, arith}
 use Rattle.std.specs.Prelude.{All, IsSomeAnd, Result, slice_index_or}
 use Rattle.std.specs.declared.option.Option.{Option}
 use Rattle.std.proofs.lemmas.List.Elements.{All-head, All-tail}

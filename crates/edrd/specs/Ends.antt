@@ -2,10 +2,9 @@
 -- gate. Each table goes by the ending.
 use Rattle.std.specs.Prelude.{◌≡◌, ◌⊎◌, ℕ, ◌+◌, ◌-◌, ◌^◌, min, Bool, true, false, ◌++◌, ⊤, codes, List, [], ◌∷◌, length, Ok, Err, IsSome, IsSomeAnd, None, Some, option_map}
 use Rattle.std.specs.declared.option.Option.{Option}
-use Rattle.edr_base.specs.Outside.{Aside, Asked as AskedOf, Rose}
+use Rattle.edr_base.specs.Outside.{Aside, Rose}
 use Rattle.edr_edition.specs.Values.{EditionValue}
 use Rattle.edr_feed.specs.Feeds.{FeedStandsIn}
-use Rattle.edr_feed.specs.declared.refusals.FeedRefusal.{FeedRefusal}
 use Rattle.edr_program.specs.Lines.{feed_said, Tells}
 use Rattle.edrd.specs.declared.doors.DoorsAsked.{DoorsAsked}
 use Rattle.edrd.specs.declared.words.Settings.{Settings}

@@ -1,4 +1,4 @@
-use Rattle.std.proofs.Common.{rules, sym}
+use Rattle.std.proofs.Common.{rules}
 use Rattle.edrd.proofs.EndLemmas.{memory_ends, memory_asks, served_by, some_edition}
 use Rattle.edrd.proofs.running.carry_out.Goals as goal
 

@@ -1,5 +1,4 @@
 use Rattle.std.proofs.Common.{◌≡◌, ◌-◌, vec_len, rules}
-use Rattle.edrd.specs.Ends.{GateState}
 use Rattle.edrd.proofs.EndLemmas.{serve_paused}
 use Rattle.edrd.proofs.running.serve.Goals as goal
 

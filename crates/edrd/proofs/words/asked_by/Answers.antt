@@ -1,4 +1,4 @@
-use Rattle.std.proofs.Common.{◌∙◌, ap, map, List, Bor}
+use Rattle.std.proofs.Common.{◌∙◌, ap, map, Bor}
 use Rattle.clap.specs.Words.{Text}
 use Rattle.edrd.proofs.WordLemmas.{of_texts_ok}
 use Rattle.edrd.proofs.words.asked_by.Goals as goal

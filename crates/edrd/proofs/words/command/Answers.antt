@@ -1,6 +1,6 @@
 use Rattle.std.proofs.Common.{rules, ◌≡◌, ◌∙◌, ap₂, codes}
 use Rattle.std.proofs.lemmas.Result.{IfOk-weaker}
-use Rattle.clap.specs.Words.{app_of, with_rule, rule_of, new_app}
+use Rattle.clap.specs.Words.{with_rule, rule_of}
 use Rattle.edrd.specs.Words.{feed_rule, port_rule, option_rule}
 use Rattle.edrd.proofs.words.command.Goals as goal
 
