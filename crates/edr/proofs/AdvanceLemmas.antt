@@ -1,21 +1,19 @@
 -- A session in which each request but the first finds the next edition.
-use Rattle.std.proofs.Common.{◌≡◌, ℕ, zero, suc, ◌+◌, ◌-◌, ◌≤◌, ◌<◌, min, max, ◌⊎◌, Bool, true, false, List, [], ◌∷◌, ◌++◌, length, length-append, append-nil, Result, Ok, Err, Some, None, All, sym, ap, subst, ◌∙◌, refl, inl, inr, arith, slice_index_or}
+use Rattle.std.proofs.Common.{◌≡◌, ℕ, zero, suc, ◌+◌, ◌-◌, ◌≤◌, ◌<◌, min, max, ◌⊎◌, Bool, true, false, List, [], ◌∷◌, ◌++◌, length, length-append, append-nil, Some, None, All, sym, ap, subst, ◌∙◌, refl, inl, inr, arith, slice_index_or}
 use Rattle.std.specs.declared.option.Option.{Option}
 use Rattle.std.specs.Prelude.{is_some, unwrap_or, option_to_list, IfSome, IsSome}
 use Rattle.std.specs.Io.KnownBytes.{append_known, prepend_known}
 use mathlib.Core.List.{append_assoc}
 use Rattle.edr_base.specs.Calls.{Begins, Front, IsFlushed, ReadsAtMost, WrittenWhole, WrittenInPart}
 use Rattle.edr_base.specs.KnownBytes.{append_nothing, prepend_nothing, grew_on, took_on, front_on, front_whole}
-use Rattle.edr_base.specs.declared.refusals.Refusal.{Refusal}
 use Rattle.edr_edition.specs.Values.{EditionValue}
 use Rattle.edr_edition.specs.Shelves.{EndsWith, AreNumberedFrom, IsLog, IsNext, no_edition}
 use Rattle.edr_http.specs.Heads.{Told, IsBehind, HasNoHead, most_held}
-use Rattle.edr_query.specs.declared.pages.Page.{Page}
 use Rattle.edr_serve.specs.declared.ends.End.{End}
 use Rattle.edr_serve.specs.declared.ends.End.TheVariants.{EndOfInput}
 use Rattle.edr_serve.specs.declared.reports.OneReport.{OneReport}
 use Rattle.edr_serve.specs.Requests.{Request, IsFirst, Requests, Begun, session_end, request_limit}
-use Rattle.edr_serve.specs.Replies.{readers, count_if_page, output}
+use Rattle.edr_serve.specs.Replies.{readers, output}
 use Rattle.edr_serve.specs.Sessions.{State, IfTold, Uses, Served, Exchanged, BrokenAtOne, AtMost, most_behind, ReadsAhead}
 use Rattle.edr_serve.specs.SessionLaws.{OutputGoesOn}
 use Rattle.edr_serve.specs.AheadLaws.{HeldBehind, held_on, held_none, held_read, held_end, ahead_of, ahead_more, most_behind_held, held_behind}

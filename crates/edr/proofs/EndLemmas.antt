@@ -13,12 +13,13 @@ use Rattle.edr_feed.specs.declared.faults.FeedFault.TheVariants as feeds
 use Rattle.edr_serve.specs.declared.reports.SessionFault.{SessionFault}
 use Rattle.edr_serve.specs.declared.reports.SessionFault.TheVariants as faults
 use Rattle.edr.specs.declared.endings.Ending.{Ending}
-use Rattle.edr.specs.declared.endings.Ending.TheVariants.{Done, Usage, NotFeed, ReadFault, WriteFault, OutOfMemory, Refused, OpenFault}
+use Rattle.edr.specs.declared.endings.Ending.TheVariants.{Done, Usage, NotFeed, ReadFault, WriteFault, OutOfMemory, Refused, NoDocument, ConnectFault, OpenFault}
 use Rattle.edr.specs.Checking.{fault_ends}
 use Rattle.edr.specs.Replays.{IsReplayOf, IsReplayBegun, AreReplies, AreBegun}
 use Rattle.edr.specs.Asking.{AnswerCause}
 use Rattle.edr.specs.Making.{MakeCause}
-use Rattle.edr.specs.Ends.{OutputEnds, IsReadByEnd, AtReadFault, Settles, Counts, FileFailed}
+use Rattle.edr.specs.Causes.{Counts, FileFailed}
+use Rattle.edr.specs.Ends.{OutputEnds, IsReadByEnd, AtReadFault, Settles}
 use Rattle.edr.specs.Replaying.{ServeCause, ReplayCause, IsBefore, session_ends}
 use Rattle.edr.proofs.ReplayLemmas.{stands_opened}
 
@@ -56,6 +57,8 @@ settled_output ReadFault early before after Whole Begun old new flushed s whole 
 settled_output WriteFault early before after Whole Begun old new flushed s whole part = part
 settled_output OutOfMemory early before after Whole Begun old new flushed s whole part = inr part
 settled_output (Refused refusal) early before after Whole Begun old new flushed s whole part = absurd s
+settled_output (NoDocument refusal) early before after Whole Begun old new flushed s whole part = absurd s
+settled_output ConnectFault early before after Whole Begun old new flushed s whole part = absurd s
 settled_output OpenFault early before after Whole Begun old new flushed s whole part = absurd s
 
 pub rose_earlier : (first before after : ℕ) → first ≤ before → Rose before after → Rose first after
@@ -69,6 +72,8 @@ settled_cause ReadFault r r' first before after new flushed h s = absurd s
 settled_cause WriteFault r r' first before after new flushed h s = rose_earlier first before after h s
 settled_cause OutOfMemory r r' first before after new flushed h s = tt
 settled_cause (Refused refusal) r r' first before after new flushed h s = s
+settled_cause (NoDocument refusal) r r' first before after new flushed h s = s
+settled_cause ConnectFault r r' first before after new flushed h s = s
 settled_cause OpenFault r r' first before after new flushed h s = s
 
 pub settled_answer : (ending : Ending) (IsThe : Result (List ℕ) Refusal → Type 0) (first before after : ℕ) (new : Option (List ℕ)) (flushed : Option ℕ) → first ≤ before
@@ -80,6 +85,8 @@ settled_answer ReadFault IsThe first before after new flushed h s = s
 settled_answer WriteFault IsThe first before after new flushed h s = rose_earlier first before after h s
 settled_answer OutOfMemory IsThe first before after new flushed h s = tt
 settled_answer (Refused refusal) IsThe first before after new flushed h s = absurd s
+settled_answer (NoDocument refusal) IsThe first before after new flushed h s = absurd s
+settled_answer ConnectFault IsThe first before after new flushed h s = s
 settled_answer OpenFault IsThe first before after new flushed h s = s
 
 pub settled_make : (ending : Ending) (first before after : ℕ) (new : Option (List ℕ)) (flushed : Option ℕ) → first ≤ before → Settles ending before after new flushed → MakeCause ending first after
@@ -90,6 +97,8 @@ settled_make ReadFault first before after new flushed h s = s
 settled_make WriteFault first before after new flushed h s = rose_earlier first before after h s
 settled_make OutOfMemory first before after new flushed h s = tt
 settled_make (Refused refusal) first before after new flushed h s = s
+settled_make (NoDocument refusal) first before after new flushed h s = s
+settled_make ConnectFault first before after new flushed h s = s
 settled_make OpenFault first before after new flushed h s = s
 
 pub settled_begun : (ending : Ending) (before after : ℕ) (new : Option (List ℕ)) (flushed : Option ℕ) → Settles ending before after new flushed → ¬ (IsBefore ending)
@@ -100,6 +109,8 @@ settled_begun ReadFault before after new flushed s x = x
 settled_begun WriteFault before after new flushed s x = x
 settled_begun OutOfMemory before after new flushed s x = x
 settled_begun (Refused refusal) before after new flushed s x = x
+settled_begun (NoDocument refusal) before after new flushed s x = x
+settled_begun ConnectFault before after new flushed s x = s
 settled_begun OpenFault before after new flushed s x = s
 
 pub read_so_far : (ending : Ending) (Far : Type 0) → Far → IsReadByEnd ending Far
@@ -110,6 +121,8 @@ read_so_far ReadFault Far x = tt
 read_so_far WriteFault Far x = tt
 read_so_far OutOfMemory Far x = tt
 read_so_far (Refused refusal) Far x = tt
+read_so_far (NoDocument refusal) Far x = tt
+read_so_far ConnectFault Far x = tt
 read_so_far OpenFault Far x = tt
 
 -- ---- a read failed
@@ -127,6 +140,8 @@ settled_waits ReadFault before after new flushed So s = absurd s
 settled_waits WriteFault before after new flushed So s = tt
 settled_waits OutOfMemory before after new flushed So s = tt
 settled_waits (Refused refusal) before after new flushed So s = tt
+settled_waits (NoDocument refusal) before after new flushed So s = tt
+settled_waits ConnectFault before after new flushed So s = tt
 settled_waits OpenFault before after new flushed So s = tt
 
 pub waits_more : (ending : Ending) (So More : Type 0) → (So → More) → AtReadFault ending So → AtReadFault ending More
@@ -137,6 +152,8 @@ waits_more ReadFault So More f x = f x
 waits_more WriteFault So More f x = tt
 waits_more OutOfMemory So More f x = tt
 waits_more (Refused refusal) So More f x = tt
+waits_more (NoDocument refusal) So More f x = tt
+waits_more ConnectFault So More f x = tt
 waits_more OpenFault So More f x = tt
 
 pub waits_any : (ending : Ending) (So : Type 0) → So → AtReadFault ending So
@@ -147,6 +164,8 @@ waits_any ReadFault So x = x
 waits_any WriteFault So x = tt
 waits_any OutOfMemory So x = tt
 waits_any (Refused refusal) So x = tt
+waits_any (NoDocument refusal) So x = tt
+waits_any ConnectFault So x = tt
 waits_any OpenFault So x = tt
 
 -- ---- the feed in the file
@@ -174,6 +193,8 @@ replay_output WriteFault advances editions content left input old new flushed h 
 replay_output OutOfMemory advances editions content left input old new flushed h x (inl o) = inl o
 replay_output OutOfMemory advances editions content left input old new flushed h x (inr o) = inr (part_replay advances editions content input old new (stands_opened content left (Ok editions) h x) o)
 replay_output (Refused refusal) advances editions content left input old new flushed h x o = o
+replay_output (NoDocument refusal) advances editions content left input old new flushed h x o = o
+replay_output ConnectFault advances editions content left input old new flushed h x o = o
 replay_output OpenFault advances editions content left input old new flushed h x o = o
 
 -- the file is no feed, or a read of it failed

@@ -1,7 +1,17 @@
 -- The line of an ending.
-use Rattle.std.proofs.Common.{◌≡◌, ◌≢◌, ℕ, List, ◌++◌, codes, refl, sym, ap, ◌∙◌, append_assoc}
+use Rattle.std.proofs.Common.{◌≡◌, ◌≢◌, ℕ, ◌≤◌, List, ◌++◌, codes, refl, sym, ap, ◌∙◌, append_assoc, Err, Some, IsErrOf, arith}
+use Rattle.std.specs.declared.option.Option.{Option}
+use Rattle.std.specs.Io.KnownBytes.{append_known}
+use Rattle.edr_base.specs.Outside.{Rose}
+use Rattle.edr_base.specs.Calls.{Front}
+use Rattle.edr_base.specs.KnownBytes.{writes_on, writes_stop}
+use Rattle.edr_base.specs.declared.sending.SendFault.{SendFault}
+use Rattle.edr_base.specs.declared.sending.SendFault.TheVariants as sends
+use Rattle.edr_program.specs.Lines.{Tells}
+use Rattle.edr.specs.declared.endings.DocumentRefusal.TheVariants.{TooLong, Cov, BadReply, NotData}
+use Rattle.edr.specs.Saying.{status_in}
 use Rattle.edr.specs.declared.endings.Ending.{Ending}
-use Rattle.edr.specs.declared.endings.Ending.TheVariants.{Done, Usage, NotFeed, ReadFault, WriteFault, OutOfMemory, Refused, OpenFault}
+use Rattle.edr.specs.declared.endings.Ending.TheVariants.{Done, Usage, NotFeed, ReadFault, WriteFault, OutOfMemory, Refused, NoDocument, ConnectFault, OpenFault}
 use Rattle.edr.specs.Ends.{said_of, line_of}
 
 -- but for Done, the line is what is said and a line feed
@@ -13,8 +23,41 @@ line_of-said ReadFault other = refl
 line_of-said WriteFault other = refl
 line_of-said OutOfMemory other = refl
 line_of-said (Refused refusal) other = refl
+line_of-said (NoDocument refusal) other = refl
+line_of-said ConnectFault other = refl
 line_of-said OpenFault other = refl
 
 -- what is said, cut before the line of the feed that it names
 pub line_is : (front place said : List ℕ) → front ++ place ≡ said → front ++ (place ++ codes "\n") ≡ said ++ codes "\n"
 line_is front place said same = sym (append_assoc front place (codes "\n")) ∙ ap (λ list. list ++ codes "\n") same
+
+-- only where a reply isn't of data is its status named
+pub status_named : (ending : Ending) (status : ℕ) → status_in ending ≡ Some status → ending ≡ NoDocument (NotData status)
+status_named Done status e = absurd cc
+status_named Usage status e = absurd cc
+status_named (NotFeed refusal) status e = absurd cc
+status_named ReadFault status e = absurd cc
+status_named WriteFault status e = absurd cc
+status_named OutOfMemory status e = absurd cc
+status_named (Refused refusal) status e = absurd cc
+status_named (NoDocument TooLong) status e = absurd cc
+status_named (NoDocument Cov) status e = absurd cc
+status_named (NoDocument BadReply) status e = absurd cc
+status_named (NoDocument (NotData found)) status e = cc
+status_named ConnectFault status e = absurd cc
+status_named OpenFault status e = absurd cc
+
+-- the first part of a line wasn't written whole
+pub told_stop : (fault : SendFault) (front rest : List ℕ) (old new : Option (List ℕ)) (before after : ℕ) → Front front old new
+    → (IsErrOf {T = Unit {0}} (Err fault) sends.WriteFault → Rose before after) → Tells (front ++ rest) old new before after
+told_stop fault front rest old new before after part cause =
+    record { outcome = Err fault; writes = writes_stop Unit fault old new front rest part; cause = cause }
+
+-- it was, and the rest is told
+pub told_on : (front rest : List ℕ) (old mid new : Option (List ℕ)) (before between after : ℕ) → mid ≡ append_known old front → before ≤ between
+    → Tells rest mid new between after → Tells (front ++ rest) old new before after
+told_on front rest old mid new before between after whole later told = record {
+  outcome = told.outcome;
+  writes = writes_on told.outcome old mid new front rest whole told.writes;
+  cause = λ e. let rose = told.cause e in omega (arith, later, rose);
+}

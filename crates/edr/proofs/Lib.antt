@@ -4,3 +4,4 @@ pub mod NameLemmas
 pub mod ReplayLemmas
 pub mod AdvanceLemmas
 pub mod EndLemmas
+pub mod ShowLemmas

@@ -1,5 +1,5 @@
 -- Editions that requests read, and what is written of them.
-use Rattle.std.proofs.Common.{◌≡◌, ℕ, suc, ◌+◌, ◌-◌, ◌≤◌, inl, inr, ◌⊎◌, min, slice_index_or, Bool, false, List, [], ◌∷◌, ◌++◌, length, Result, Ok, Err, Some, None, IfSome, sym, ap, subst, ◌∙◌, refl, flat_map, length-append, append-nil, arith}
+use Rattle.std.proofs.Common.{◌≡◌, ℕ, suc, ◌+◌, ◌-◌, inl, inr, ◌⊎◌, min, slice_index_or, Bool, false, List, [], ◌∷◌, ◌++◌, length, Result, Ok, Err, Some, None, IfSome, sym, ap, subst, ◌∙◌, refl, flat_map, length-append, append-nil, arith}
 use Rattle.std.specs.declared.option.Option.{Option}
 use Rattle.std.specs.Prelude.{⊤}
 use Rattle.std.specs.Io.KnownBytes.{append_known, IsAtEnd}
@@ -17,7 +17,7 @@ use Rattle.edr_serve.specs.declared.ends.End.{End}
 use Rattle.edr_serve.specs.declared.ends.End.TheVariants.{EndOfInput}
 use Rattle.edr_serve.specs.declared.reports.SessionReport.{SessionReport}
 use Rattle.edr_serve.specs.Requests.{Request, Requests, Begun, request_limit}
-use Rattle.edr_serve.specs.Replies.{Reply, bytes_of, replies, first_reply, reply_without, reply_from, readers, count_if_page, output}
+use Rattle.edr_serve.specs.Replies.{bytes_of, replies, first_reply, reply_without, reply_from, readers, count_if_page, output}
 use Rattle.edr_serve.specs.Sessions.{State, IfTold, Uses, Answered, Session, Broken, ReadsAhead, AtMost, most_behind}
 use Rattle.edr_serve.specs.Sessions as sessions
 use Rattle.edr_serve.specs.SessionLaws.{OutputGoesOn}

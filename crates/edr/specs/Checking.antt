@@ -8,8 +8,8 @@ use Rattle.edr_feed.specs.declared.faults.FeedFault.{FeedFault}
 use Rattle.edr_feed.specs.declared.faults.FeedFault.TheVariants as faults
 use Rattle.edr_feed.specs.declared.refusals.FeedRefusal.TheVariants as refusals
 use Rattle.edr.specs.declared.endings.Ending.{Ending}
-use Rattle.edr.specs.declared.endings.Ending.TheVariants.{Done, Usage, NotFeed, ReadFault, WriteFault, OutOfMemory, Refused, OpenFault}
-use Rattle.edr.specs.Commands.{count_line, summary_lines}
+use Rattle.edr.specs.declared.endings.Ending.TheVariants.{Done, Usage, NotFeed, ReadFault, WriteFault, OutOfMemory, Refused, NoDocument, ConnectFault, OpenFault}
+use Rattle.edr.specs.Outputs.{count_line, summary_lines}
 
 -- what is told of the editions: how many there are, or what each has
 abbrev pub told : Bool → List EditionValue → List ℕ
@@ -37,4 +37,6 @@ CheckCause ReadFault input read_before read_after written_before written_after =
 CheckCause WriteFault input read_before read_after written_before written_after = Rose written_before written_after
 CheckCause OutOfMemory input read_before read_after written_before written_after = ⊤
 CheckCause (Refused refusal) input read_before read_after written_before written_after = ⊥
+CheckCause (NoDocument refusal) input read_before read_after written_before written_after = ⊥
+CheckCause ConnectFault input read_before read_after written_before written_after = ⊥
 CheckCause OpenFault input read_before read_after written_before written_after = ⊥

@@ -1,7 +1,14 @@
 pub mod Replays
+pub mod Documents
 pub mod Commands
+pub mod Outputs
+pub mod Reading
+pub mod Causes
 pub mod Ends
 pub mod Checking
 pub mod Asking
 pub mod Replaying
 pub mod Making
+pub mod Showing
+pub mod Fetching
+pub mod Saying

@@ -2,7 +2,7 @@
 use Rattle.std.specs.Prelude.{ℕ, ⊤}
 use Rattle.edr_base.specs.Outside.{Rose}
 use Rattle.edr.specs.declared.endings.Ending.{Ending}
-use Rattle.edr.specs.declared.endings.Ending.TheVariants.{Done, Usage, NotFeed, ReadFault, WriteFault, OutOfMemory, Refused, OpenFault}
+use Rattle.edr.specs.declared.endings.Ending.TheVariants.{Done, Usage, NotFeed, ReadFault, WriteFault, OutOfMemory, Refused, NoDocument, ConnectFault, OpenFault}
 
 -- the cause of an ending where a text is written that hangs on no input
 abbrev pub MakeCause : Ending → ℕ → ℕ → Type 0
@@ -13,4 +13,6 @@ MakeCause ReadFault before after = ⊥
 MakeCause WriteFault before after = Rose before after
 MakeCause OutOfMemory before after = ⊤
 MakeCause (Refused refusal) before after = ⊥
+MakeCause (NoDocument refusal) before after = ⊥
+MakeCause ConnectFault before after = ⊥
 MakeCause OpenFault before after = ⊥

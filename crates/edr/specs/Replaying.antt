@@ -6,8 +6,8 @@ use Rattle.edr_feed.specs.Feeds.{FeedStandsIn}
 use Rattle.edr_serve.specs.declared.reports.SessionFault.{SessionFault}
 use Rattle.edr_serve.specs.declared.reports.SessionFault.TheVariants as faults
 use Rattle.edr.specs.declared.endings.Ending.{Ending}
-use Rattle.edr.specs.declared.endings.Ending.TheVariants.{Done, Usage, NotFeed, ReadFault, WriteFault, OutOfMemory, Refused, OpenFault}
-use Rattle.edr.specs.Ends.{Counts, FileFailed}
+use Rattle.edr.specs.declared.endings.Ending.TheVariants.{Done, Usage, NotFeed, ReadFault, WriteFault, OutOfMemory, Refused, NoDocument, ConnectFault, OpenFault}
+use Rattle.edr.specs.Causes.{Counts, FileFailed}
 
 -- the cause of an ending where a connection is served: a count that rose
 abbrev pub ServeCause : Ending → ℕ → ℕ → ℕ → ℕ → Type 0
@@ -18,6 +18,8 @@ ServeCause ReadFault read_before read_after written_before written_after = Rose 
 ServeCause WriteFault read_before read_after written_before written_after = Rose written_before written_after
 ServeCause OutOfMemory read_before read_after written_before written_after = ⊤
 ServeCause (Refused refusal) read_before read_after written_before written_after = ⊥
+ServeCause (NoDocument refusal) read_before read_after written_before written_after = ⊥
+ServeCause ConnectFault read_before read_after written_before written_after = ⊥
 ServeCause OpenFault read_before read_after written_before written_after = ⊥
 
 -- how a run ends with a session that broke off
@@ -35,6 +37,8 @@ ReplayCause ReadFault feed before after = Rose before.input after.input ⊎ File
 ReplayCause WriteFault feed before after = Rose before.output after.output
 ReplayCause OutOfMemory feed before after = ⊤
 ReplayCause (Refused refusal) feed before after = ⊥
+ReplayCause (NoDocument refusal) feed before after = ⊥
+ReplayCause ConnectFault feed before after = ⊥
 ReplayCause OpenFault feed before after = Rose before.files after.files × (after.closed ≡ true)
 
 -- the connection wasn't come to
@@ -46,4 +50,6 @@ IsBefore ReadFault = ⊥
 IsBefore WriteFault = ⊥
 IsBefore OutOfMemory = ⊥
 IsBefore (Refused refusal) = ⊥
+IsBefore (NoDocument refusal) = ⊥
+IsBefore ConnectFault = ⊥
 IsBefore OpenFault = ⊤

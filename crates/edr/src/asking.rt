@@ -5,7 +5,7 @@ ghost use Rattle.edr_base.specs.Calls.{SourceLent, SinkLent, ReadsAtMost, buffer
 ghost use Rattle.edr_base.specs.Limits.{feed_limit};
 ghost use Rattle.edr_serve.specs.Answers.{IsAnswerTo};
 ghost use Rattle.edr_edition.specs.Shelves.{EndsWith};
-ghost use Rattle.edr.specs.Commands.{IsAnswerFrom};
+ghost use Rattle.edr.specs.Outputs.{IsAnswerFrom};
 ghost use Rattle.edr.specs.Ends.{OutputEnds, IsReadByEnd};
 ghost use Rattle.edr.specs.Asking.{AnswerCause, AskCause};
 

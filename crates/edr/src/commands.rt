@@ -21,6 +21,10 @@ pub enum Command {
     CheckSummary,
     /// `make NUMBER`: writes the feed that is made of this number.
     Make(u64),
+    /// `show`: writes the table of the document on the input.
+    Show,
+    /// `fetch URL`: asks the server that the URL names, and writes the table of the document that it replies.
+    Fetch,
 }
 
 // Whether a word can be the name of a file.
@@ -32,13 +36,14 @@ fn is_name(word: &[u8]) -> bool
 }
 
 /// The command that the words ask for, and the word behind it where it goes by one; None where they are none of the
-/// commands'. It takes no memory.
+/// commands'. Whether a word is a URL isn't looked at. It takes no memory.
 pub fn asked_by(words: &[Text]) -> Option<(Command, &[u8])>
     ensures asked { option_map (λ asked. record { command = asked.0; argument = asked.1.now }) result ≡ asked_by words.now }
     ensures named { IfSome result (λ asked. IsNamed asked.0 asked.1.now) }
 {
     match words {
         [word] if word.bytes() == b"check".as_slice() => Some((Command::Check, &[])),
+        [word] if word.bytes() == b"show".as_slice() => Some((Command::Show, &[])),
         [word, target] if word.bytes() == b"ask".as_slice() => {
             Some((Command::Ask, target.bytes()))
         }
@@ -61,6 +66,7 @@ pub fn asked_by(words: &[Text]) -> Option<(Command, &[u8])>
                 None => None,
             }
         }
+        [word, url] if word.bytes() == b"fetch".as_slice() => Some((Command::Fetch, url.bytes())),
         _ => None,
     }
 }

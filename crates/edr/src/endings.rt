@@ -1,15 +1,32 @@
 //! How a run ends.
-ghost use Rattle.std.specs.Prelude.{◌≡◌, ◌++◌};
+ghost use Rattle.std.specs.Prelude.{◌≡◌, ◌++◌, None};
 ghost use Rattle.edr.specs.Ends.{status_of, said_of, line_of, Settles};
 ghost use Rattle.edr_base.specs.Calls.{SinkLent};
 ghost use Rattle.edr_program.specs.Lines.{place_of, Tells};
+ghost use Rattle.edr.specs.Saying.{status_in};
+ghost use Rattle.edr.specs.declared.endings.DocumentRefusal.TheVariants.{NotData};
+ghost use Rattle.edr.specs.declared.endings.Ending.TheVariants.{NoDocument};
 
-use edr_base::{Refusal, SendFault, Sink, settle};
+use edr_base::{Refusal, SendFault, Sink, send, settle};
 use edr_feed::FeedRefusal;
 use edr_program::{said_of_feed, tell_line};
+use itoa::Buffer;
 
 const USAGE: &[u8] =
     b"usage: edr ask TARGET | replay FEED [--advance] | check [--summary] | make NUMBER | show | fetch URL";
+
+/// Why no document is read.
+#[derive(Clone, Copy, Debug, PartialEq, Eq)]
+pub enum DocumentRefusal {
+    /// It has more bytes than a document may have.
+    TooLong,
+    /// Its text stands for no document.
+    Cov,
+    /// What a peer gave begins with no reply.
+    BadReply,
+    /// The reply of a peer has this status, which isn't 200.
+    NotData(u16),
+}
 
 /// How a run ends, by its cause.
 #[derive(Clone, Copy, Debug, PartialEq, Eq)]
@@ -28,6 +45,10 @@ pub enum Ending {
     OutOfMemory,
     /// The target was refused.
     Refused(Refusal),
+    /// No document was read, from the input or from a peer.
+    NoDocument(DocumentRefusal),
+    /// A peer couldn't be connected to.
+    ConnectFault,
     /// A file couldn't be opened.
     OpenFault,
 }
@@ -45,13 +66,39 @@ impl Ending {
             Ending::WriteFault => 4,
             Ending::OutOfMemory => 5,
             Ending::Refused(_) => 6,
+            Ending::NoDocument(_) => 7,
+            Ending::ConnectFault => 8,
             Ending::OpenFault => 9,
         }
     }
 }
 
-// What the line of an ending says, and the line of the feed that it names behind that.
+// The status of a reply that the line of an ending names.
+fn status_in(ending: Ending) -> Option<u16>
+    ensures { result ≡ status_in ending }
+{
+    match ending {
+        Ending::NoDocument(DocumentRefusal::NotData(status)) => Some(status),
+        _ => None,
+    }
+}
+
+// What is said where no document is read, and no status is named.
+fn said_of_document(refusal: DocumentRefusal) -> &'static [u8]
+    requires { status_in (NoDocument refusal) ≡ None }
+    ensures { result.now ≡ said_of (NoDocument refusal) }
+{
+    match refusal {
+        DocumentRefusal::TooLong => b"reply: TooLong",
+        DocumentRefusal::Cov => b"reply: Cov",
+        DocumentRefusal::BadReply => b"reply: BadReply",
+        DocumentRefusal::NotData(_) => b"reply: NotData",
+    }
+}
+
+// What the line of an ending says that names no status, and the line of the feed that it names behind that.
 fn said(ending: Ending) -> (&'static [u8], Option<usize>)
+    requires { status_in ending ≡ None }
     ensures { result.0.now ++ place_of result.1 ≡ said_of ending }
 {
     match ending {
@@ -62,6 +109,8 @@ fn said(ending: Ending) -> (&'static [u8], Option<usize>)
         Ending::WriteFault => (b"write fault", None),
         Ending::OutOfMemory => (b"out of memory", None),
         Ending::Refused(refusal) => (refusal.body(), None),
+        Ending::NoDocument(refusal) => (said_of_document(refusal), None),
+        Ending::ConnectFault => (b"connect fault", None),
         Ending::OpenFault => (b"open fault", None),
     }
 }
@@ -79,6 +128,20 @@ pub fn settled<K: Sink>(output: &mut K) -> Ending
     }
 }
 
+// Writes the line that names the status of a reply.
+fn tell_status<D: Sink>(errors: &mut D, status: u16)
+    ensures line { Tells (line_of (NoDocument (NotData status))) (D.written errors.old) (D.written errors.new) (D.faults errors.old) (D.faults errors.new) }
+    ensures lent { SinkLent (D.beside errors.old) (D.beside errors.new) (D.faults errors.old) (D.faults errors.new) }
+{
+    match send(errors, b"reply: NotData ") {
+        Ok(()) => {
+            let mut buffer = Buffer::new();
+            tell_line(errors, buffer.format(status).as_bytes(), None);
+        }
+        Err(_) => {}
+    }
+}
+
 /// Writes the line of an ending on the errors, where it has one. A fault of theirs changes nothing else.
 pub fn tell<D: Sink>(ending: Ending, errors: &mut D)
     ensures line { Tells (line_of ending) (D.written errors.old) (D.written errors.new) (D.faults errors.old) (D.faults errors.new) }
@@ -87,6 +150,11 @@ pub fn tell<D: Sink>(ending: Ending, errors: &mut D)
     if let Ending::Done = ending {
         return;
     }
-    let (text, line) = said(ending);
-    tell_line(errors, text, line);
+    match status_in(ending) {
+        Some(status) => tell_status(errors, status),
+        None => {
+            let (text, line) = said(ending);
+            tell_line(errors, text, line);
+        }
+    }
 }

@@ -5,11 +5,14 @@ mod asking;
 mod checking;
 mod commands;
 mod endings;
+mod fetching;
 mod making;
 mod replaying;
 mod running;
+mod showing;
+mod tabling;
 
-use edr_base::{MemoryLink, RealFiles, RealSink, RealSource};
+use edr_base::{RealFiles, RealLink, RealSink, RealSource};
 use edr_program::words_of;
 use endings::{Ending, tell};
 use running::run;
@@ -31,7 +34,7 @@ fn main(rt: HostRuntime) -> ExitCode {
     };
     let mut output = RealSink::of(buffered);
     let mut files = RealFiles::new(rt);
-    let mut link = MemoryLink::of(alloc, Vec::new(alloc), 1, Vec::new(alloc));
+    let mut link = RealLink::new(rt);
     let status = run(
         alloc,
         &words,
@@ -44,6 +47,8 @@ fn main(rt: HostRuntime) -> ExitCode {
     ExitCode::from(status)
 }
 
+#[cfg(test)]
+mod document_tests;
 #[cfg(test)]
 mod station_tests;
 #[cfg(test)]

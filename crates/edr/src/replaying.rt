@@ -136,8 +136,8 @@ pub fn replay<S: Source, K: Sink, F: Files>(
     ensures output { OutputEnds result true (IsReplayOf advances ((F.aside files.old).content feed.now) (S.left input.old))
         (IsReplayBegun advances ((F.aside files.old).content feed.now) (S.left input.old)) (K.written output.old) (K.written output.new) (K.flushed output.new) }
     ensures cause { ReplayCause result ((F.aside files.old).content feed.now)
-        (record { input = S.faults input.old; output = K.faults output.old; files = F.faults files.old; link = 0; closed = (F.aside files.old).idle })
-        (record { input = S.faults input.new; output = K.faults output.new; files = F.faults files.new; link = 0; closed = (F.aside files.new).idle }) }
+        (record { input = S.faults input.old; output = K.faults output.old; files = F.faults files.old; link = 0; closed = (F.aside files.old).idle; unconnected = false })
+        (record { input = S.faults input.new; output = K.faults output.new; files = F.faults files.new; link = 0; closed = (F.aside files.new).idle; unconnected = false }) }
     ensures unread { IsBefore result → (input.new ≡ input.old) × (output.new ≡ output.old) }
     ensures ended { IsReadByEnd result (IsServed (S.left input.old) (S.left input.new)) }
     ensures read { ReplayReads advances ((F.aside files.old).content feed.now) (S.left input.old) (S.left input.new) (K.written output.old) (K.written output.new) }

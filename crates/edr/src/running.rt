@@ -1,15 +1,21 @@
 //! The program over its objects.
 ghost use Rattle.std.specs.Prelude.{◌≡◌, false};
 ghost use Rattle.edr_base.specs.Calls.{SourceLent, SinkLent};
-ghost use Rattle.edr.specs.Commands.{asked_by, IsOutput, IsBegun, WaitsFor};
-ghost use Rattle.edr.specs.Ends.{Ends, EndsByWords, OutputEnds, is_early, HasCause, IsRead, IsReadByEnd, AtReadFault, ReadsBy, IsUnread, is_input_used, AskedBeside, of_files, of_link, status_of};
+ghost use Rattle.edr_fetch.specs.Exchanges.{LinkKept};
+ghost use Rattle.edr.specs.Commands.{asked_by, is_early, is_input_used, of_files, of_link};
+ghost use Rattle.edr.specs.Outputs.{IsOutput, IsBegun};
+ghost use Rattle.edr.specs.Reading.{IsRead, ReadsBy, IsUnread, WaitsFor};
+ghost use Rattle.edr.specs.Causes.{HasCause};
+ghost use Rattle.edr.specs.Ends.{Ends, EndsByWords, EndsByArgument, OutputEnds, IsReadByEnd, AtReadFault, AskedBeside, LinkBy, status_of};
 
 use crate::asking::ask;
 use crate::checking::check;
 use crate::commands::{Command, asked_by};
 use crate::endings::{Ending, tell};
+use crate::fetching::fetch_url;
 use crate::making::make;
 use crate::replaying::replay;
+use crate::showing::show;
 use edr_base::{Files, Link, Sink, Source, Text};
 use std::alloc::Global;
 
@@ -23,11 +29,18 @@ fn carry_out<S: Source, K: Sink, F: Files, L: Link>(
     link: &mut L,
 ) -> Ending
     ensures words { EndsByWords result (asked_by words.now) }
-    ensures output { OutputEnds result (is_early (asked_by words.now)) (IsOutput (asked_by words.now) (F.aside files.old).content (S.left input.old))
-        (IsBegun (asked_by words.now) (F.aside files.old).content (S.left input.old)) (K.written output.old) (K.written output.new) (K.flushed output.new) }
-    ensures cause { HasCause result (asked_by words.now) (F.aside files.old).content (S.left input.old)
-        (record { input = S.faults input.old; output = K.faults output.old; files = F.faults files.old; link = L.faults link.old; closed = (F.aside files.old).idle })
-        (record { input = S.faults input.new; output = K.faults output.new; files = F.faults files.new; link = L.faults link.new; closed = (F.aside files.new).idle }) }
+    ensures argument { EndsByArgument result (asked_by words.now) }
+    ensures output { OutputEnds result (is_early (asked_by words.now))
+        (IsOutput (asked_by words.now) (record { input = S.left input.old; content = (F.aside files.old).content; incoming = (L.aside link.old).incoming }))
+        (IsBegun (asked_by words.now) (record { input = S.left input.old; content = (F.aside files.old).content; incoming = (L.aside link.old).incoming }))
+        (K.written output.old) (K.written output.new) (K.flushed output.new) }
+    ensures cause { HasCause result (asked_by words.now)
+        (record { input = S.left input.old; content = (F.aside files.old).content; incoming = (L.aside link.old).incoming })
+        (record { input = S.faults input.old; output = K.faults output.old; files = F.faults files.old; link = L.faults link.old; closed = (F.aside files.old).idle; unconnected = (L.aside link.old).idle })
+        (record { input = S.faults input.new; output = K.faults output.new; files = F.faults files.new; link = L.faults link.new; closed = (F.aside files.new).idle; unconnected = (L.aside link.new).idle }) }
+    ensures exchange { LinkBy (asked_by words.now) result (L.aside link.old).incoming (K.faults output.old) (K.faults output.new)
+        (record { idle = (L.aside link.old).idle; left = L.left link.old; written = L.written link.old; flushed = L.flushed link.old; faults = L.faults link.old })
+        (record { idle = (L.aside link.new).idle; left = L.left link.new; written = L.written link.new; flushed = L.flushed link.new; faults = L.faults link.new }) }
     ensures unread { IsUnread (asked_by words.now) (status_of result) → (input.new ≡ input.old) × (output.new ≡ output.old) }
     ensures untouched { is_input_used (asked_by words.now) ≡ false → input.new ≡ input.old }
     ensures ended { IsReadByEnd result (IsRead (asked_by words.now) (S.left input.old) (S.left input.new)) }
@@ -38,8 +51,8 @@ fn carry_out<S: Source, K: Sink, F: Files, L: Link>(
     ensures lent { SinkLent (K.beside output.old) (K.beside output.new) (K.faults output.old) (K.faults output.new) }
     ensures files { AskedBeside F.aside (of_files (asked_by words.now)) (status_of result) files.old files.new }
     ensures link { AskedBeside L.aside (of_link (asked_by words.now)) (status_of result) link.old link.new }
+    ensures kept { LinkKept (L.aside link.old) (L.aside link.new) (L.faults link.old) (L.faults link.new) }
 {
-    let _ = link;
     match asked_by(words) {
         Some((Command::Ask, target)) => ask(alloc, target, input, output),
         Some((Command::Replay, feed)) => replay(alloc, false, feed, input, output, files),
@@ -47,6 +60,8 @@ fn carry_out<S: Source, K: Sink, F: Files, L: Link>(
         Some((Command::Check, _)) => check(alloc, false, input, output),
         Some((Command::CheckSummary, _)) => check(alloc, true, input, output),
         Some((Command::Make(number), _)) => make(alloc, number, output),
+        Some((Command::Show, _)) => show(alloc, input, output),
+        Some((Command::Fetch, url)) => fetch_url(alloc, url, output, link),
         None => Ending::Usage,
     }
 }
@@ -57,8 +72,9 @@ fn carry_out<S: Source, K: Sink, F: Files, L: Link>(
 /// the feed in the file of that name, and serves `input` as one connection to `output`, from the feed's first edition; with
 /// `--advance` each request but the first finds the feed's next edition. `check` reads a feed from `input` and writes how many
 /// editions it has; `check --summary` writes what each of them has. `make NUMBER` writes the feed that is made of the number, and
-/// takes nothing from `input`. The answer is the status of the program; with each but 0 one
-/// line says why on `errors`. Of files and of the link nothing is asked that the words don't ask for, and where they ask for
+/// takes nothing from `input`. `show` reads a document of CoverageJSON from `input` and writes its table. `fetch URL` connects to
+/// the server that the URL names, writes one request and flushes it, reads the reply, and writes the table of its document. The
+/// answer is the status of the program; with each but 0 one line says why on `errors`. Of files and of the link nothing is asked that the words don't ask for, and where they ask for
 /// nothing there neither is touched.
 pub fn run<S: Source, K: Sink, D: Sink, F: Files, L: Link>(
     alloc: Global,
@@ -69,13 +85,14 @@ pub fn run<S: Source, K: Sink, D: Sink, F: Files, L: Link>(
     files: &mut F,
     link: &mut L,
 ) -> u8
-    ensures ends { (ending : Ending) × Ends ending (asked_by words.now) (F.aside files.old).content result
+    ensures ends { (ending : Ending) × Ends ending (asked_by words.now) (F.aside files.old).content (L.aside link.old).incoming result
         (record {
           left = S.left input.old;
           written = K.written output.old;
           flushed = K.flushed output.old;
           told = D.written errors.old;
-          counts = record { input = S.faults input.old; output = K.faults output.old; files = F.faults files.old; link = L.faults link.old; closed = (F.aside files.old).idle };
+          link = record { idle = (L.aside link.old).idle; left = L.left link.old; written = L.written link.old; flushed = L.flushed link.old; faults = L.faults link.old };
+          counts = record { input = S.faults input.old; output = K.faults output.old; files = F.faults files.old; link = L.faults link.old; closed = (F.aside files.old).idle; unconnected = (L.aside link.old).idle };
           errors = D.faults errors.old;
         })
         (record {
@@ -83,7 +100,8 @@ pub fn run<S: Source, K: Sink, D: Sink, F: Files, L: Link>(
           written = K.written output.new;
           flushed = K.flushed output.new;
           told = D.written errors.new;
-          counts = record { input = S.faults input.new; output = K.faults output.new; files = F.faults files.new; link = L.faults link.new; closed = (F.aside files.new).idle };
+          link = record { idle = (L.aside link.new).idle; left = L.left link.new; written = L.written link.new; flushed = L.flushed link.new; faults = L.faults link.new };
+          counts = record { input = S.faults input.new; output = K.faults output.new; files = F.faults files.new; link = L.faults link.new; closed = (F.aside files.new).idle; unconnected = (L.aside link.new).idle };
           errors = D.faults errors.new;
         }) }
     ensures unread { IsUnread (asked_by words.now) result → (input.new ≡ input.old) × (output.new ≡ output.old) }
@@ -93,6 +111,7 @@ pub fn run<S: Source, K: Sink, D: Sink, F: Files, L: Link>(
     ensures errors { SinkLent (D.beside errors.old) (D.beside errors.new) (D.faults errors.old) (D.faults errors.new) }
     ensures files { AskedBeside F.aside (of_files (asked_by words.now)) result files.old files.new }
     ensures link { AskedBeside L.aside (of_link (asked_by words.now)) result link.old link.new }
+    ensures kept { LinkKept (L.aside link.old) (L.aside link.new) (L.faults link.old) (L.faults link.new) }
 {
     let ending = carry_out(alloc, words, input, output, files, link);
     tell(ending, errors);

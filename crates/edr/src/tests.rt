@@ -74,7 +74,7 @@ pub(crate) struct Case<'a> {
     pub(crate) errors: &'a [u8],
 }
 
-fn words_of(alloc: Global, words: &[&[u8]]) -> Result<Vec<Text>, OutOfMemory> {
+pub(crate) fn words_of(alloc: Global, words: &[&[u8]]) -> Result<Vec<Text>, OutOfMemory> {
     let mut kept = Vec::new(alloc);
     for word in words {
         kept.push(Text::of(alloc, word)?)?;

@@ -1,5 +1,5 @@
 use Rattle.std.proofs.Common.{◌≡◌, take}
-use Rattle.edr.specs.Commands.{summary_lines}
+use Rattle.edr.specs.Outputs.{summary_lines}
 use Rattle.edr.proofs.checking.summarised.Given as goal
 
 abbrev pub invariant-loop-edition : goal.invariant-loop-edition

@@ -1,11 +1,16 @@
+use Rattle.std.proofs.Common.{◌∙◌, sym}
 use Rattle.edr_program.specs.TellsLaws.{tells_nothing}
-use Rattle.edr.proofs.EndingLemmas.{line_of-said, line_is}
+use Rattle.edr.proofs.EndingLemmas.{line_of-said, line_is, status_named}
 use Rattle.edr.proofs.endings.tell.Goals as goal
 
 pub returns-in-Done-clause-line : goal.returns-in-Done-clause-line
 returns-in-Done-clause-line g c = rw c.in-Done.is (tells_nothing _ _)
 
-pub returns-clause-line : goal.returns-clause-line
-returns-clause-line g c =
+pub returns-in-Some-clause-line : goal.returns-in-Some-clause-line
+returns-in-Some-clause-line g c =
+    rw (status_named c.args.ending c.in-Some.status (sym c.status_in.ensures ∙ c.in-Some.is)) c.tell_status.ensures.line
+
+pub returns-in-None-clause-line : goal.returns-in-None-clause-line
+returns-in-None-clause-line g c =
     let written = rw (line_is _ _ _ c.said-line.ensures) at c.tell_line.ensures.line in
     rw (line_of-said c.args.ending c.in_default.not-Done) written

@@ -4,5 +4,5 @@ pub returns-clause-ends : goal.returns-clause-ends
 returns-clause-ends g c =
     let ending = c.carry_out-ending.ensures in (
       c.carry_out-ending.result,
-      record { number = c.status.ensures; words = ending.words; input = ending.read; ended = ending.ended; waits = ending.waits; output = ending.output; cause = ending.cause; line = c.tell.ensures.line },
+      record { number = c.status.ensures; words = ending.words; argument = ending.argument; input = ending.read; ended = ending.ended; waits = ending.waits; output = ending.output; cause = ending.cause; link = ending.exchange; line = c.tell.ensures.line },
     )

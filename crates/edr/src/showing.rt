@@ -1,0 +1,54 @@
+//! Shows the document on the input.
+ghost use Rattle.std.specs.Prelude.{◌≡◌, ◌↔◌, ◌+◌, false, IsTrue};
+ghost use Rattle.std.specs.Io.KnownBytes.{IsAtEnd};
+ghost use Rattle.edr_base.specs.Calls.{SourceLent, SinkLent, ReadsAtMost, buffer_size};
+ghost use Rattle.covjson_checks.specs.declared.faults.CovFault.{CovFault};
+ghost use Rattle.edr_reply.specs.Messages.{body_limit};
+ghost use Rattle.edr.specs.Documents.{IsTableIn};
+ghost use Rattle.edr.specs.Ends.{OutputEnds, IsReadByEnd};
+ghost use Rattle.edr.specs.Showing.{ShowCause};
+
+use crate::endings::{DocumentRefusal, Ending};
+use crate::tabling::tabled;
+use covjson_checks::CovFault;
+use covjson_read::read_document;
+use edr_base::{ReadStop, Sink, Source, read_all};
+use std::alloc::Global;
+
+// The bytes that a document has at most.
+const DOCUMENT_LIMIT: usize = 67_108_864;
+
+// Whether it is for want of memory that no document was read.
+fn is_out_of_memory(fault: &CovFault) -> bool
+    ensures { IsTrue result ↔ (fault.now ≡ CovFault.OutOfMemory) }
+{
+    matches!(fault, CovFault::OutOfMemory)
+}
+
+/// Reads the document on the input, and writes its table.
+pub fn show<S: Source, K: Sink>(alloc: Global, input: &mut S, output: &mut K) -> Ending
+    ensures output { OutputEnds result false (IsTableIn (S.left input.old)) (IsTableIn (S.left input.old))
+        (K.written output.old) (K.written output.new) (K.flushed output.new) }
+    ensures cause { ShowCause result (S.left input.old) (S.faults input.old) (S.faults input.new) (K.faults output.old) (K.faults output.new) }
+    ensures ended { IsReadByEnd result (IsAtEnd (S.left input.new)) }
+    ensures read { ReadsAtMost (body_limit + buffer_size) (S.left input.old) (S.left input.new) }
+    ensures input { SourceLent (S.aside input.old) (S.aside input.new) (S.faults input.old) (S.faults input.new) }
+    ensures lent { SinkLent (K.beside output.old) (K.beside output.new) (K.faults output.old) (K.faults output.new) }
+{
+    let bytes = match read_all(alloc, input, DOCUMENT_LIMIT) {
+        Ok(bytes) => bytes,
+        Err(ReadStop::ReadFault) => return Ending::ReadFault,
+        Err(ReadStop::TooLong) => return Ending::NoDocument(DocumentRefusal::TooLong),
+        Err(ReadStop::OutOfMemory) => return Ending::OutOfMemory,
+    };
+    match read_document(alloc, &bytes) {
+        Ok(document) => tabled(alloc, &document, output),
+        Err(fault) => {
+            if is_out_of_memory(&fault) {
+                Ending::OutOfMemory
+            } else {
+                Ending::NoDocument(DocumentRefusal::Cov)
+            }
+        }
+    }
+}

@@ -1,0 +1,28 @@
+//! Laws of replies.
+ghost use Rattle.edr_client.specs.Laws.{OneIsHeard, WrittenDocumentsAreHeard};
+
+use covjson_read::{
+    document_rows_have_one_answer, texts_have_one_document, written_documents_are_read,
+};
+use edr_json::texts_have_one_tree;
+use edr_reply::{break_is_one, broken_is_none, message_is_one, written_replies_are_read};
+
+/// Some bytes begin with one reply of data, or there is one reason that they don't.
+pub fn one_is_heard()
+    ensures { OneIsHeard }
+{
+    message_is_one();
+    break_is_one();
+    broken_is_none();
+    texts_have_one_tree();
+    texts_have_one_document();
+    document_rows_have_one_answer();
+}
+
+/// What the server writes of a valid document, with the number of its edition, is heard as these.
+pub fn written_documents_are_heard()
+    ensures { WrittenDocumentsAreHeard }
+{
+    written_documents_are_read();
+    written_replies_are_read();
+}

@@ -1,0 +1,29 @@
+//! Replies, and why there is none.
+use covjson_checks::CovFault;
+use covjson_value::Document;
+use edr_base::Text;
+
+/// A reply of data.
+#[derive(Debug, Drop)]
+pub struct Reply {
+    /// The number of the edition that it is from, where its field `X-Edr-Edition` gives one.
+    pub edition: Option<u64>,
+    /// The document that its body stands for.
+    pub document: Document,
+}
+
+/// Why a source gives no reply of data.
+#[derive(Debug, Drop)]
+pub enum ReplyFault {
+    /// The source failed, and counted it.
+    ReadFault,
+    /// Its bytes begin with no reply: at this place, from 0, the first part of one isn't there, or isn't there whole.
+    BadReply(u64),
+    /// Its bytes begin with a reply whose status isn't 200: the status, and the code that the body gives, which is empty
+    /// where it gives none.
+    NotData(u16, Text),
+    /// Its bytes begin with a reply whose body stands for no document: the first check that it fails.
+    Cov(CovFault),
+    /// Memory was wanting.
+    OutOfMemory,
+}

@@ -1,0 +1,4 @@
+pub mod Requests
+pub mod Heads
+pub mod Exchanges
+pub mod Outcomes

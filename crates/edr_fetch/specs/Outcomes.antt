@@ -1,0 +1,12 @@
+-- For private clauses: why no reply was read, as a fault of an exchange.
+use Rattle.edr_client.specs.declared.replies.ReplyFault.{ReplyFault}
+use Rattle.edr_client.specs.declared.replies.ReplyFault.TheVariants as replies
+use Rattle.edr_fetch.specs.declared.fetching.FetchFault.{FetchFault}
+use Rattle.edr_fetch.specs.declared.fetching.FetchFault.TheVariants.{ReadFault, BadReply, NotData, Cov, OutOfMemory}
+
+abbrev pub fault_of : ReplyFault → FetchFault
+fault_of replies.ReadFault = ReadFault
+fault_of (replies.BadReply place) = BadReply place
+fault_of (replies.NotData status code) = NotData status code
+fault_of (replies.Cov fault) = Cov fault
+fault_of replies.OutOfMemory = OutOfMemory

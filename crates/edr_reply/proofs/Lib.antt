@@ -1,0 +1,12 @@
+pub mod ChunkLaws
+pub mod MessageLaws
+pub mod FrontLemmas
+pub mod FieldLemmas
+pub mod HeldLemmas
+pub mod RestLemmas
+pub mod ChunkSteps
+pub mod BodySteps
+pub mod MessageSteps
+pub mod WrittenChunks
+pub mod WrittenHeads
+pub mod WrittenReplies

@@ -1,0 +1,5 @@
+pub mod Messages
+pub mod BrokenParts
+pub mod Laws
+pub mod Finding
+pub mod Taking

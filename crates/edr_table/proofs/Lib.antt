@@ -1,0 +1,4 @@
+pub mod GatherLemmas
+pub mod LineLemmas
+pub mod TurnLemmas
+pub mod DomainLemmas

@@ -1,0 +1,73 @@
+use Rattle.std.proofs.Common.{rules, ◌≡◌, ◌++◌, ℕ, ℤ, pos, List, [], ◌∷◌, Option, get_or, map, FitsSigned, w64, to_z, of_z, sym, ap, ◌∙◌}
+use Rattle.std.proofs.lemmas.List.{nil_from_length}
+use Rattle.edr_base.specs.Calls.{Front}
+use Rattle.covjson_value.specs.Samples.{node}
+use Rattle.edr_table.specs.Gathering.{Gathered}
+use Rattle.edr_table.specs.Turns.{line_front, line_back, lines_along}
+use Rattle.edr_table.proofs.LineLemmas.{line_is}
+use Rattle.edr_table.proofs.TurnLemmas.{passed, node_left, node_put, node_stop, node_out}
+use Rattle.edr_table.proofs.rows.put_row.Goals as goal
+
+-- a line with the front of the row is that of its node
+row_line : (id : List ℕ) (t z : Option ℤ) (y x : ℤ) (v : Option ℤ) (rest left : List (Option ℤ)) (front : List ℕ) → front ≡ line_front id t z y → left ≡ v ∷ rest
+    → front ++ line_back x v ≡ lines_along id (node t z y x ∷ []) left
+row_line id t z y x v rest left front e p =
+    ap (λ (s : List ℕ). s ++ line_back x v) e ∙ line_is id (node t z y x) v rest ∙ ap (lines_along id (node t z y x ∷ [])) (sym p)
+
+pub returns-in_default-clause-lines : goal.returns-in_default-clause-lines
+returns-in_default-clause-lines g c =
+    let old = g.K.Sink.written c.args.sink.now in
+    let now = g.K.Sink.written c.loop-x.sink in
+    let p : List ℕ = c.args.lines.now.gathered.items in
+    let q : List ℕ = c.loop-x.lines.gathered.items in
+    let y : ℤ = to_z w64 (of_z w64 c.args.y) in
+    let all : Gathered old now q (p ++ lines_along c.args.parameter.now (map (node c.args.turn.t c.args.turn.z y) c.args.xs.now) c.args.values.now) =
+    node_out c.args.parameter.now (node c.args.turn.t c.args.turn.z y) c.args.xs.now c.loop-x.x-index c.args.values.now c.loop-x.left.now old now p q c.loop-x.invariant.left
+    (nil_from_length c.loop-x.left.now c.in_default.ensures.cases) c.loop-x.invariant.gathered in
+    record {
+      gathered = passed (λ (n : ℤ). Gathered old now q (p ++ lines_along c.args.parameter.now (map (node c.args.turn.t c.args.turn.z n) c.args.xs.now) c.args.values.now)) c.args.y c.ranges.y all;
+      stopped = tt;
+    }
+
+pub returns-in-Err-clause-lines : goal.returns-in-Err-clause-lines
+returns-in-Err-clause-lines g c =
+    let old = g.K.Sink.written c.args.sink.now in
+    let mid = g.K.Sink.written c.loop-x.sink in
+    let now = g.K.Sink.written c.put_line.new.sink in
+    let p : List ℕ = c.args.lines.now.gathered.items in
+    let q : List ℕ = c.loop-x.lines.gathered.items in
+    let y : ℤ = to_z w64 (of_z w64 c.args.y) in
+    let x : ℤ = get_or c.args.xs.now c.loop-x.x-index (pos 0) in
+    let fits : FitsSigned w64 x = search rules in
+    let stopped : Front (q ++ (c.loop-x.lines.front.items ++ line_back x c.in-Some.value.now)) mid now =
+    passed (λ (n : ℤ). Front (q ++ (c.loop-x.lines.front.items ++ line_back n c.in-Some.value.now)) mid now) x fits c.in-Err.ensures.line.stopped in
+    let all : Front (p ++ lines_along c.args.parameter.now (map (node c.args.turn.t c.args.turn.z y) c.args.xs.now) c.args.values.now) old now =
+    node_stop c.args.parameter.now (node c.args.turn.t c.args.turn.z y) c.args.xs.now c.loop-x.x-index (pos 0) c.args.values.now c.loop-x.left.now _ old mid now p q c.loop-x-test.true c.loop-x.invariant.left
+    (row_line c.args.parameter.now c.args.turn.t c.args.turn.z y x c.in-Some.value.now c.in-Some.rest.now c.loop-x.left.now c.loop-x.lines.front.items c.loop-x.invariant.front c.in-Some.ensures.cases.0)
+    c.loop-x.invariant.gathered stopped in
+    record {
+      gathered = tt;
+      stopped = passed (λ (n : ℤ). Front (p ++ lines_along c.args.parameter.now (map (node c.args.turn.t c.args.turn.z n) c.args.xs.now) c.args.values.now) old now) c.args.y c.ranges.y all;
+    }
+
+pub loop-x-preserved : goal.loop-x-preserved
+loop-x-preserved g c =
+    let mid = g.K.Sink.written c.loop-x.sink in
+    let now = g.K.Sink.written c.put_line.new.sink in
+    let q : List ℕ = c.loop-x.lines.gathered.items in
+    let r : List ℕ = c.put_line.new.lines.gathered.items in
+    let y : ℤ = to_z w64 (of_z w64 c.args.y) in
+    let x : ℤ = get_or c.args.xs.now c.loop-x.x-index (pos 0) in
+    let fits : FitsSigned w64 x = search rules in
+    let put : Gathered mid now r (q ++ (c.loop-x.lines.front.items ++ line_back x c.in-Some.value.now)) =
+    passed (λ (n : ℤ). Gathered mid now r (q ++ (c.loop-x.lines.front.items ++ line_back n c.in-Some.value.now))) x fits c.in-Ok.ensures.line.gathered in
+    record {
+      left = node_left (node c.args.turn.t c.args.turn.z y) c.args.xs.now c.loop-x.x-index (pos 0) c.args.values.now c.loop-x.left.now c.in-Some.rest.now c.in-Some.value.now c.loop-x-test.true c.loop-x.invariant.left c.in-Some.ensures.cases.0;
+      front = search rules;
+      gathered = node_put c.args.parameter.now (node c.args.turn.t c.args.turn.z y) c.args.xs.now c.loop-x.x-index (pos 0) c.args.values.now c.loop-x.left.now _ (g.K.Sink.written c.args.sink.now) mid now c.args.lines.now.gathered.items q r
+          c.loop-x-test.true c.loop-x.invariant.left
+          (row_line c.args.parameter.now c.args.turn.t c.args.turn.z y x c.in-Some.value.now c.in-Some.rest.now c.loop-x.left.now c.loop-x.lines.front.items c.loop-x.invariant.front c.in-Some.ensures.cases.0)
+          c.loop-x.invariant.gathered put;
+      flushed = search rules;
+      lent = search rules;
+    }

@@ -1,0 +1,14 @@
+use Rattle.std.proofs.Common.{◌≡◌, ◌++◌, take, drop, length}
+use Rattle.std.specs.List.{flat_map}
+use Rattle.edr_base.specs.Calls.{SinkLent}
+use Rattle.edr_table.specs.Gathering.{Gathered}
+use Rattle.edr_table.specs.Turns.{lines_along, row_nodes}
+use Rattle.edr_table.proofs.rows.put_rows.Given as goal
+
+abbrev pub invariant-loop-y : goal.invariant-loop-y
+invariant-loop-y g l = record {
+  left : l.left ≡ drop (length (flat_map (row_nodes l.turn.t l.turn.z l.xs) (take l.y-index l.ys))) l.values;
+  gathered : Gathered (g.K.Sink.written l.fn.sink) (g.K.Sink.written l.sink) l.lines.gathered.items (l.fn.lines.gathered.items ++ lines_along l.parameter (flat_map (row_nodes l.turn.t l.turn.z l.xs) (take l.y-index l.ys)) l.values);
+  flushed : g.K.Sink.flushed l.sink ≡ g.K.Sink.flushed l.fn.sink;
+  lent : SinkLent (g.K.Sink.beside l.fn.sink) (g.K.Sink.beside l.sink) (g.K.Faults.faults l.fn.sink) (g.K.Faults.faults l.sink);
+}

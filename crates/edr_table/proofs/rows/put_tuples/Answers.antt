@@ -1,0 +1,41 @@
+use Rattle.std.proofs.Common.{rules, ◌∷◌, [], get_or, pos, sym, ap}
+use Rattle.std.proofs.lemmas.List.{nil_from_length}
+use Rattle.edr_base.specs.declared.places.Position.{Position}
+use Rattle.covjson_value.specs.Domains.{coordinates_of}
+use Rattle.covjson_value.specs.Samples.{Node, tuple_node}
+use Rattle.edr_table.specs.Turns.{lines_along}
+use Rattle.edr_table.proofs.TurnLemmas.{node_left, node_put, node_stop, node_out}
+use Rattle.edr_table.proofs.rows.put_tuples.Goals as goal
+
+pub returns-in_default-clause-lines : goal.returns-in_default-clause-lines
+returns-in_default-clause-lines g c = record {
+  gathered = node_out c.args.parameter.now (tuple_node (coordinates_of c.args.domain.now) c.args.turn.t c.args.turn.z) c.args.tuples.now c.loop-tuple.tuple-index c.args.values.now c.loop-tuple.left.now
+      (g.K.Sink.written c.args.sink.now) (g.K.Sink.written c.loop-tuple.sink) c.args.lines.now.gathered.items c.loop-tuple.lines.gathered.items c.loop-tuple.invariant.left
+      (nil_from_length c.loop-tuple.left.now c.in_default.ensures.cases) c.loop-tuple.invariant.gathered;
+  stopped = tt;
+}
+
+pub returns-in-Err-clause-lines : goal.returns-in-Err-clause-lines
+returns-in-Err-clause-lines g c =
+    let f : Position → Node = tuple_node (coordinates_of c.args.domain.now) c.args.turn.t c.args.turn.z in
+    let none : Position = record { x = pos 0; y = pos 0; z = pos 0; m = pos 0 } in
+    record {
+      gathered = tt;
+      stopped = node_stop c.args.parameter.now f c.args.tuples.now c.loop-tuple.tuple-index none c.args.values.now c.loop-tuple.left.now _ (g.K.Sink.written c.args.sink.now) (g.K.Sink.written c.loop-tuple.sink)
+          (g.K.Sink.written c.put_tuple.new.sink) c.args.lines.now.gathered.items c.loop-tuple.lines.gathered.items c.loop-tuple-test.true c.loop-tuple.invariant.left
+          (ap (lines_along c.args.parameter.now (f (get_or c.args.tuples.now c.loop-tuple.tuple-index none) ∷ [])) (sym c.in-Some.ensures.cases.0)) c.loop-tuple.invariant.gathered c.in-Err.ensures.line.stopped;
+    }
+
+pub loop-tuple-preserved : goal.loop-tuple-preserved
+loop-tuple-preserved g c =
+    let f : Position → Node = tuple_node (coordinates_of c.args.domain.now) c.args.turn.t c.args.turn.z in
+    let none : Position = record { x = pos 0; y = pos 0; z = pos 0; m = pos 0 } in
+    record {
+      left = node_left f c.args.tuples.now c.loop-tuple.tuple-index none c.args.values.now c.loop-tuple.left.now c.in-Some.rest.now c.in-Some.value.now c.loop-tuple-test.true c.loop-tuple.invariant.left
+          c.in-Some.ensures.cases.0;
+      gathered = node_put c.args.parameter.now f c.args.tuples.now c.loop-tuple.tuple-index none c.args.values.now c.loop-tuple.left.now _ (g.K.Sink.written c.args.sink.now) (g.K.Sink.written c.loop-tuple.sink)
+          (g.K.Sink.written c.put_tuple.new.sink) c.args.lines.now.gathered.items c.loop-tuple.lines.gathered.items c.put_tuple.new.lines.gathered.items c.loop-tuple-test.true c.loop-tuple.invariant.left
+          (ap (lines_along c.args.parameter.now (f (get_or c.args.tuples.now c.loop-tuple.tuple-index none) ∷ [])) (sym c.in-Some.ensures.cases.0)) c.loop-tuple.invariant.gathered c.in-Ok.ensures.line.gathered;
+      flushed = search rules;
+      lent = search rules;
+    }

@@ -1,0 +1,15 @@
+use Rattle.std.proofs.Common.{◌≡◌, ◌++◌, take, drop, length, map}
+use Rattle.edr_base.specs.Calls.{SinkLent}
+use Rattle.covjson_value.specs.Domains.{coordinates_of}
+use Rattle.covjson_value.specs.Samples.{tuple_node}
+use Rattle.edr_table.specs.Gathering.{Gathered}
+use Rattle.edr_table.specs.Turns.{lines_along}
+use Rattle.edr_table.proofs.rows.put_tuples.Given as goal
+
+abbrev pub invariant-loop-tuple : goal.invariant-loop-tuple
+invariant-loop-tuple g l = record {
+  left : l.left ≡ drop (length (map (tuple_node (coordinates_of l.domain) l.turn.t l.turn.z) (take l.tuple-index l.tuples))) l.values;
+  gathered : Gathered (g.K.Sink.written l.fn.sink) (g.K.Sink.written l.sink) l.lines.gathered.items (l.fn.lines.gathered.items ++ lines_along l.parameter (map (tuple_node (coordinates_of l.domain) l.turn.t l.turn.z) (take l.tuple-index l.tuples)) l.values);
+  flushed : g.K.Sink.flushed l.sink ≡ g.K.Sink.flushed l.fn.sink;
+  lent : SinkLent (g.K.Sink.beside l.fn.sink) (g.K.Sink.beside l.sink) (g.K.Faults.faults l.fn.sink) (g.K.Faults.faults l.sink);
+}

@@ -1,0 +1,52 @@
+use Rattle.std.proofs.Common.{rules, ◌++◌, ℕ, ℤ, List, Option, get_or, subst, sym}
+use Rattle.edr_base.specs.Calls.{Front}
+use Rattle.covjson_value.specs.declared.coverages.Parameter.{Parameter}
+use Rattle.covjson_value.specs.declared.coverages.NdArray.{NdArray}
+use Rattle.covjson_value.specs.Samples.{nodes_of}
+use Rattle.edr_table.specs.Gathering.{Gathered}
+use Rattle.edr_table.specs.Turns.{lines_along}
+use Rattle.edr_table.proofs.GatherLemmas.{gathered_on, gathered_stop}
+use Rattle.edr_table.proofs.LineLemmas.{parameters_more, parameters_all}
+use Rattle.edr_table.proofs.tables.put_parameters.Goals as goal
+
+pub returns-in-Err-clause-lines : goal.returns-in-Err-clause-lines
+returns-in-Err-clause-lines g c =
+    let old = g.K.Sink.written c.args.sink.now in
+    let mid = g.K.Sink.written c.loop-place.sink in
+    let now = g.K.Sink.written c.put_parameter.new.sink in
+    let nodes = nodes_of c.args.domain.now in
+    let p : List ℕ = c.args.lines.now.gathered.items in
+    let q : List ℕ = c.loop-place.lines.gathered.items in
+    let parameter : Parameter = get_or c.args.parameters.now c.loop-place.place c.index-parameters-place.result in
+    let range : NdArray = get_or c.args.ranges.now c.loop-place.place c.index-ranges-place.result in
+    let stopped : Front (q ++ lines_along parameter.id nodes range.values) mid now =
+    subst (λ (id : List ℕ). Front (q ++ lines_along id nodes range.values) mid now) c.bytes-id.ensures
+    (subst (λ (values : List (Option ℤ)). Front (q ++ lines_along c.bytes-id.result.now nodes values) mid now) c.items.ensures c.in-Err.ensures.lines.stopped) in
+    record {
+      gathered = tt;
+      stopped = subst (λ (t : List ℕ). Front (p ++ t) old now)
+          (sym (parameters_all nodes c.args.parameters.now c.args.ranges.now c.loop-place.place c.index-parameters-place.result c.index-ranges-place.result c.loop-place-test.true c.requires.as_many))
+          (gathered_stop old mid now p q _ _ _ c.loop-place.invariant.gathered stopped);
+    }
+
+pub loop-place-preserved : goal.loop-place-preserved
+loop-place-preserved g c =
+    let old = g.K.Sink.written c.args.sink.now in
+    let mid = g.K.Sink.written c.loop-place.sink in
+    let now = g.K.Sink.written c.put_parameter.new.sink in
+    let nodes = nodes_of c.args.domain.now in
+    let p : List ℕ = c.args.lines.now.gathered.items in
+    let q : List ℕ = c.loop-place.lines.gathered.items in
+    let r : List ℕ = c.put_parameter.new.lines.gathered.items in
+    let parameter : Parameter = get_or c.args.parameters.now c.loop-place.place c.index-parameters-place.result in
+    let range : NdArray = get_or c.args.ranges.now c.loop-place.place c.index-ranges-place.result in
+    let put : Gathered mid now r (q ++ lines_along parameter.id nodes range.values) =
+    subst (λ (id : List ℕ). Gathered mid now r (q ++ lines_along id nodes range.values)) c.bytes-id.ensures
+    (subst (λ (values : List (Option ℤ)). Gathered mid now r (q ++ lines_along c.bytes-id.result.now nodes values)) c.items.ensures c.in-Ok.ensures.lines.gathered) in
+    record {
+      gathered = subst (λ (t : List ℕ). Gathered old now r (p ++ t))
+          (sym (parameters_more nodes c.args.parameters.now c.args.ranges.now c.loop-place.place c.index-parameters-place.result c.index-ranges-place.result c.loop-place-test.true c.requires.as_many))
+          (gathered_on old mid now p q r _ _ c.loop-place.invariant.gathered put);
+      flushed = search rules;
+      lent = search rules;
+    }

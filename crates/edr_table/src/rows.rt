@@ -1,0 +1,169 @@
+//! The lines of one parameter at one time and level: of rows, and of tuples.
+ghost use Rattle.std.specs.Prelude.{◌≡◌, ◌∷◌, [], drop, length, map, All, IfOk, IfSome, IsErrOf};
+ghost use Rattle.std.specs.List.{flat_map};
+ghost use Rattle.edr_base.specs.Outside.{Rose};
+ghost use Rattle.edr_base.specs.Calls.{SinkLent};
+ghost use Rattle.edr_axes.specs.Instants.{IsTime};
+ghost use Rattle.covjson_value.specs.Domains.{coordinates_of};
+ghost use Rattle.covjson_value.specs.Coverages.{IsTuple};
+ghost use Rattle.covjson_value.specs.Samples.{tuple_node};
+ghost use Rattle.edr_table.specs.Gathering.{Gathers};
+ghost use Rattle.edr_table.specs.Turns.{lines_along, row_nodes};
+
+use crate::lines::{Lines, put_line};
+use covjson_value::{CoordinateName, Domain};
+use edr_base::{Position, SendFault, Sink};
+
+/// A time and a level; either is absent where the domain hasn't it, or where each tuple has its own.
+#[derive(Clone, Copy)]
+pub struct Turn {
+    /// The time, in seconds since 1970-01-01T00:00:00Z.
+    pub t: Option<i64>,
+    /// The level, in metres.
+    pub z: Option<i64>,
+}
+
+// Puts the lines of a row, as far as there are values. The answer is the values behind those of the row.
+fn put_row<'v, K: Sink>(
+    sink: &mut K,
+    lines: &mut Lines,
+    parameter: &[u8],
+    turn: Turn,
+    y: i64,
+    xs: &[i64],
+    values: &'v [Option<i64>],
+) -> Result<&'v [Option<i64>], SendFault>
+    requires { IfSome turn.t IsTime }
+    ensures left { IfOk result (λ left. left.now ≡ drop (length (row_nodes turn.t turn.z xs.now y)) values.now) }
+    ensures lines { Gathers result (lines_along parameter.now (row_nodes turn.t turn.z xs.now y) values.now)
+        (K.written sink.old) (K.written sink.new) lines.old.gathered.items lines.new.gathered.items }
+    ensures flushed { K.flushed sink.new ≡ K.flushed sink.old }
+    ensures lent { SinkLent (K.beside sink.old) (K.beside sink.new) (K.faults sink.old) (K.faults sink.new) }
+    ensures cause { IsErrOf result SendFault.WriteFault → Rose (K.faults sink.old) (K.faults sink.new) }
+{
+    if lines.set_front(parameter, turn.t, turn.z, y).is_err() {
+        return Err(SendFault::OutOfMemory);
+    }
+    let mut left = values;
+    for x in xs {
+        let Some((value, rest)) = left.split_first() else {
+            return Ok(left);
+        };
+        match put_line(sink, lines, *x, *value) {
+            Ok(()) => left = rest,
+            Err(fault) => return Err(fault),
+        }
+    }
+    Ok(left)
+}
+
+/// Puts the lines of the rows of some axes, as far as there are values. The answer is the values behind those.
+pub fn put_rows<'v, K: Sink>(
+    sink: &mut K,
+    lines: &mut Lines,
+    parameter: &[u8],
+    turn: Turn,
+    ys: &[i64],
+    xs: &[i64],
+    values: &'v [Option<i64>],
+) -> Result<&'v [Option<i64>], SendFault>
+    requires { IfSome turn.t IsTime }
+    ensures left { IfOk result (λ left. left.now ≡ drop (length (flat_map (row_nodes turn.t turn.z xs.now) ys.now)) values.now) }
+    ensures lines { Gathers result (lines_along parameter.now (flat_map (row_nodes turn.t turn.z xs.now) ys.now) values.now)
+        (K.written sink.old) (K.written sink.new) lines.old.gathered.items lines.new.gathered.items }
+    ensures flushed { K.flushed sink.new ≡ K.flushed sink.old }
+    ensures lent { SinkLent (K.beside sink.old) (K.beside sink.new) (K.faults sink.old) (K.faults sink.new) }
+    ensures cause { IsErrOf result SendFault.WriteFault → Rose (K.faults sink.old) (K.faults sink.new) }
+{
+    let mut left = values;
+    for y in ys {
+        match put_row(sink, lines, parameter, turn, *y, xs, left) {
+            Ok(rest) => left = rest,
+            Err(fault) => return Err(fault),
+        }
+    }
+    Ok(left)
+}
+
+// The time of a tuple: its own, or that of the turn.
+fn time_of(domain: &Domain, turn: Turn, tuple: &Position) -> Option<i64>
+    requires time { IfSome turn.t IsTime }
+    requires tuple { IsTuple (coordinates_of domain.now) tuple.now }
+    ensures same { result ≡ (tuple_node (coordinates_of domain.now) turn.t turn.z tuple.now).t }
+    ensures time { IfSome result IsTime }
+{
+    if domain.is_in_tuples(CoordinateName::T) {
+        Some(tuple.m)
+    } else {
+        turn.t
+    }
+}
+
+// Its level: its own, or that of the turn.
+fn level_of(domain: &Domain, turn: Turn, tuple: &Position) -> Option<i64>
+    ensures { result ≡ (tuple_node (coordinates_of domain.now) turn.t turn.z tuple.now).z }
+{
+    if domain.is_in_tuples(CoordinateName::Z) {
+        Some(tuple.z)
+    } else {
+        turn.z
+    }
+}
+
+// Puts the line of a tuple.
+fn put_tuple<K: Sink>(
+    sink: &mut K,
+    lines: &mut Lines,
+    domain: &Domain,
+    parameter: &[u8],
+    turn: Turn,
+    tuple: &Position,
+    value: Option<i64>,
+) -> Result<(), SendFault>
+    requires time { IfSome turn.t IsTime }
+    requires tuple { IsTuple (coordinates_of domain.now) tuple.now }
+    ensures line { Gathers result (lines_along parameter.now (tuple_node (coordinates_of domain.now) turn.t turn.z tuple.now ∷ []) (value ∷ []))
+        (K.written sink.old) (K.written sink.new) lines.old.gathered.items lines.new.gathered.items }
+    ensures flushed { K.flushed sink.new ≡ K.flushed sink.old }
+    ensures lent { SinkLent (K.beside sink.old) (K.beside sink.new) (K.faults sink.old) (K.faults sink.new) }
+    ensures cause { IsErrOf result SendFault.WriteFault → Rose (K.faults sink.old) (K.faults sink.new) }
+{
+    let t = time_of(domain, turn, tuple);
+    let z = level_of(domain, turn, tuple);
+    if lines.set_front(parameter, t, z, tuple.y).is_err() {
+        return Err(SendFault::OutOfMemory);
+    }
+    put_line(sink, lines, tuple.x, value)
+}
+
+/// Puts the lines of tuples, as far as there are values. The answer is the values behind those.
+pub fn put_tuples<'v, K: Sink>(
+    sink: &mut K,
+    lines: &mut Lines,
+    domain: &Domain,
+    parameter: &[u8],
+    turn: Turn,
+    tuples: &[Position],
+    values: &'v [Option<i64>],
+) -> Result<&'v [Option<i64>], SendFault>
+    requires time { IfSome turn.t IsTime }
+    requires tuples { All (IsTuple (coordinates_of domain.now)) tuples.now }
+    ensures left { IfOk result (λ left. left.now ≡ drop (length (map (tuple_node (coordinates_of domain.now) turn.t turn.z) tuples.now)) values.now) }
+    ensures lines { Gathers result (lines_along parameter.now (map (tuple_node (coordinates_of domain.now) turn.t turn.z) tuples.now) values.now)
+        (K.written sink.old) (K.written sink.new) lines.old.gathered.items lines.new.gathered.items }
+    ensures flushed { K.flushed sink.new ≡ K.flushed sink.old }
+    ensures lent { SinkLent (K.beside sink.old) (K.beside sink.new) (K.faults sink.old) (K.faults sink.new) }
+    ensures cause { IsErrOf result SendFault.WriteFault → Rose (K.faults sink.old) (K.faults sink.new) }
+{
+    let mut left = values;
+    for tuple in tuples {
+        let Some((value, rest)) = left.split_first() else {
+            return Ok(left);
+        };
+        match put_tuple(sink, lines, domain, parameter, turn, tuple, *value) {
+            Ok(()) => left = rest,
+            Err(fault) => return Err(fault),
+        }
+    }
+    Ok(left)
+}
