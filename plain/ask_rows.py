@@ -1,10 +1,10 @@
 """Prints worked rows of `ask`, in the form that rows.py runs, or runs them on a program.
 
-    python3 plain/ask_rows.py | python3 plain/rows.py --request 7 /dev/stdin
-    python3 plain/ask_rows.py --edr crates/edr/out/edr [--large] [--request N]
+    python3 plain/ask_rows.py | python3 plain/rows.py /dev/stdin
+    python3 plain/ask_rows.py --edr crates/edr/out/edr [--large]
 
 The answers are written in `worked` as texts, and not by the plain program. `--large` adds the rows of about 2,000,000 values or 5,000
-coverages. A row that is answered otherwise once its query is built has its end, as in the other rows, and is left out with a later N.
+coverages.
 """
 
 import argparse
@@ -13,15 +13,15 @@ import subprocess
 import sys
 from pathlib import Path
 
-from worked import areas, editions, frames, levels, pages, parameters, places, refusals, several, targets, times
+from worked import areas, editions, frames, levels, lines, pages, parameters, places, refusals, several, targets, times
 from worked import large as large_replies
-from worked.texts import FIRST, Row
+from worked.texts import FIRST, LAST, Row
 
 
 def all_rows(large: bool) -> list[Row]:
     """All rows, with the large ones where they are asked for."""
     found = refusals.rows() + targets.rows() + places.rows() + levels.rows() + several.rows() + times.rows()
-    found += parameters.rows() + pages.rows() + editions.rows() + areas.rows() + frames.rows()
+    found += parameters.rows() + pages.rows() + editions.rows() + areas.rows() + frames.rows() + lines.rows()
     return found + (large_replies.rows() if large else [])
 
 
@@ -33,7 +33,7 @@ def as_bytes_text(some: str) -> str:
 def written(row: Row) -> str:
     """A row as rows.py reads it."""
     status, output, errors = row.ending()
-    answer = [FIRST, row.last, status, as_bytes_text(output), errors]
+    answer = [FIRST, LAST, status, as_bytes_text(output), errors]
     return json.dumps({"words": ["ask", as_bytes_text(row.target)], "input": as_bytes_text(row.feed), "files": {}, "answers": [answer]})
 
 
@@ -58,9 +58,8 @@ def main() -> int:
     parser = argparse.ArgumentParser(description=__doc__, formatter_class=argparse.RawDescriptionHelpFormatter)
     parser.add_argument("--edr", help="the program, a built one or a file of Python; without it the rows are printed")
     parser.add_argument("--large", action="store_true", help="the large rows too")
-    parser.add_argument("--request", type=int, default=FIRST, help="at which stage the program is")
     given = parser.parse_args()
-    rows = [row for row in all_rows(given.large) if given.request <= row.last]
+    rows = all_rows(given.large)
     if given.edr is None:
         for row in rows:
             print(written(row))

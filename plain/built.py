@@ -6,7 +6,7 @@ The environment's `PLAIN_BUILT` adds to it: names with commas between, of querie
 import os
 
 STATIONS_ARE_READ = True  # the lines of a feed that add a collection of stations
-QUERIES_BUILT = {"position", "radius", "area", "cube", "location"}
+QUERIES_BUILT = {"position", "radius", "area", "cube", "trajectory", "corridor", "location"}
 
 # `location` is the query of one station, and `nearest` is position of the station nearest to a point.
 ALL_QUERIES = ("position", "radius", "area", "cube", "trajectory", "corridor", "location", "nearest")

@@ -2,7 +2,7 @@
 
     python3 plain/compare.py --edr crates/edr/out/edr --answers crates/edr_answers/out/edr_answers --seed 1 --count 1000
 
-`--edr` names the program, which is asked by its words and its input (the kinds `ask`, `check` and `replay`); `--answers` names `edr_answers`,
+`--edr` names the program, which is asked by its words and its input (the kinds `ask`, `check`, `line` and `replay`); `--answers` names `edr_answers`,
 which gives what the readers answer (all other kinds). With `--tried` in place of `--edr`, `rt try` runs
 the crate `edr` without proof. Each kind gets `--count` inputs, which the seed, the kind and their number decide. Every
 difference is printed with what reproduces it; the last line is `N agreed, M differ`, and the status is 1 where any differ.
@@ -27,6 +27,7 @@ from inputs.documents import document_text
 from inputs.draws import Draw
 from inputs.feed_lines import feed_text
 from inputs.geometries import geometry_text
+from inputs.lines import line_input
 from inputs.sessions import replay_input
 from inputs.targets import target_text
 from inputs.texts import instant_text, levels_text, number_text, times_text
@@ -47,10 +48,10 @@ def check_input(draw: Draw) -> Ask:
     return Ask(draw.pick((b"check",), (b"check", b"--summary")), feed_text(draw))
 
 
-GROUP = 10  # so many inputs of `ask` and of `replay` have one feed
+GROUP = 10  # so many inputs of `ask`, of `line` and of `replay` have one feed
 
 # What the program is started with.
-ASKS = {"ask": ask_input, "check": check_input, "replay": replay_input}
+ASKS = {"ask": ask_input, "check": check_input, "line": line_input, "replay": replay_input}
 LARGE_ASKS = {"large-ask": large_ask_input}
 ALL_ASKS = ASKS | LARGE_ASKS
 

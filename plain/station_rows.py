@@ -10,13 +10,14 @@ The answers are written in `worked` as texts, and not by the plain program. `--l
 import argparse
 import json
 
-from worked import station_blocks, station_feeds, station_levels, station_pages, station_places
+from worked import station_blocks, station_feeds, station_levels, station_lines, station_pages, station_places
 from worked.stations import StationRow
 
 
 def all_rows(large: bool) -> list[StationRow]:
     """All rows, each once, with the large ones where they are asked for."""
-    found = station_feeds.rows() + station_places.rows() + station_levels.rows() + station_pages.rows() + station_blocks.rows()
+    found = station_feeds.rows() + station_places.rows() + station_levels.rows() + station_lines.rows()
+    found += station_pages.rows() + station_blocks.rows()
     found += station_feeds.large_rows() + station_blocks.large_rows() if large else []
     return list(dict.fromkeys(found))
 

@@ -167,12 +167,11 @@ class Line:
 
 def line(draw: Draw, pool: Pool, dims: str) -> Line:
     """A LINESTRING whose vertices are nodes, points between them and points outside; neighbours may be equal."""
-    spots = [draw.pick(node, spot)(draw, pool) for _ in range(draw.pick(2, 2, 3, 4, 6))]
+    spots = _path(draw, pool)
     if draw.chance(0.4):
         place = draw.randrange(len(spots))
         spots.insert(place, spots[place])
-    moments = sorted(near_values(draw, pool.times) for _ in spots)
-    levels = [level(draw, pool) for _ in spots]
+    moments, levels = _moments(draw, pool, len(spots)), _levels_along(draw, pool, len(spots))
     positions = []
     for place, (x, y) in enumerate(spots):
         more = ([levels[place]] if "Z" in dims else []) + ([moments[place]] if "M" in dims else [])
@@ -181,8 +180,47 @@ def line(draw: Draw, pool: Pool, dims: str) -> Line:
     return Line(text, dims, _reaching_width(draw, pool, spots), _reaching_height(draw, pool, levels))
 
 
+def _path(draw: Draw, pool: Pool) -> list[Spot]:
+    """Two spots or more: any, there and back, a cross, one spot alone, a walk over many nodes, or spots on one side of the box."""
+    way = draw.randrange(10)
+    spots = [draw.pick(node, spot)(draw, pool) for _ in range(draw.pick(2, 2, 3, 4, 6))]
+    if way == 0:
+        return spots + spots[::-1]
+    if way == 1:
+        (x0, y0), (x1, y1) = spots[:2]
+        return [(x0, y0), (x1, y1), (x1, y0), (x0, y1)]
+    if way == 2:
+        return spots[:1] * draw.pick(2, 2, 3)
+    if way == 3:
+        return [draw.pick(node, spot)(draw, pool) for _ in range(draw.randint(8, 30))]
+    if way == 4:
+        by_x, by_y = draw.pick((0, 1), (1, 0), (1, 1))
+        off = draw.pick(1, 1, 2, 5)
+        return [(pool.xs[-1] + off if by_x else x, pool.ys[0] - off if by_y else y) for x, y in spots]
+    return spots
+
+
+def _moments(draw: Draw, pool: Pool, count: int) -> list[int]:
+    """Times that don't decrease: any, all equal, on times that are there, or all before the first or after the last."""
+    way = draw.randrange(8)
+    if way == 0:
+        return [near_values(draw, pool.times)] * count
+    if way == 1:
+        return sorted(draw.choice(pool.times) for _ in range(count))
+    if way == 2:
+        return [draw.pick(pool.times[0] - 1, pool.times[-1] + 1)] * count
+    return sorted(near_values(draw, pool.times) for _ in range(count))
+
+
+def _levels_along(draw: Draw, pool: Pool, count: int) -> list[int]:
+    """Levels: any, or all equal."""
+    return [level(draw, pool)] * count if draw.chance(0.2) else [level(draw, pool) for _ in range(count)]
+
+
 def _reaching_width(draw: Draw, pool: Pool, spots: list[Spot]) -> int:
-    """A width that just reaches a node from one of the segments, or just doesn't."""
+    """A width that just reaches a node from one of the segments, or just doesn't; or none at all, or the greatest."""
+    if draw.chance(0.1):
+        return draw.pick(0, 0, 4 * limits.COORDINATE)
     place = draw.randrange(len(spots) - 1)
     (ax, ay), (bx, by), (x, y) = spots[place], spots[place + 1], node(draw, pool)
     length = (bx - ax) ** 2 + (by - ay) ** 2
@@ -197,4 +235,6 @@ def _reaching_width(draw: Draw, pool: Pool, spots: list[Spot]) -> int:
 
 
 def _reaching_height(draw: Draw, pool: Pool, levels: list[int]) -> int:
+    if draw.chance(0.15):
+        return draw.pick(0, 0, 1, 4 * limits.COORDINATE)
     return max(0, 2 * abs(level(draw, pool) - draw.choice(levels)) + draw.pick(0, 0, 1, -1))

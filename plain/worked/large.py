@@ -2,7 +2,8 @@
 
 from dataclasses import replace
 
-from worked.grids import POLYGON, WIDE_COUNT, WIDE_FEED, answered, deep, refused, row_of_points
+from worked.grids import WIDE_COUNT, WIDE_FEED, answered, deep, refused, row_of_points
+from worked.lines import composite_axes, corridor, path, trajectory
 from worked.texts import (
     A,
     AREA,
@@ -94,7 +95,6 @@ def many_parameter_rows() -> list[Row]:
         *answered(fewer, f"{POSITION}POINT(0 0)&parameter-name={','.join(ids[:999])}", feed=of_one),
         *refused(22, f"{POSITION}POINT(0 0)&parameter-name={','.join(ids)},x", feed=of_one),
         *refused(23, POSITION + "POINT(0 0)&crs=x", feed=of_one) + refused(24, POSITION + "POINT(0 0)&z=0", feed=of_one),
-        *[replace(row, last=6) for row in refused(21, "/collections/g/cube?bbox=0,0,0,0", f"/collections/g/area?coords={POLYGON}", feed=of_one)],
         *refused(26, POSITION + both, feed=of_two),
         *answered(collected(*halves), f"{POSITION}{both}&datetime=../{times[999]}", feed=of_two),
     ]
@@ -112,7 +112,13 @@ def many_node_rows() -> list[Row]:
         covered("Grid", grid_axes, many_ranges(1000, some, (TYX, "1,1,2000")), many_parameters(1000))
         for some in (",".join("7" * 2000), f"7,{'null,' * 1998}7")
     )
+    steps_ = [(T0, x, 0) for x in range(2000)]
+    along = covered("Trajectory", composite_axes(steps_), many_ranges(1000, ",".join("7" * 2000), (COMPOSITE, "2000")), many_parameters(1000))
+    vertices = ",".join(f"{x} 0" for x in range(2001))
     return [
+        *answered(along, trajectory(vertices[: -len(",2000 0")]), feed=of_wide) + refused(26, trajectory(vertices), feed=of_wide),
+        *answered(all_nodes, corridor("0 0,1999 0", 0), corridor("1998 0,1 0", 2), feed=of_wide),
+        *refused(26, corridor("0 0,2000 0", 0), corridor("1 0,1999 0", 2), feed=of_wide),
         *answered(exact, POSITION + row_of_points(2000), feed=of_wide),
         *answered(all_nodes, CUBE + "0,0,1999,0", line(1999), disc(999, 1000), feed=of_wide) + answered(two_nodes, ends(1999), feed=of_wide),
         *refused(26, POSITION + row_of_points(2001), CUBE + "0,0,2000,0", line(2000), disc(1000, 1000), ends(2000), feed=of_wide),
@@ -147,7 +153,12 @@ def many_level_rows() -> list[Row]:
     some = ",".join(digit for digit in "123" for _ in range(count - 1))
     exact = deep("Grid", 0, values(*times), steps(0, count - 2, count - 1), range_along(TZYX, f"3,{count - 1},1,1", some))
     profile = deep("VerticalProfile", 0, values(times[1]), steps(0, count - 1, count), range_along(LEVEL, str(count), ",".join("2" * count)))
+    lists = collected(*[path([(times[0], 0, 0)], z=values(z), a="1") for z in range(5000)])
+    early = f"&datetime={times[0]}&z=0/"
     return [
+        *answered(exact, corridor("0 0,0 0", 0, "&z=0/666665"), feed=of_tall),
+        *refused(26, corridor("0 0,0 0", 0), corridor("0 0,0 0", 0, "&z=0/666666"), feed=of_tall),
+        *answered(lists, trajectory("0 0,0 0", early + "4999"), feed=of_tall) + refused(26, trajectory("0 0,0 0", early + "5000"), feed=of_tall),
         *refused(26, POSITION + "POINT(0 0)", POSITION + "POINT(0 0)&datetime=../..", POSITION + "POINT(0 0)&z=0/666666", feed=of_tall),
         *answered(exact, POSITION + "POINT(0 0)&z=0/666665", POSITION + "POINT(0 0)&z=R666666/0/1", feed=of_tall),
         *answered(profile, f"{POSITION}POINT(0 0)&datetime={times[1]}", feed=of_tall),

@@ -7,7 +7,7 @@ leaves a part out. Two causes of different numbers that have no part in common a
 import itertools
 
 from worked.grids import DEEP_FEED, GRID, POLYGON, WIDE_COUNT, WIDE_FEED, refused, row_of_points
-from worked.texts import AT_T0, LAST, POSITION, Row, T0
+from worked.texts import AT_T0, POSITION, Row, T0
 
 PATH_PARTS = ("collection", "instance", "query")
 Parts = dict[str, str | None]
@@ -29,10 +29,10 @@ ANY_QUERY: list[tuple[int, Parts]] = [
 ANY_GRID_QUERY: list[tuple[int, Parts]] = [*ANY_QUERY, (6, {"query": "items"}), (19, {"instance": "9"})]
 NO_COORDS: tuple[int, Parts] = (10, {"coords": None})
 LINE = "LINESTRING(0 0,200 100)"
-QUERIES: list[tuple[Parts, int, list[tuple[int, Parts]]]] = [  # a query, when it is offered at last, and what can refuse it besides
+QUERIES: list[tuple[Parts, list[int], list[tuple[int, Parts]]]] = [  # a query, what always refuses it, and what can refuse it besides
     (
         {"query": "position", "coords": "POINT(0 0)"},
-        0,
+        [],
         [
             *ANY_GRID_QUERY,
             NO_COORDS,
@@ -48,7 +48,7 @@ QUERIES: list[tuple[Parts, int, list[tuple[int, Parts]]]] = [  # a query, when i
     ),
     (
         {"query": "area", "coords": POLYGON},
-        7,
+        [],
         [
             *ANY_GRID_QUERY,
             NO_COORDS,
@@ -60,7 +60,7 @@ QUERIES: list[tuple[Parts, int, list[tuple[int, Parts]]]] = [  # a query, when i
     ),
     (
         {"query": "radius", "coords": "POINT(0 0)", "within": "100", "within-units": "m"},
-        7,
+        [],
         [
             *ANY_GRID_QUERY,
             NO_COORDS,
@@ -78,7 +78,7 @@ QUERIES: list[tuple[Parts, int, list[tuple[int, Parts]]]] = [  # a query, when i
     ),
     (
         {"query": "cube", "bbox": "0,0,100,100"},
-        7,
+        [],
         [
             *ANY_GRID_QUERY,
             (10, {"bbox": None}),
@@ -91,7 +91,7 @@ QUERIES: list[tuple[Parts, int, list[tuple[int, Parts]]]] = [  # a query, when i
     ),
     (
         {"query": "trajectory", "coords": LINE},
-        9,
+        [],
         [
             *ANY_GRID_QUERY,
             NO_COORDS,
@@ -105,7 +105,7 @@ QUERIES: list[tuple[Parts, int, list[tuple[int, Parts]]]] = [  # a query, when i
     ),
     (
         {"query": "corridor", "coords": LINE, "corridor-width": "100", "width-units": "m"},
-        9,
+        [],
         [
             *ANY_GRID_QUERY,
             NO_COORDS,
@@ -124,7 +124,7 @@ QUERIES: list[tuple[Parts, int, list[tuple[int, Parts]]]] = [  # a query, when i
             (25, {"coords": "LINESTRING(-1000 0,-2000 0)"}),
         ],
     ),
-    ({"query": "locations/A"}, LAST + 1, [*ANY_QUERY, (7, {"coords": "POINT(0 0)"})]),
+    ({"query": "locations/A"}, [21], [*ANY_QUERY, (7, {"coords": "POINT(0 0)"})]),
 ]
 
 
@@ -142,19 +142,18 @@ def meet(one: tuple[int, Parts], other: tuple[int, Parts]) -> bool:
 
 
 def query_refusals() -> list[Row]:
-    """Each refusal of each query, and each two of them that can be met at once; what isn't offered yet is refused so besides."""
+    """Each refusal of each query, and each two of them that can be met at once."""
     found = []
-    for base, offered, causes in QUERIES:
-        singles = [[cause] for cause in causes] + [[]] * bool(offered)
+    for base, always, causes in QUERIES:
+        singles = [[cause] for cause in causes] + [[]] * len(always)
         pairs = [list(pair) for pair in itertools.combinations(causes, 2) if meet(*pair)]
         for some in singles + pairs:
             parts: Parts = {"collection": "g", **base}
             for _, change in some:
                 parts.update(change)
-            number = min([number for number, _ in some] + [21] * bool(offered))
+            number = min([number for number, _ in some] + always)
             of_wide = any(number == 26 for number, _ in some)
-            last = offered - 1 if number == 21 else LAST
-            found.append(Row(WIDE_FEED if of_wide else GRID, target_of(parts, len(some) == 2), refusal=number, last=last))
+            found.append(Row(WIDE_FEED if of_wide else GRID, target_of(parts, len(some) == 2), refusal=number))
     return found
 
 

@@ -220,10 +220,9 @@ def other_query_rows() -> list[StationRow]:
         (answered(SITES["s1"].reply(), f"{point}(50 0)", f"{point}(51 0)", f"{point}(100000000 0)", feed=USUAL_SITES)),
         (refused(25, f"{point}(51 0)&{at(1)}", feed=USUAL_SITES) + refused(24, f"{point} Z(0 0 1)", feed=USUAL_SITES)),
     ]
-    found = []
-    for stage, later in ((9, corridors), (19, nearest)):
-        for rows in later:
-            found += changed(stage, [row for each in rows for row in refused(21, each.words[1], feed=USUAL_SITES)], rows)
+    found = [row for rows in corridors for row in rows]
+    for rows in nearest:
+        found += changed(19, [row for each in rows for row in refused(21, each.words[1], feed=USUAL_SITES)], rows)
     found += refused(21, f"{ending}/position?coords=POINT(0 0)", f"{ending}/trajectory?coords={LINE}", f"{ending}/radius?{disc}", feed=USUAL_SITES)
     found += refused(21, f"{ending}/cube?bbox=0,0,1,1&crs=x&z=0&parameter-name=c", f"{ending}/area?coords={POLYGON}", feed=USUAL_SITES)
     found += refused(21, f"{ending}/corridor?{narrow.split('?')[1]}", ending, f"{ending}/?f=json", feed=USUAL_SITES)

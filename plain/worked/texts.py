@@ -3,7 +3,7 @@
 import json
 from dataclasses import dataclass
 
-FIRST, LAST = 7, 21  # from when to when the rows are answered so, unless they say another end
+FIRST, LAST = 9, 21  # from when to when the rows are answered so
 NAMES = {
     6: "NoSuchPage", 7: "UnknownParameter", 8: "RepeatedParameter", 9: "BadFormat", 10: "MissingParameter", 11: "BadCoords",
     12: "WrongGeometry", 13: "BadBbox", 14: "BadDatetime", 15: "BadLevel", 16: "BadDistance", 17: "Conflict", 18: "UnknownCollection",
@@ -21,7 +21,6 @@ class Row:
     output: str = ""
     refusal: int = 0
     fault: str = ""
-    last: int = LAST
     large: bool = False
 
     def ending(self) -> tuple[int, str, str]:

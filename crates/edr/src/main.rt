@@ -50,6 +50,8 @@ fn main(rt: HostRuntime) -> ExitCode {
 #[cfg(test)]
 mod document_tests;
 #[cfg(test)]
+mod line_tests;
+#[cfg(test)]
 mod station_tests;
 #[cfg(test)]
 mod tests;

@@ -8,7 +8,7 @@ use edr_serve::serve_session;
 use std::test::Fail;
 
 // A mast: two parameters at two times and two levels, of which one value of each is missing.
-const MASTS: &[u8] =
+pub(crate) const MASTS: &[u8] =
     b"{\"collection\":{\"id\":\"masts\",\"kind\":\"station\",\"title\":\"Masts\",\"crs\":\"plane\",\"vertical\":\"height\"}}\n{\"station\":{\"collection\":\"masts\",\"id\":\"M\",\"label\":\"Mast\",\"coverage\":{\"type\":\"Coverage\",\"domain\":{\"type\":\"Domain\",\"domainType\":\"Grid\",\"axes\":{\"x\":{\"values\":[10]},\"y\":{\"values\":[20]},\"z\":{\"values\":[2,50]},\"t\":{\"values\":[\"2024-01-01T00:00:00Z\",\"2024-01-01T01:00:00Z\"]}},\"referencing\":[{\"coordinates\":[\"x\",\"y\"],\"system\":{\"type\":\"ProjectedCRS\",\"id\":\"plane\"}},{\"coordinates\":[\"z\"],\"system\":{\"type\":\"VerticalCRS\",\"id\":\"height\"}},{\"coordinates\":[\"t\"],\"system\":{\"type\":\"TemporalRS\",\"calendar\":\"Gregorian\"}}]},\"parameters\":{\"temp\":{\"type\":\"Parameter\",\"observedProperty\":{\"label\":{\"en\":\"Temperature\"}}},\"wind\":{\"type\":\"Parameter\",\"observedProperty\":{\"label\":{\"en\":\"Wind\"}}}},\"ranges\":{\"temp\":{\"type\":\"NdArray\",\"dataType\":\"integer\",\"axisNames\":[\"t\",\"z\",\"y\",\"x\"],\"shape\":[2,2,1,1],\"values\":[1,2,null,4]},\"wind\":{\"type\":\"NdArray\",\"dataType\":\"integer\",\"axisNames\":[\"t\",\"z\",\"y\",\"x\"],\"shape\":[2,2,1,1],\"values\":[5,6,7,null]}}}}}\n{\"publish\":{}}\n";
 
 const GRID: &[u8] =

@@ -8,7 +8,7 @@ use edr_serve::{End, serve_session};
 use std::alloc::Global;
 use std::test::Fail;
 
-const GRID: &[u8] =
+pub(crate) const GRID: &[u8] =
     b"{\"type\":\"Coverage\",\"domain\":{\"type\":\"Domain\",\"domainType\":\"Grid\",\"axes\":{\"x\":{\"values\":[0,100,200]},\"y\":{\"values\":[0,100]},\"t\":{\"values\":[\"2024-01-01T00:00:00Z\",\"2024-01-01T01:00:00Z\"]}},\"referencing\":[{\"coordinates\":[\"x\",\"y\"],\"system\":{\"type\":\"ProjectedCRS\",\"id\":\"http://www.opengis.net/def/crs/EPSG/0/32633\"}},{\"coordinates\":[\"t\"],\"system\":{\"type\":\"TemporalRS\",\"calendar\":\"Gregorian\"}}]},\"parameters\":{\"temp\":{\"type\":\"Parameter\",\"unit\":{\"symbol\":\"Cel\"},\"observedProperty\":{\"label\":{\"en\":\"Temperature\"}}}},\"ranges\":{\"temp\":{\"type\":\"NdArray\",\"dataType\":\"integer\",\"axisNames\":[\"t\",\"y\",\"x\"],\"shape\":[2,2,3],\"values\":[10,11,12,13,null,15,20,21,22,23,24,25]}}}";
 
 const FIRST: &[u8] =

@@ -10,6 +10,7 @@ use borrow.Author.Differences.{up, down, product_is}
 use Rattle.edr_base.specs.declared.places.Spot.{Spot}
 use Rattle.edr_geometry.specs.Planar.{near_segment, cross, along, squared_distance}
 use Rattle.edr_corridor.specs.Segments.{within_half}
+use Rattle.edr_corridor.specs.BoxLaws.{NearPlacesAreWithin}
 
 -- ---- of natural numbers
 
@@ -291,3 +292,14 @@ far_column p a b (pos w) g h =
       | inl low ↦ left_of p a b w (omega (arith, signed_arith, low.0)) (omega (arith, signed_arith, low.1))
       | inr high ↦ right_of p a b w (omega (arith, signed_arith, high.0)) (omega (arith, signed_arith, high.1))
     ]
+
+-- what isn't far is within
+within_from : (within near : Bool) → near ≡ true → (within ≡ false → near ≡ false) → within ≡ true
+within_from true near e far = refl
+within_from false near e far = sym (far refl) ∙ e
+
+pub near_within : NearPlacesAreWithin
+near_within p a b w g near = (
+  within_from (within_half a.x b.x w p.x) (near_segment p a b w) near (far_column p a b w g),
+  within_from (within_half a.y b.y w p.y) (near_segment p a b w) near (far_row p a b w g),
+)

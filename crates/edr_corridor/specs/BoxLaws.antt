@@ -1,11 +1,12 @@
 -- Laws of corridors: what their segments take together.
-use Rattle.std.specs.Prelude.{◌≡◌, ℕ, ◌+◌, ℤ, Bool, ◌&&◌, ◌||◌, List, length, Option, Some, slice_get}
+use Rattle.std.specs.Prelude.{◌≡◌, ℕ, ◌+◌, ℤ, pos, ◌≤ℤ◌, Bool, true, ◌&&◌, ◌||◌, List, length, Option, Some, slice_get}
 use Rattle.std.specs.List.{list_any}
 use Rattle.std.specs.Option.{is_some}
 use Rattle.edr_base.specs.declared.places.Spot.{Spot}
+use Rattle.edr_geometry.specs.Planar.{near_segment}
 use Rattle.edr_corridor.specs.declared.boxes.SegmentBox.{SegmentBox}
 use Rattle.edr_corridor.specs.Values.{SegmentsValue}
-use Rattle.edr_corridor.specs.Segments.{in_corridor, wants}
+use Rattle.edr_corridor.specs.Segments.{within_half, in_corridor, wants}
 use Rattle.edr_corridor.specs.Boxes.{GridAxes, IsNode, TakesNodes, box_takes, wants_node}
 
 -- a box for each segment, in their order
@@ -27,3 +28,8 @@ is_about s = s.has_z || (is_some s.level && is_some s.height)
 abbrev pub CorridorsAreCut : Type 0
 CorridorsAreCut = (s : SegmentsValue) (times levels : Bool) (t : ℤ) (z : Option ℤ) (spot : Spot)
     → in_corridor s times levels (Some t) z spot ≡ ((wants s t z spot && (s.has_m || times)) && (is_about s || levels))
+
+-- a place that is near a segment is at most half the width away from its x, and from its y
+abbrev pub NearPlacesAreWithin : Type 0
+NearPlacesAreWithin = (p a b : Spot) (width : ℤ) → pos 0 ≤ℤ width → near_segment p a b width ≡ true
+    → (within_half a.x b.x width p.x ≡ true) × (within_half a.y b.y width p.y ≡ true)

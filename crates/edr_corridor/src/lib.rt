@@ -11,5 +11,5 @@ mod strips;
 mod tests;
 
 pub use boxes::SegmentBox;
-pub use laws::{boxes_are_wanted, corridors_are_cut};
+pub use laws::{boxes_are_wanted, corridors_are_cut, near_places_are_within};
 pub use segments::Segments;

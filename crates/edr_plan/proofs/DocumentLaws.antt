@@ -27,12 +27,15 @@ use Rattle.edr_select.specs.Documents.{document}
 use Rattle.edr_select.specs.DocumentLaws.{GridDocumentsAreValid}
 use Rattle.edr_select.specs.Checks.{grid_of, stations_in}
 use Rattle.edr_select.specs.Choices.{TakesEach}
-use Rattle.edr_select.specs.Steps.{IsAsked}
 use Rattle.edr_select.specs.ListLaws.{all_member}
+use Rattle.edr_lines.specs.Asked.{IsAlong}
+use Rattle.edr_lines.specs.DocumentLaws.{LineDocumentsAreValid}
 use Rattle.edr_select.specs.NamedLaws.{named_member, subject_found}
 use Rattle.edr_plan.specs.DocumentLaws.{DocumentsAreValid}
 use Rattle.edr_plan.specs.StationPlaces.{IsOfStations}
+use Rattle.edr_plan.specs.Found.{IsOfGrids, IsAmongStations}
 use Rattle.edr_plan.proofs.StationReplies.{stations_valid}
+use Rattle.edr_plan.proofs.GappedReplies.{corridor_valid}
 
 -- there is one
 abbrev Is : {V : Type 0} → Option V → Type 0
@@ -48,10 +51,10 @@ in_found : (q : QueryValue) (refusal : Refusal) (o : Option CollectionValue) (co
     → ¬ (applies_if_found (Ask q) refusal o ≡ true) → ¬ (applies_in collection (Ask q) refusal ≡ true)
 in_found q refusal o collection e n = subst (λ (p : Option CollectionValue). ¬ (applies_if_found (Ask q) refusal p ≡ true)) e n
 
--- a query is answered of grids or of stations
+-- the shapes that collections of a kind answer
 abbrev IsAnswered : Kind → Shape → Type 0
-IsAnswered Grid shape = TakesEach shape
-IsAnswered Station shape = IsOfStations shape
+IsAnswered Grid shape = IsOfGrids shape
+IsAnswered Station shape = IsAmongStations shape
 
 not_both : (b : Bool) → not (b && false) ≡ true
 not_both true = refl
@@ -62,15 +65,15 @@ answered Grid (at.Position geometry) b n = tt
 answered Grid (at.Radius geometry within) b n = tt
 answered Grid (at.Area geometry) b n = tt
 answered Grid (at.Cube lo hi levels) b n = tt
-answered Grid (at.Trajectory geometry) b n = absurd (n (not_both b))
-answered Grid (at.Corridor geometry width height) b n = absurd (n (not_both b))
+answered Grid (at.Trajectory geometry) b n = tt
+answered Grid (at.Corridor geometry width height) b n = tt
 answered Grid (at.Location id) b n = absurd (n (not_both b))
 answered Station (at.Position geometry) b n = absurd (n (not_both b))
 answered Station (at.Radius geometry within) b n = tt
 answered Station (at.Area geometry) b n = tt
 answered Station (at.Cube lo hi levels) b n = tt
 answered Station (at.Trajectory geometry) b n = absurd (n (not_both b))
-answered Station (at.Corridor geometry width height) b n = absurd (n (not_both b))
+answered Station (at.Corridor geometry width height) b n = tt
 answered Station (at.Location id) b n = tt
 
 instance_at : (kind : Kind) (o : Option InstanceValue) → kind ≡ Grid → ¬ (is_of_grids kind && is_none o ≡ true) → Is o
@@ -83,7 +86,7 @@ same_subject e = grind (arith, e)
 
 -- ---- the document
 
-module _ (of_grids : GridDocumentsAreValid) (e : EditionValue) (q : QueryValue) (subject : Subject) (are : AreCollections e.collections) (query : IsQuery q)
+module _ (of_grids : GridDocumentsAreValid) (of_lines : LineDocumentsAreValid) (e : EditionValue) (q : QueryValue) (subject : Subject) (are : AreCollections e.collections) (query : IsQuery q)
     (none_applies : NoneApplies (Applies e (Ask q))) (named : subject_of e q.collection q.instance ≡ Some subject) (c : CollectionValue)
     (found : item_of collection_id q.collection e.collections ≡ Some c) where
   collection : IsCollection c
@@ -108,23 +111,70 @@ module _ (of_grids : GridDocumentsAreValid) (e : EditionValue) (q : QueryValue) 
   same : (s : Subject) → subject_in q.instance c ≡ Some s → s ≡ subject
   same s is = same_subject (sym (ap (λ (o : Option CollectionValue). option_and_then (subject_in q.instance) o) found ∙ is) ∙ named)
 
+  -- over an instance of grids
+  module _ (kind : c.kind ≡ Grid) where
+    held : Is (instance_named q.instance c.instances)
+    held = instance_at c.kind (instance_named q.instance c.instances) kind (refused_here UnknownInstance)
+
+    abbrev i : InstanceValue
+    i = held.0
+
+    grid : HasGrid i
+    grid = instance_has i (all_member IsInstance c.instances i collection.instances.each (named_member q.instance c.instances i held.1))
+
+    picks : is_some_stored (picked (grid_of c i) q) ≡ true
+    picks = some_of (grid_of c i) (subject_found c q i kind held.1)
+
+    over_places : TakesEach q.shape → IsValidDocument (document (grid_of c i) q)
+    over_places each = of_grids c q i (record { is_collection = collection; kind = kind; instance_is = held.1; each = each; shape = query.shape; grid = grid }) picks
+
+    along_line : IsAlong q.shape → IsValidDocument (document (grid_of c i) q)
+    along_line along = of_lines c q i (record { is_collection = collection; kind = kind; instance_is = held.1; along = along; shape = query.shape; grid = grid }) picks
+
+    by_shape : (shape : Shape) → q.shape ≡ shape → IsOfGrids shape → IsValidDocument (document (grid_of c i) q)
+    by_shape (at.Position geometry) e of = over_places (subst TakesEach (sym e) tt)
+    by_shape (at.Radius geometry within) e of = over_places (subst TakesEach (sym e) tt)
+    by_shape (at.Area geometry) e of = over_places (subst TakesEach (sym e) tt)
+    by_shape (at.Cube lo hi levels) e of = over_places (subst TakesEach (sym e) tt)
+    by_shape (at.Trajectory geometry) e of = along_line (subst IsAlong (sym e) tt)
+    by_shape (at.Corridor geometry width height) e of = along_line (subst IsAlong (sym e) tt)
+    by_shape (at.Location id) e of = absurd of
+
+    over_grid : IsOfGrids q.shape → IsValidDocument (document subject q)
+    over_grid of = subst (λ (s : Subject). IsValidDocument (document s q)) (same (grid_of c i) (subject_found c q i kind held.1)) (by_shape q.shape refl of)
+
+  -- over stations
+  module _ (kind : c.kind ≡ Station) where
+    found_stations : subject_in q.instance c ≡ Some (stations_in c)
+    found_stations = rw kind refl
+
+    some_stored : is_some_stored (picked (stations_in c) q) ≡ true
+    some_stored = some_of (stations_in c) found_stations
+
+    of_stations : IsOfStations q.shape → IsValidDocument (document (stations_in c) q)
+    of_stations of = stations_valid c q collection of some_stored
+
+    among : (shape : Shape) → q.shape ≡ shape → IsAmongStations shape → IsValidDocument (document (stations_in c) q)
+    among (at.Position geometry) e of = absurd of
+    among (at.Radius geometry within) e of = of_stations (subst IsOfStations (sym e) tt)
+    among (at.Area geometry) e of = of_stations (subst IsOfStations (sym e) tt)
+    among (at.Cube lo hi levels) e of = of_stations (subst IsOfStations (sym e) tt)
+    among (at.Trajectory geometry) e of = absurd of
+    among (at.Corridor geometry width height) e of = corridor_valid c q (record { line = geometry; width = width; height = height }) collection e some_stored
+    among (at.Location id) e of = of_stations (subst IsOfStations (sym e) tt)
+
+    over_stations : IsAmongStations q.shape → IsValidDocument (document subject q)
+    over_stations of = subst (λ (s : Subject). IsValidDocument (document s q)) (same (stations_in c) found_stations) (among q.shape refl of)
+
   over : (kind : Kind) → c.kind ≡ kind → IsAnswered kind q.shape → IsValidDocument (document subject q)
-  over Grid kind each =
-      let held = instance_at c.kind (instance_named q.instance c.instances) kind (refused_here UnknownInstance) in
-      let i : InstanceValue = held.0 in
-      let grid : HasGrid i = instance_has i (all_member IsInstance c.instances i collection.instances.each (named_member q.instance c.instances i held.1)) in
-      let asked : IsAsked c q i = record { is_collection = collection; kind = kind; instance_is = held.1; each = each; shape = query.shape; grid = grid } in
-      let is : subject_in q.instance c ≡ Some (grid_of c i) = subject_found c q i kind held.1 in
-      subst (λ (s : Subject). IsValidDocument (document s q)) (same (grid_of c i) is) (of_grids c q i asked (some_of (grid_of c i) is))
-  over Station kind of =
-      let is : subject_in q.instance c ≡ Some (stations_in c) = rw kind refl in
-      subst (λ (s : Subject). IsValidDocument (document s q)) (same (stations_in c) is) (stations_valid c q collection of (some_of (stations_in c) is))
+  over Grid kind of = over_grid kind of
+  over Station kind of = over_stations kind of
 
   pub document_valid : IsValidDocument (document subject q)
   document_valid = over c.kind refl answers
 
-pub documents_are_valid : RefusalIsLeast → GridDocumentsAreValid → DocumentsAreValid
-documents_are_valid least of_grids e q subject are query none named =
+pub documents_are_valid : RefusalIsLeast → GridDocumentsAreValid → LineDocumentsAreValid → DocumentsAreValid
+documents_are_valid least of_grids of_lines e q subject are query none named =
     let none_applies : NoneApplies (Applies e (Ask q)) = subst (IsRefusedLeast e (Ask q)) none (least e (Ask q)) in
     let found = collection_at q (item_of collection_id q.collection e.collections) (none_applies UnknownCollection) in
-    document_valid of_grids e q subject are query none_applies named found.0 found.1
+    document_valid of_grids of_lines e q subject are query none_applies named found.0 found.1

@@ -2,6 +2,7 @@
 use Rattle.std.proofs.Common.{◌≡◌, ◌≢◌, ℕ, ◌+◌, ◌*◌, ◌/◌, ◌<◌, Bool, true, false, cond, List, [], ◌∷◌, ◌++◌, length, take, drop, get_or, All, ap, ap₂, sym, ◌∙◌, subst, arith}
 use Rattle.std.specs.Prelude.{map, ◌&&◌}
 use Rattle.std.specs.List.{flat_map}
+use Rattle.std.proofs.lemmas.Bool.{and_parts}
 use Rattle.std.proofs.lemmas.Grind.{flat_map-append}
 use Rattle.std.proofs.lemmas.List.{append-nil, take_more, take-append-drop}
 use Rattle.covjson_value.specs.declared.coverages.Coverage.{Coverage}
@@ -16,7 +17,8 @@ use Rattle.edr_select.specs.LevelLaws.{some_length}
 use Rattle.edr_select.specs.Series.{StationSeriesValue}
 use Rattle.edr_plan.specs.StationPlaces.{cell_of, takes_station, not_empty, is_taken}
 use Rattle.edr_plan.specs.StationPlans.{ChoiceValue, IsChoiceOf, choice_of, value_count, head_of_station, series_at, series_of, series_where_taken, IsTooMany, GatheredValue, IsGathered, has_room, with_series}
-use Rattle.edr_plan.proofs.StationCells.{choice_below, taken_is, values_are}
+use Rattle.edr_plan.proofs.StationCells.{choice_below, query_chosen, taken_is, values_are}
+use Rattle.edr_plan.proofs.StationHeads.{not_none}
 use Rattle.edr_plan.proofs.StationSizes.{room_is, no_room, too_many_values, too_many_front}
 
 -- ---- the coverage of a station
@@ -67,6 +69,13 @@ series_is c parameters k station choice series is same =
         (flat_map (λ t. map (cell_of s t) choice.levels) choice.times)
 
 -- ---- a station more
+
+-- what a query takes of a station, where some times and some levels are taken
+pub chosen_is : (q : QueryValue) (s : StationValue) (choice : ChoiceValue) → choice ≡ choice_of q s → (not_empty choice.times && not_empty choice.levels) ≡ true → IsChoiceOf s choice
+chosen_is q s choice is some =
+    let parts = and_parts (not_empty choice.times) (not_empty choice.levels) some in
+    subst (IsChoiceOf s) (sym is)
+    (query_chosen q s (subst (λ (c : ChoiceValue). c.times ≢ []) is (not_none choice.times parts.0)) (subst (λ (c : ChoiceValue). c.levels ≢ []) is (not_none choice.levels parts.1)))
 
 module _ (c : CollectionValue) (q : QueryValue) (k : ℕ) (parameters : List ℕ) (choice : ChoiceValue) (asked : parameters ≡ parameter_places q.parameters c.parameters) (some : parameters ≢ [])
     (takes : takes_station q.shape (station_at c.stations k) ≡ true) (is : choice ≡ choice_of q (station_at c.stations k))

@@ -56,8 +56,8 @@ cells_are c q k taken =
     (sym (taken_levels q c.parameters (station_at c.stations k) taken))
 
 -- the places of times and levels, where there are so many levels
-abbrev cells_in : ℕ → List ℕ → List ℕ → List ℕ
-cells_in w times levels = flat_map (λ t. map (λ z. t * w + z) levels) times
+abbrev pub cells_over : ℕ → List ℕ → List ℕ → List ℕ
+cells_over w times levels = flat_map (λ t. map (λ z. t * w + z) levels) times
 
 -- ---- they lie among the station's values
 
@@ -80,7 +80,18 @@ pub query_below : (q : QueryValue) (s : StationValue) → IsBelow s (choice_of q
 query_below q s = record { times = times_below q s; levels = levels_below q s }
 
 pub choice_below : (s : StationValue) (choice : ChoiceValue) → IsChoiceOf s choice → IsBelow s choice
-choice_below s choice is = subst (IsBelow s) (sym is.is) (query_below is.query s)
+choice_below s choice is = record { times = is.times_in; levels = is.levels_in }
+
+-- where some of both are taken those of a query are a choice
+pub query_chosen : (q : QueryValue) (s : StationValue) → (choice_of q s).times ≢ [] → (choice_of q s).levels ≢ [] → IsChoiceOf s (choice_of q s)
+query_chosen q s times levels = record {
+  times_in = times_below q s;
+  times_rise = numbers_rise (λ t. takes_time q.times (Some (value_at s.ts t))) 0 (length s.ts);
+  times = times;
+  levels_in = levels_below q s;
+  levels_rise = numbers_rise (λ z. takes_level (levels_asked q) (level_at s.zs z)) 0 (axis_length s.zs);
+  levels = levels;
+}
 
 in_rows : (w h t z : ℕ) → t < h → z < w → t * w + z < h * w
 in_rows w h t z ht hz =
@@ -90,10 +101,10 @@ in_rows w h t z ht hz =
     row : (t w : ℕ) → suc t * w ≡ t * w + w
     row t w = omega arith
 
-all_in_rows : (w h : ℕ) (times levels : List ℕ) → All (λ t. t < h) times → All (λ z. z < w) levels → All (λ cell. cell < h * w) (cells_in w times levels)
+pub all_in_rows : (w h : ℕ) (times levels : List ℕ) → All (λ t. t < h) times → All (λ z. z < w) levels → All (λ cell. cell < h * w) (cells_over w times levels)
 all_in_rows w h [] levels ht hz = All-nil (λ cell. cell < h * w)
 all_in_rows w h (t ∷ times) levels ht hz =
-    All-append (λ cell. cell < h * w) (map (λ z. t * w + z) levels) (cells_in w times levels)
+    All-append (λ cell. cell < h * w) (map (λ z. t * w + z) levels) (cells_over w times levels)
     (All-map (λ cell. cell < h * w) (λ z. t * w + z) levels
     (All-weaker (λ z. z < w) (λ z. t * w + z < h * w) (λ z. in_rows w h t z (All-head (λ t. t < h) t times ht)) levels hz))
     (all_in_rows w h times levels (All-tail (λ t. t < h) t times ht) hz)
@@ -109,10 +120,10 @@ cells_below c q k =
 
 -- ---- they rise
 
-rise_tail : (x : ℕ) (xs : List ℕ) → NumbersRise (x ∷ xs) → NumbersRise xs
+pub rise_tail : (x : ℕ) (xs : List ℕ) → NumbersRise (x ∷ xs) → NumbersRise xs
 rise_tail x xs h i j d lt l = h (suc i) (suc j) d (omega (arith, lt)) (omega (arith, l))
 
-rise_head : (x : ℕ) (xs : List ℕ) → NumbersRise (x ∷ xs) → All (λ y. x < y) xs
+pub rise_head : (x : ℕ) (xs : List ℕ) → NumbersRise (x ∷ xs) → All (λ y. x < y) xs
 rise_head x xs h k d l = h 0 (suc k) d (omega arith) (omega (arith, l))
 
 rise_append : (m : ℕ) (xs ys : List ℕ) → NumbersRise xs → NumbersRise ys → All (λ x. x < m) xs → All (λ y. m ≤ y) ys → NumbersRise (xs ++ ys)
@@ -131,18 +142,18 @@ rise_shifted a (z ∷ zs) h =
     (rise_shifted a zs (rise_tail z zs h))
 
 -- the rows of times from one on stand from its row on
-all_from_row : (w m : ℕ) (times levels : List ℕ) → All (λ t. m ≤ t) times → All (λ cell. m * w ≤ cell) (cells_in w times levels)
+all_from_row : (w m : ℕ) (times levels : List ℕ) → All (λ t. m ≤ t) times → All (λ cell. m * w ≤ cell) (cells_over w times levels)
 all_from_row w m [] levels h = All-nil (λ cell. m * w ≤ cell)
 all_from_row w m (t ∷ times) levels h =
     let low : m * w ≤ t * w = mul-le-mul_right w (All-head (λ t. m ≤ t) t times h) in
-    All-append (λ cell. m * w ≤ cell) (map (λ z. t * w + z) levels) (cells_in w times levels)
+    All-append (λ cell. m * w ≤ cell) (map (λ z. t * w + z) levels) (cells_over w times levels)
     (All-map (λ cell. m * w ≤ cell) (λ z. t * w + z) levels (λ k d l. omega (arith, low)))
     (all_from_row w m times levels (All-tail (λ t. m ≤ t) t times h))
 
-rows_rise : (w : ℕ) (times levels : List ℕ) → NumbersRise times → NumbersRise levels → All (λ z. z < w) levels → NumbersRise (cells_in w times levels)
+pub rows_rise : (w : ℕ) (times levels : List ℕ) → NumbersRise times → NumbersRise levels → All (λ z. z < w) levels → NumbersRise (cells_over w times levels)
 rows_rise w [] levels ht hz below = λ i j d lt l. absurd (omega (arith, l))
 rows_rise w (t ∷ times) levels ht hz below =
-    rise_append (suc t * w) (map (λ z. t * w + z) levels) (cells_in w times levels) (rise_shifted (t * w) levels hz)
+    rise_append (suc t * w) (map (λ z. t * w + z) levels) (cells_over w times levels) (rise_shifted (t * w) levels hz)
     (rows_rise w times levels (rise_tail t times ht) hz below)
     (All-map (λ cell. cell < suc t * w) (λ z. t * w + z) levels
     (All-weaker (λ z. z < w) (λ z. t * w + z < suc t * w) (λ z. in_rows w (suc t) t z (omega arith)) levels below))
@@ -156,10 +167,10 @@ cells_rise c q k =
 
 -- ---- they are as many as the times and levels
 
-rows_count : (w : ℕ) (times levels : List ℕ) → length (cells_in w times levels) ≡ length times * length levels
+pub rows_count : (w : ℕ) (times levels : List ℕ) → length (cells_over w times levels) ≡ length times * length levels
 rows_count w [] levels = sym (zero-mul (length levels))
 rows_count w (t ∷ times) levels =
-    length-append (map (λ z. t * w + z) levels) (cells_in w times levels)
+    length-append (map (λ z. t * w + z) levels) (cells_over w times levels)
     ∙ (ap₂ (λ a b. a + b) (length-map levels (λ z. t * w + z)) (rows_count w times levels) ∙ more (length levels) (length times))
   where
     more : (n m : ℕ) → n + m * n ≡ suc m * n

@@ -39,14 +39,14 @@ flat_map_agree_in f g (x ∷ xs) same = ap₂ (λ r rs. r ++ rs) (same x (member
 abbrev pub node_of : StationValue → ℕ → ℕ → Node
 node_of s t z = node (Some (value_at s.ts t)) (level_at s.zs z) s.y s.x
 
-nodes_of_station : (s : StationValue) (choice : ChoiceValue) → (s.zs ≡ None → choice.levels ≡ 0 ∷ [])
+pub nodes_of_station : (s : StationValue) (choice : ChoiceValue) → (s.zs ≡ None → choice.levels ≡ 0 ∷ [])
     → nodes_of (domain_of s choice) ≡ flat_map (λ t. map (node_of s t) choice.levels) choice.times
 nodes_of_station s choice one =
     nodes_at (map (value_at s.ts) choice.times) (option_map (λ zs. map (value_at zs) choice.levels) s.zs) (s.y, s.x)
     ∙ (ap (λ zs. place_nodes (map (value_at s.ts) choice.times) zs (s.y, s.x)) (levels_shown s.zs choice.levels one)
     ∙ place_nodes_chosen (value_at s.ts) (level_at s.zs) choice.times choice.levels (s.y, s.x))
 
-abbrev range_with : List (Option ℤ) → NdArray
+abbrev pub range_with : List (Option ℤ) → NdArray
 range_with values = record { values = values }
 
 module _ (c : CollectionValue) (q : QueryValue) (is : IsCollection c) (of : IsOfStations q.shape) (k : ℕ) (m : Contains (places c q is of) k) where

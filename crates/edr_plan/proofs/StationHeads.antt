@@ -26,7 +26,7 @@ use Rattle.edr_plan.proofs.StationPicks.{of_station_is, some_of_station, station
 
 -- ---- lists by places
 
-read_from : {V : Type 0} (d : V) (whole : List V) (a : ℕ) (xs : List V) → ((k : ℕ) → k < length xs → get_or whole (a + k) d ≡ get_or xs k d)
+pub read_from : {V : Type 0} (d : V) (whole : List V) (a : ℕ) (xs : List V) → ((k : ℕ) → k < length xs → get_or whole (a + k) d ≡ get_or xs k d)
     → map (λ k. get_or whole k d) (range_with_len a (length xs)) ≡ xs
 read_from d whole a [] same = refl
 read_from d whole a (x ∷ xs) same =

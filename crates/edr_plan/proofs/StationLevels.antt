@@ -15,7 +15,7 @@ is_absent : (zs : Option (List ℤ)) → IsNone zs → is_some zs ≡ false
 is_absent None h = refl
 is_absent (Some values) h = cc
 
-none_have : (ss : List StationValue) → All (λ (s : StationValue). IsNone s.zs) ss → list_any (λ (s : StationValue). is_some s.zs) ss ≡ false
+pub none_have : (ss : List StationValue) → All (λ (s : StationValue). IsNone s.zs) ss → list_any (λ (s : StationValue). is_some s.zs) ss ≡ false
 none_have [] none = refl
 none_have (s ∷ ss) none =
     ap₂ (λ (b d : Bool). b || d) (is_absent s.zs (All-head (λ (s : StationValue). IsNone s.zs) s ss none)) (none_have ss (All-tail (λ (s : StationValue). IsNone s.zs) s ss none))

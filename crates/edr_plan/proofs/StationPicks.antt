@@ -396,13 +396,13 @@ same_itself (Some v) = (Decides-int_eq v v).1 refl
 
 module _ (ps : List Parameter) (ss : List StationValue) (k p t z : ℕ) where
   -- the sample is of this station and parameter, at this node
-  abbrev is_there : Stored → Bool
+  abbrev pub is_there : Stored → Bool
   is_there x = same_station x.station (Some (station_at ss k).id) && is_of (id_at ps p) (stored_in ps ss k p t z).sample.at x.sample
 
   abbrev value_there : Option ℤ
   value_there = (stored_in ps ss k p t z).sample.value
 
-  itself : is_there (stored_in ps ss k p t z) ≡ true
+  pub itself : is_there (stored_in ps ss k p t z) ≡ true
   itself =
       let n : Node = (stored_in ps ss k p t z).sample.at in
       and_from _ _ ((bytes_eq-Decides (station_at ss k).id (station_at ss k).id).1 refl)
@@ -417,19 +417,26 @@ module _ (ps : List Parameter) (ss : List StationValue) (k p t z : ℕ) where
 
   module _ (are : IsStation (length ps) (station_at ss k)) (ids : AscendById ps)
       (hp : p < length ps) (ht : t < length (station_at ss k).ts) (hz : z < axis_length (station_at ss k).zs) where
-    same_value : HasValue k
-    same_value a b c ha hb hc h =
+    -- it stands at these places
+    pub same_place : (a b c : ℕ) → a < length ps → b < length (station_at ss k).ts → c < axis_length (station_at ss k).zs
+        → is_there (stored_in ps ss k a b c) ≡ true → (a ≡ p) × (b ≡ t) × (c ≡ z)
+    same_place a b c ha hb hc h =
         let x : Stored = stored_in ps ss k a b c in
         let n : Node = (stored_in ps ss k p t z).sample.at in
         let of = and_parts (same_station x.station (Some (station_at ss k).id)) (is_of (id_at ps p) n x.sample) h in
         let at = and_parts (bytes_eq (id_at ps a) (id_at ps p)) (same_node x.sample.at n) of.1 in
         let row = and_parts (same_where_given x.sample.at.t n.t && same_where_given x.sample.at.z n.z && int_eq x.sample.at.y n.y) (int_eq x.sample.at.x n.x) at.1 in
         let levels = and_parts (same_where_given x.sample.at.t n.t && same_where_given x.sample.at.z n.z) (int_eq x.sample.at.y n.y) row.0 in
-        let when = and_parts (same_where_given x.sample.at.t n.t) (same_where_given x.sample.at.z n.z) levels.0 in
-        ap₂ (λ u c. slice_index_or (series_at (station_at ss k) u) c None) (one_parameter ps ids a p ha hp ((bytes_eq-Decides (id_at ps a) (id_at ps p)).0 at.0))
-        (ap₂ (cell_of (station_at ss k))
-        (ascending_once (station_at ss k).ts are.placed.ts.axis.ascending b t hb ht ((Decides-int_eq (value_at (station_at ss k).ts b) (value_at (station_at ss k).ts t)).0 when.0))
-        (same_level (station_at ss k).zs are.placed.zs c z hc hz when.1))
+        let when = and_parts (same_where_given x.sample.at.t n.t) (same_where_given x.sample.at.z n.z) levels.0 in (
+          one_parameter ps ids a p ha hp ((bytes_eq-Decides (id_at ps a) (id_at ps p)).0 at.0),
+          ascending_once (station_at ss k).ts are.placed.ts.axis.ascending b t hb ht ((Decides-int_eq (value_at (station_at ss k).ts b) (value_at (station_at ss k).ts t)).0 when.0),
+          same_level (station_at ss k).zs are.placed.zs c z hc hz when.1,
+        )
+
+    same_value : HasValue k
+    same_value a b c ha hb hc h =
+        let same = same_place a b c ha hb hc h in
+        ap₂ (λ u c. slice_index_or (series_at (station_at ss k) u) c None) same.0 (ap₂ (cell_of (station_at ss k)) same.1 same.2)
 
 -- the value that is found at a place that is taken
 pub value_of_station : (s : Subject) (q : QueryValue) (ps : List Parameter) (ss : List StationValue) → s.held ≡ of_stations ps ss → IsOfStations q.shape

@@ -48,20 +48,20 @@ filter_twice t u implies (k ∷ ks) = here (t k) (u k) refl refl (filter_twice t
     here false true et eu rest = let passed : t k ≡ true = implies k eu in cc
     here false false et eu rest = ap (λ b. filter u (cond b (k ∷ filter t ks) (filter t ks))) et ∙ rest ∙ sym (ap (λ d. cond d (k ∷ filter u ks) (filter u ks)) eu)
 
-stops : (b : Bool) (refusal : Refusal) (rest : Option Refusal) → b ≡ true → cond b (Some refusal) rest ≡ Some refusal
+pub stops : (b : Bool) (refusal : Refusal) (rest : Option Refusal) → b ≡ true → cond b (Some refusal) rest ≡ Some refusal
 stops b refusal rest e = ap (λ b. cond b (Some refusal) rest) e
 
-passes : (b : Bool) (refusal : Refusal) (rest : Option Refusal) → b ≡ false → cond b (Some refusal) rest ≡ rest
+pub passes : (b : Bool) (refusal : Refusal) (rest : Option Refusal) → b ≡ false → cond b (Some refusal) rest ≡ rest
 passes b refusal rest e = ap (λ b. cond b (Some refusal) rest) e
 
-or_left : (b d : Bool) → b ≡ true → (b || d) ≡ true
+pub or_left : (b d : Bool) → b ≡ true → (b || d) ≡ true
 or_left b d e = ap (λ b. b || d) e
 
-or_right : (b d : Bool) → d ≡ true → (b || d) ≡ true
+pub or_right : (b d : Bool) → d ≡ true → (b || d) ≡ true
 or_right true d e = refl
 or_right false d e = e
 
-not_below : (n m : ℕ) → m ≤ n → nat_lt n m ≡ false
+pub not_below : (n m : ℕ) → m ≤ n → nat_lt n m ≡ false
 not_below n m le = false_from_ne_true (nat_lt n m) (λ e. absurd (omega (arith, le, (Decides-ltb n m).0 e)))
 
 -- too many are some
@@ -70,7 +70,7 @@ some_many n [] (inl values) none = absurd (omega (arith, values))
 some_many n [] (inr coverages) none = absurd (omega (arith, coverages))
 some_many n (x ∷ xs) many none = cc
 
-none_mapped : {V W : Type 0} (f : V → W) (xs : List V) → map f xs ≡ [] → xs ≡ []
+pub none_mapped : {V W : Type 0} (f : V → W) (xs : List V) → map f xs ≡ [] → xs ≡ []
 none_mapped f [] e = refl
 none_mapped f (x ∷ xs) e = cc
 
@@ -114,14 +114,6 @@ module _ (c : CollectionValue) (q : QueryValue) (is : IsCollection c) (asks : As
       ∙ flat_map_single (series_of c q) taken))
 
   -- ---- refusals
-
-  -- where no parameter is asked, nothing is taken
-  pub none_asked : asked ≡ [] → all ≡ []
-  none_asked none =
-      ap (map (series_of c q))
-      (kept_agree (λ k. is_taken q c.parameters (station_at ss k)) (λ k. false) 0 (length ss)
-      (λ k low high. ap (λ (p : List ℕ). not_empty p && (not_empty (station_times q (station_at ss k)) && not_empty (station_levels q (station_at ss k)))) none)
-      ∙ filter_none (range_with_len 0 (length ss)))
 
   values_are : values_in (document s q) ≡ values_of_series (length asked) all
   values_are =

@@ -65,10 +65,10 @@ too_many_values n xs s above = inl (omega (arith, above, values_push n xs s))
 
 -- ---- the sizes of coverages
 
-abbrev size_of_range : NdArray → ℕ
+abbrev pub size_of_range : NdArray → ℕ
 size_of_range range = length range.values
 
-abbrev size_of_coverage : Coverage → ℕ
+abbrev pub size_of_coverage : Coverage → ℕ
 size_of_coverage coverage = sum_by size_of_range coverage.ranges
 
 ranges_size : (s : StationValue) (cells parameters : List ℕ) → sum_by size_of_range (map (series_range s cells) parameters) ≡ length parameters * length cells

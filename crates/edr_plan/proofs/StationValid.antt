@@ -135,7 +135,7 @@ module _ (c : CollectionValue) (q : QueryValue) (is : IsCollection c) where
   -- ---- its values
 
   -- the values of a parameter are samples
-  values_sample : (s : StationValue) → All AreSamples s.series → (p cell : ℕ) → HasSample (series_value s p cell)
+  pub values_sample : (s : StationValue) → All AreSamples s.series → (p cell : ℕ) → HasSample (series_value s p cell)
   values_sample s samples p cell =
       elim (cases_lt p (length s.series)) [
         | inl inside ↦ sample_at (get_or s.series p []) cell (samples p [] inside)

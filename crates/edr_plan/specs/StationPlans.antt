@@ -1,18 +1,17 @@
 -- What is planned for the stations that a query takes; for private clauses.
-use Rattle.std.specs.Prelude.{⊤, ◌≡◌, ◌≢◌, ◌⊎◌, ℕ, ◌+◌, ◌*◌, ◌<◌, ◌≤◌, nat_lt, nat_le, Bool, true, false, ◌&&◌, if◌then◌else◌, ℤ, List, [], ◌∷◌, ◌++◌, map, length, All, sum_by, Option, None, Some, option_map}
+use Rattle.std.specs.Prelude.{⊤, ◌≡◌, ◌≢◌, ◌⊎◌, ℕ, ◌+◌, ◌*◌, ◌<◌, ◌≤◌, nat_lt, nat_le, Bool, true, false, not, ◌&&◌, if◌then◌else◌, ℤ, List, [], ◌∷◌, ◌++◌, map, length, All, sum_by, Option, None, Some, option_map}
 use Rattle.std.specs.List.{filter, flat_map, range_with_len}
 use Rattle.edr_axes.specs.Axes.{value_at}
 use Rattle.covjson_value.specs.declared.domains.Domain.{Domain}
 use Rattle.covjson_value.specs.declared.coverages.Coverage.{Coverage}
 use Rattle.covjson_value.specs.Domains.{axis_length}
 use Rattle.covjson_value.specs.Coverages.{IsValidDocument}
-use Rattle.edr_base.specs.Limits.{node_limit}
 use Rattle.edr_ids.specs.Ids.{item_of}
-use Rattle.edr_station.specs.Stations.{StationValue, station_id, station_at, values_along}
+use Rattle.edr_station.specs.Stations.{StationValue, station_id, station_at, levels_along}
 use Rattle.edr_station.specs.Blocks.{blocks_of, first_block}
 use Rattle.edr_edition.specs.declared.kinds.Kind.TheVariants.{Station}
 use Rattle.edr_edition.specs.Values.{CollectionValue}
-use Rattle.edr_edition.specs.Stores.{stations_of}
+use Rattle.edr_edition.specs.Stores.{of_stations, stations_of}
 use Rattle.edr_query.specs.declared.shapes.Shape.{Shape}
 use Rattle.edr_query.specs.declared.shapes.Shape.TheVariants as at
 use Rattle.edr_query.specs.Values.{QueryValue}
@@ -22,8 +21,10 @@ use Rattle.edr_select.specs.Heads.{domain_at}
 use Rattle.edr_select.specs.Planned as planned
 use Rattle.edr_select.specs.Planned.{parameters_at}
 use Rattle.edr_select.specs.Checks.{refused_query, stations_in}
+use Rattle.edr_select.specs.Refusals.{asks_levels, have_levels}
 use Rattle.edr_select.specs.Documents.{document}
 use Rattle.edr_select.specs.Limits.{value_limit, coverage_limit}
+use Rattle.edr_select.specs.Listings.{NumbersRise}
 use Rattle.edr_select.specs.Series.{StationSeriesValue, SeriesReplyValue}
 use Rattle.edr_select.specs.Plans.{IsOverStations}
 use Rattle.edr_plan.specs.StationPlaces.{IsOfStations, cell_of, is_taken}
@@ -40,6 +41,10 @@ pub record AsksStations (collection : CollectionValue) (q : QueryValue) : Type 0
   pub shape : IsOfStations q.shape
   pub there : IsThere q.shape collection.stations
 
+-- levels are asked of stations without any
+abbrev pub lacks_levels : QueryValue → CollectionValue → Bool
+lacks_levels q collection = asks_levels q && not (have_levels (of_stations collection.parameters collection.stations))
+
 -- only the reply to a query of one station isn't a collection
 abbrev pub is_many : Shape → Bool
 is_many (at.Location id) = false
@@ -55,13 +60,14 @@ pub record ChoiceValue : Type 0 where
 abbrev pub choice_of : QueryValue → StationValue → ChoiceValue
 choice_of q s = record { times = time_places q.times s.ts; levels = level_places (levels_asked q) s.zs }
 
--- some of its times and levels, of both at least one
+-- some of the times and levels of a station by their places, which rise, of both at least one
 pub record IsChoiceOf (s : StationValue) (choice : ChoiceValue) : Type 0 where
-  pub query : QueryValue
-  pub is : choice ≡ choice_of query s
+  pub times_in : All (λ t. t < length s.ts) choice.times
+  pub times_rise : NumbersRise choice.times
   pub times : choice.times ≢ []
+  pub levels_in : All (λ z. z < levels_along s.zs) choice.levels
+  pub levels_rise : NumbersRise choice.levels
   pub levels : choice.levels ≢ []
-  pub few : values_along s ≤ node_limit
 
 -- how many values some parameters have
 abbrev pub value_count : ℕ → ChoiceValue → ℕ

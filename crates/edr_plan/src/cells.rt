@@ -11,7 +11,7 @@ use edr_station::Station;
 use std::alloc::Global;
 
 // How many levels a station has, and 1 where it has no axis of levels.
-fn levels_in(station: &Station) -> u64
+pub(crate) fn levels_in(station: &Station) -> u64
     ensures { result ≡ levels_along station.now.zs }
 {
     match station.levels() {

@@ -28,10 +28,8 @@ pub(crate) fn found_grid<'a>(
         return Err(Refusal::UnknownInstance);
     };
     match &query.shape {
-        Shape::Position(_) | Shape::Radius { .. } | Shape::Area(_) | Shape::Cube { .. } => Ok(
-            instance,
-        ),
-        _ => Err(Refusal::QueryNotOffered),
+        Shape::Location(_) => Err(Refusal::QueryNotOffered),
+        _ => Ok(instance),
     }
 }
 
@@ -52,8 +50,8 @@ pub(crate) fn found_stations<'a>(
         Shape::Location(id) if stations.by_id(id.bytes()).is_none() => Err(
             Refusal::UnknownLocation,
         ),
-        Shape::Location(_) | Shape::Radius { .. } | Shape::Area(_) | Shape::Cube { .. }
-            if query.instance.is_none() => Ok(stations),
+        Shape::Position(_) | Shape::Trajectory(_) => Err(Refusal::QueryNotOffered),
+        _ if query.instance.is_none() => Ok(stations),
         _ => Err(Refusal::QueryNotOffered),
     }
 }

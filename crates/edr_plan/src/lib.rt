@@ -3,7 +3,12 @@
 
 mod cells;
 mod checks;
+mod corridor_plans;
+mod corridor_stations;
+mod gapped_cells;
+mod gapped_series;
 mod laws;
+mod lines;
 mod planning;
 mod station_choices;
 mod station_heads;

@@ -11,10 +11,12 @@ ghost use Rattle.edr_select.specs.Refusals.{refused};
 ghost use Rattle.edr_plan.specs.Found.{IsReplyIn, IsReplyOf};
 
 use crate::checks::{found_grid, found_stations};
+use crate::corridor_plans::gapped_of;
 use crate::station_plans::series_of;
 use edr_base::Refusal;
 use edr_edition::{CollectionData, Edition, Kind, instances_have_grids};
-use edr_query::Query;
+use edr_lines::reply_along_line;
+use edr_query::{Query, Shape};
 use edr_select::{Plan, PlanFault, Reply, reply_over_grid};
 use std::alloc::Global;
 
@@ -39,7 +41,12 @@ fn reply_of_grids(
 {
     instances_have_grids();
     match found_grid(query, collection) {
-        Ok(instance) => reply_over_grid(alloc, query, collection, instance),
+        Ok(instance) => match &query.shape {
+            Shape::Trajectory(_) | Shape::Corridor { .. } => {
+                reply_along_line(alloc, query, collection, instance)
+            }
+            _ => reply_over_grid(alloc, query, collection, instance),
+        },
         Err(refusal) => Err(PlanFault::Refused(refusal)),
     }
 }
@@ -57,10 +64,22 @@ fn reply_of_stations(
     ensures refused { IfErr result (IsFaultOf (refused_in collection.now (Ask query.now))) }
 {
     match found_stations(query, collection) {
-        Ok(stations) => {
-            let series = series_of(alloc, query, collection, stations)?;
-            Ok(Reply::Series(series))
-        }
+        Ok(stations) => match &query.shape {
+            Shape::Corridor {
+                geometry,
+                width,
+                height,
+            } => {
+                let gapped = gapped_of(
+                    alloc, query, collection, stations, geometry, *width, *height,
+                )?;
+                Ok(Reply::Gapped(gapped))
+            }
+            _ => {
+                let series = series_of(alloc, query, collection, stations)?;
+                Ok(Reply::Series(series))
+            }
+        },
         Err(refusal) => Err(PlanFault::Refused(refusal)),
     }
 }

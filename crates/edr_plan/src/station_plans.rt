@@ -1,7 +1,8 @@
 //! Plans of the replies to queries of stations.
-ghost use Rattle.std.specs.Prelude.{◌≡◌, ◌≢◌, ◌↔◌, ◌<◌, ◌^◌, [], None, IfOk, IfErr, IsTrue};
+ghost use Rattle.std.specs.Prelude.{◌≡◌, ◌≢◌, ◌↔◌, ◌<◌, ◌^◌, [], false, None, IfOk, IfErr, IsTrue};
 ghost use Rattle.edr_edition.specs.Editions.{IsCollection};
 ghost use Rattle.edr_edition.specs.Stores.{stations_of};
+ghost use Rattle.edr_edition.specs.declared.kinds.Kind.TheVariants.{Station};
 ghost use Rattle.edr_query.specs.Queries.{IsShape};
 ghost use Rattle.edr_select.specs.Checks.{refused_query, stations_in};
 ghost use Rattle.edr_select.specs.Choices.{parameter_places};
@@ -9,7 +10,7 @@ ghost use Rattle.edr_select.specs.Steps.{IsFaultOf, refused_sizes};
 ghost use Rattle.edr_station.specs.Blocks.{blocks};
 ghost use Rattle.edr_plan.specs.StationPlaces.{IsOfStations, reached};
 ghost use Rattle.edr_plan.specs.StationPlans as plans;
-ghost use Rattle.edr_plan.specs.StationPlans.{AsksStations, all_series, IsPlanOfStations};
+ghost use Rattle.edr_plan.specs.StationPlans.{AsksStations, lacks_levels, all_series, IsPlanOfStations};
 
 use crate::station_series::series_taken;
 use crate::stations_taken::stations_taken;
@@ -47,17 +48,18 @@ fn is_bare(series: &[StationSeries]) -> bool
 
 // The places of the parameters that are asked, of which there are some, or the first refusal that applies from that of names to
 // that of samples.
-fn parameters_asked(
+pub(crate) fn parameters_asked(
     alloc: Global,
     query: &Query,
     collection: &CollectionData,
     stations: &Stations,
 ) -> Result<Vec<u64>, PlanFault>
-    requires asked { AsksStations collection.now query.now }
+    requires kind { collection.now.kind ≡ Station }
     requires collection { IsCollection collection.now }
     requires stations { stations.now ≡ stations_of collection.now.parameters collection.now.stations }
     ensures places { IfOk result (λ places. places.items ≡ parameter_places query.now.parameters collection.now.parameters) }
     ensures some { IfOk result (λ places. places.items ≢ []) }
+    ensures levels { IfOk result (λ places. lacks_levels query.now collection.now ≡ false) }
     ensures known { IfOk result (λ places. refused_query collection.now query.now ≡ refused_sizes query.now (stations_in collection.now)) }
     ensures refused { IfErr result (IsFaultOf (refused_query collection.now query.now)) }
 {
@@ -114,7 +116,7 @@ fn series_asked(
 }
 
 // The blocks of stations can be counted.
-fn are_counted(stations: &Stations)
+pub(crate) fn are_counted(stations: &Stations)
     ensures { blocks stations.now.parameters stations.now.stations < 2 ^ 64 }
 {
     let _ = stations.blocks();

@@ -1,5 +1,5 @@
 //! The refusals of a query of stations from its names on.
-ghost use Rattle.std.specs.Prelude.{◌≡◌, length, Some, IfOk, IfErr, MatchOption};
+ghost use Rattle.std.specs.Prelude.{◌≡◌, false, length, None, Some, IfOk, IfErr, MatchOption};
 ghost use Rattle.edr_edition.specs.Editions.{IsCollection};
 ghost use Rattle.edr_edition.specs.Stores.{of_stations, stations_of};
 ghost use Rattle.edr_edition.specs.declared.kinds.Kind.TheVariants.{Station};
@@ -7,6 +7,7 @@ ghost use Rattle.edr_select.specs.Checks.{refused_query, stations_in};
 ghost use Rattle.edr_select.specs.Choices.{parameter_places};
 ghost use Rattle.edr_select.specs.Refusals as refusals;
 ghost use Rattle.edr_select.specs.Steps.{IsFaultOf, refused_known, refused_sizes};
+ghost use Rattle.edr_plan.specs.StationPlans.{lacks_levels};
 
 use edr_base::Refusal;
 use edr_edition::CollectionData;
@@ -53,8 +54,9 @@ pub(crate) fn refused_asking(
     requires kind { collection.now.kind ≡ Station }
     requires collection { IsCollection collection.now }
     requires stations { stations.now ≡ stations_of collection.now.parameters collection.now.stations }
-    ensures { MatchOption result (refused_known collection.now query.now ≡ refused_sizes query.now (stations_in collection.now))
+    ensures kept { MatchOption result (refused_known collection.now query.now ≡ refused_sizes query.now (stations_in collection.now))
         (λ refusal. refused_known collection.now query.now ≡ Some refusal) }
+    ensures levels { result ≡ None → lacks_levels query.now collection.now ≡ false }
 {
     if has_other_crs(query, collection) {
         return Some(Refusal::BadCrs);

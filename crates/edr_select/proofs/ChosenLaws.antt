@@ -19,7 +19,7 @@ use Rattle.edr_select.specs.Choices.{TakesEach, takes_node, Chosen, chosen, IsSo
 use Rattle.edr_select.specs.Listings.{place_at}
 use Rattle.edr_select.specs.ListLaws.{some_member, no_member}
 use Rattle.edr_select.specs.KeptLaws.{contains_kept, kept_below, kept_passes}
-use Rattle.edr_select.proofs.Grids.{IsGrid}
+use Rattle.edr_select.specs.GridLaws.{IsGrid}
 use Rattle.edr_select.proofs.Picks.{picks_at, Taken, pick_found, found_pick}
 use Rattle.edr_select.proofs.Values.{value_at_place}
 

@@ -17,7 +17,7 @@ use Rattle.edr_select.specs.Selections.{chunk_of, needed}
 use Rattle.edr_select.specs.Choices.{TakesEach, Chosen, chosen, node_of, cells_at, cells_along}
 use Rattle.edr_select.specs.Listings.{PlannedValue, ListingValue, place_at, tiles_of_range, tiles_of_coverage, listing_tiles}
 use Rattle.edr_select.specs.ListLaws.{any-map, any-flat_map, any_agree, both, passing, any_member, member_here}
-use Rattle.edr_select.proofs.Grids.{IsGrid}
+use Rattle.edr_select.specs.GridLaws.{IsGrid}
 use Rattle.edr_select.proofs.Picks.{picks_at, picked_is, pick_found}
 use Rattle.edr_select.proofs.ChosenLaws as laws
 use Rattle.edr_select.proofs.Coverages.{planned_at, planned_along}

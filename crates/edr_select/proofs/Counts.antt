@@ -20,7 +20,7 @@ use Rattle.edr_select.specs.declared.plans.GridNode.{GridNode}
 use Rattle.edr_select.specs.Documents.{document, coverages_in, values_in}
 use Rattle.edr_select.specs.Choices.{Chosen, chosen, IsSome, node_of}
 use Rattle.edr_select.specs.Listings.{PlannedValue, place_at, range_over, coverage_of}
-use Rattle.edr_select.proofs.Grids.{IsGrid}
+use Rattle.edr_select.specs.GridLaws.{IsGrid}
 use Rattle.edr_select.proofs.Coverages.{planned_at, planned_along}
 use Rattle.edr_select.proofs.PlanDocuments.{document_at_point, document_along, document_apart}
 

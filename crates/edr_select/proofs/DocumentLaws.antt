@@ -1,5 +1,5 @@
 -- The document of a query of grids that selects something is that of a reply, and so it is valid.
-use Rattle.std.proofs.Common.{◌≡◌, ℕ, Bool, true, false, List, [], ◌∷◌, length, refl, ap, sym, ◌∙◌, subst, arith, inl, inr}
+use Rattle.std.proofs.Common.{◌≡◌, ℕ, Bool, true, false, List, [], ◌∷◌, length, refl, sym, ◌∙◌, subst, arith, inl, inr}
 use Rattle.std.specs.Prelude.{◌⊎◌}
 use Rattle.std.proofs.lemmas.Bool.{false≢true}
 use Rattle.covjson_value.specs.Coverages.{IsValidDocument}
@@ -19,7 +19,7 @@ use Rattle.edr_select.specs.Choices.{TakesEach, Chosen, chosen, IsSome}
 use Rattle.edr_select.specs.Listings.{ListingValue}
 use Rattle.edr_select.specs.Masks.{IsArea}
 use Rattle.edr_select.specs.Steps.{IsAsked, IsForm, are_several, is_many, planned_in}
-use Rattle.edr_select.proofs.Grids.{IsGrid}
+use Rattle.edr_select.specs.GridLaws.{IsGrid}
 use Rattle.edr_select.proofs.Instances.{grid_from}
 use Rattle.edr_select.proofs.PickLaws as picks
 use Rattle.edr_select.proofs.PlanForms.{spot_alone, listing_valid}

@@ -17,8 +17,8 @@ use Rattle.edr_select.specs.Framings.{FrameValue, is_set, cell_at, frame_cells, 
 use Rattle.edr_select.specs.Masks.{MaskValue, IsMask, frame_with}
 use Rattle.edr_select.specs.ListLaws.{any-map, any-flat_map, passing, any_member}
 use Rattle.edr_select.specs.KeptLaws.{kept_below, kept_passes}
-use Rattle.edr_select.proofs.Boxes.{contains_from, passing_in, in_passing}
-use Rattle.edr_select.proofs.Grids.{IsGrid}
+use Rattle.edr_select.specs.BoxLaws.{contains_from, passing_in, in_passing}
+use Rattle.edr_select.specs.GridLaws.{IsGrid}
 use Rattle.edr_select.proofs.FrameValues.{row_below, column_below, set_is, spot_in}
 use Rattle.edr_select.proofs.Chunks.{tile_at, HasTiles, chunks_are}
 

@@ -18,8 +18,8 @@ use Rattle.edr_select.specs.Choices.{TakesEach, Chosen, chosen, IsSome}
 use Rattle.edr_select.specs.Framings.{FrameValue, cell_at, cell_value, frame_cells, framed_range, framed_coverage, node_count}
 use Rattle.edr_select.specs.Masks.{IsArea, MaskValue, IsMask, frame_with}
 use Rattle.edr_select.specs.AreaPlans.{framed_count}
-use Rattle.edr_select.proofs.Boxes.{length_boxed}
-use Rattle.edr_select.proofs.Grids.{IsGrid}
+use Rattle.edr_select.specs.BoxLaws.{length_boxed}
+use Rattle.edr_select.specs.GridLaws.{IsGrid}
 use Rattle.edr_select.proofs.FrameCoverages.{framing, document_is}
 
 abbrev range_length : NdArray → ℕ

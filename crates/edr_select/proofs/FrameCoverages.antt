@@ -23,8 +23,8 @@ use Rattle.edr_select.specs.Framings.{FrameValue, FramingValue, cell_at, cell_va
 use Rattle.edr_select.specs.Masks.{IsArea, MaskValue, IsMask, frame_with}
 use Rattle.edr_select.specs.AreaPlans.{domain_over}
 use Rattle.edr_select.specs.ListLaws.{flat_map_agree, map-map, map_agree_in}
-use Rattle.edr_select.proofs.Boxes.{rows_of, planes_of, boxed, boxed_agree, map_boxed}
-use Rattle.edr_select.proofs.Grids.{IsGrid}
+use Rattle.edr_select.specs.BoxLaws.{rows_of, planes_of, boxed, boxed_agree, map_boxed}
+use Rattle.edr_select.specs.GridLaws.{IsGrid}
 use Rattle.edr_select.proofs.Picks.{picks_at, picked_is}
 use Rattle.edr_select.specs.NodeLaws.{one_level, levels_shown}
 use Rattle.edr_select.specs.ParameterLaws.{parameter_at, same_id, parameters_are}

@@ -17,12 +17,12 @@ use Rattle.edr_select.specs.Heads.{alone, without_id, spanned, frame_of, heads_o
 use Rattle.edr_select.specs.Choices.{TakesEach, takes_node, Chosen, chosen, IsSome, times_of, levels_of}
 use Rattle.edr_select.specs.Masks.{IsArea, MaskValue, IsMask, frame_with}
 use Rattle.edr_select.specs.AreaPlans.{domain_over}
-use Rattle.edr_select.proofs.Grids.{IsGrid}
+use Rattle.edr_select.specs.GridLaws.{IsGrid}
 use Rattle.edr_select.proofs.Picks.{picks_at, picked_is, pick_found, found_pick}
 use Rattle.edr_select.proofs.ChosenLaws as laws
 use Rattle.edr_select.proofs.ChosenLaws.{OneOfEach, each_of}
 use Rattle.edr_select.proofs.Occurring.{times_are, levels_are}
-use Rattle.edr_select.proofs.Spans.{Spans, spanned_is}
+use Rattle.edr_select.specs.SpanLaws.{Spans, spanned_is}
 
 -- the reply to a query of an area is one coverage over a frame
 heads_framed : (i : InstanceValue) (q : QueryValue) (shape : Shape) → IsArea shape → (picks : List Stored) → heads_on_grid i q shape picks ≡ alone (without_id (frame_of i picks))

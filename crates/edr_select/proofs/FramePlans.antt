@@ -23,7 +23,7 @@ use Rattle.edr_select.specs.Steps.{IsAsked, refused_sizes}
 use Rattle.edr_select.specs.AreaPlans.{domain_over, IsFrameOf, TakesSome, HasNodes, framed_count, IsFramed, IsFramingIn}
 use Rattle.edr_select.specs.ListLaws.{some_member}
 use Rattle.edr_select.specs.KeptLaws.{kept_below, kept_passes}
-use Rattle.edr_select.proofs.Grids.{IsGrid}
+use Rattle.edr_select.specs.GridLaws.{IsGrid}
 use Rattle.edr_select.proofs.Instances.{grid_from}
 use Rattle.edr_select.proofs.ChosenLaws as laws
 use Rattle.edr_select.proofs.PlanSteps.{refused_samples, known_samples, refused_size, known_size}

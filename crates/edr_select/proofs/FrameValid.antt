@@ -1,5 +1,5 @@
 -- A framing over a frame with some values is one, and its coverage is valid over a grid of samples.
-use Rattle.std.proofs.Common.{◌≡◌, ℕ, ◌*◌, ◌<◌, ◌≤◌, Bool, List, length, refl, ap, ap₂, ◌∙◌, subst, arith, mul-one, Some, ℤ}
+use Rattle.std.proofs.Common.{◌≡◌, ℕ, ◌*◌, ◌<◌, ◌≤◌, List, length, refl, ap, ap₂, ◌∙◌, subst, arith, mul-one, Some, ℤ}
 use Rattle.std.specs.Prelude.{map, ◌&&◌, int_le}
 use Rattle.std.specs.List.{filter, list_any, range_with_len}
 use Rattle.std.proofs.lemmas.Bool.{false≢true}
@@ -20,11 +20,10 @@ use Rattle.edr_select.specs.Samples.{Stored, id_at}
 use Rattle.edr_select.specs.Wanted.{takes_time, takes_level, levels_asked}
 use Rattle.edr_select.specs.Selections.{is_asked}
 use Rattle.edr_select.specs.Choices.{TakesEach, Chosen, chosen, IsSome, level_at}
-use Rattle.edr_select.specs.Listings.{NumbersRise}
 use Rattle.edr_select.specs.Framings.{FrameValue, node_count, IsFrame, IsFraming}
 use Rattle.edr_select.specs.Masks.{MaskValue, IsMask, frame_with}
 use Rattle.edr_select.specs.AreaPlans.{domain_over}
-use Rattle.edr_select.proofs.Grids.{IsGrid}
+use Rattle.edr_select.specs.GridLaws.{IsGrid}
 use Rattle.edr_select.proofs.Instances.{grid_from}
 use Rattle.edr_select.proofs.Picks.{picks_at}
 use Rattle.edr_select.proofs.ChosenLaws as laws

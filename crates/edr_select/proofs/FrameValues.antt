@@ -18,8 +18,8 @@ use Rattle.edr_select.specs.Framings.{FrameValue, is_set, cell_at, cell_value}
 use Rattle.edr_select.specs.Masks.{MaskValue, NoneTaken, IsMask, frame_with}
 use Rattle.edr_select.specs.ListLaws.{find_none, filter_none, no_member}
 use Rattle.edr_select.specs.KeptLaws.{contains_kept, kept_agree}
-use Rattle.edr_select.proofs.Boxes.{from_contains}
-use Rattle.edr_select.proofs.Grids.{IsGrid, same_stored}
+use Rattle.edr_select.specs.BoxLaws.{from_contains}
+use Rattle.edr_select.specs.GridLaws.{IsGrid, same_stored}
 use Rattle.edr_select.proofs.Picks.{picks_at, Taken, pick_found}
 use Rattle.edr_select.proofs.Values.{value_at_place}
 use Rattle.edr_select.proofs.ChosenLaws as laws

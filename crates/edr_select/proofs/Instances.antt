@@ -13,7 +13,7 @@ use Rattle.covjson_value.specs.Coverages.{IsNamedAxis}
 use Rattle.edr_chunk.specs.declared.shapes.GridShape.{GridShape}
 use Rattle.edr_edition.specs.Values.{InstanceValue}
 use Rattle.edr_edition.specs.Instances.{IsTimedGrid, IsInstance, HasGrid, instance_of}
-use Rattle.edr_select.proofs.Grids.{IsGrid}
+use Rattle.edr_select.specs.GridLaws.{IsGrid}
 
 axis_if : (name : CoordinateName) (zs : Option (List ℤ)) → IfSome zs (IsNamedAxis name) → IfSome zs IsAxis
 axis_if name None h = tt

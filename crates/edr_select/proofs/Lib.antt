@@ -1,5 +1,3 @@
-mod AllPlaces
-mod Grids
 mod Instances
 mod Picks
 mod Values
@@ -22,9 +20,7 @@ mod Runs
 mod FoundPlaces
 mod Vectors
 mod Has
-mod NearestTests
 mod WantedLaws
-mod Along
 mod AxisPlaces
 mod ParameterChoices
 mod LevelChoices
@@ -52,8 +48,6 @@ mod PolygonReach
 mod MaskBits
 mod MaskSizes
 mod MaskSteps
-mod Boxes
-mod Spans
 mod FrameMasks
 mod FrameValues
 mod FrameHeads

@@ -17,7 +17,7 @@ use Rattle.edr_select.specs.Heads.{Spot, times_in, levels_in, spots_in, stands_a
 use Rattle.edr_select.specs.Choices.{TakesEach, takes_node, Chosen, chosen, IsSome, level_at, row_of, column_of, times_of, levels_of, spot_of}
 use Rattle.edr_select.specs.ListLaws.{filter_at, filter-map, both}
 use Rattle.edr_select.specs.KeptLaws.{contains_kept, kept_agree, filter_by_places, pairs_numbered}
-use Rattle.edr_select.proofs.Grids.{IsGrid, one_place}
+use Rattle.edr_select.specs.GridLaws.{IsGrid, one_place}
 use Rattle.edr_select.proofs.Picks.{picks_at, pick_found}
 use Rattle.edr_select.proofs.ChosenLaws as laws
 use Rattle.edr_select.proofs.ChosenLaws.{OneOfEach, each_of}

@@ -15,7 +15,7 @@ use Rattle.edr_select.specs.Heads.{times_in, levels_in, spots_in, is_some_stored
 use Rattle.edr_select.specs.Documents.{value_in}
 use Rattle.edr_select.specs.Choices.{TakesEach, takes_node, Chosen, chosen, IsSome, level_at, node_of, times_of, levels_of, spot_of}
 use Rattle.edr_select.specs.Listings.{place_at}
-use Rattle.edr_select.proofs.Grids.{IsGrid}
+use Rattle.edr_select.specs.GridLaws.{IsGrid}
 use Rattle.edr_select.proofs.Picks.{picks_at, picked_is, wants_is, taken_product, taken_from, from_taken}
 use Rattle.edr_select.proofs.ChosenLaws as laws
 use Rattle.edr_select.proofs.ChosenLaws.{IsChosenAt}

@@ -18,7 +18,7 @@ use Rattle.edr_select.specs.Wanted.{takes_time, takes_level, levels_asked, takes
 use Rattle.edr_select.specs.Selections.{is_asked, takes_each, takes, wants, picked}
 use Rattle.edr_select.specs.Choices.{TakesEach, takes_node, level_at}
 use Rattle.edr_select.specs.ListLaws.{any-filter, any-map, Each, each-filter, each-map}
-use Rattle.edr_select.proofs.AllPlaces.{found_place, place_found, each_place}
+use Rattle.edr_select.specs.PlaceLaws.{found_place, place_found, each_place}
 
 -- such a query takes a sample by its time, its level and its place
 pub takes_is : (s : Subject) (q : QueryValue) (shape : Shape) → TakesEach shape → (x : Stored) → takes s q shape x ≡ takes_each s q x

@@ -21,7 +21,7 @@ use Rattle.edr_select.specs.Documents.{coverage_over, document, document_over}
 use Rattle.edr_select.specs.Choices.{TakesEach, Chosen, chosen, IsSome, level_at, times_of, levels_of, spot_of}
 use Rattle.edr_select.specs.Listings.{PlannedValue, ListingValue, coverage_of, document_of, listing_document}
 use Rattle.edr_select.specs.ListLaws.{map-map, map_agree_in, member_here}
-use Rattle.edr_select.proofs.Grids.{IsGrid}
+use Rattle.edr_select.specs.GridLaws.{IsGrid}
 use Rattle.edr_select.proofs.Picks.{picks_at, picked_is, takes_position}
 use Rattle.edr_select.proofs.Occurring.{times_are, levels_are, spots_are}
 use Rattle.edr_select.specs.NodeLaws.{one_level, points_domain}

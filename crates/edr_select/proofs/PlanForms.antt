@@ -41,7 +41,7 @@ use Rattle.edr_select.specs.Listings.{PlannedValue, ListingValue, IsListing}
 use Rattle.edr_select.specs.Plans.{IsReplyTo}
 use Rattle.edr_select.specs.Steps.{IsAsked, IsForm, IsPlanIn, are_several, is_many, value_count, coverage_count, planned_in, refused_large}
 use Rattle.edr_select.specs.ListLaws.{all_member, member_here}
-use Rattle.edr_select.proofs.Grids.{IsGrid}
+use Rattle.edr_select.specs.GridLaws.{IsGrid}
 use Rattle.edr_select.proofs.Instances.{grid_from}
 use Rattle.edr_select.proofs.ChosenLaws as laws
 use Rattle.edr_select.proofs.Nearest.{one_spot}

@@ -12,7 +12,7 @@ use Rattle.edr_select.specs.declared.plans.Reply.TheVariants.{Listed}
 use Rattle.edr_select.specs.Choices.{TakesEach, Chosen, chosen, IsSome}
 use Rattle.edr_select.specs.Listings.{ListingValue}
 use Rattle.edr_select.specs.Plans.{IsReplyTo}
-use Rattle.edr_select.proofs.Grids.{IsGrid}
+use Rattle.edr_select.specs.GridLaws.{IsGrid}
 use Rattle.edr_select.proofs.Picks.{takes_position}
 use Rattle.edr_select.proofs.Coverages.{planned_at, planned_along}
 use Rattle.edr_select.proofs.PlanDocuments.{plan_at_point, plan_along, plan_apart}

@@ -1,17 +1,14 @@
 -- The refusals of a query from step to step, from those of names on.
-use Rattle.std.proofs.Common.{◌≡◌, ℕ, Bool, true, false, cond, List, [], ◌∷◌, length, Option, Some, None, refl, ap, sym, ◌∙◌, subst, Contains}
+use Rattle.std.proofs.Common.{◌≡◌, Bool, true, false, cond, List, length, Option, Some, None, refl, ap, sym, ◌∙◌, subst}
 use Rattle.std.specs.Prelude.{◌↔◌, IsTrue, not, ◌||◌, nat_lt}
 use Rattle.std.specs.List.{find}
-use Rattle.std.specs.Ordering.{is_lt}
 use Rattle.std.proofs.lemmas.Bool.{false≢true, false_from_ne_true}
 use Rattle.edr_base.specs.declared.refusals.Refusal.{Refusal}
 use Rattle.edr_base.specs.declared.refusals.Refusal.TheVariants.{UnknownParameterName, BadCrs, NoLevels, NoSamples, TooLarge}
 use Rattle.covjson_value.specs.declared.coverages.Parameter.{Parameter}
 use Rattle.covjson_value.specs.Coverages.{ids_of}
-use Rattle.edr_ids.specs.Ids.{order, has_id, item_of}
-use Rattle.edr_edition.specs.declared.kinds.Kind.TheVariants.{Grid}
-use Rattle.edr_edition.specs.Values.{InstanceValue, CollectionValue, instance_id}
-use Rattle.edr_edition.specs.Stores.{Subject, instance_named, newest, greater, subject_in}
+use Rattle.edr_edition.specs.Values.{InstanceValue, CollectionValue}
+use Rattle.edr_edition.specs.Stores.{Subject}
 use Rattle.edr_query.specs.Values.{QueryValue}
 use Rattle.edr_select.specs.Limits.{value_limit, coverage_limit}
 use Rattle.edr_select.specs.Refusals.{applies_if, applies_to_query, applies_to_subject, names_other, crs_is_other}
@@ -21,7 +18,7 @@ use Rattle.edr_select.specs.Documents.{document, coverages_in, values_in}
 use Rattle.edr_select.specs.Checks.{of_data, refused_data, refused_query, grid_of}
 use Rattle.edr_select.specs.Choices.{Chosen, chosen, IsSome}
 use Rattle.edr_select.specs.Steps.{IsAsked, refused_known, refused_sizes, refused_large, lacks_levels}
-use Rattle.edr_select.specs.ListLaws.{all_member, member_here, member_later}
+use Rattle.edr_select.specs.ListLaws.{all_member}
 use Rattle.edr_select.specs.NamedLaws.{named_member, subject_found}
 use Rattle.edr_select.proofs.Instances.{grid_from}
 use Rattle.edr_select.proofs.PickLaws as picks

@@ -1,29 +1,25 @@
 -- What is planned for the spots that are chosen is a listing: its heads are valid, and its cells lie in the grid, one for each value.
-use Rattle.std.proofs.Common.{◌≡◌, ◌≢◌, ℕ, zero, suc, ◌*◌, ◌^◌, ◌<◌, ◌≤◌, Bool, true, false, cond, List, [], ◌∷◌, length, refl, ap, ap₂, sym, ◌∙◌, subst, arith, mul_assoc, one-mul, mul-le-mul_right, mul-pos, Some, None, IfSome, ℤ, pos, All, Contains}
-use Rattle.std.specs.declared.option.Option.{Option}
-use Rattle.std.specs.Prelude.{map, option_map}
-use Rattle.std.specs.List.{filter, range_with_len, slice_index_or}
+use Rattle.std.proofs.Common.{◌≡◌, ℕ, ◌*◌, ◌^◌, ◌<◌, ◌≤◌, false, List, length, refl, ap, ap₂, sym, ◌∙◌, subst, arith, mul_assoc, one-mul, mul-le-mul_right, mul-pos, pos, All, Contains}
+use Rattle.std.specs.Prelude.{map}
+use Rattle.std.specs.List.{range_with_len, slice_index_or}
 use Rattle.std.proofs.lemmas.List.{length-map, get_or_default}
 use Rattle.std.proofs.lemmas.List.FromFn.{length-range_with_len}
 use Rattle.edr_base.specs.Limits.{node_limit}
-use Rattle.edr_axes.specs.declared.levels.Levels.{Levels}
 use Rattle.edr_axes.specs.Axes.{value_at}
-use Rattle.covjson_value.specs.declared.domains.CoordinateName.TheVariants.{T, Z, Y, X}
-use Rattle.covjson_value.specs.Domains.{axis_length}
-use Rattle.covjson_value.specs.Coverages.{IsAxisValue, IsNamedAxis, IsReferencing}
+use Rattle.covjson_value.specs.declared.domains.CoordinateName.TheVariants.{T, Y, X}
+use Rattle.covjson_value.specs.Coverages.{IsNamedAxis, IsReferencing}
 use Rattle.edr_chunk.specs.declared.shapes.GridShape.{GridShape}
 use Rattle.edr_chunk.specs.Places.{Within, IsShape}
 use Rattle.edr_edition.specs.Values.{InstanceValue}
 use Rattle.edr_edition.specs.Instances.{HasGrid}
 use Rattle.edr_edition.specs.Stores.{Subject}
 use Rattle.edr_query.specs.Values.{QueryValue}
-use Rattle.edr_select.specs.Wanted.{takes_time, takes_level, levels_asked}
+use Rattle.edr_select.specs.Wanted.{levels_asked}
 use Rattle.edr_select.specs.Heads.{domain_at}
-use Rattle.edr_select.specs.Choices.{TakesEach, takes_node, Chosen, chosen, IsSome, level_at, level_places, node_of, cells_at, cells_along, times_of, levels_of, row_of, column_of, spot_of}
+use Rattle.edr_select.specs.Choices.{TakesEach, takes_node, Chosen, chosen, IsSome, level_at, node_of, cells_at, cells_along, times_of, levels_of, row_of, column_of, spot_of}
 use Rattle.edr_select.specs.Listings.{PlannedValue, ListingValue, place_at, IsPlanned, IsListing}
 use Rattle.edr_select.specs.ListLaws.{Each, each-map_in, each-flat_map_in}
-use Rattle.edr_select.specs.KeptLaws.{filter_by_places}
-use Rattle.edr_select.proofs.Grids.{IsGrid}
+use Rattle.edr_select.specs.GridLaws.{IsGrid}
 use Rattle.edr_select.proofs.Instances.{grid_from}
 use Rattle.edr_select.proofs.ChosenLaws as laws
 use Rattle.edr_select.specs.LevelLaws.{some_length, all_from_each, kept_few, level_axis, level_count, level_value}

@@ -95,6 +95,21 @@ position_is_answered : refused full (Ask (at_point (codes "grid"))) ≡ None
 unfolding places
 position_is_answered = refl
 
+trajectory_is_answered : refused full (Ask (asking (codes "grid") (shape.Trajectory (line (at 0 0 ∷ at 0 0 ∷ []))) None None)) ≡ None
+unfolding places
+trajectory_is_answered = refl
+
+-- LINESTRING(0 0,0 0), of no width
+abbrev along_no_way : List ℕ → QueryValue
+along_no_way collection = asking collection (shape.Corridor (line (at 0 0 ∷ at 0 0 ∷ [])) (pos 0) None) None None
+
+corridor_is_answered : refused full (Ask (along_no_way (codes "grid"))) ≡ None
+unfolding places
+corridor_is_answered = refl
+
+corridor_of_stations_is_answered : refused full (Ask (along_no_way (codes "sites"))) ≡ None
+corridor_of_stations_is_answered = refl
+
 -- ---- the same of data, once a query is offered
 
 unknown_name : refused_query (sites (alpha ∷ [])) (with_crs (with_name (at_station (codes "sites") (codes "A")))) ≡ Some UnknownParameterName

@@ -17,7 +17,7 @@ use Rattle.edr_select.specs.Wanted.{is_along, is_nearest}
 use Rattle.edr_select.specs.Choices.{is_nearest_place, is_number, row_of, column_of, spot_places, spots_in}
 use Rattle.edr_select.specs.ListLaws.{both}
 use Rattle.edr_select.proofs.FoundPlaces.{Found, found_more, found_same}
-use Rattle.edr_select.proofs.NearestTests.{test_from_nearest, only_nearest}
+use Rattle.edr_select.specs.NearestLaws.{test_from_nearest, only_nearest}
 
 abbrev pub nearest_to : List ℤ → List ℤ → List Position → ℕ → Bool
 nearest_to ys xs points k = list_any (is_nearest_place ys xs (row_of xs k) (column_of xs k)) points

@@ -12,7 +12,7 @@ use Rattle.edr_select.specs.Documents.{same_station, value_in}
 use Rattle.edr_select.specs.Choices.{TakesEach}
 use Rattle.edr_select.specs.ListLaws.{find_each}
 use Rattle.edr_select.proofs.Picks.{picks_at, Taken, found_pick, each_pick}
-use Rattle.edr_select.proofs.Grids.{IsGrid, same_stored, stored_itself}
+use Rattle.edr_select.specs.GridLaws.{IsGrid, same_stored, stored_itself}
 
 pub value_at_place : (i : InstanceValue) (q : QueryValue) → TakesEach q.shape → (a : GridPlace) → IsGrid i → Within i.grid.shape a → Taken i q a
     → value_in (picks_at i q) None (id_at i.parameters a.parameter) (node_at i a) ≡ value i.grid a

@@ -1,7 +1,7 @@
 -- The tests of selections and the relations of axes.
 use Rattle.edr_select.specs.WantedLaws.{SelectionsGoByAxes}
 use Rattle.edr_select.proofs.Has.{time_test, time_back, level_test, level_back}
-use Rattle.edr_select.proofs.NearestTests.{nearest_from_test, test_from_nearest}
+use Rattle.edr_select.specs.NearestLaws.{nearest_from_test, test_from_nearest}
 
 pub selections_go_by_axes : SelectionsGoByAxes
 selections_go_by_axes = record {

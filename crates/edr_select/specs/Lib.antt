@@ -12,6 +12,8 @@ pub mod Choices
 pub mod Listings
 pub mod Framings
 pub mod Series
+pub mod Stacks
+pub mod Gaps
 pub mod ReplyLaws
 pub mod Plans
 pub mod Planned
@@ -30,3 +32,9 @@ pub mod HeadLaws
 pub mod LevelLaws
 pub mod NamedLaws
 pub mod RiseLaws
+pub mod PlaceLaws
+pub mod GridLaws
+pub mod SpanLaws
+pub mod BoxLaws
+pub mod AlongLaws
+pub mod NearestLaws

@@ -1,14 +1,14 @@
 -- What a line selects: along a corridor, and at the vertices of a trajectory (OGC 19-086r6, section 8).
-use Rattle.std.specs.Prelude.{ℤ, pos, ◌+ℤ◌, ◌-ℤ◌, ◌*ℤ◌, int_le, Bool, true, false, ◌&&◌, ◌||◌, if◌then◌else◌, List, [], ◌∷◌, map, Option, None, Some, unwrap_or}
+use Rattle.std.specs.Prelude.{ℤ, Bool, true, false, ◌&&◌, if◌then◌else◌, List, [], ◌∷◌, map, Option, None, Some, unwrap_or}
 use Rattle.std.specs.List.{filter, find, flat_map}
 use Rattle.edr_base.specs.declared.places.Position.{Position}
-use Rattle.edr_axes.specs.declared.times.Times.{Times}
 use Rattle.edr_axes.specs.declared.levels.Levels.{Levels}
 use Rattle.edr_axes.specs.declared.levels.Levels.TheVariants as levels
 use Rattle.edr_wkt.specs.declared.geometry.Geometry.{Geometry}
 use Rattle.edr_wkt.specs.Geometries.{line_of}
 use Rattle.edr_wkt.specs.Wkt.{has_z_of, has_m_of}
-use Rattle.edr_geometry.specs.Planar.{spot_of, is_among, near_segment}
+use Rattle.edr_corridor.specs.Values.{SegmentsValue}
+use Rattle.edr_corridor.specs.Segments as segments
 use Rattle.edr_edition.specs.Values.{InstanceValue}
 use Rattle.edr_edition.specs.Stores.{Held, of_grid, of_stations}
 use Rattle.covjson_value.specs.Samples.{Node, node, same_node}
@@ -17,39 +17,25 @@ use Rattle.edr_select.specs.Wanted.{takes_time, takes_level, is_along, is_neares
 
 -- ---- corridors: one and the same segment takes time, level and place
 
--- with m the times of a segment, both ends included, and else those that are asked
-abbrev pub takes_between : Bool → Option ℤ → ℤ → ℤ → Option Times → Bool
-takes_between true None first last asked = false
-takes_between true (Some t) first last asked = is_among first last t
-takes_between false time first last asked = takes_time asked time
+-- the single level that is asked, where a height goes about it
+abbrev pub single_level : Option Levels → Option ℤ → Option ℤ
+single_level (Some (levels.At only)) (Some height) = Some only
+single_level asked height = None
 
--- twice a level is at most a height away from twice the levels from one to the other
-abbrev pub within_height : ℤ → ℤ → ℤ → ℤ → Bool
-within_height one other height level =
-    (int_le (pos 2 *ℤ one -ℤ height) (pos 2 *ℤ level) || int_le (pos 2 *ℤ other -ℤ height) (pos 2 *ℤ level))
-    && (int_le (pos 2 *ℤ level) (pos 2 *ℤ one +ℤ height) || int_le (pos 2 *ℤ level) (pos 2 *ℤ other +ℤ height))
-
--- the levels of a segment: those about its z, or about a single level that is asked, or those that are asked
-abbrev pub takes_height : Bool → Option ℤ → ℤ → ℤ → Option ℤ → Option Levels → Bool
-takes_height true (Some level) one other (Some height) asked = within_height one other height level
-takes_height true (Some level) one other None asked = false
-takes_height true None one other height asked = false
-takes_height false (Some level) one other (Some height) (Some (levels.At only)) = within_height only only height level
-takes_height false level one other height asked = takes_level asked level
-
-abbrev pub segment_takes : Bool → Bool → ℤ → Option ℤ → Option Times → Option Levels → Node → Position → Position → Bool
-segment_takes has_z has_m width height times asked n a b =
-    takes_between has_m n.t a.m b.m times && (takes_height has_z n.z a.z b.z height asked && near_segment (spot_at n) (spot_of a) (spot_of b) width)
-
--- a segment of the line passes a test
-abbrev pub any_segment : (Position → Position → Bool) → List Position → Bool
-any_segment test [] = false
-any_segment test (p ∷ []) = false
-any_segment test (p ∷ (q ∷ positions)) = test p q || any_segment test (q ∷ positions)
+-- the segments of the line, and what is asked of each of them
+abbrev pub segments_of : QueryValue → Geometry → ℤ → Option ℤ → SegmentsValue
+segments_of q line width height = record {
+  line = line_of line;
+  has_z = has_z_of line;
+  has_m = has_m_of line;
+  width = width;
+  level = single_level q.levels height;
+  height = height;
+}
 
 abbrev pub in_corridor : QueryValue → Geometry → ℤ → Option ℤ → Node → Bool
 in_corridor q line width height n =
-    any_segment (segment_takes (has_z_of line) (has_m_of line) width height q.times q.levels n) (line_of line)
+    segments.in_corridor (segments_of q line width height) (takes_time q.times n.t) (takes_level q.levels n.z) n.t n.z (spot_at n)
 
 -- ---- trajectories: lists of nodes
 

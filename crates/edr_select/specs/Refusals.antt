@@ -78,9 +78,12 @@ is_answered Grid (at.Position geometry) = true
 is_answered Grid (at.Radius geometry within) = true
 is_answered Grid (at.Area geometry) = true
 is_answered Grid (at.Cube lo hi levels) = true
+is_answered Grid (at.Trajectory geometry) = true
+is_answered Grid (at.Corridor geometry width height) = true
 is_answered Station (at.Radius geometry within) = true
 is_answered Station (at.Area geometry) = true
 is_answered Station (at.Cube lo hi levels) = true
+is_answered Station (at.Corridor geometry width height) = true
 is_answered Station (at.Location id) = true
 is_answered kind other = false
 

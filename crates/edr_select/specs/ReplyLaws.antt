@@ -1,6 +1,7 @@
 -- Laws of replies: the documents of listings and of framings are valid, and a frame has as many cells as its sides say.
 use Rattle.std.proofs.Common.{◌≡◌, ℕ, suc, ◌+◌, ◌*◌, Bool, true, false, List, [], ◌∷◌, length, get_or, All, ℤ, Option, None, Some, refl, ap, sym, ◌∙◌, subst, arith, inl, inr, length-append}
 use Rattle.std.specs.Prelude.{map, IfSome}
+use Rattle.std.proofs.Math.Nat.{mul_assoc}
 use Rattle.std.specs.List.{flat_map, range_with_len}
 use Rattle.std.proofs.lemmas.Bool.{cases_lt}
 use Rattle.std.proofs.lemmas.List.{length-map, get_or_past}
@@ -21,6 +22,7 @@ use Rattle.edr_edition.specs.Values.{InstanceValue}
 use Rattle.edr_edition.specs.Instances.{IsInstance, values_of}
 use Rattle.edr_select.specs.declared.plans.GridNode.{GridNode}
 use Rattle.edr_select.specs.Listings.{PlannedValue, ListingValue, IsPlanned, IsListing, place_at, range_over, coverage_of, document_of, listing_document}
+use Rattle.edr_select.specs.Stacks.{StackValue, StackingValue, IsStacking, plane_at, time_at, level_at, cells_of_plane, cells_of_time, stack_cells, stack_count, stacked_range, stacked_coverage}
 use Rattle.edr_select.specs.Framings.{FrameValue, FramingValue, IsFraming, cell_at, row_cells, plane_cells, frame_cells, node_count, cell_value, framed_range, framed_coverage}
 
 -- ---- validity
@@ -134,6 +136,21 @@ cells_count frame =
     flat_length (λ t. flat_map (plane_cells frame t) frame.levels) (length frame.levels * (frame.rows * frame.columns))
     (λ t. flat_length (plane_cells frame t) (frame.rows * frame.columns) (plane_count frame t) frame.levels) frame.times
 
+cells_of_plane_count : (stack : StackValue) (i j : ℕ) → length (cells_of_plane stack i j) ≡ stack.sides.rows * stack.sides.columns
+cells_of_plane_count stack i j = plane_count (plane_at stack i j) (time_at stack.sides i) (level_at stack.sides j)
+
+cells_of_time_count : (stack : StackValue) (i : ℕ) → length (cells_of_time stack i) ≡ length stack.sides.levels * (stack.sides.rows * stack.sides.columns)
+cells_of_time_count stack i =
+    flat_length (cells_of_plane stack i) (stack.sides.rows * stack.sides.columns) (cells_of_plane_count stack i) (range_with_len 0 (length stack.sides.levels))
+    ∙ ap (λ (n : ℕ). n * (stack.sides.rows * stack.sides.columns)) (length-range_with_len 0 (length stack.sides.levels))
+
+-- how many cells a stack has
+pub stack_cells_count : (stack : StackValue) → length (stack_cells stack) ≡ stack_count stack.sides
+stack_cells_count stack =
+    flat_length (cells_of_time stack) (length stack.sides.levels * (stack.sides.rows * stack.sides.columns)) (cells_of_time_count stack) (range_with_len 0 (length stack.sides.times))
+    ∙ (ap (λ (n : ℕ). n * (length stack.sides.levels * (stack.sides.rows * stack.sides.columns))) (length-range_with_len 0 (length stack.sides.times))
+    ∙ sym (mul_assoc (length stack.sides.times) (length stack.sides.levels) (stack.sides.rows * stack.sides.columns)))
+
 -- ---- the document of a framing
 
 samples_in : (grid : chunk.Values) (p : ℕ) (cells : List (Option GridNode)) → All (λ v. IfSome v IsSample) grid.values → All (λ v. IfSome v IsSample) (map (cell_value grid p) cells)
@@ -167,4 +184,34 @@ framed_valid grid framing is all =
       ascending = v.ascending;
       as_many = length-map framing.parameters (framed_range grid framing.frame) ∙ sym is.as_many;
       ranges = framed_ranges_valid grid framing framing.parameters is all;
+    }
+
+-- ---- the document of a stacking
+
+stacked_ranges_valid : (grid : chunk.Values) (stacking : StackingValue) (ps : List ℕ) → IsStacking stacking → All (λ v. IfSome v IsSample) grid.values
+    → All (IsRange stacking.head.domain) (map (stacked_range grid stacking.stack) ps)
+stacked_ranges_valid grid stacking [] is all = All-nil (IsRange stacking.head.domain)
+stacked_ranges_valid grid stacking (p ∷ ps) is all =
+    All-cons (IsRange stacking.head.domain) (stacked_range grid stacking.stack p) (map (stacked_range grid stacking.stack) ps)
+    (record {
+      count = length-map (stack_cells stacking.stack) (cell_value grid p) ∙ stack_cells_count stacking.stack ∙ sym is.count;
+      samples = samples_in grid p (stack_cells stacking.stack) all;
+    })
+    (stacked_ranges_valid grid stacking ps is all)
+
+-- the coverage over a stack is valid
+pub stacked_valid : (grid : chunk.Values) (stacking : StackingValue) → IsStacking stacking → All (λ v. IfSome v IsSample) grid.values → IsValid (stacked_coverage grid stacking)
+stacked_valid grid stacking is all =
+    let v = is.head.valid in
+    record {
+      id = v.id;
+      axes = v.axes;
+      tuples = v.tuples;
+      referencing = v.referencing;
+      vertical = v.vertical;
+      some = v.some;
+      parameters = v.parameters;
+      ascending = v.ascending;
+      as_many = length-map stacking.parameters (stacked_range grid stacking.stack) ∙ sym is.as_many;
+      ranges = stacked_ranges_valid grid stacking stacking.parameters is all;
     }

@@ -18,8 +18,8 @@ use edr_base::OutOfMemory;
 use edr_edition::GridInstance;
 use std::alloc::Global;
 
-// The axis of an axis's values at some places.
-fn axis_at(alloc: Global, axis: &Axis, places: &[u64]) -> Result<Axis, OutOfMemory>
+/// The axis of an axis's values at some places.
+pub fn axis_at(alloc: Global, axis: &Axis, places: &[u64]) -> Result<Axis, OutOfMemory>
     requires ascending { IsAscending axis.now }
     requires inside { All (λ place. place < length axis.now) places.now }
     requires rise { NumbersRise places.now }
@@ -30,8 +30,8 @@ fn axis_at(alloc: Global, axis: &Axis, places: &[u64]) -> Result<Axis, OutOfMemo
     axis_of(alloc, &values)
 }
 
-// The axis of so many of an axis's values from one on.
-fn axis_from(alloc: Global, axis: &Axis, first: u32, many: u32) -> Result<Axis, OutOfMemory>
+/// The axis of so many of an axis's values from one on.
+pub fn axis_from(alloc: Global, axis: &Axis, first: u32, many: u32) -> Result<Axis, OutOfMemory>
     requires ascending { IsAscending axis.now }
     requires inside { first + many ≤ length axis.now }
     requires some { 1 ≤ many }
@@ -42,8 +42,8 @@ fn axis_from(alloc: Global, axis: &Axis, first: u32, many: u32) -> Result<Axis, 
     axis_at(alloc, axis, &places)
 }
 
-// The axis of the levels at some places, where there is an axis of levels.
-fn levels_at(
+/// The axis of the levels at some places, where there is an axis of levels.
+pub fn levels_at(
     alloc: Global,
     instance: &GridInstance,
     places: &[u64],

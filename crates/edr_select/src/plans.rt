@@ -5,7 +5,9 @@ ghost use Rattle.edr_chunk.specs.Places.{count};
 ghost use Rattle.edr_select.specs.Listings.{IsListing};
 
 use crate::frames::Framing;
+use crate::gaps::GappedReply;
 use crate::series::SeriesReply;
+use crate::stacks::Stacking;
 use covjson_value::Coverage;
 use edr_base::Items;
 use edr_chunk::GridShape;
@@ -84,8 +86,12 @@ pub enum Reply {
     Listed(Listing),
     /// Each from a node of a frame, where it is taken.
     Framed(Framing),
+    /// Each from a node of a stack, where it is taken.
+    Stacked(Stacking),
     /// Each from a place among the values of a station.
     Series(SeriesReply),
+    /// Each from a place among the values of a station, where it is taken.
+    Gapped(GappedReply),
 }
 
 /// What a reply to a query will be: its coverages but for their values, and the nodes or places that these are read from.

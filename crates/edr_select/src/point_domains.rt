@@ -9,8 +9,8 @@ use edr_base::OutOfMemory;
 use std::alloc::Global;
 use std::slice;
 
-// The axis of some values.
-pub(crate) fn axis_of(alloc: Global, values: &[i64]) -> Result<Axis, OutOfMemory>
+/// The axis of some values.
+pub fn axis_of(alloc: Global, values: &[i64]) -> Result<Axis, OutOfMemory>
     requires { IsAxis values.now }
     ensures { IfOk result (λ axis. axis ≡ values.now) }
 {

@@ -67,17 +67,17 @@ flat_drop g xs ys k d e l = ap (flat_map g) (drop_more xs k d l) ∙ ap (λ zs. 
 
 -- ---- what holds of each node
 
-abbrev node_of : ℕ → ℕ → ℕ → ℕ → GridNode
+abbrev pub node_of : ℕ → ℕ → ℕ → ℕ → GridNode
 node_of t z y x = record { t = t; z = z; y = y; x = x }
 
-some_if : (Q : GridNode → Type 0) (b : Bool) (cell : GridNode) → Q cell → IfSome (if b then Some cell else None) Q
+pub some_if : (Q : GridNode → Type 0) (b : Bool) (cell : GridNode) → Q cell → IfSome (if b then Some cell else None) Q
 some_if Q true cell h = h
 some_if Q false cell h = tt
 
-abbrev EachNode : (GridNode → Type 0) → Cells → Type 0
+abbrev pub EachNode : (GridNode → Type 0) → Cells → Type 0
 EachNode Q cells = Each (λ (o : Option GridNode). IfSome o Q) cells
 
-each_strip : (Q : GridNode → Type 0) (frame : FrameValue) (t z a n : ℕ) → ((y x : ℕ) → a ≤ y → y < a + n → x < frame.column + frame.columns → Q (node_of t z y x)) → EachNode Q (strip_cells frame t z a n)
+pub each_strip : (Q : GridNode → Type 0) (frame : FrameValue) (t z a n : ℕ) → ((y x : ℕ) → a ≤ y → y < a + n → x < frame.column + frame.columns → Q (node_of t z y x)) → EachNode Q (strip_cells frame t z a n)
 each_strip Q frame t z a n h =
     each-flat_map_range (λ (o : Option GridNode). IfSome o Q) (row_cells frame t z) a n (λ y low high.
     each-map_range (λ (o : Option GridNode). IfSome o Q) (cell_at frame t z y) frame.column frame.columns (λ x left right. some_if Q (is_set frame y x) (node_of t z y x) (h y x low high right)))
@@ -87,7 +87,7 @@ each_levels : (Q : GridNode → Type 0) (frame : FrameValue) (t : ℕ) (zs : Lis
 each_levels Q frame t zs h =
     each-flat_map_in (λ (o : Option GridNode). IfSome o Q) (plane_cells frame t) zs (λ z c. each_strip Q frame t z frame.row frame.rows (λ y x low high right. h z y x c low high right))
 
-tiles_all : (shape : GridShape) (p : ℕ) (P : ℕ → Type 0) (cells : Cells) → EachNode (λ cell. P (tile_of shape (place_at p cell))) cells → All P (tiles_in shape p cells)
+pub tiles_all : (shape : GridShape) (p : ℕ) (P : ℕ → Type 0) (cells : Cells) → EachNode (λ cell. P (tile_of shape (place_at p cell))) cells → All P (tiles_in shape p cells)
 tiles_all shape p P [] h = All-nil P
 tiles_all shape p P (None ∷ cells) h = tiles_all shape p P cells h.1
 tiles_all shape p P (Some cell ∷ cells) h = All-cons P (tile_of shape (place_at p cell)) (tiles_in shape p cells) h.0 (tiles_all shape p P cells h.1)
@@ -128,22 +128,22 @@ taken_place xs k x c =
 -- ---- tiles
 
 module _ (shape : GridShape) (tiled : TilesAreNumbered shape) (frame : FrameValue) (is : IsFrame shape frame) (p : ℕ) (inside : p < shape.parameters) where
-  abbrev high : ℕ
+  abbrev pub high : ℕ
   high = (tile_shape shape).rows
 
-  abbrev wide : ℕ
+  abbrev pub wide : ℕ
   wide = (tile_shape shape).columns
 
-  abbrev time_number : ℕ → ℕ
+  abbrev pub time_number : ℕ → ℕ
   time_number t = p * shape.times + t
 
-  abbrev level_number : ℕ → ℕ → ℕ
+  abbrev pub level_number : ℕ → ℕ → ℕ
   level_number t z = time_number t * shape.levels + z
 
-  abbrev row_base : ℕ → ℕ → ℕ → ℕ
+  abbrev pub row_base : ℕ → ℕ → ℕ → ℕ
   row_base t z r = (level_number t z * high + r) * wide
 
-  abbrev tile_node : ℕ → ℕ → ℕ → ℕ → ℕ
+  abbrev pub tile_node : ℕ → ℕ → ℕ → ℕ → ℕ
   tile_node t z y x = tile_of shape (at p t z y x)
 
   across_inside : (x : ℕ) → x < frame.column + frame.columns → x / 64 < wide
@@ -163,12 +163,12 @@ module _ (shape : GridShape) (tiled : TilesAreNumbered shape) (frame : FrameValu
       more : (a b c : ℕ) → b ≤ c → a + b ≤ a + c
       more a b c l = omega arith
 
-  under_level : (t z level y x : ℕ) → y < frame.row + frame.rows → x < frame.column + frame.columns → z < level → tile_node t z y x < row_base t level 0
+  pub under_level : (t z level y x : ℕ) → y < frame.row + frame.rows → x < frame.column + frame.columns → z < level → tile_node t z y x < row_base t level 0
   under_level t z level y x low right l =
       let rows : level_number t z * high + y / 64 < level_number t level * high = row_above (level_number t z) (level_number t level) (y / 64) high (omega (arith, l)) (down_inside y low) in
       row_above (level_number t z * high + y / 64) (level_number t level * high + 0) (x / 64) wide (omega (arith, rows)) (across_inside x right)
 
-  from_level : (t z level y x : ℕ) → level ≤ z → row_base t level 0 ≤ tile_node t z y x
+  pub from_level : (t z level y x : ℕ) → level ≤ z → row_base t level 0 ≤ tile_node t z y x
   from_level t z level y x l =
       let m : level_number t level * high ≤ level_number t z * high = mul-le-mul_right high (more (time_number t * shape.levels) level z l) in
       let n : (level_number t level * high + 0) * wide ≤ (level_number t z * high + y / 64) * wide = mul-le-mul_right wide (sum (level_number t level * high) (level_number t z * high) (y / 64) m) in
@@ -180,13 +180,13 @@ module _ (shape : GridShape) (tiled : TilesAreNumbered shape) (frame : FrameValu
       sum : (a b c : ℕ) → a ≤ b → a + 0 ≤ b + c
       sum a b c l = omega arith
 
-  under_time : (t time z y x : ℕ) → z < shape.levels → y < frame.row + frame.rows → x < frame.column + frame.columns → t < time → tile_node t z y x < row_base time 0 0
+  pub under_time : (t time z y x : ℕ) → z < shape.levels → y < frame.row + frame.rows → x < frame.column + frame.columns → t < time → tile_node t z y x < row_base time 0 0
   under_time t time z y x level low right l =
       let levels : level_number t z < time_number time * shape.levels = row_above (time_number t) (time_number time) z shape.levels (omega (arith, l)) level in
       let rows : level_number t z * high + y / 64 < level_number time 0 * high = row_above (level_number t z) (level_number time 0) (y / 64) high (omega (arith, levels)) (down_inside y low) in
       row_above (level_number t z * high + y / 64) (level_number time 0 * high + 0) (x / 64) wide (omega (arith, rows)) (across_inside x right)
 
-  from_time : (t time z y x : ℕ) → time ≤ t → row_base time 0 0 ≤ tile_node t z y x
+  pub from_time : (t time z y x : ℕ) → time ≤ t → row_base time 0 0 ≤ tile_node t z y x
   from_time t time z y x l =
       let k : time_number time * shape.levels ≤ time_number t * shape.levels = mul-le-mul_right shape.levels (more (p * shape.times) time t l) in
       let m : level_number time 0 * high ≤ level_number t z * high = mul-le-mul_right high (sum (time_number time * shape.levels) (time_number t * shape.levels) z k) in
@@ -199,7 +199,7 @@ module _ (shape : GridShape) (tiled : TilesAreNumbered shape) (frame : FrameValu
       sum : (a b c : ℕ) → a ≤ b → a + 0 ≤ b + c
       sum a b c l = omega arith
 
-  tile_inside : (t z y x : ℕ) → t < shape.times → z < shape.levels → y < frame.row + frame.rows → x < frame.column + frame.columns → tile_node t z y x < tiles shape
+  pub tile_inside : (t z y x : ℕ) → t < shape.times → z < shape.levels → y < frame.row + frame.rows → x < frame.column + frame.columns → tile_node t z y x < tiles shape
   tile_inside t z y x time level low right =
       tiled.below (at p t z y x) (record { parameter = inside; t = time; z = level; y = omega (arith, low, is.rows); x = omega (arith, right, is.columns) })
 
@@ -274,7 +274,7 @@ module _ (shape : GridShape) (tiled : TilesAreNumbered shape) (frame : FrameValu
       each_times (λ cell. Within shape (place_at 0 cell)) frame.times (λ t z y x c level low right.
       record { parameter = omega (arith, inside); t = all_member (λ t. t < shape.times) frame.times t is.times c; z = level; y = omega (arith, low, is.rows); x = omega (arith, right, is.columns) })
 
-all_taken : (Q : GridNode → Type 0) (cells : Cells) → EachNode Q cells → All Q (taken cells)
+pub all_taken : (Q : GridNode → Type 0) (cells : Cells) → EachNode Q cells → All Q (taken cells)
 all_taken Q [] h = All-nil Q
 all_taken Q (None ∷ cells) h = all_taken Q cells h.1
 all_taken Q (Some cell ∷ cells) h = All-cons Q cell (taken cells) h.0 (all_taken Q cells h.1)

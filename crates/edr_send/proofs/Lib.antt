@@ -17,7 +17,13 @@ mod StripReads
 mod FrameSteps
 mod FrameTiles
 mod FramingTexts
+mod StackTiles
+mod StackingTexts
 mod BlockRuns
 mod BlockNumbers
 mod SeriesSteps
+mod GapBlocks
+mod GapRuns
+mod GapSteps
 mod SeriesValid
+mod GapsValid

@@ -25,7 +25,7 @@ pub series_stands : (plan : PlanValue) (reply : SeriesReplyValue) (s : Subject) 
 series_stands plan reply s is stands = subst (λ (r : Reply). IsReplyTo r plan.query s) is stands
 
 -- the samples of a station's parameter
-samples_in : (parameters : ℕ) (s : StationValue) → IsStation parameters s → (p : ℕ) → All (λ v. IfSome v IsSample) (series_at s p)
+pub samples_in : (parameters : ℕ) (s : StationValue) → IsStation parameters s → (p : ℕ) → All (λ v. IfSome v IsSample) (series_at s p)
 samples_in parameters s is p = elim (cases_lt p (length s.series)) [
   | inl inside ↦ is.has.samples p [] inside
   | inr past ↦ subst (λ (values : List (Option ℤ)). All (λ v. IfSome v IsSample) values) (sym (get_or_past s.series p [] past)) (All-nil (λ v. IfSome v IsSample))

@@ -3,5 +3,7 @@ pub mod Filling
 pub mod Gathered
 pub mod Strips
 pub mod FrameTexts
+pub mod StackTexts
+pub mod GapTexts
 pub mod SeriesTexts
 pub mod Sending

@@ -14,7 +14,7 @@ ghost use Rattle.edr_select.specs.Framings.{strip_cells, plane_cells, frame_cell
 ghost use Rattle.edr_send.specs.FrameTexts.{framed_coverage_text, framed_text};
 ghost use Rattle.edr_send.specs.Strips.{HasRows};
 
-use crate::strips::fill_strip;
+use crate::planes::write_strips;
 use covjson_write::Writer;
 use edr_base::{SendFault, Sink};
 use edr_chunk::{numbers_tell_places, sides_are_small, tiles_are_numbered};
@@ -22,42 +22,7 @@ use edr_edition::Store;
 use edr_select::{Framing, framing_stands};
 use std::alloc::Global;
 
-// Reads a strip and writes it, as the next values of the open range.
-fn write_strip<K: Sink>(
-    alloc: Global,
-    store: &mut Store<'_>,
-    writer: &mut Writer,
-    sink: &mut K,
-    framing: &Framing,
-    parameter: u64,
-    t: u32,
-    z: u32,
-    from: u32,
-    to: u32,
-    values: &mut Vec<Option<i64>>,
-) -> Result<(), SendFault>
-    requires grid { framing.now.shape ≡ (grid_of store.old.subject.held).shape }
-    requires parameter { parameter < framing.now.shape.parameters }
-    requires t { t < framing.now.shape.times }
-    requires z { z < framing.now.shape.levels }
-    requires rows { HasRows framing.now.frame from to }
-    requires one { to ≤ from / 64 * 64 + 64 }
-    requires open { writer.old.stage ≡ Open }
-    requires room { writer.old.values + length (strip_cells framing.now.frame t z from (to - from)) ≤ writer.old.head.count }
-    ensures bytes { Writes result (values_from writer.old.values (map (cell_value (grid_of store.old.subject.held) parameter) (strip_cells framing.now.frame t z from (to - from)))) (K.written sink.old) (K.written sink.new) }
-    ensures writer { OnOk result (writer.new ≡ with_values writer.old (length (strip_cells framing.now.frame t z from (to - from)))) }
-    ensures reads { Adds result (ascending_once (tiles framing.now.shape) (tiles_of_range framing.now.shape (taken (strip_cells framing.now.frame t z from (to - from))) parameter)) store.old.numbers store.new.numbers }
-    ensures subject { store.new.subject ≡ store.old.subject }
-    ensures lent { SinkLent (K.beside sink.old) (K.beside sink.new) (K.faults sink.old) (K.faults sink.new) }
-    ensures cause { IsErrOf result SendFault.WriteFault → Rose (K.faults sink.old) (K.faults sink.new) }
-{
-    match fill_strip(alloc, store, framing, parameter, t, z, from, to, values) {
-        Ok(()) => writer.values(sink, values),
-        Err(_) => Err(SendFault::OutOfMemory),
-    }
-}
-
-// Writes the values of a time and a level, strip by strip.
+// Writes the values of a time and a level.
 fn write_plane<K: Sink>(
     alloc: Global,
     store: &mut Store<'_>,
@@ -83,22 +48,18 @@ fn write_plane<K: Sink>(
     ensures cause { IsErrOf result SendFault.WriteFault → Rose (K.faults sink.old) (K.faults sink.new) }
 {
     framing_stands(framing);
-    sides_are_small();
-    tiles_are_numbered();
-    let frame = &framing.frame;
-    let row = frame.row;
-    let end = row + frame.rows;
-    for down in row / 64..(end + 63) / 64 {
-        let from = (down * 64).max(row);
-        let to = (down * 64 + 64).min(end);
-        match write_strip(
-            alloc, store, writer, sink, framing, parameter, t, z, from, to, values,
-        ) {
-            Ok(()) => {}
-            Err(fault) => return Err(fault),
-        }
-    }
-    Ok(())
+    write_strips(
+        alloc,
+        store,
+        writer,
+        sink,
+        framing.shape,
+        &framing.frame,
+        parameter,
+        t,
+        z,
+        values,
+    )
 }
 
 // Writes the values of a time, level by level.

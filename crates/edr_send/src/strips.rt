@@ -1,18 +1,19 @@
 //! Strips: the values of the rows of a frame in one row of tiles, which are read tile by tile.
-ghost use Rattle.std.specs.Prelude.{◌≡◌, ◌≢◌, ◌<◌, ◌≤◌, ◌+◌, ◌-◌, ◌*◌, ◌/◌, ◌++◌, ◌⊎◌, ℕ, None, if◌then◌else◌, length, map, slice_index_or, OnOk, OnErr, IsTrue, true};
+ghost use Rattle.std.specs.Prelude.{◌≡◌, ◌≢◌, ◌<◌, ◌≤◌, ◌+◌, ◌-◌, ◌*◌, ◌/◌, ◌++◌, ◌⊎◌, ◌^◌, ℕ, None, if◌then◌else◌, length, map, slice_index_or, OnOk, OnErr, IsTrue, true};
 ghost use Rattle.std.specs.List.{list_any, range_with_len};
+ghost use Rattle.edr_chunk.specs.Places.{IsShape, count};
 ghost use Rattle.edr_chunk.specs.Tiles.{LiesIn, value_in, tiles};
 ghost use Rattle.edr_select.specs.Samples.{ascending_once};
 ghost use Rattle.edr_select.specs.Listings.{tiles_of_range};
 ghost use Rattle.edr_send.specs.Filling.{grid_of, Adds};
-ghost use Rattle.edr_select.specs.Framings.{is_set, cell_at, strip_cells, taken, cell_value};
+ghost use Rattle.edr_select.specs.Framings.{IsFrame, is_set, cell_at, strip_cells, taken, cell_value};
 ghost use Rattle.edr_send.specs.Strips.{HasMask, HasRows, HasColumns, some_taken, shown, tile_read};
 
 use crate::slots::tile_number;
 use edr_base::OutOfMemory;
-use edr_chunk::{GridPlace, Tile, sides_are_small, tiles_are_numbered};
+use edr_chunk::{GridPlace, GridShape, Tile, sides_are_small, tiles_are_numbered};
 use edr_edition::Store;
-use edr_select::{Frame, Framing, framing_stands};
+use edr_select::Frame;
 use std::alloc::Global;
 
 // Where the truth values of a row of a frame begin.
@@ -172,7 +173,8 @@ fn fill_tile(
 fn read_tile(
     alloc: Global,
     store: &mut Store<'_>,
-    framing: &Framing,
+    shape: GridShape,
+    frame: &Frame,
     parameter: u64,
     t: u32,
     z: u32,
@@ -181,34 +183,35 @@ fn read_tile(
     across: u32,
     values: &mut [Option<i64>],
 ) -> Result<(), OutOfMemory>
-    requires grid { framing.now.shape ≡ (grid_of store.old.subject.held).shape }
-    requires parameter { parameter < framing.now.shape.parameters }
-    requires t { t < framing.now.shape.times }
-    requires z { z < framing.now.shape.levels }
-    requires rows { HasRows framing.now.frame from to }
+    requires grid { shape ≡ (grid_of store.old.subject.held).shape }
+    requires shape { IsShape shape }
+    requires fits { count shape < 2 ^ 64 }
+    requires frame { IsFrame shape frame.now }
+    requires parameter { parameter < shape.parameters }
+    requires t { t < shape.times }
+    requires z { z < shape.levels }
+    requires rows { HasRows frame.now from to }
     requires one { to ≤ from / 64 * 64 + 64 }
-    requires low { framing.now.frame.column < across * 64 + 64 }
-    requires high { across * 64 < framing.now.frame.column + framing.now.frame.columns }
-    requires long { length values.old ≡ (to - from) * framing.now.frame.columns }
-    requires blank { (y x : ℕ) → from ≤ y → y < to → framing.now.frame.column ≤ x → x < framing.now.frame.column + framing.now.frame.columns → x / 64 ≡ across → shown framing.now.frame from values.old y x ≡ None }
+    requires low { frame.now.column < across * 64 + 64 }
+    requires high { across * 64 < frame.now.column + frame.now.columns }
+    requires long { length values.old ≡ (to - from) * frame.now.columns }
+    requires blank { (y x : ℕ) → from ≤ y → y < to → frame.now.column ≤ x → x < frame.now.column + frame.now.columns → x / 64 ≡ across → shown frame.now from values.old y x ≡ None }
     ensures long { length values.new ≡ length values.old }
-    ensures here { OnOk result ((y x : ℕ) → from ≤ y → y < to → framing.now.frame.column ≤ x → x < framing.now.frame.column + framing.now.frame.columns → x / 64 ≡ across → shown framing.now.frame from values.new y x ≡ cell_value (grid_of store.old.subject.held) parameter (cell_at framing.now.frame t z y x)) }
-    ensures other { (y x : ℕ) → from ≤ y → y < to → framing.now.frame.column ≤ x → x < framing.now.frame.column + framing.now.frame.columns → x / 64 ≢ across → shown framing.now.frame from values.new y x ≡ shown framing.now.frame from values.old y x }
-    ensures read { OnOk result (store.new.numbers ≡ store.old.numbers ++ tile_read framing.now.shape framing.now.frame parameter t z from to across) }
+    ensures here { OnOk result ((y x : ℕ) → from ≤ y → y < to → frame.now.column ≤ x → x < frame.now.column + frame.now.columns → x / 64 ≡ across → shown frame.now from values.new y x ≡ cell_value (grid_of store.old.subject.held) parameter (cell_at frame.now t z y x)) }
+    ensures other { (y x : ℕ) → from ≤ y → y < to → frame.now.column ≤ x → x < frame.now.column + frame.now.columns → x / 64 ≢ across → shown frame.now from values.new y x ≡ shown frame.now from values.old y x }
+    ensures read { OnOk result (store.new.numbers ≡ store.old.numbers ++ tile_read shape frame.now parameter t z from to across) }
     ensures unread { OnErr result (store.new.numbers ≡ store.old.numbers) }
     ensures subject { store.new.subject ≡ store.old.subject }
 {
-    framing_stands(framing);
     sides_are_small();
     tiles_are_numbered();
-    let frame = &framing.frame;
     let left = (across * 64).max(frame.column);
     let right = (across * 64 + 64).min(frame.column + frame.columns);
     if !has_taken(frame, from, to, left, right) {
         return Ok(());
     }
     let number = tile_number(
-        framing.shape,
+        shape,
         GridPlace {
             parameter,
             t,
@@ -226,7 +229,8 @@ fn read_tile(
 fn read_tiles(
     alloc: Global,
     store: &mut Store<'_>,
-    framing: &Framing,
+    shape: GridShape,
+    frame: &Frame,
     parameter: u64,
     t: u32,
     z: u32,
@@ -234,26 +238,27 @@ fn read_tiles(
     to: u32,
     values: &mut [Option<i64>],
 ) -> Result<(), OutOfMemory>
-    requires grid { framing.now.shape ≡ (grid_of store.old.subject.held).shape }
-    requires parameter { parameter < framing.now.shape.parameters }
-    requires t { t < framing.now.shape.times }
-    requires z { z < framing.now.shape.levels }
-    requires rows { HasRows framing.now.frame from to }
+    requires grid { shape ≡ (grid_of store.old.subject.held).shape }
+    requires shape { IsShape shape }
+    requires fits { count shape < 2 ^ 64 }
+    requires frame { IsFrame shape frame.now }
+    requires parameter { parameter < shape.parameters }
+    requires t { t < shape.times }
+    requires z { z < shape.levels }
+    requires rows { HasRows frame.now from to }
     requires one { to ≤ from / 64 * 64 + 64 }
-    requires long { length values.old ≡ (to - from) * framing.now.frame.columns }
+    requires long { length values.old ≡ (to - from) * frame.now.columns }
     requires blank { (k : ℕ) → k < length values.old → slice_index_or values.old k None ≡ None }
     ensures long { length values.new ≡ length values.old }
-    ensures values { OnOk result (values.new ≡ map (cell_value (grid_of store.old.subject.held) parameter) (strip_cells framing.now.frame t z from (to - from))) }
-    ensures reads { Adds result (ascending_once (tiles framing.now.shape) (tiles_of_range framing.now.shape (taken (strip_cells framing.now.frame t z from (to - from))) parameter)) store.old.numbers store.new.numbers }
+    ensures values { OnOk result (values.new ≡ map (cell_value (grid_of store.old.subject.held) parameter) (strip_cells frame.now t z from (to - from))) }
+    ensures reads { Adds result (ascending_once (tiles shape) (tiles_of_range shape (taken (strip_cells frame.now t z from (to - from))) parameter)) store.old.numbers store.new.numbers }
     ensures subject { store.new.subject ≡ store.old.subject }
 {
-    framing_stands(framing);
     sides_are_small();
     tiles_are_numbered();
-    let frame = &framing.frame;
     for across in frame.column / 64..(frame.column + frame.columns + 63) / 64 {
         read_tile(
-            alloc, store, framing, parameter, t, z, from, to, across, values,
+            alloc, store, shape, frame, parameter, t, z, from, to, across, values,
         )?;
     }
     Ok(())
@@ -264,7 +269,8 @@ fn read_tiles(
 pub(crate) fn fill_strip(
     alloc: Global,
     store: &mut Store<'_>,
-    framing: &Framing,
+    shape: GridShape,
+    frame: &Frame,
     parameter: u64,
     t: u32,
     z: u32,
@@ -272,18 +278,23 @@ pub(crate) fn fill_strip(
     to: u32,
     values: &mut Vec<Option<i64>>,
 ) -> Result<(), OutOfMemory>
-    requires grid { framing.now.shape ≡ (grid_of store.old.subject.held).shape }
-    requires parameter { parameter < framing.now.shape.parameters }
-    requires t { t < framing.now.shape.times }
-    requires z { z < framing.now.shape.levels }
-    requires rows { HasRows framing.now.frame from to }
+    requires grid { shape ≡ (grid_of store.old.subject.held).shape }
+    requires shape { IsShape shape }
+    requires fits { count shape < 2 ^ 64 }
+    requires frame { IsFrame shape frame.now }
+    requires parameter { parameter < shape.parameters }
+    requires t { t < shape.times }
+    requires z { z < shape.levels }
+    requires rows { HasRows frame.now from to }
     requires one { to ≤ from / 64 * 64 + 64 }
-    ensures values { OnOk result (values.new.items ≡ map (cell_value (grid_of store.old.subject.held) parameter) (strip_cells framing.now.frame t z from (to - from))) }
-    ensures reads { Adds result (ascending_once (tiles framing.now.shape) (tiles_of_range framing.now.shape (taken (strip_cells framing.now.frame t z from (to - from))) parameter)) store.old.numbers store.new.numbers }
+    ensures values { OnOk result (values.new.items ≡ map (cell_value (grid_of store.old.subject.held) parameter) (strip_cells frame.now t z from (to - from))) }
+    ensures reads { Adds result (ascending_once (tiles shape) (tiles_of_range shape (taken (strip_cells frame.now t z from (to - from))) parameter)) store.old.numbers store.new.numbers }
     ensures subject { store.new.subject ≡ store.old.subject }
 {
-    let count = (to - from) as usize * framing.frame.columns as usize;
+    let count = (to - from) as usize * frame.columns as usize;
     values.clear();
     values.resize(count, None)?;
-    read_tiles(alloc, store, framing, parameter, t, z, from, to, values)
+    read_tiles(
+        alloc, store, shape, frame, parameter, t, z, from, to, values,
+    )
 }

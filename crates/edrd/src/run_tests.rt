@@ -17,9 +17,10 @@ use std::thread::Threads;
 const POSITION: &[u8] =
     b"GET /collections/grid/position?coords=POINT(50%200)&datetime=2024-01-01T00:00:00.000Z&parameter-name=temp&crs=http://www.opengis.net/def/crs/EPSG/0/32633&f=CoverageJSON HTTP/1.1\r\nHost: localhost:8080\r\nUser-Agent: curl/8.5.0\r\nAccept: */*\r\n\r\n";
 
-// A line for each row of words, between bars, behind what goes wrong, `told` a write of the errors, and a number that call of
-// the files: the status, the pause of the gate, how many doors were closed, how many connections were answered, and the
-// errors, whose last line feed is left out. Two connections come through the first door, and one through the second.
+// A line for each row of words, between bars, behind what goes wrong: the status, the pause of the gate, how many doors were
+// closed, how many connections were answered, and the errors, whose last line feed is left out. `bind` are doors that refuse to
+// open, `told` is the first write of the errors, and a number that call of the files. Two connections come through the first
+// door, and one through the second.
 const RUNS: &str = "\
 nothing => 1 0 0 0 usage: edrd FEED --port P [--workers W] [--every S] [--connections C]
 nothing feed => 1 0 0 0 usage: edrd FEED --port P [--workers W] [--every S] [--connections C]
@@ -64,7 +65,7 @@ fn files(alloc: Global) -> Result<Vec<(Vec<u8>, Vec<u8>)>, OutOfMemory> {
     Ok(files)
 }
 
-// The call that fails, where it is one: of the files that with this number, and of the errors the first.
+// The one call that fails, or none.
 fn failing(alloc: Global, call: Option<u64>) -> Result<Vec<u64>, OutOfMemory> {
     let mut calls = Vec::new(alloc);
     if let Some(call) = call {

@@ -13,9 +13,10 @@ use edr_serve::{Connection, Served};
 use std::alloc::Global;
 use std::vec::IntoIter;
 
-/// A connection before and after it is served.
+/// A connection that comes.
 pub(crate) type Coming = Connection<MemorySource, HoldingSink>;
 
+/// The same once it was served.
 pub(crate) type Back = Served<MemorySource, HoldingSink>;
 
 // How many connections a door hands out where no end was asked for.

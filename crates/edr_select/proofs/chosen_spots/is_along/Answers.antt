@@ -1,7 +1,7 @@
 use Rattle.std.proofs.Common.{rules, refl, sym, ◌≡◌, ◌-◌, ◌∙◌, ap, ap₂, Bool, true, false, List, length, ℤ, w64, of_z, to_z, int_le}
 use Rattle.std.specs.Prelude.{◌&&◌}
 use Rattle.edr_axes.specs.Axes.{value_at}
-use Rattle.edr_select.proofs.Along.{along_is}
+use Rattle.edr_select.specs.AlongLaws.{along_is}
 use Rattle.edr_select.proofs.chosen_spots.is_along.Goals as goal
 
 after_true : (b d : Bool) → b ≡ true → d ≡ (b && d)

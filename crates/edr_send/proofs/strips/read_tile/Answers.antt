@@ -15,7 +15,7 @@ use Rattle.edr_send.proofs.strips.read_tile.Goals as goal
 
 pub returns-then-not-has_taken-clause-here : goal.returns-then-not-has_taken-clause-here
 returns-then-not-has_taken-clause-here c y x low high left right here =
-    let frame : FrameValue = c.args.framing.now.frame in
+    let frame : FrameValue = c.args.frame.now in
     let same_column : c.frame.inside.column ≡ frame.column = search rules in
     let same_columns : c.frame.inside.columns ≡ frame.columns = search rules in
     let none : some_taken frame c.args.from c.args.to c.max-left.result c.min-right.result ≡ false = search rules in
@@ -26,13 +26,13 @@ returns-then-not-has_taken-clause-here c y x low high left right here =
 pub tile-requires : goal.tile-requires
 tile-requires c =
     let held : Held = c.args.store.now.subject.held in
-    let shape : GridShape = c.args.framing.now.shape in
-    let frame : FrameValue = c.args.framing.now.frame in
+    let shape : GridShape = c.args.shape in
+    let frame : FrameValue = c.args.frame.now in
     let first : ℕ = c.args.across * 64 in
-    let is = c.framing_stands.ensures.is.frame in
+    let is = c.requires.frame in
     let some : some_taken frame c.args.from c.args.to c.max-left.result c.min-right.result ≡ true = search rules in
     let place = some_place frame c.args.from c.args.to c.max-left.result c.min-right.result some in
-    let same : c.framing.inside.shape ≡ shape = search rules in
+    let same : c.args.shape ≡ shape = search rules in
     let number : c.tile_number-number.result ≡ tile_across shape c.args.parameter c.args.t c.args.z c.args.from c.args.across =
     c.tile_number-number.ensures ∙ ap (λ (s : GridShape). tile_of s (at c.args.parameter c.args.t c.args.z c.args.from first)) same in
     let within : Within shape (at c.args.parameter c.args.t c.args.z c.args.from first) =
@@ -44,12 +44,12 @@ tile-requires c =
 pub fill_tile-requires-clause-lies : goal.fill_tile-requires-clause-lies
 fill_tile-requires-clause-lies c y x low high left right =
     let held : Held = c.args.store.now.subject.held in
-    let shape : GridShape = c.args.framing.now.shape in
-    let frame : FrameValue = c.args.framing.now.frame in
-    let is = c.framing_stands.ensures.is.frame in
+    let shape : GridShape = c.args.shape in
+    let frame : FrameValue = c.args.frame.now in
+    let is = c.requires.frame in
     let same_column : c.frame.inside.column ≡ frame.column = search rules in
     let same_columns : c.frame.inside.columns ≡ frame.columns = search rules in
-    let same : c.framing.inside.shape ≡ shape = search rules in
+    let same : c.args.shape ≡ shape = search rules in
     let number : c.tile_number-number.result ≡ tile_across shape c.args.parameter c.args.t c.args.z c.args.from c.args.across =
     c.tile_number-number.ensures ∙ ap (λ (s : GridShape). tile_of s (at c.args.parameter c.args.t c.args.z c.args.from (c.args.across * 64))) same in
     let tile : IsTile (grid_of held) (tile_across shape c.args.parameter c.args.t c.args.z c.args.from c.args.across) c.in_ok-tile.tile =
@@ -61,13 +61,13 @@ fill_tile-requires-clause-lies c y x low high left right =
 pub returns-clause-here : goal.returns-clause-here
 returns-clause-here c y x low high left right here =
     let held : Held = c.args.store.now.subject.held in
-    let shape : GridShape = c.args.framing.now.shape in
-    let frame : FrameValue = c.args.framing.now.frame in
-    let is = c.framing_stands.ensures.is.frame in
+    let shape : GridShape = c.args.shape in
+    let frame : FrameValue = c.args.frame.now in
+    let is = c.requires.frame in
     let same_column : c.frame.inside.column ≡ frame.column = search rules in
     let same_columns : c.frame.inside.columns ≡ frame.columns = search rules in
-    let same_frame : c.framing.inside.frame ≡ frame = search rules in
-    let same : c.framing.inside.shape ≡ shape = search rules in
+    let same_frame : c.args.frame.now ≡ frame = search rules in
+    let same : c.args.shape ≡ shape = search rules in
     let number : c.tile_number-number.result ≡ tile_across shape c.args.parameter c.args.t c.args.z c.args.from c.args.across =
     c.tile_number-number.ensures ∙ ap (λ (s : GridShape). tile_of s (at c.args.parameter c.args.t c.args.z c.args.from (c.args.across * 64))) same in
     let tile : IsTile (grid_of held) (tile_across shape c.args.parameter c.args.t c.args.z c.args.from c.args.across) c.in_ok-tile.tile =

@@ -16,8 +16,8 @@ use Rattle.edr_send.proofs.strips.read_tiles.Goals as goal
 
 pub loop-across-preserved : goal.loop-across-preserved
 loop-across-preserved c =
-    let shape : GridShape = c.args.framing.now.shape in
-    let frame : FrameValue = c.args.framing.now.frame in
+    let shape : GridShape = c.args.shape in
+    let frame : FrameValue = c.args.frame.now in
     let grid : chunk.Values = grid_of c.args.store.now.subject.held in
     let p : ℕ = c.args.parameter in
     let t : ℕ = c.args.t in
@@ -42,8 +42,8 @@ loop-across-preserved c =
 
 pub returns-in_err-read_tile-clause-reads : goal.returns-in_err-read_tile-clause-reads
 returns-in_err-read_tile-clause-reads c =
-    let shape : GridShape = c.args.framing.now.shape in
-    let frame : FrameValue = c.args.framing.now.frame in
+    let shape : GridShape = c.args.shape in
+    let frame : FrameValue = c.args.frame.now in
     let p : ℕ = c.args.parameter in
     let t : ℕ = c.args.t in
     let z : ℕ = c.args.z in
@@ -52,7 +52,7 @@ returns-in_err-read_tile-clause-reads c =
     let across : ℕ = c.loop-across.across in
     let first : ℕ = frame.column / 64 in
     let last : ℕ = (frame.column + frame.columns + 63) / 64 in
-    let is = c.framing_stands.ensures.is.frame in
+    let is = c.requires.frame in
     let same_column : c.frame.inside.column ≡ frame.column = search rules in
     let same_columns : c.frame.inside.columns ≡ frame.columns = search rules in
     let low : first ≤ across = omega (arith, same_column) in
@@ -70,7 +70,7 @@ returns-in_err-read_tile-clause-reads c =
 
 pub returns-clause-values : goal.returns-clause-values
 returns-clause-values c =
-    let frame : FrameValue = c.args.framing.now.frame in
+    let frame : FrameValue = c.args.frame.now in
     let same_column : c.frame.inside.column ≡ frame.column = search rules in
     let same_columns : c.frame.inside.columns ≡ frame.columns = search rules in
     let past : (frame.column + frame.columns + 63) / 64 ≤ c.loop-across.across = omega (arith, same_column, same_columns) in
@@ -79,8 +79,8 @@ returns-clause-values c =
 
 pub returns-clause-reads : goal.returns-clause-reads
 returns-clause-reads c =
-    let shape : GridShape = c.args.framing.now.shape in
-    let frame : FrameValue = c.args.framing.now.frame in
+    let shape : GridShape = c.args.shape in
+    let frame : FrameValue = c.args.frame.now in
     let p : ℕ = c.args.parameter in
     let t : ℕ = c.args.t in
     let z : ℕ = c.args.z in
@@ -89,7 +89,7 @@ returns-clause-reads c =
     let across : ℕ = c.loop-across.across in
     let first : ℕ = frame.column / 64 in
     let last : ℕ = (frame.column + frame.columns + 63) / 64 in
-    let is = c.framing_stands.ensures.is.frame in
+    let is = c.requires.frame in
     let same_column : c.frame.inside.column ≡ frame.column = search rules in
     let same_columns : c.frame.inside.columns ≡ frame.columns = search rules in
     let end : across ≡ last = omega (arith, same_column, same_columns) in

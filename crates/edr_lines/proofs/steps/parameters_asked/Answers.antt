@@ -1,0 +1,10 @@
+use Rattle.std.proofs.Common.{◌≡◌, [], refl, sym, ◌∙◌}
+use Rattle.edr_select.specs.Choices.{parameter_places}
+use Rattle.edr_lines.proofs.LineRefusals.{refused_without}
+use Rattle.edr_lines.proofs.steps.parameters_asked.Goals as goal
+
+pub returns-then-are_none-clause-refused : goal.returns-then-are_none-clause-refused
+returns-then-are_none-clause-refused c =
+    let none : parameter_places c.args.query.now.parameters c.args.instance.now.parameters ≡ [] =
+    sym c.in_ok-parameters.ensures.places ∙ (sym c.deref.ensures.value ∙ c.if-are_none.ensures.0 refl) in
+    c.in_ok-parameters.ensures.known ∙ (c.in_default.ensures.kept ∙ refused_without c.args.collection.now c.args.query.now c.args.instance.now c.requires none)

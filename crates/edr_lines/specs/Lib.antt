@@ -1,0 +1,9 @@
+pub mod Plans
+pub mod Taken
+pub mod Corridors
+pub mod Boxes
+pub mod Bits
+pub mod Vertices
+pub mod Routes
+pub mod Asked
+pub mod DocumentLaws

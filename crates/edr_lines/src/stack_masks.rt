@@ -1,0 +1,171 @@
+//! Which nodes of a stack a corridor takes.
+ghost use Rattle.std.specs.Prelude.{◌≡◌, ℕ, ◌<◌, ◌≤◌, ◌+◌, ◌*◌, nat_lt, true, length, IfOk, IsSome};
+ghost use Rattle.std.specs.List.{All, slice_index_or};
+ghost use Rattle.edr_base.specs.Limits.{node_limit};
+ghost use Rattle.edr_geometry.specs.Limits.{IsCoordinate};
+ghost use Rattle.edr_corridor.specs.Values.{needs_level};
+ghost use Rattle.edr_corridor.specs.Boxes.{lies_in, box_takes};
+ghost use Rattle.edr_select.specs.Listings.{NumbersRise};
+ghost use Rattle.edr_select.specs.Stacks.{plane_size, time_at, level_at};
+ghost use Rattle.edr_lines.specs.Bits.{RowFits, RowSet, BoxFits, PlaneSet, LevelsFit, LevelSet, LevelsSet, takes_below, TimesFit, TimeSet, TimesSet, time_size, DoRise, IsSmall};
+ghost use Rattle.edr_lines.specs.Boxes.{has_node, has_in_row};
+ghost use Rattle.edr_lines.specs.Corridors.{LiesAlong, takes};
+ghost use Rattle.edr_lines.specs.Taken.{counts_of, AreSidesOf, HasBits};
+
+use crate::corridors::Corridor;
+use crate::spreads::Axes;
+use edr_base::OutOfMemory;
+use edr_corridor::SegmentBox;
+use edr_geometry::RowMask;
+use edr_select::StackSides;
+use std::alloc::Global;
+
+// Sets the truth values of a row from a column on where a mask is set, whose first place stands for another column.
+fn set_row(row: &mut [bool], mask: &RowMask, first: usize, column: usize)
+    requires fits { RowFits mask.now first column (length row.old) }
+    requires few { column + length row.old ≤ node_limit }
+    ensures { RowSet mask.now first column row.old row.new }
+{
+    for place in 0..mask.len() {
+        if mask.is_set(place) {
+            row[first + place - column] = true;
+        }
+    }
+}
+
+// Sets the truth values of a row of a plane where a row of a box has a node.
+fn set_row_of(plane: &mut [bool], sides: &StackSides, taken: &SegmentBox, number: usize)
+    requires small { IsSmall sides.now }
+    requires full { length plane.old ≡ plane_size sides.now }
+    requires fits { BoxFits sides.now taken.now }
+    requires number { number < length taken.now.rows.items }
+    ensures { PlaneSet sides.now (has_in_row taken.now number) plane.old plane.new }
+{
+    let mask = &taken.rows[number];
+    if mask.first().is_none() {
+        return;
+    }
+    let columns = sides.columns as usize;
+    let start = (taken.first_row + number - sides.row as usize) * columns;
+    let row = &mut plane[start..start + columns];
+    set_row(row, mask, taken.first_column, sides.column as usize);
+}
+
+// Sets the truth values of a plane where a box has a node.
+fn set_plane(plane: &mut [bool], sides: &StackSides, taken: &SegmentBox)
+    requires small { IsSmall sides.now }
+    requires full { length plane.old ≡ plane_size sides.now }
+    requires fits { BoxFits sides.now taken.now }
+    ensures { PlaneSet sides.now (has_node taken.now) plane.old plane.new }
+{
+    for number in 0..taken.rows.len() {
+        set_row_of(plane, sides, taken, number);
+    }
+}
+
+// How many places are before another. They come first.
+fn count_before(places: &[u64], bound: usize) -> usize
+    requires { NumbersRise places.now }
+    ensures inside { result ≤ length places.now }
+    ensures before { (k : ℕ) → k < length places.now → nat_lt (slice_index_or places.now k 0) bound ≡ nat_lt k result }
+{
+    places.partition_point(|place| *place < bound as u64)
+}
+
+// The numbers of the places that lie in a range: the first, and the one behind the last.
+fn numbers_in(places: &[u64], range: (usize, usize)) -> (usize, usize)
+    requires { NumbersRise places.now }
+    ensures inside { result.1 ≤ length places.now }
+    ensures lie { (k : ℕ) → k < length places.now → lies_in result k ≡ lies_in range (slice_index_or places.now k 0) }
+{
+    (count_before(places, range.0), count_before(places, range.1))
+}
+
+// Sets the truth values of a plane of one time where a box takes a node.
+fn set_level(planes: &mut [bool], sides: &StackSides, taken: &SegmentBox, number: usize)
+    requires small { IsSmall sides.now }
+    requires full { length planes.old ≡ length sides.now.levels * plane_size sides.now }
+    requires fit { LevelsFit sides.now taken.now }
+    requires number { number < length sides.now.levels }
+    requires lies { lies_in taken.now.levels (level_at sides.now number) ≡ true }
+    ensures { LevelSet sides.now (takes_below taken.now) number planes.old planes.new }
+{
+    let size = sides.rows as usize * sides.columns as usize;
+    let start = number * size;
+    let plane = &mut planes[start..start + size];
+    set_plane(plane, sides, taken);
+}
+
+// Sets the truth values of the planes of one time where a box takes a node, level by level.
+fn set_levels(planes: &mut [bool], sides: &StackSides, taken: &SegmentBox)
+    requires rise { DoRise sides.now }
+    requires small { IsSmall sides.now }
+    requires full { length planes.old ≡ length sides.now.levels * plane_size sides.now }
+    requires fit { LevelsFit sides.now taken.now }
+    ensures { LevelsSet sides.now (takes_below taken.now) planes.old planes.new }
+{
+    let (first, end) = numbers_in(sides.levels.items(), taken.levels);
+    for number in first..end {
+        set_level(planes, sides, taken, number);
+    }
+}
+
+// Sets the truth values of the planes of a time of a stack where a box takes a node.
+fn set_time(mask: &mut [bool], sides: &StackSides, taken: &SegmentBox, number: usize)
+    requires rise { DoRise sides.now }
+    requires small { IsSmall sides.now }
+    requires full { length mask.old ≡ length sides.now.times * time_size sides.now }
+    requires fit { TimesFit sides.now taken.now }
+    requires number { number < length sides.now.times }
+    requires lies { lies_in taken.now.times (time_at sides.now number) ≡ true }
+    ensures { TimeSet sides.now (box_takes taken.now) number mask.old mask.new }
+{
+    let size = sides.levels.items().len() * (sides.rows as usize * sides.columns as usize);
+    let start = number * size;
+    let planes = &mut mask[start..start + size];
+    set_levels(planes, sides, taken);
+}
+
+// Sets the truth values of a stack where a box takes a node, time by time.
+fn set_times(mask: &mut [bool], sides: &StackSides, taken: &SegmentBox)
+    requires rise { DoRise sides.now }
+    requires small { IsSmall sides.now }
+    requires full { length mask.old ≡ length sides.now.times * time_size sides.now }
+    requires fit { TimesFit sides.now taken.now }
+    ensures { TimesSet sides.now (box_takes taken.now) mask.old mask.new }
+{
+    let (first, end) = numbers_in(sides.times.items(), taken.times);
+    for number in first..end {
+        set_time(mask, sides, taken, number);
+    }
+}
+
+// For each node of a stack whether a corridor takes it, in the order t, z, y, x.
+pub(crate) fn mask_of(
+    alloc: Global,
+    corridor: &Corridor<'_>,
+    axes: &Axes<'_>,
+    sides: &StackSides,
+) -> Result<Vec<bool>, OutOfMemory>
+    requires along { LiesAlong axes.now corridor.now }
+    requires levels { needs_level corridor.now.segments ≡ true → IsSome axes.now.zs }
+    requires ys_in { All IsCoordinate axes.now.ys }
+    requires xs_in { All IsCoordinate axes.now.xs }
+    requires sides { AreSidesOf (counts_of axes.now) (takes corridor.now axes.now) sides.now }
+    requires small { IsSmall sides.now }
+    ensures { IfOk result (λ mask. HasBits (takes corridor.now axes.now) (record { sides = sides.now; mask = mask.items })) }
+{
+    let planes = sides.times.items().len() * sides.levels.items().len();
+    let mut mask = Vec::new(alloc);
+    mask.resize(
+        planes * (sides.rows as usize * sides.columns as usize),
+        false,
+    )?;
+    for number in 0..corridor.segments.len() {
+        let taken = corridor
+            .segments
+            .box_of(alloc, number, axes.ts, axes.zs, axes.ys, axes.xs)?;
+        set_times(&mut mask, sides, &taken);
+    }
+    Ok(mask)
+}

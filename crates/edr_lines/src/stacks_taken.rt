@@ -1,0 +1,89 @@
+//! Stacks of what corridors take.
+ghost use Rattle.std.specs.Prelude.{◌≡◌, ◌<◌, ◌≤◌, ◌+◌, ◌-◌, true, false, length, IfOk, IsSome, MatchOption};
+ghost use Rattle.std.specs.List.{All, filter, range_with_len, slice_index_or};
+ghost use Rattle.edr_base.specs.Limits.{node_limit};
+ghost use Rattle.edr_geometry.specs.Limits.{IsCoordinate};
+ghost use Rattle.edr_corridor.specs.Values.{needs_level};
+ghost use Rattle.edr_lines.specs.Taken.{counts_of, NoneTaken, AreSidesOf, HasBits};
+ghost use Rattle.edr_lines.specs.Corridors.{LiesAlong, takes};
+ghost use Rattle.edr_lines.specs.Bits.{IsSmall};
+ghost use Rattle.edr_lines.specs.Plans.{IsFew};
+
+use crate::corridors::Corridor;
+use crate::spreads::{Axes, Extent, spread_of};
+use crate::stack_masks::mask_of;
+use edr_base::{Items, OutOfMemory};
+use edr_select::{Stack, StackSides, keep};
+use std::alloc::Global;
+
+// The places that are set.
+fn places_set(alloc: Global, set: &[bool]) -> Result<Vec<u64>, OutOfMemory>
+    ensures { IfOk result (λ places. places.items ≡ filter (λ k. slice_index_or set.now k false) (range_with_len 0 (length set.now))) }
+{
+    let mut places = Vec::new(alloc);
+    for place in 0..set.len() {
+        keep(&mut places, place as u64, set[place])?;
+    }
+    Ok(places)
+}
+
+// The sides of an extent at some times and levels.
+fn sides_over(times: Vec<u64>, levels: Vec<u64>, extent: Extent) -> StackSides
+    requires rows { (extent.top ≤ extent.bottom) × (extent.bottom < node_limit) }
+    requires columns { (extent.left ≤ extent.right) × (extent.right < node_limit) }
+    ensures { result ≡ record { times = times.items; levels = levels.items; row = extent.top; rows = extent.bottom + 1 - extent.top; column = extent.left; columns = extent.right + 1 - extent.left } }
+{
+    StackSides {
+        times: Items::of(times),
+        levels: Items::of(levels),
+        row: extent.top as u32,
+        rows: (extent.bottom + 1 - extent.top) as u32,
+        column: extent.left as u32,
+        columns: (extent.right + 1 - extent.left) as u32,
+    }
+}
+
+/// The times and levels that occur in what a corridor takes, and the least box of its nodes, or None where it takes none.
+pub fn sides_taken(
+    alloc: Global,
+    corridor: &Corridor<'_>,
+    axes: &Axes<'_>,
+) -> Result<Option<StackSides>, OutOfMemory>
+    requires few { IsFew axes.now }
+    requires along { LiesAlong axes.now corridor.now }
+    requires levels { needs_level corridor.now.segments ≡ true → IsSome axes.now.zs }
+    requires ys_in { All IsCoordinate axes.now.ys }
+    requires xs_in { All IsCoordinate axes.now.xs }
+    ensures { IfOk result (λ found. MatchOption found (NoneTaken (counts_of axes.now) (takes corridor.now axes.now)) (AreSidesOf (counts_of axes.now) (takes corridor.now axes.now))) }
+{
+    let spread = spread_of(alloc, corridor, axes)?;
+    let Some(extent) = spread.extent else {
+        return Ok(None);
+    };
+    let times = places_set(alloc, &spread.times)?;
+    let levels = places_set(alloc, &spread.levels)?;
+    Ok(Some(sides_over(times, levels, extent)))
+}
+
+/// The stack of what a corridor takes, of which the sides are known.
+pub fn stack_with(
+    alloc: Global,
+    corridor: &Corridor<'_>,
+    axes: &Axes<'_>,
+    sides: StackSides,
+) -> Result<Stack, OutOfMemory>
+    requires along { LiesAlong axes.now corridor.now }
+    requires levels { needs_level corridor.now.segments ≡ true → IsSome axes.now.zs }
+    requires ys_in { All IsCoordinate axes.now.ys }
+    requires xs_in { All IsCoordinate axes.now.xs }
+    requires sides { AreSidesOf (counts_of axes.now) (takes corridor.now axes.now) sides }
+    requires small { IsSmall sides }
+    ensures sides { IfOk result (λ stack. stack.sides ≡ sides) }
+    ensures bits { IfOk result (HasBits (takes corridor.now axes.now)) }
+{
+    let mask = mask_of(alloc, corridor, axes, &sides)?;
+    Ok(Stack {
+        sides,
+        mask: Items::of(mask),
+    })
+}

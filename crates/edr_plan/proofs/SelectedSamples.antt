@@ -1,0 +1,134 @@
+-- What a query picks of stations, by the places of stations, parameters, times and levels.
+use Rattle.std.proofs.Common.{◌≡◌, ◌≢◌, ℕ, ◌+◌, ◌<◌, Bool, true, false, List, [], ◌∷◌, length, refl, ap, ap₂, sym, ◌∙◌, subst, arith, ℤ, Some, None, All}
+use Rattle.std.specs.declared.option.Option.{Option}
+use Rattle.std.specs.Prelude.{map, ◌&&◌, option_map, unwrap_or, bytes_eq, IfSome}
+use Rattle.std.specs.Ordering.{int_eq}
+use Rattle.std.specs.List.{filter, flat_map, list_any, range_with_len, slice_index_or}
+use Rattle.std.proofs.lemmas.Bool.{false≢true, false_from_ne_true, and_parts, and_from}
+use Rattle.std.proofs.lemmas.Bool.Decides.{Decides-int_eq}
+use Rattle.std.proofs.lemmas.Slice.Eq.{bytes_eq-Decides}
+use Rattle.edr_axes.specs.Axes.{value_at, IsAscending}
+use Rattle.edr_axes.specs.AxisLaws.{ascending_once}
+use Rattle.covjson_value.specs.declared.coverages.Parameter.{Parameter}
+use Rattle.covjson_value.specs.Coverages.{AscendById}
+use Rattle.covjson_value.specs.Samples.{same_where_given, is_of}
+use Rattle.edr_ids.specs.Ids.{AscendBy}
+use Rattle.edr_station.specs.Stations.{StationValue, IsStation, IsAxisWithin, IsCoordinate, levels_along, station_id, station_at, nowhere}
+use Rattle.edr_edition.specs.Stores.{of_stations, Subject}
+use Rattle.edr_query.specs.Values.{QueryValue}
+use Rattle.edr_select.specs.Samples.{Stored, id_at, samples_of}
+use Rattle.edr_select.specs.Wanted.{is_station}
+use Rattle.edr_select.specs.Selections.{is_asked, wants, picked}
+use Rattle.edr_select.specs.Heads.{of_station, is_some_stored, times_in, levels_in}
+use Rattle.edr_select.specs.Documents.{same_station, value_in}
+use Rattle.edr_select.specs.Choices.{level_at, parameter_places}
+use Rattle.edr_select.specs.Series.{series_value}
+use Rattle.edr_select.specs.ListLaws.{any-filter, any-map, any-flat_map, passes_at, any_range, Each, each-filter, each-map_range, each-flat_map_range, find_each, find_none, both, some_member}
+use Rattle.edr_select.specs.KeptLaws.{kept_agree, kept_below, kept_passes, filter_by_places}
+use Rattle.edr_plan.specs.StationPlaces.{cell_of, stored_in}
+use Rattle.edr_plan.proofs.StationSamples.{levels_are_axis, samples_by_places}
+use Rattle.edr_plan.proofs.StationPicks.{one_station, is_there, itself, same_place}
+
+-- a station, a parameter, a time and a level that there are
+pub record IsPlace (ps : List Parameter) (ss : List StationValue) (k p t z : ℕ) : Type 0 where
+  pub station : k < length ss
+  pub parameter : p < length ps
+  pub time : t < length (station_at ss k).ts
+  pub level : z < levels_along (station_at ss k).zs
+
+-- a picked sample that passes
+pub record Wanted (s : Subject) (q : QueryValue) (ps : List Parameter) (ss : List StationValue) (u : Stored → Bool) : Type 0 where
+  pub station : ℕ
+  pub parameter : ℕ
+  pub time : ℕ
+  pub level : ℕ
+  pub place : IsPlace ps ss station parameter time level
+  pub wanted : wants s q (stored_in ps ss station parameter time level) ≡ true
+  pub passes : u (stored_in ps ss station parameter time level) ≡ true
+
+pub some_stored : (xs : List Stored) → is_some_stored xs ≡ list_any (λ x. true) xs
+some_stored [] = refl
+some_stored (x ∷ xs) = refl
+
+module _ (s : Subject) (q : QueryValue) (ps : List Parameter) (ss : List StationValue) (held : s.held ≡ of_stations ps ss) (are : All (IsStation (length ps)) ss) where
+  abbrev picks : List Stored
+  picks = picked s q
+
+  abbrev levels_of : ℕ → List ℕ
+  levels_of k = range_with_len 0 (levels_along (station_at ss k).zs)
+
+  abbrev times_of : ℕ → List ℕ
+  times_of k = range_with_len 0 (length (station_at ss k).ts)
+
+  abbrev samples : List Stored
+  samples = flat_map (λ k. flat_map (λ p. flat_map (λ t. map (stored_in ps ss k p t) (levels_of k)) (times_of k)) (range_with_len 0 (length ps))) (range_with_len 0 (length ss))
+
+  picks_are : picks ≡ filter (wants s q) samples
+  picks_are = ap (filter (wants s q)) (ap samples_of held ∙ samples_by_places ps ss are)
+
+  -- some sample passes: of a parameter and a time, of a parameter, of a station, and of all
+  abbrev any_level : (Stored → Bool) → ℕ → ℕ → ℕ → Bool
+  any_level u k p t = list_any (λ z. u (stored_in ps ss k p t z)) (levels_of k)
+
+  abbrev any_time : (Stored → Bool) → ℕ → ℕ → Bool
+  any_time u k p = list_any (any_level u k p) (times_of k)
+
+  abbrev any_parameter : (Stored → Bool) → ℕ → Bool
+  any_parameter u k = list_any (any_time u k) (range_with_len 0 (length ps))
+
+  abbrev any_station : (Stored → Bool) → Bool
+  any_station u = list_any (any_parameter u) (range_with_len 0 (length ss))
+
+  any_sample : (u : Stored → Bool) → list_any u samples ≡ any_station u
+  any_sample u = simp (any-flat_map, any-map)
+
+  abbrev wanted : (Stored → Bool) → Stored → Bool
+  wanted u x = wants s q x && u x
+
+  any_pick : (u : Stored → Bool) → list_any u picks ≡ any_station (wanted u)
+  any_pick u = ap (list_any u) picks_are ∙ (any-filter u (wants s q) samples ∙ any_sample (wanted u))
+
+  -- a picked sample that passes is one of some places
+  pub wanted_found : (u : Stored → Bool) → list_any u picks ≡ true → Wanted s q ps ss u
+  wanted_found u h =
+      let fk = passes_at (any_parameter (wanted u)) 0 (length ss) (sym (any_pick u) ∙ h) in
+      let k : ℕ = fk.place in
+      let fp = passes_at (any_time (wanted u) k) 0 (length ps) fk.passes in
+      let p : ℕ = fp.place in
+      let ft = passes_at (any_level (wanted u) k p) 0 (length (station_at ss k).ts) fp.passes in
+      let t : ℕ = ft.place in
+      let fz = passes_at (λ (z : ℕ). wanted u (stored_in ps ss k p t z)) 0 (levels_along (station_at ss k).zs) ft.passes in
+      let parts = and_parts (wants s q (stored_in ps ss k p t fz.place)) (u (stored_in ps ss k p t fz.place)) fz.passes in
+      record {
+        station = k;
+        parameter = p;
+        time = t;
+        level = fz.place;
+        place = record {
+          station = omega (arith, fk.high);
+          parameter = omega (arith, fp.high);
+          time = omega (arith, ft.high);
+          level = omega (arith, fz.high);
+        };
+        wanted = parts.0;
+        passes = parts.1;
+      }
+
+  pub found_wanted : (u : Stored → Bool) (k p t z : ℕ) → IsPlace ps ss k p t z → wants s q (stored_in ps ss k p t z) ≡ true → u (stored_in ps ss k p t z) ≡ true
+      → list_any u picks ≡ true
+  found_wanted u k p t z at wanted_here passes =
+      any_pick u
+      ∙ any_range (any_parameter (wanted u)) 0 (length ss) k (omega arith) (omega (arith, at.station))
+      (any_range (any_time (wanted u) k) 0 (length ps) p (omega arith) (omega (arith, at.parameter))
+      (any_range (any_level (wanted u) k p) 0 (length (station_at ss k).ts) t (omega arith) (omega (arith, at.time))
+      (any_range (λ z. wanted u (stored_in ps ss k p t z)) 0 (levels_along (station_at ss k).zs) z (omega arith) (omega (arith, at.level))
+      (and_from _ _ wanted_here passes))))
+
+  -- what holds of each sample holds of each that is picked
+  pub each_pick : (P : Stored → Type 0) → ((k p t z : ℕ) → IsPlace ps ss k p t z → P (stored_in ps ss k p t z)) → Each P picks
+  each_pick P h =
+      subst (λ (xs : List Stored). Each P xs) (sym picks_are)
+      (each-filter P (wants s q) samples
+      (each-flat_map_range P _ 0 (length ss) (λ k lk hk. each-flat_map_range P _ 0 (length ps) (λ p lp hp.
+      each-flat_map_range P _ 0 (length (station_at ss k).ts) (λ t lt ht. each-map_range P (stored_in ps ss k p t) 0 (levels_along (station_at ss k).zs) (λ z lz hz.
+      h k p t z (record { station = omega (arith, hk); parameter = omega (arith, hp); time = omega (arith, ht); level = omega (arith, hz) })))))))

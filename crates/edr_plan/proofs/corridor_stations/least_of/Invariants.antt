@@ -1,0 +1,10 @@
+use Rattle.std.proofs.Common.{All, take}
+use Rattle.edr_geometry.specs.Limits.{IsSpot}
+use Rattle.edr_plan.specs.CorridorPlans.{IsBefore}
+use Rattle.edr_plan.proofs.corridor_stations.least_of.Given as goal
+
+abbrev pub invariant-loop-position : goal.invariant-loop-position
+invariant-loop-position l = record {
+  spot : IsSpot l.least;
+  before : All (IsBefore l.least) (take l.position-index l.line);
+}

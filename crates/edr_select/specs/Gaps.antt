@@ -1,0 +1,95 @@
+-- Coverages of stations, whose values are read from places of their series, or from none: series with gaps.
+use Rattle.std.specs.Prelude.{◌≡◌, ℕ, ◌+◌, ◌-◌, ◌*◌, ◌/◌, ◌<◌, ◌≤◌, ℤ, List, [], length, map, All, Option, None, Some, option_to_list}
+use Rattle.std.specs.List.{flat_map, slice_index_or}
+use Rattle.covjson_value.specs.declared.coverages.NdArray.{NdArray}
+use Rattle.covjson_value.specs.declared.coverages.Coverage.{Coverage}
+use Rattle.covjson_value.specs.declared.coverages.Document.{Document}
+use Rattle.covjson_value.specs.declared.coverages.Document.TheVariants.{Many}
+use Rattle.covjson_value.specs.Domains.{count_of}
+use Rattle.covjson_write.specs.Writers.{IsHead, with_ranges}
+use Rattle.edr_station.specs.Stations.{StationValue, StationsValue, values_along, station_at}
+use Rattle.edr_station.specs.Blocks.{blocks_of, first_block}
+use Rattle.edr_select.specs.Listings.{NumbersRise}
+use Rattle.edr_select.specs.Series.{series_value}
+
+-- a coverage of the reply: all of it but its ranges, the place of its station, the number of the station's first block and how
+-- many each parameter has, and for each value of a range its place among the station's values of a parameter, in the order t, z,
+-- or none where it isn't taken
+pub record GappedSeriesValue : Type 0 where
+  pub head : Coverage
+  pub station : ℕ
+  pub first : ℕ
+  pub blocks : ℕ
+  pub cells : List (Option ℕ)
+
+-- a collection of coverages
+pub record GappedReplyValue : Type 0 where
+  pub parameters : List ℕ  -- the places of the parameters that are asked
+  pub series : List GappedSeriesValue
+
+-- ---- the document that it gives over stations
+
+-- the value at a place among a station's values of a parameter, and none at no place
+abbrev pub gapped_value : StationValue → ℕ → Option ℕ → Option ℤ
+gapped_value s parameter None = None
+gapped_value s parameter (Some cell) = series_value s parameter cell
+
+abbrev pub gapped_range : StationValue → List (Option ℕ) → ℕ → NdArray
+gapped_range s cells parameter = record { values = map (gapped_value s parameter) cells }
+
+abbrev pub gapped_coverage : List StationValue → List ℕ → GappedSeriesValue → Coverage
+gapped_coverage stations parameters series = with_ranges series.head (map (gapped_range (station_at stations series.station) series.cells) parameters)
+
+abbrev pub gapped_document : List StationValue → GappedReplyValue → Document
+gapped_document stations reply = Many (map (gapped_coverage stations reply.parameters) reply.series)
+
+-- ---- the blocks of the values that are taken, in the order of the text
+
+-- the places that are taken
+abbrev pub cells_taken : List (Option ℕ) → List ℕ
+cells_taken cells = flat_map option_to_list cells
+
+abbrev pub block_at : GappedSeriesValue → ℕ → ℕ → ℕ
+block_at series parameter cell = series.first + parameter * series.blocks + cell / 256
+
+abbrev pub blocks_of_range : GappedSeriesValue → ℕ → List ℕ
+blocks_of_range series parameter = map (block_at series parameter) (cells_taken series.cells)
+
+abbrev pub blocks_of_coverage : List ℕ → GappedSeriesValue → List ℕ
+blocks_of_coverage parameters series = flat_map (blocks_of_range series) parameters
+
+abbrev pub blocks_of_series : List ℕ → List GappedSeriesValue → List ℕ
+blocks_of_series parameters series = flat_map (blocks_of_coverage parameters) series
+
+abbrev pub gapped_blocks : GappedReplyValue → List ℕ
+gapped_blocks reply = blocks_of_series reply.parameters reply.series
+
+-- ---- every such reply
+
+abbrev pub place_of : GappedSeriesValue → ℕ
+place_of series = series.station
+
+-- the places rise, by one at least for each cell, be it taken or not
+abbrev pub RiseApart : List (Option ℕ) → Type 0
+RiseApart cells = (i j one other : ℕ) → i < j → j < length cells → slice_index_or cells i None ≡ Some one → slice_index_or cells j None ≡ Some other → one + (j - i) ≤ other
+
+-- a coverage that is planned for some parameters: all but its ranges is valid, it has none of these, and it has a place or none
+-- for each value
+pub record IsGapped (parameters : List ℕ) (series : GappedSeriesValue) : Type 0 where
+  pub head : IsHead series.head
+  pub bare : series.head.ranges ≡ []
+  pub as_many : length series.head.parameters ≡ length parameters
+  pub count : count_of series.head.domain ≡ length series.cells
+  pub rise : RiseApart series.cells
+
+pub record IsGappedReply (reply : GappedReplyValue) : Type 0 where
+  pub parameters : NumbersRise reply.parameters
+  pub series : All (IsGapped reply.parameters) reply.series
+  pub rise : NumbersRise (map place_of reply.series)
+
+-- a coverage is of a station of a collection: its blocks are that station's, and its cells stand among its values
+pub record IsOfStation (collection : StationsValue) (series : GappedSeriesValue) : Type 0 where
+  pub station : series.station < length collection.stations
+  pub first : series.first ≡ first_block collection series.station
+  pub blocks : series.blocks ≡ blocks_of (station_at collection.stations series.station)
+  pub cells : All (λ cell. cell < values_along (station_at collection.stations series.station)) (cells_taken series.cells)

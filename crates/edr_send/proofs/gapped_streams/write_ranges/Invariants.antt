@@ -1,0 +1,27 @@
+use Rattle.std.proofs.Common.{◌≡◌, ◌<◌, ◌++◌, length, take, drop}
+use Rattle.std.specs.Prelude.{map}
+use Rattle.std.specs.List.{flat_map}
+use Rattle.edr_base.specs.Calls.{SinkLent}
+use Rattle.covjson_write.specs.declared.stages.Stage.TheVariants.{Ready, Within}
+use Rattle.covjson_write.specs.Pieces.{ranges_from}
+use Rattle.edr_select.specs.Samples.{ascending_once}
+use Rattle.edr_select.specs.Gaps.{gapped_range, blocks_of_range}
+use Rattle.edr_send.specs.Gathered.{AllBut}
+use Rattle.edr_send.specs.SeriesTexts.{collection_of, blocks_in}
+use Rattle.edr_send.specs.GapTexts.{station_of}
+use Rattle.edr_send.proofs.gapped_streams.write_ranges.Given as goal
+
+abbrev pub invariant-loop-number : goal.invariant-loop-number
+invariant-loop-number g l = record {
+  many : l.writer.many ≡ l.fn.writer.many;
+  begun : l.writer.begun ≡ l.fn.writer.begun;
+  head : l.writer.head ≡ l.fn.writer.head;
+  ranges : l.writer.ranges ≡ l.number;
+  within : l.number < length l.parameters → l.writer.stage ≡ Within;
+  ready : l.number ≡ length l.parameters → l.writer.stage ≡ Ready;
+  subject : l.store.subject ≡ l.fn.store.subject;
+  text : AllBut (ranges_from l.fn.writer.head l.number (map (gapped_range (station_of (collection_of l.fn.store.subject.held) l.series) l.series.cells) (drop l.number l.parameters)))
+      (ranges_from l.fn.writer.head 0 (map (gapped_range (station_of (collection_of l.fn.store.subject.held) l.series) l.series.cells) l.parameters)) (g.K.Sink.written l.fn.sink) (g.K.Sink.written l.sink);
+  reads : l.store.numbers ≡ l.fn.store.numbers ++ ascending_once (blocks_in (collection_of l.fn.store.subject.held)) (flat_map (blocks_of_range l.series) (take l.number l.parameters));
+  lent : SinkLent (g.K.Sink.beside l.fn.sink) (g.K.Sink.beside l.sink) (g.K.Faults.faults l.fn.sink) (g.K.Faults.faults l.sink);
+}
