@@ -27,7 +27,7 @@ use Rattle.edr_select.specs.ListLaws.{Member, some_member}
 use Rattle.edr_select.specs.GridLaws.{IsGrid}
 use Rattle.edr_select.specs.ReplyLaws.{stacked_valid}
 use Rattle.edr_lines.specs.Corridors as corridors
-use Rattle.edr_lines.specs.Corridors.{CorridorValue, IsCorridorOf}
+use Rattle.edr_lines.specs.Corridors.{CorridorValue}
 use Rattle.edr_lines.specs.Plans.{axes_of, domain_over, stacked_count}
 use Rattle.edr_lines.specs.Taken.{Counts, counts_of, NodeTest, NoneTaken, AreSidesOf, HasBits}
 use Rattle.edr_lines.proofs.LineGrids.{grid_from}

@@ -20,7 +20,7 @@ use Rattle.edr_query.specs.declared.shapes.Shape.{Shape}
 use Rattle.edr_query.specs.declared.shapes.Shape.TheVariants as at
 use Rattle.edr_query.specs.Values.{QueryValue}
 use Rattle.edr_query.specs.Queries.{IsQuery}
-use Rattle.edr_select.specs.Refusals.{Applies, applies_if, applies_if_found, applies_in, applies_to_subject, is_answered, is_of_grids, refused, IsRefusedLeast, RefusalIsLeast}
+use Rattle.edr_select.specs.Refusals.{Applies, applies_if, applies_if_found, applies_in, applies_to_subject, is_of_grids, offers, offers_shape, IsRefusedLeast, RefusalIsLeast}
 use Rattle.edr_select.specs.Selections.{picked}
 use Rattle.edr_select.specs.Heads.{is_some_stored}
 use Rattle.edr_select.specs.Documents.{document}
@@ -56,25 +56,31 @@ abbrev IsAnswered : Kind → Shape → Type 0
 IsAnswered Grid shape = IsOfGrids shape
 IsAnswered Station shape = IsAmongStations shape
 
+offered_of_grids : (shape : Shape) → ¬ (not (offers_shape Grid shape) ≡ true) → IsOfGrids shape
+offered_of_grids (at.Position geometry) n = tt
+offered_of_grids (at.Radius geometry within) n = tt
+offered_of_grids (at.Area geometry) n = tt
+offered_of_grids (at.Cube lo hi levels) n = tt
+offered_of_grids (at.Trajectory geometry) n = tt
+offered_of_grids (at.Corridor geometry width height) n = tt
+offered_of_grids (at.Location id) n = absurd (n refl)
+
 not_both : (b : Bool) → not (b && false) ≡ true
 not_both true = refl
 not_both false = refl
 
-answered : (kind : Kind) (shape : Shape) (b : Bool) → ¬ (not (b && is_answered kind shape) ≡ true) → IsAnswered kind shape
-answered Grid (at.Position geometry) b n = tt
-answered Grid (at.Radius geometry within) b n = tt
-answered Grid (at.Area geometry) b n = tt
-answered Grid (at.Cube lo hi levels) b n = tt
-answered Grid (at.Trajectory geometry) b n = tt
-answered Grid (at.Corridor geometry width height) b n = tt
-answered Grid (at.Location id) b n = absurd (n (not_both b))
-answered Station (at.Position geometry) b n = absurd (n (not_both b))
-answered Station (at.Radius geometry within) b n = tt
-answered Station (at.Area geometry) b n = tt
-answered Station (at.Cube lo hi levels) b n = tt
-answered Station (at.Trajectory geometry) b n = absurd (n (not_both b))
-answered Station (at.Corridor geometry width height) b n = tt
-answered Station (at.Location id) b n = tt
+offered_of_stations : (shape : Shape) (b : Bool) → ¬ (not (b && offers_shape Station shape) ≡ true) → IsAmongStations shape
+offered_of_stations (at.Position geometry) b n = absurd (n (not_both b))
+offered_of_stations (at.Radius geometry within) b n = tt
+offered_of_stations (at.Area geometry) b n = tt
+offered_of_stations (at.Cube lo hi levels) b n = tt
+offered_of_stations (at.Trajectory geometry) b n = absurd (n (not_both b))
+offered_of_stations (at.Corridor geometry width height) b n = tt
+offered_of_stations (at.Location id) b n = tt
+
+answered : (kind : Kind) (q : QueryValue) → ¬ (not (offers kind (Ask q)) ≡ true) → IsAnswered kind q.shape
+answered Grid q n = offered_of_grids q.shape n
+answered Station q n = offered_of_stations q.shape (is_none q.instance) n
 
 instance_at : (kind : Kind) (o : Option InstanceValue) → kind ≡ Grid → ¬ (is_of_grids kind && is_none o ≡ true) → Is o
 instance_at Grid None e n = absurd (n refl)
@@ -96,7 +102,7 @@ module _ (of_grids : GridDocumentsAreValid) (of_lines : LineDocumentsAreValid) (
   refused_here refusal = in_found q refusal (item_of collection_id q.collection e.collections) c found (none_applies refusal)
 
   answers : IsAnswered c.kind q.shape
-  answers = answered c.kind q.shape _ (refused_here QueryNotOffered)
+  answers = answered c.kind q (refused_here QueryNotOffered)
 
   -- something is picked of what it is asked of
   some_of : (s : Subject) → subject_in q.instance c ≡ Some s → is_some_stored (picked s q) ≡ true

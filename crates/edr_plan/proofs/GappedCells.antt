@@ -1,6 +1,6 @@
 -- The places among a station's values that a corridor takes: they lie among these, stand apart, and with those that it doesn't take they are
 -- as many as the times and levels.
-use Rattle.std.proofs.Common.{◌≡◌, ◌≢◌, ℕ, zero, suc, ◌+◌, ◌-◌, ◌*◌, ◌<◌, ◌≤◌, Bool, true, false, List, [], ◌∷◌, ◌++◌, length, get_or, All, refl, ap, ap₂, sym, ◌∙◌, subst, arith, inl, inr, Contains}
+use Rattle.std.proofs.Common.{◌≡◌, ℕ, zero, suc, ◌+◌, ◌-◌, ◌*◌, ◌<◌, ◌≤◌, Bool, true, false, List, [], ◌∷◌, ◌++◌, length, get_or, All, refl, sym, ◌∙◌, subst, arith, inl, inr, Contains}
 use Rattle.std.specs.declared.option.Option.{Option}
 use Rattle.std.specs.Prelude.{⊤, map, ◌&&◌, ◌||◌, None, Some, option_to_list}
 use Rattle.std.specs.List.{filter, flat_map, list_any, range_with_len}

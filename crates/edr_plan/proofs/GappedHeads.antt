@@ -1,9 +1,8 @@
 -- The heads of the coverages of a corridor of stations, by the stations' places.
-use Rattle.std.proofs.Common.{◌≡◌, ◌≢◌, ℕ, ◌+◌, ◌<◌, Bool, true, List, [], length, refl, ap, ap₂, sym, ◌∙◌, arith, Some, ℤ, Contains}
+use Rattle.std.proofs.Common.{◌≡◌, ◌≢◌, ℕ, ◌<◌, List, [], length, refl, ap, ap₂, ◌∙◌, arith, Some, ℤ}
 use Rattle.std.specs.declared.option.Option.{Option}
-use Rattle.std.specs.Prelude.{map, option_map, ◌&&◌}
+use Rattle.std.specs.Prelude.{map, ◌&&◌}
 use Rattle.std.specs.List.{filter, range_with_len}
-use Rattle.edr_axes.specs.Axes.{value_at}
 use Rattle.covjson_value.specs.declared.coverages.Parameter.{Parameter}
 use Rattle.covjson_value.specs.declared.domains.Domain.{Domain}
 use Rattle.edr_station.specs.Stations.{StationValue, station_at}
@@ -16,7 +15,7 @@ use Rattle.edr_query.specs.Values.{QueryValue}
 use Rattle.edr_select.specs.Samples.{Stored, id_at}
 use Rattle.edr_select.specs.Selections.{is_asked, takes, picked}
 use Rattle.edr_select.specs.Heads as heads
-use Rattle.edr_select.specs.Heads.{Head, times_in, levels_in, of_station, domain_at, is_some_stored, heads_of_stations}
+use Rattle.edr_select.specs.Heads.{Head, of_station, domain_at, is_some_stored, heads_of_stations}
 use Rattle.edr_select.specs.Choices.{parameter_places}
 use Rattle.edr_select.specs.Checks.{stations_in}
 use Rattle.edr_select.specs.ListLaws.{map-map, map_agree_in}

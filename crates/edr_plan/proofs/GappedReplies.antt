@@ -1,9 +1,9 @@
 -- The reply to a corridor of stations, and the refusals from that of samples on.
-use Rattle.std.proofs.Common.{◌≡◌, ◌≢◌, ℕ, ◌+◌, ◌<◌, ◌≤◌, ◌^◌, Bool, true, false, cond, List, [], ◌∷◌, ◌++◌, length, refl, ap, ap₂, sym, ◌∙◌, subst, arith, inl, inr, Some, None, All}
+use Rattle.std.proofs.Common.{◌≡◌, ◌≢◌, ℕ, ◌<◌, ◌^◌, Bool, true, false, cond, List, [], ◌∷◌, length, refl, ap, ap₂, sym, ◌∙◌, subst, arith, inl, inr, Some, None, All}
 use Rattle.std.specs.declared.option.Option.{Option}
 use Rattle.std.specs.Prelude.{map, not, ◌||◌, nat_lt, sum_by}
 use Rattle.std.specs.List.{filter, flat_map, range_with_len}
-use Rattle.std.proofs.lemmas.Bool.{false≢true, false_from_ne_true}
+use Rattle.std.proofs.lemmas.Bool.{false≢true}
 use Rattle.std.proofs.lemmas.Bool.Decides.{Decides-ltb}
 use Rattle.std.proofs.lemmas.List.{length-map}
 use Rattle.edr_base.specs.declared.refusals.Refusal.{Refusal}
@@ -11,8 +11,7 @@ use Rattle.edr_base.specs.declared.refusals.Refusal.TheVariants.{NoSamples, TooL
 use Rattle.covjson_value.specs.declared.coverages.NdArray.{NdArray}
 use Rattle.covjson_value.specs.declared.coverages.Coverage.{Coverage}
 use Rattle.covjson_value.specs.declared.coverages.Document.{Document}
-use Rattle.covjson_value.specs.declared.coverages.Document.TheVariants.{Many}
-use Rattle.covjson_value.specs.Coverages.{IsValid, IsValidDocument}
+use Rattle.covjson_value.specs.Coverages.{IsValidDocument}
 use Rattle.edr_station.specs.Stations.{StationValue, station_at}
 use Rattle.edr_station.specs.Blocks.{blocks}
 use Rattle.edr_edition.specs.Values.{CollectionValue}

@@ -1,5 +1,5 @@
 -- How many values and coverages the stations along a corridor have that are gathered so far.
-use Rattle.std.proofs.Common.{◌≡◌, ℕ, suc, ◌+◌, ◌*◌, ◌<◌, ◌≤◌, true, false, List, [], ◌∷◌, ◌++◌, length, refl, ap₂, sym, ◌∙◌, arith, inl, inr, zero-mul, length-append}
+use Rattle.std.proofs.Common.{◌≡◌, ℕ, suc, ◌+◌, ◌*◌, ◌<◌, true, false, List, [], ◌∷◌, ◌++◌, length, refl, ap₂, sym, ◌∙◌, arith, inl, inr, zero-mul, length-append}
 use Rattle.std.specs.declared.option.Option.{Option}
 use Rattle.std.specs.Prelude.{map, nat_le, nat_lt, sum_by}
 use Rattle.std.proofs.lemmas.Bool.{and_parts, and_cases, leb-true, leb-false, ltb-true, ltb-false}

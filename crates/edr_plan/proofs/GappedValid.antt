@@ -1,15 +1,14 @@
 -- What is planned for the stations along a corridor is a reply of series with gaps, and its coverages are valid.
-use Rattle.std.proofs.Common.{◌≡◌, ◌≢◌, ℕ, ◌+◌, ◌*◌, ◌<◌, Bool, true, List, [], ◌∷◌, length, get_or, refl, ap, ap₂, sym, ◌∙◌, subst, arith, All, ℤ, Some, None}
+use Rattle.std.proofs.Common.{◌≡◌, ◌≢◌, ℕ, ◌<◌, true, List, [], ◌∷◌, length, get_or, refl, ap, sym, ◌∙◌, subst, arith, All, Some, None}
 use Rattle.std.specs.declared.option.Option.{Option}
 use Rattle.std.specs.Prelude.{map, option_map}
 use Rattle.std.specs.List.{filter, range_with_len}
 use Rattle.std.proofs.lemmas.List.{length-map}
 use Rattle.std.proofs.lemmas.List.Elements.{All-map, All-filter, filter_passes}
 use Rattle.edr_axes.specs.Axes.{value_at}
-use Rattle.edr_chunk.specs.Samples.{HasSample, AreSamples}
+use Rattle.edr_chunk.specs.Samples.{HasSample}
 use Rattle.covjson_value.specs.declared.domains.Domain.{Domain}
 use Rattle.covjson_value.specs.declared.coverages.Parameter.{Parameter}
-use Rattle.covjson_value.specs.Domains.{count_of}
 use Rattle.covjson_value.specs.Coverages.{IsRange, IsValid}
 use Rattle.covjson_write.specs.Writers.{IsHead}
 use Rattle.edr_station.specs.Stations.{StationValue, station_at}

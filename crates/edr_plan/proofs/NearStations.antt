@@ -1,7 +1,7 @@
 -- The stations in the box about a line: they rise, and each that is near the line is one.
-use Rattle.std.proofs.Common.{◌≡◌, ◌≢◌, ℕ, zero, suc, ◌+◌, ◌<◌, ◌≤◌, Bool, true, false, cond, List, [], ◌∷◌, ◌++◌, length, get_or, All, Contains, refl, ap, ap₂, sym, ◌∙◌, subst, arith, inl, inr, ℤ, pos, ◌-ℤ◌, ◌+ℤ◌, ◌*ℤ◌, ◌≤ℤ◌, int_le}
+use Rattle.std.proofs.Common.{◌≡◌, ◌≢◌, ℕ, zero, suc, ◌+◌, ◌<◌, ◌≤◌, Bool, true, false, cond, List, [], ◌∷◌, length, All, Contains, refl, ap, sym, ◌∙◌, subst, arith, inl, inr, ℤ, pos, ◌-ℤ◌, ◌+ℤ◌, ◌*ℤ◌, ◌≤ℤ◌, int_le}
 use Rattle.std.specs.Prelude.{map, ◌&&◌, ◌||◌, Some}
-use Rattle.std.specs.List.{filter, flat_map, list_any, range_with_len, enumerate_from}
+use Rattle.std.specs.List.{filter, flat_map, range_with_len, enumerate_from}
 use Rattle.std.proofs.lemmas.Bool.{and_parts, and_from, or_cases, cases_lt, false≢true, false_from_ne_true}
 use Rattle.std.proofs.lemmas.Int.{ints}
 use Rattle.std.proofs.lemmas.List.Elements.{All-nil, All-cons, All-head, All-tail, All-weaker}
@@ -14,7 +14,7 @@ use Rattle.edr_wkt.specs.declared.geometry.Geometry.{Geometry}
 use Rattle.edr_wkt.specs.Geometries.{line_of}
 use Rattle.covjson_value.specs.Samples.{node}
 use Rattle.edr_axes.specs.Axes.{value_at}
-use Rattle.edr_station.specs.Stations.{StationValue, station_at, levels_along}
+use Rattle.edr_station.specs.Stations.{StationValue, station_at}
 use Rattle.edr_station.specs.Boxes.{is_inside, places_from, places_inside}
 use Rattle.edr_corridor.specs.Segments.{within_half, any_segment, segment_takes, takes_between, takes_height}
 use Rattle.edr_edition.specs.Values.{CollectionValue}
@@ -25,7 +25,7 @@ use Rattle.edr_select.specs.Listings.{NumbersRise}
 use Rattle.edr_select.specs.ListLaws.{flat_map-cond, member_here, member_later, no_member, all_member}
 use Rattle.edr_select.specs.Wanted.{takes_time, takes_level}
 use Rattle.edr_corridor.specs.BoxLaws.{NearPlacesAreWithin}
-use Rattle.edr_plan.specs.CorridorPlans.{CorridorValue, takes_at, is_taken, IsNearBox, is_near, HasNear, gapped_of, gapped_where_taken, all_gapped}
+use Rattle.edr_plan.specs.CorridorPlans.{CorridorValue, is_taken, IsNearBox, is_near, HasNear, gapped_of, gapped_where_taken, all_gapped}
 use Rattle.edr_plan.proofs.StationCells.{rise_head, rise_tail}
 use Rattle.edr_plan.proofs.TakenStations.{near_inside}
 use Rattle.edr_plan.proofs.GappedCells.{taken_at}

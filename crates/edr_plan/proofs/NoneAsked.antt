@@ -1,11 +1,10 @@
 -- What is known of stations before samples are counted: where no parameter is asked nothing is picked, and levels that are needed are there.
-use Rattle.std.proofs.Common.{◌≡◌, ℕ, ℤ, Bool, true, false, List, [], length, refl, ap, sym, ◌∙◌, inl, inr, All, Some, None}
+use Rattle.std.proofs.Common.{◌≡◌, ℤ, Bool, true, false, List, [], length, refl, ap, sym, ◌∙◌, inl, inr, All, Some, None}
 use Rattle.std.specs.declared.option.Option.{Option}
 use Rattle.std.specs.Prelude.{not, ◌&&◌, ◌||◌, is_some, IsSome}
 use Rattle.std.specs.List.{list_any}
 use Rattle.std.proofs.lemmas.Bool.{false_from_ne_true, false≢true, and_parts, or_cases}
-use Rattle.edr_base.specs.declared.refusals.Refusal.{Refusal}
-use Rattle.edr_base.specs.declared.refusals.Refusal.TheVariants.{NoSamples, TooLarge}
+use Rattle.edr_base.specs.declared.refusals.Refusal.TheVariants.{NoSamples}
 use Rattle.edr_axes.specs.declared.levels.Levels.{Levels}
 use Rattle.edr_wkt.specs.Wkt.{has_z_of}
 use Rattle.edr_station.specs.Stations.{StationValue}
@@ -21,12 +20,11 @@ use Rattle.edr_select.specs.Selections.{is_asked, picked}
 use Rattle.edr_select.specs.Heads.{is_some_stored}
 use Rattle.edr_select.specs.Choices.{parameter_places}
 use Rattle.edr_select.specs.Checks.{stations_in}
-use Rattle.edr_select.specs.Lines.{single_level, segments_of}
+use Rattle.edr_select.specs.Lines.{single_level}
 use Rattle.edr_select.specs.ListLaws.{no_member}
 use Rattle.edr_select.specs.KeptLaws.{contains_kept}
-use Rattle.edr_select.specs.Refusals.{asks_levels, applies_to_subject}
+use Rattle.edr_select.specs.Refusals.{asks_levels}
 use Rattle.edr_select.specs.Steps.{refused_sizes}
-use Rattle.edr_plan.specs.StationPlaces.{stored_in}
 use Rattle.edr_plan.specs.StationPlans.{lacks_levels}
 use Rattle.edr_plan.specs.CorridorPlans.{LineValue, IsLineOf, HasLevelsWanted}
 use Rattle.edr_plan.proofs.SelectedSamples.{some_stored, wanted_found}

@@ -1,33 +1,18 @@
 -- What a query picks of stations, by the places of stations, parameters, times and levels.
-use Rattle.std.proofs.Common.{◌≡◌, ◌≢◌, ℕ, ◌+◌, ◌<◌, Bool, true, false, List, [], ◌∷◌, length, refl, ap, ap₂, sym, ◌∙◌, subst, arith, ℤ, Some, None, All}
-use Rattle.std.specs.declared.option.Option.{Option}
-use Rattle.std.specs.Prelude.{map, ◌&&◌, option_map, unwrap_or, bytes_eq, IfSome}
-use Rattle.std.specs.Ordering.{int_eq}
-use Rattle.std.specs.List.{filter, flat_map, list_any, range_with_len, slice_index_or}
-use Rattle.std.proofs.lemmas.Bool.{false≢true, false_from_ne_true, and_parts, and_from}
-use Rattle.std.proofs.lemmas.Bool.Decides.{Decides-int_eq}
-use Rattle.std.proofs.lemmas.Slice.Eq.{bytes_eq-Decides}
-use Rattle.edr_axes.specs.Axes.{value_at, IsAscending}
-use Rattle.edr_axes.specs.AxisLaws.{ascending_once}
+use Rattle.std.proofs.Common.{◌≡◌, ℕ, ◌<◌, Bool, true, List, [], ◌∷◌, length, refl, ap, sym, ◌∙◌, subst, arith, All}
+use Rattle.std.specs.Prelude.{map, ◌&&◌}
+use Rattle.std.specs.List.{filter, flat_map, list_any, range_with_len}
+use Rattle.std.proofs.lemmas.Bool.{and_parts, and_from}
 use Rattle.covjson_value.specs.declared.coverages.Parameter.{Parameter}
-use Rattle.covjson_value.specs.Coverages.{AscendById}
-use Rattle.covjson_value.specs.Samples.{same_where_given, is_of}
-use Rattle.edr_ids.specs.Ids.{AscendBy}
-use Rattle.edr_station.specs.Stations.{StationValue, IsStation, IsAxisWithin, IsCoordinate, levels_along, station_id, station_at, nowhere}
+use Rattle.edr_station.specs.Stations.{StationValue, IsStation, levels_along, station_at}
 use Rattle.edr_edition.specs.Stores.{of_stations, Subject}
 use Rattle.edr_query.specs.Values.{QueryValue}
-use Rattle.edr_select.specs.Samples.{Stored, id_at, samples_of}
-use Rattle.edr_select.specs.Wanted.{is_station}
-use Rattle.edr_select.specs.Selections.{is_asked, wants, picked}
-use Rattle.edr_select.specs.Heads.{of_station, is_some_stored, times_in, levels_in}
-use Rattle.edr_select.specs.Documents.{same_station, value_in}
-use Rattle.edr_select.specs.Choices.{level_at, parameter_places}
-use Rattle.edr_select.specs.Series.{series_value}
-use Rattle.edr_select.specs.ListLaws.{any-filter, any-map, any-flat_map, passes_at, any_range, Each, each-filter, each-map_range, each-flat_map_range, find_each, find_none, both, some_member}
-use Rattle.edr_select.specs.KeptLaws.{kept_agree, kept_below, kept_passes, filter_by_places}
-use Rattle.edr_plan.specs.StationPlaces.{cell_of, stored_in}
-use Rattle.edr_plan.proofs.StationSamples.{levels_are_axis, samples_by_places}
-use Rattle.edr_plan.proofs.StationPicks.{one_station, is_there, itself, same_place}
+use Rattle.edr_select.specs.Samples.{Stored, samples_of}
+use Rattle.edr_select.specs.Selections.{wants, picked}
+use Rattle.edr_select.specs.Heads.{is_some_stored}
+use Rattle.edr_select.specs.ListLaws.{any-filter, any-map, any-flat_map, passes_at, any_range, Each, each-filter, each-map_range, each-flat_map_range}
+use Rattle.edr_plan.specs.StationPlaces.{stored_in}
+use Rattle.edr_plan.proofs.StationSamples.{samples_by_places}
 
 -- a station, a parameter, a time and a level that there are
 pub record IsPlace (ps : List Parameter) (ss : List StationValue) (k p t z : ℕ) : Type 0 where

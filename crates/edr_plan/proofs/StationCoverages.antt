@@ -4,7 +4,6 @@ use Rattle.std.specs.declared.option.Option.{Option}
 use Rattle.std.specs.Prelude.{map, option_map}
 use Rattle.std.specs.List.{flat_map}
 use Rattle.edr_axes.specs.Axes.{value_at}
-use Rattle.covjson_value.specs.declared.domains.Domain.{Domain}
 use Rattle.covjson_value.specs.declared.coverages.Parameter.{Parameter}
 use Rattle.covjson_value.specs.declared.coverages.NdArray.{NdArray}
 use Rattle.covjson_value.specs.declared.coverages.Coverage.{Coverage}
@@ -14,18 +13,18 @@ use Rattle.edr_edition.specs.Values.{CollectionValue}
 use Rattle.edr_edition.specs.Editions.{IsCollection}
 use Rattle.edr_edition.specs.Stores.{Subject}
 use Rattle.edr_query.specs.Values.{QueryValue}
-use Rattle.edr_select.specs.Samples.{Stored, id_at}
+use Rattle.edr_select.specs.Samples.{id_at}
 use Rattle.edr_select.specs.Wanted.{levels_asked}
 use Rattle.edr_select.specs.Selections.{picked}
-use Rattle.edr_select.specs.Documents.{referencing_over, coverage_over, value_in, parameters_asked}
-use Rattle.edr_select.specs.Choices.{level_at, parameter_places, level_places}
+use Rattle.edr_select.specs.Documents.{referencing_over, coverage_over, value_in}
+use Rattle.edr_select.specs.Choices.{level_at, parameter_places}
 use Rattle.edr_select.specs.Checks.{stations_in}
 use Rattle.edr_select.specs.Series.{series_value, series_range, series_coverage}
 use Rattle.edr_select.specs.ListLaws.{map-map, map-flat_map, map_agree_in, member_here, member_later}
 use Rattle.edr_select.specs.KeptLaws.{kept_below, kept_passes}
 use Rattle.edr_select.specs.NodeLaws.{nodes_at, one_level, levels_shown, place_nodes, place_nodes_chosen}
 use Rattle.edr_select.specs.ParameterLaws.{parameter_at, same_id, asked_by_places}
-use Rattle.edr_plan.specs.StationPlaces.{cell_of, IsOfStations, station_times, station_levels, is_taken}
+use Rattle.edr_plan.specs.StationPlaces.{cell_of, IsOfStations, station_levels, is_taken}
 use Rattle.edr_plan.specs.StationPlans.{ChoiceValue, choice_of, domain_of, series_of}
 use Rattle.edr_plan.proofs.StationHeads.{head_of_taken, places, taken_levels, levels_some}
 use Rattle.edr_plan.proofs.StationPicks.{value_of_station}

@@ -1,5 +1,5 @@
 -- The heads of a reply's coverages of stations, by the stations' places.
-use Rattle.std.proofs.Common.{◌≡◌, ◌≢◌, ℕ, zero, suc, ◌+◌, ◌<◌, Bool, true, false, cond, List, [], ◌∷◌, length, get_or, refl, ap, ap₂, sym, ◌∙◌, arith, Some, ℤ, Contains}
+use Rattle.std.proofs.Common.{◌≡◌, ◌≢◌, ℕ, suc, ◌+◌, ◌<◌, Bool, true, false, cond, List, [], ◌∷◌, length, get_or, refl, ap, ap₂, sym, ◌∙◌, arith, Some, ℤ, Contains}
 use Rattle.std.specs.declared.option.Option.{Option}
 use Rattle.std.specs.Prelude.{map, option_map, ◌&&◌}
 use Rattle.std.specs.List.{filter, range_with_len}

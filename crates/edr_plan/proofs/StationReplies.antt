@@ -1,7 +1,7 @@
 -- The reply to a query of stations, and the refusals from that of samples on.
-use Rattle.std.proofs.Common.{◌≡◌, ◌≢◌, ℕ, zero, suc, ◌+◌, ◌<◌, ◌≤◌, ◌^◌, Bool, true, false, cond, List, [], ◌∷◌, ◌++◌, length, refl, ap, ap₂, sym, ◌∙◌, subst, arith, inl, inr, Some, None, All, Contains}
+use Rattle.std.proofs.Common.{◌≡◌, ◌≢◌, ℕ, ◌<◌, ◌≤◌, ◌^◌, Bool, true, false, cond, List, [], ◌∷◌, length, refl, ap, ap₂, sym, ◌∙◌, subst, arith, inl, inr, Some, None, All}
 use Rattle.std.specs.declared.option.Option.{Option}
-use Rattle.std.specs.Prelude.{map, not, ◌||◌, ◌&&◌, nat_lt, sum_by}
+use Rattle.std.specs.Prelude.{map, not, ◌||◌, nat_lt, sum_by}
 use Rattle.std.specs.List.{filter, flat_map, range_with_len}
 use Rattle.std.proofs.lemmas.Bool.{false≢true, false_from_ne_true}
 use Rattle.std.proofs.lemmas.Bool.Decides.{Decides-ltb}
@@ -29,9 +29,9 @@ use Rattle.edr_select.specs.Checks.{refused_query, stations_in}
 use Rattle.edr_select.specs.Steps.{refused_sizes}
 use Rattle.edr_select.specs.Series.{StationSeriesValue, SeriesReplyValue, series_coverage, IsSeriesReply, IsOfStation}
 use Rattle.edr_select.specs.ReplyLaws.{told_by}
-use Rattle.edr_select.specs.ListLaws.{flat_map-cond, filter_none}
-use Rattle.edr_select.specs.KeptLaws.{kept_agree, all_below}
-use Rattle.edr_plan.specs.StationPlaces.{IsOfStations, takes_station, reached, station_times, station_levels, not_empty, is_taken}
+use Rattle.edr_select.specs.ListLaws.{flat_map-cond}
+use Rattle.edr_select.specs.KeptLaws.{all_below}
+use Rattle.edr_plan.specs.StationPlaces.{IsOfStations, takes_station, reached, is_taken}
 use Rattle.edr_plan.specs.StationPlans.{AsksStations, is_many, series_of, series_where_taken, values_of_series, IsTooMany, IsFew, IsPlanOfStations}
 use Rattle.edr_plan.proofs.StationHeads.{places, taken_by_shape}
 use Rattle.edr_plan.proofs.StationDocuments.{planned, coverages_are, document_is, alone_taken, chunks_are, some_picked, none_picked}

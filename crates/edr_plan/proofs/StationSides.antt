@@ -1,6 +1,5 @@
 -- What a corridor takes of the axes of a station.
 use Rattle.std.proofs.Common.{◌≡◌, ℕ, ◌<◌, ◌≤◌, true, false, List, length, IsSome, sym, ◌∙◌, subst}
-use Rattle.std.specs.declared.option.Option.{Option}
 use Rattle.edr_corridor.specs.Values.{SegmentsValue, needs_level}
 use Rattle.edr_corridor.specs.Boxes.{GridAxes}
 use Rattle.edr_corridor.specs.BoxLaws.{CorridorsAreCut}

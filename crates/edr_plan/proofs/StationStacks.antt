@@ -1,12 +1,11 @@
 -- What a corridor takes of a station as of a grid of one row and one column: its times, its levels and its truth values.
-use Rattle.std.proofs.Common.{◌≡◌, ℕ, zero, suc, ◌+◌, ◌-◌, ◌*◌, ◌<◌, ◌≤◌, ◌^◌, Bool, true, false, List, [], ◌∷◌, length, All, IsSome, refl, ap, ap₂, sym, ◌∙◌, subst, arith, ℤ, Some, None, Contains}
+use Rattle.std.proofs.Common.{◌≡◌, ℕ, zero, suc, ◌+◌, ◌-◌, ◌*◌, ◌<◌, ◌≤◌, ◌^◌, Bool, true, false, List, length, refl, ap, ap₂, sym, ◌∙◌, subst, arith, ℤ, Some, None, Contains}
 use Rattle.std.specs.declared.option.Option.{Option}
 use Rattle.std.specs.Prelude.{map, ◌&&◌, ◌||◌}
 use Rattle.std.specs.List.{filter, flat_map, list_any, range_with_len, slice_index_or}
 use Rattle.std.proofs.lemmas.Bool.{false≢true, false_from_ne_true}
 use Rattle.std.proofs.lemmas.List.Folds.{flat_map-map}
 use Rattle.edr_axes.specs.Axes.{value_at}
-use Rattle.edr_base.specs.Limits.{node_limit}
 use Rattle.edr_base.specs.declared.places.Spot.{Spot}
 use Rattle.edr_corridor.specs.Values.{SegmentsValue}
 use Rattle.edr_corridor.specs.Segments as segments

@@ -1,10 +1,9 @@
 -- What is planned for the stations that a query takes; for private clauses.
-use Rattle.std.specs.Prelude.{⊤, ◌≡◌, ◌≢◌, ◌⊎◌, ℕ, ◌+◌, ◌*◌, ◌<◌, ◌≤◌, nat_lt, nat_le, Bool, true, false, not, ◌&&◌, if◌then◌else◌, ℤ, List, [], ◌∷◌, ◌++◌, map, length, All, sum_by, Option, None, Some, option_map}
+use Rattle.std.specs.Prelude.{⊤, ◌≡◌, ◌≢◌, ◌⊎◌, ℕ, ◌+◌, ◌*◌, ◌<◌, ◌≤◌, nat_lt, nat_le, Bool, true, false, not, ◌&&◌, if◌then◌else◌, List, [], ◌∷◌, ◌++◌, map, length, All, sum_by, None, Some, option_map}
 use Rattle.std.specs.List.{filter, flat_map, range_with_len}
 use Rattle.edr_axes.specs.Axes.{value_at}
 use Rattle.covjson_value.specs.declared.domains.Domain.{Domain}
 use Rattle.covjson_value.specs.declared.coverages.Coverage.{Coverage}
-use Rattle.covjson_value.specs.Domains.{axis_length}
 use Rattle.covjson_value.specs.Coverages.{IsValidDocument}
 use Rattle.edr_ids.specs.Ids.{item_of}
 use Rattle.edr_station.specs.Stations.{StationValue, station_id, station_at, levels_along}

@@ -72,25 +72,6 @@ offers Station (Instance c i) = false
 offers Station (Ask q) = is_none q.instance && offers_shape Station q.shape
 offers kind other = true
 
--- the kinds of query that are answered by now
-abbrev pub is_answered : Kind → Shape → Bool
-is_answered Grid (at.Position geometry) = true
-is_answered Grid (at.Radius geometry within) = true
-is_answered Grid (at.Area geometry) = true
-is_answered Grid (at.Cube lo hi levels) = true
-is_answered Grid (at.Trajectory geometry) = true
-is_answered Grid (at.Corridor geometry width height) = true
-is_answered Station (at.Radius geometry within) = true
-is_answered Station (at.Area geometry) = true
-is_answered Station (at.Cube lo hi levels) = true
-is_answered Station (at.Corridor geometry width height) = true
-is_answered Station (at.Location id) = true
-is_answered kind other = false
-
-abbrev pub is_answered_page : Kind → Page → Bool
-is_answered_page kind (Ask q) = is_answered kind q.shape
-is_answered_page kind other = true
-
 -- ---- what a query asks of its data
 
 -- a name isn't the id of a parameter
@@ -139,7 +120,7 @@ applies_to_query collection q other = applies_if (applies_to_subject q other) (s
 abbrev pub applies_in : CollectionValue → Page → Refusal → Bool
 applies_in collection page UnknownInstance = lacks_instance collection page
 applies_in collection page UnknownLocation = lacks_station collection page
-applies_in collection page QueryNotOffered = not (offers collection.kind page && is_answered_page collection.kind page)
+applies_in collection page QueryNotOffered = not (offers collection.kind page)
 applies_in collection (Ask q) other = applies_to_query collection q other
 applies_in collection page other = false
 

@@ -1,16 +1,15 @@
 -- The numbers of the blocks of a reply over stations of which some values aren't taken: those of the same reply without the others.
-use Rattle.std.proofs.Common.{◌≡◌, ℕ, zero, suc, ◌<◌, ◌≤◌, List, [], ◌∷◌, ◌++◌, length, take, drop, get_or, All, refl, ap, sym, ◌∙◌, subst, length-take}
+use Rattle.std.proofs.Common.{◌≡◌, ℕ, zero, suc, ◌<◌, List, [], ◌∷◌, ◌++◌, take, drop, get_or, All, refl, ap, sym, ◌∙◌, subst}
 use Rattle.std.specs.Prelude.{map}
 use Rattle.std.specs.List.{flat_map}
 use Rattle.std.proofs.lemmas.List.{take-map}
 use Rattle.std.proofs.lemmas.List.Elements.{All-map}
-use Rattle.edr_station.specs.Stations.{StationsValue, values_along}
+use Rattle.edr_station.specs.Stations.{StationsValue}
 use Rattle.edr_select.specs.Listings.{NumbersRise}
 use Rattle.edr_select.specs.Series as series
 use Rattle.edr_select.specs.Series.{StationSeriesValue}
-use Rattle.edr_select.specs.Gaps.{GappedSeriesValue, IsOfStation, blocks_of_range, blocks_of_coverage, block_at, cells_taken, place_of}
+use Rattle.edr_select.specs.Gaps.{GappedSeriesValue, IsOfStation, blocks_of_range, blocks_of_coverage, cells_taken, place_of}
 use Rattle.edr_send.specs.SeriesTexts.{blocks_in}
-use Rattle.edr_send.specs.GapTexts.{station_of}
 use Rattle.edr_send.proofs.BlockNumbers as numbers
 use Rattle.edr_send.proofs.Parted.{Parted}
 

@@ -1,8 +1,8 @@
 -- Runs of cells of at most one block, of which some aren't taken.
 use Rattle.std.proofs.Common.{◌≡◌, ℕ, zero, suc, ◌+◌, ◌-◌, ◌*◌, ◌/◌, ◌%◌, ◌<◌, ◌≤◌, true, false, List, [], ◌∷◌, ◌++◌, length, take, drop, get_or, All, Contains, ℤ, Option, None, Some, refl, ap, sym, ◌∙◌, subst, arith, inl, inr, length-take, length-drop, get_or-take, get_or-drop}
-use Rattle.std.specs.Prelude.{map, option_to_list, ◌⊎◌}
+use Rattle.std.specs.Prelude.{map, option_to_list}
 use Rattle.std.specs.List.{flat_map, slice_range}
-use Rattle.std.proofs.lemmas.Bool.{cases_lt, eqb-true, eq-eqb, false≢true}
+use Rattle.std.proofs.lemmas.Bool.{cases_lt, eqb-true, false≢true}
 use Rattle.std.proofs.lemmas.Grind.{flat_map-append}
 use Rattle.std.proofs.lemmas.List.{take-append-drop, map-append, get_or_default}
 use Rattle.std.proofs.lemmas.List.Elements.{All-nil, All-cons, All-map, All-weaker, All-from_get_or}
@@ -10,7 +10,7 @@ use Rattle.edr_station.specs.Stations.{StationsValue, values_along}
 use Rattle.edr_station.specs.Blocks.{IsBlock}
 use Rattle.edr_select.specs.Samples.{ascending_once}
 use Rattle.edr_select.specs.ListLaws.{member_here, member_later, all_member, map_agree_in}
-use Rattle.edr_select.specs.Gaps.{GappedSeriesValue, IsOfStation, RiseApart, block_at, cells_taken, gapped_value, gapped_range}
+use Rattle.edr_select.specs.Gaps.{GappedSeriesValue, IsOfStation, block_at, cells_taken, gapped_value, gapped_range}
 use Rattle.edr_send.specs.SeriesTexts.{blocks_in}
 use Rattle.edr_send.specs.GapTexts.{station_of, goes_on, IsRun, BlocksApart, picked_of}
 use Rattle.edr_send.proofs.BlockNumbers as numbers

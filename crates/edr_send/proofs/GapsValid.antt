@@ -1,9 +1,8 @@
 -- The document of a reply over stations of which some values aren't taken is valid, and its text is that of its pieces.
-use Rattle.std.proofs.Common.{◌≡◌, ℕ, List, length, get_or, All, ℤ, Option, None, Some, ap, sym, ◌∙◌, subst}
+use Rattle.std.proofs.Common.{◌≡◌, ℕ, List, length, get_or, All, Option, None, Some, sym, ◌∙◌, subst}
 use Rattle.std.specs.Prelude.{map, IfSome}
 use Rattle.std.proofs.lemmas.List.{length-map}
 use Rattle.std.proofs.lemmas.List.Elements.{All-map}
-use Rattle.covjson_value.specs.declared.coverages.Document.TheVariants.{Many}
 use Rattle.covjson_value.specs.Coverages.{IsSample, IsRange, IsValid}
 use Rattle.covjson_value.specs.Trees.{document_text}
 use Rattle.covjson_write.specs.Laws.{DocumentOfPieces}

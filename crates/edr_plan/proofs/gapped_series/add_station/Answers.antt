@@ -1,5 +1,4 @@
-use Rattle.std.proofs.Common.{◌≡◌, ◌∙◌, ◌<◌, ◌≤◌, ℕ, List, All, length, ap, sym, subst, arith}
-use Rattle.edr_corridor.specs.Boxes.{GridAxes}
+use Rattle.std.proofs.Common.{◌≡◌, ◌∙◌, ◌<◌, ◌≤◌, ℕ, List, All, length, ap, sym, subst}
 use Rattle.edr_lines.specs.Taken.{counts_of, NoneTaken, AreSidesOf}
 use Rattle.edr_lines.specs.Corridors.{takes}
 use Rattle.edr_select.specs.Limits.{value_limit}

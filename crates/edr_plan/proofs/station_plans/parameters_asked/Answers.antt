@@ -1,5 +1,4 @@
-use Rattle.std.proofs.Common.{◌≡◌, ◌∙◌, sym, ℕ, List, [], refl, true, false}
-use Rattle.std.specs.Prelude.{IsTrue}
+use Rattle.std.proofs.Common.{◌≡◌, ◌∙◌, sym, [], refl}
 use Rattle.edr_select.specs.Choices.{parameter_places}
 use Rattle.edr_plan.proofs.NoneAsked.{nothing_asked}
 use Rattle.edr_plan.proofs.station_plans.parameters_asked.Goals as goal

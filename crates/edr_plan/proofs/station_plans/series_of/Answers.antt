@@ -1,10 +1,9 @@
-use Rattle.std.proofs.Common.{◌≡◌, ◌≢◌, ap, ap₂, sym, ◌∙◌, subst, ℕ, ◌<◌, ◌^◌, List, [], length, false}
+use Rattle.std.proofs.Common.{◌≡◌, ◌∙◌, subst, ◌<◌, ◌^◌, length}
 use Rattle.edr_station.specs.Stations.{StationsValue}
 use Rattle.edr_station.specs.Blocks.{blocks}
-use Rattle.edr_select.specs.Choices.{parameter_places}
-use Rattle.edr_select.specs.Series.{StationSeriesValue, SeriesReplyValue, IsSeriesReply}
-use Rattle.edr_plan.specs.StationPlans.{all_series, is_many}
-use Rattle.edr_plan.proofs.StationReplies.{one_alone, plan_is, reply_stands}
+use Rattle.edr_select.specs.Series.{SeriesReplyValue}
+use Rattle.edr_plan.specs.StationPlans.{all_series}
+use Rattle.edr_plan.proofs.StationReplies.{plan_is, reply_stands}
 use Rattle.edr_plan.proofs.station_plans.series_of.Goals as goal
 
 pub invariant_of-result : goal.invariant_of-result

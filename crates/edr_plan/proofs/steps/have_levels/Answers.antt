@@ -1,4 +1,4 @@
-use Rattle.std.proofs.Common.{◌≡◌, ap, ◌∙◌, arith, ℕ, ◌<◌, length, List, ℤ, is_some, Bor}
+use Rattle.std.proofs.Common.{◌≡◌, ap, ◌∙◌, arith, ◌<◌, length, List, ℤ, is_some, Bor}
 use Rattle.edr_station.specs.Stations.{StationValue, StationsValue, station_at}
 use Rattle.edr_plan.proofs.StationLevels.{first_has_levels, some_mapped}
 use Rattle.edr_plan.proofs.steps.have_levels.Goals as goal

@@ -4,7 +4,6 @@ use Rattle.std.specs.List.{range_with_len}
 use Rattle.edr_chunk.specs.declared.shapes.GridShape.{GridShape}
 use Rattle.edr_chunk.specs.declared.shapes.GridPlace.{GridPlace}
 use Rattle.edr_chunk.specs.Grids as chunk
-use Rattle.edr_chunk.specs.Grids.{value}
 use Rattle.edr_chunk.specs.Tiles.{tiles, tile_of}
 use Rattle.edr_select.specs.Samples.{ascending_once}
 use Rattle.edr_send.specs.declared.slots.Slot.{Slot}
