@@ -7,8 +7,6 @@ mod documents;
 mod laws;
 mod parameters;
 mod systems;
-#[cfg(test)]
-mod tests;
 
 pub use coverages::coverage_of;
 pub use documents::read_document;

@@ -25,10 +25,3 @@ pub use range_heads::RangeHead;
 pub use stages::Stage;
 pub use whole::write_whole;
 pub use writer::Writer;
-
-#[cfg(test)]
-mod documents;
-#[cfg(test)]
-mod tests;
-#[cfg(test)]
-mod validity_tests;

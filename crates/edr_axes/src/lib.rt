@@ -5,8 +5,6 @@ mod axis;
 mod instants;
 mod levels;
 mod reading_instants;
-#[cfg(test)]
-mod tests;
 mod times;
 
 pub use axis::{Axis, AxisFault, bounds_split_axes, nearest_is_one, nearest_is_there};

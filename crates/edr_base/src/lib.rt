@@ -47,6 +47,3 @@ pub use real_link::RealLink;
 pub use refusals::Refusal;
 pub use sending::{SendFault, send, settle};
 pub use texts::{Items, OutOfMemory, Text};
-
-#[cfg(test)]
-mod tests;

@@ -11,6 +11,3 @@ pub use edr_target::target_of;
 pub use laws::{one_is_heard, written_documents_are_heard};
 pub use reading::read_reply;
 pub use replies::{Reply, ReplyFault};
-
-#[cfg(test)]
-mod tests;

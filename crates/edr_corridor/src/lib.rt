@@ -7,8 +7,6 @@ mod laws;
 mod segment;
 mod segments;
 mod strips;
-#[cfg(test)]
-mod tests;
 
 pub use boxes::SegmentBox;
 pub use laws::{boxes_are_wanted, corridors_are_cut, near_places_are_within};

@@ -12,6 +12,3 @@ mod steps;
 pub use changes::{Change, ChangeFault};
 pub use drafts::Draft;
 pub use laws::{changes_have_one_outcome, changes_keep_others, drafts_cross_threads};
-
-#[cfg(test)]
-mod tests;

@@ -17,6 +17,3 @@ pub use kinds::Kind;
 pub use laws::{editions_cross_threads, instances_have_grids, newest_is_newest, newest_is_one};
 pub use shelves::{Editions, LocalShelf, SteppedShelf};
 pub use stores::Store;
-
-#[cfg(test)]
-mod tests;

@@ -21,8 +21,3 @@ pub use forms::{trees_have_one_form, trees_hold_one_coverage};
 pub use making::make_feed;
 pub use refusals::FeedRefusal;
 pub use summaries::summary;
-
-#[cfg(test)]
-mod test_lines;
-#[cfg(test)]
-mod tests;

@@ -6,6 +6,3 @@ mod requests;
 
 pub use fetching::{FetchFault, fetch};
 pub use requests::{Request, request_of};
-
-#[cfg(test)]
-mod tests;

@@ -24,8 +24,3 @@ pub use laws::{head_is_one, heads_are_decided, heads_are_decided_early, refusal_
 pub use reading::read_head;
 pub use refusing::write_refusal;
 pub use replies::write_head;
-
-#[cfg(test)]
-mod chunk_tests;
-#[cfg(test)]
-mod tests;

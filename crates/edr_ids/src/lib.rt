@@ -7,6 +7,3 @@ mod trees;
 
 pub use by_id::ById;
 pub use identified::{Identified, items_are_by_id};
-
-#[cfg(test)]
-mod tests;

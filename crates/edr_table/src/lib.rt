@@ -8,6 +8,3 @@ mod tables;
 mod turns;
 
 pub use tables::write_table;
-
-#[cfg(test)]
-mod tests;

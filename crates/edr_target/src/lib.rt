@@ -9,6 +9,3 @@ mod targets;
 mod texts;
 
 pub use targets::target_of;
-
-#[cfg(test)]
-mod tests;

@@ -11,8 +11,6 @@ mod laws;
 mod lists;
 mod positions;
 mod reading;
-#[cfg(test)]
-mod tests;
 mod words;
 mod writing;
 

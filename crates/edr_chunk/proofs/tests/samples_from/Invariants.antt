@@ -1,6 +1,0 @@
-use Rattle.std.proofs.Common.{◌≡◌, length}
-use Rattle.edr_chunk.specs.Samples.{AreSamples}
-use Rattle.edr_chunk.proofs.tests.samples_from.Given as goal
-
-abbrev pub invariant-loop-number : goal.invariant-loop-number
-invariant-loop-number l = AreSamples l.samples.items × (length l.samples.items ≡ l.number)

@@ -1,0 +1,365 @@
+//! Corridors that people can draw: a line for each row of nodes, cut here. `#` is a place that is wanted, `.` one that isn't.
+ghost use Rattle.std.specs.Prelude.{◌≡◌, true, IfSome, IsSome};
+ghost use Rattle.std.specs.List.{All};
+ghost use Rattle.edr_wkt.specs.Faults.{IsGeometry};
+ghost use Rattle.edr_geometry.specs.Limits.{IsCoordinate, IsDistance};
+ghost use Rattle.edr_corridor.specs.Values.{needs_level};
+
+use edr_axes::Axis;
+use edr_base::COORDINATE_LIMIT;
+use edr_corridor::{SegmentBox, Segments};
+use edr_geometry::RowMask;
+use edr_wkt::{Geometry, read_wkt};
+use std::alloc::Global;
+use std::rt::HostRuntime;
+
+// The width, a single level that is asked, the height; a line; the time, the level and the y of a row; its x; which of its nodes are wanted.
+const ROWS: &str = "\
+# half the width on both sides, and a metre less
+100 - -;LINESTRING(0 50,200 50);1704070800 - 0;0 100 200 => ###
+100 - -;LINESTRING(0 50,200 50);1704070800 - 100;0 100 200 => ###
+99 - -;LINESTRING(0 50,200 50);1704070800 - 0;0 100 200 => ...
+100 - -;LINESTRING(0 50,200 50);1704070800 - 101;0 100 200 => ...
+# an end half the width away, before and behind, and of a width that is odd
+100 - -;LINESTRING(50 0,150 0);0 - 0;-1 0 100 200 201 => .###.
+99 - -;LINESTRING(50 0,150 0);0 - 0;0 1 100 199 200 => .###.
+1 - -;LINESTRING(0 0,2 2);0 - 1;-1 0 1 2 3 => ..#..
+# about a segment of no length, a disc
+100 - -;LINESTRING(100 0,100 0);0 - 30;59 60 100 140 141 => .###.
+# vertices outside the axes
+0 - -;LINESTRING(-50 -50,250 250);0 - 100;0 100 200 => .#.
+100 - -;LINESTRING(-500 0,-51 0);0 - 0;0 100 => ..
+100 - -;LINESTRING(-500 0,-50 0);0 - 0;0 100 => #.
+# one segment or the other, and the last of three
+0 - -;LINESTRING(0 0,0 100,100 100);0 - 100;0 50 100 101 => ###.
+0 - -;LINESTRING(0 0,0 100,100 100);0 - 50;0 50 100 => #..
+0 - -;LINESTRING(0 0,0 100,100 100,100 0);0 - 50;0 50 100 => #.#
+# the times of a segment, both ends included
+0 - -;LINESTRINGM(0 0 1704067200,200 0 1704070800);1704067200 - 0;0 100 200 => ###
+0 - -;LINESTRINGM(0 0 1704067200,200 0 1704070800);1704070800 - 0;0 100 200 => ###
+0 - -;LINESTRINGM(0 0 1704067200,200 0 1704070800);1704070801 - 0;0 100 200 => ...
+0 - -;LINESTRINGM(0 0 1704067200,200 0 1704070800);1704067199 - 0;0 100 200 => ...
+# one and the same segment takes time and place
+100 - -;LINESTRINGM(100 0 1704067201,150 -1000 1704067202,150 -2000 1704070801);1704070800 - 0;0 100 200 => ...
+100 - -;LINESTRINGM(100 0 1704067201,150 -1000 1704067202,150 -2000 1704070801);1704067201 - 0;0 100 200 => .#.
+0 - -;LINESTRINGM(0 0 1704067200,100 0 1704067201,200 100 1704070800);1704070800 - 0;0 100 200 => .#.
+0 - -;LINESTRINGM(0 0 1704067200,100 0 1704067201,200 100 1704070800);1704070800 - 100;0 100 200 => ..#
+# m that is equal along the line is one time
+0 - -;LINESTRINGM(0 0 5,100 0 5,200 0 5);4 - 0;0 100 200 => ...
+0 - -;LINESTRINGM(0 0 5,100 0 5,200 0 5);5 - 0;0 100 200 => ###
+0 - -;LINESTRINGM(0 0 5,100 0 5,200 0 5);6 - 0;0 100 200 => ...
+# a line that crosses itself: each segment has times of its own
+0 - -;LINESTRINGM(0 0 0,100 100 10,100 0 20,0 100 30);5 - 50;0 50 100 => .#.
+0 - -;LINESTRINGM(0 0 0,100 100 10,100 0 20,0 100 30);15 - 50;0 50 100 => ..#
+0 - -;LINESTRINGM(0 0 0,100 100 10,100 0 20,0 100 30);20 - 50;0 50 100 => .##
+0 - -;LINESTRINGM(0 0 0,100 100 10,100 0 20,0 100 30);25 - 50;0 50 100 => .#.
+# half the height above and below a single level, and a metre less
+0 10 20;LINESTRING(0 0,0 0);1704067200 0 0;0 => #
+0 10 20;LINESTRING(0 0,0 0);1704067200 20 0;0 => #
+0 10 19;LINESTRING(0 0,0 0);1704067200 0 0;0 => .
+0 10 19;LINESTRING(0 0,0 0);1704067200 10 0;0 => #
+0 10 19;LINESTRING(0 0,0 0);1704067200 20 0;0 => .
+0 10 21;LINESTRING(0 0,0 0);1704067200 -1 0;0 => .
+0 10 21;LINESTRING(0 0,0 0);1704067200 0 0;0 => #
+0 10 0;LINESTRING(0 0,0 0);1704067200 10 0;0 => #
+0 10 0;LINESTRING(0 0,0 0);1704067200 11 0;0 => .
+# half the height above and below the z of a segment
+0 - 5;LINESTRING Z(0 0 5,0 0 8);1704067200 2 0;0 => .
+0 - 5;LINESTRING Z(0 0 5,0 0 8);1704067200 3 0;0 => #
+0 - 5;LINESTRING Z(0 0 5,0 0 8);1704067200 10 0;0 => #
+0 - 5;LINESTRING Z(0 0 5,0 0 8);1704067200 11 0;0 => .
+0 - 0;LINESTRING Z(0 0 20,0 0 0);1704067200 10 0;0 => #
+# one and the same segment takes level and place
+0 - 0;LINESTRING Z(0 0 0,100 0 0,100 100 20);1704067200 20 0;0 100 => .#
+0 - 0;LINESTRING Z(0 0 0,100 0 0,100 100 20);1704067200 0 0;0 100 => ##
+# a height alone has no effect, and every level and none is taken
+0 - 5;LINESTRING(0 0,0 0);1704067200 1000 0;0 => #
+0 - 5;LINESTRING(0 0,0 0);1704067200 - 0;0 => #
+# z and m together
+0 - 2;LINESTRING ZM(0 0 0 5,10 0 10 9);9 11 0;-1 0 10 11 => .##.
+0 - 2;LINESTRING ZM(0 0 0 5,10 0 10 9);9 12 0;-1 0 10 11 => ....
+0 - 2;LINESTRING ZM(0 0 0 5,10 0 10 9);10 11 0;-1 0 10 11 => ....
+# at the ends of the limits
+400000000 - -;LINESTRING(100000000 -100000000,100000000 100000000);0 - 0;-100000000 0 100000000 => ###
+0 100000000 400000000;LINESTRING(0 0,0 0);0 -100000000 0;0 => #
+0 100000000 399999999;LINESTRING(0 0,0 0);0 -100000000 0;0 => .
+";
+
+// A coordinate or a level in metres.
+fn coordinate(text: &str) -> Option<i64>
+    ensures { IfSome result IsCoordinate }
+{
+    match text.parse::<i64>() {
+        Ok(number) if number.unsigned_abs() <= COORDINATE_LIMIT => Some(number),
+        _ => None,
+    }
+}
+
+// A width or a height in metres.
+fn distance(text: &str) -> Option<i64>
+    ensures { IfSome result IsDistance }
+{
+    match text.parse::<i64>() {
+        Ok(number) if 0 <= number && number <= 400_000_000 => Some(number),
+        _ => None,
+    }
+}
+
+// A level, where there is one.
+fn level_if(text: &str) -> Option<i64>
+    ensures { IfSome result IsCoordinate }
+{
+    if text == "-" { None } else { coordinate(text) }
+}
+
+// A height, where there is one.
+fn height_if(text: &str) -> Option<i64>
+    ensures { IfSome result IsDistance }
+{
+    if text == "-" { None } else { distance(text) }
+}
+
+// An axis of coordinates.
+fn axis_of(alloc: Global, text: &str) -> Option<Axis>
+    ensures { IfSome result (λ axis. All IsCoordinate axis) }
+{
+    let mut numbers = Vec::new(alloc);
+    for word in text.split(' ') {
+        numbers.push(coordinate(word)?).ok()?;
+    }
+    Axis::of(alloc, &numbers).ok()
+}
+
+// An axis of levels, where there are any.
+fn levels_of(alloc: Global, text: &str) -> Option<Axis>
+    ensures { IfSome result (λ axis. All IsCoordinate axis) }
+{
+    if text == "-" {
+        None
+    } else {
+        axis_of(alloc, text)
+    }
+}
+
+// An axis of times.
+fn times_of(alloc: Global, text: &str) -> Option<Axis> {
+    let mut times = Vec::new(alloc);
+    for word in text.split(' ') {
+        times.push(word.parse::<i64>().ok()?).ok()?;
+    }
+    Axis::of(alloc, &times).ok()
+}
+
+// The segments of a geometry that is a line, for nodes that have a level or not.
+fn segments_along(
+    alloc: Global,
+    geometry: &Geometry,
+    width: i64,
+    level: Option<i64>,
+    height: Option<i64>,
+    zs: Option<&Axis>,
+) -> Option<Segments>
+    requires geometry { IsGeometry geometry.now }
+    requires width_in { IsDistance width }
+    requires level_in { IfSome level IsCoordinate }
+    requires height_in { IfSome height IsDistance }
+    ensures { IfSome result (λ segments. needs_level segments ≡ true → IsSome zs.entry) }
+{
+    let Geometry::Line {
+        has_z,
+        has_m,
+        positions,
+    } = geometry
+    else {
+        return None;
+    };
+    let about = *has_z || level.is_some();
+    if about && (height.is_none() || zs.is_none()) {
+        return None;
+    }
+    let line = positions.items();
+    Segments::of(alloc, line, *has_z, *has_m, width, level, height).ok()
+}
+
+// The segments of a line as text.
+fn segments_of(alloc: Global, asked: &str, line: &str, zs: Option<&Axis>) -> Option<Segments>
+    ensures { IfSome result (λ segments. needs_level segments ≡ true → IsSome zs.entry) }
+{
+    let (first, rest) = asked.split_once(' ')?;
+    let (second, third) = rest.split_once(' ')?;
+    let width = distance(first)?;
+    let level = level_if(second);
+    let height = height_if(third);
+    let geometry = read_wkt(alloc, line.as_bytes()).ok()?;
+    segments_along(alloc, &geometry, width, level, height, zs)
+}
+
+// Whether a picture has a place as one that is wanted.
+fn is_marked(picture: &str, place: usize) -> bool {
+    place < picture.len() && picture.as_bytes()[place] == b'#'
+}
+
+// Whether the nodes of a row are wanted so, each asked by itself.
+fn are_wanted(segments: &Segments, t: i64, z: Option<i64>, y: i64, xs: &Axis, picture: &str) -> bool
+    requires z_in { IfSome z IsCoordinate }
+    requires y_in { IsCoordinate y }
+    requires xs_in { All IsCoordinate xs.now }
+{
+    let mut right = xs.len() == picture.len();
+    for place in 0..xs.len() {
+        let wanted = segments.wants(t, z, y, xs.value(place));
+        right = wanted == is_marked(picture, place) && right;
+    }
+    right
+}
+
+// Whether a mask of some columns from one on has a column.
+fn is_set_from(mask: &RowMask, first: usize, place: usize) -> bool {
+    first <= place && place - first < mask.len() && mask.is_set(place - first)
+}
+
+// Whether a box takes the node of the first time, level and row in some column.
+fn takes_first(taken: &SegmentBox, place: usize) -> bool {
+    if taken.times != (0, 1) || taken.levels != (0, 1) || taken.first_row != 0 {
+        return false;
+    }
+    match taken.rows.first() {
+        Some(mask) => is_set_from(mask, taken.first_column, place),
+        None => false,
+    }
+}
+
+// Whether one of some boxes does.
+fn one_takes_first(boxes: &[SegmentBox], place: usize) -> bool {
+    let mut taken = false;
+    for one in boxes {
+        taken = takes_first(one, place) || taken;
+    }
+    taken
+}
+
+// Whether the boxes of all segments together take so the nodes of the first time, level and row.
+fn are_taken(boxes: &[SegmentBox], count: usize, picture: &str) -> bool {
+    let mut right = count == picture.len();
+    for place in 0..count {
+        right = one_takes_first(boxes, place) == is_marked(picture, place) && right;
+    }
+    right
+}
+
+// The boxes of all segments.
+fn boxes_of(
+    alloc: Global,
+    segments: &Segments,
+    ts: &Axis,
+    zs: Option<&Axis>,
+    ys: &Axis,
+    xs: &Axis,
+) -> Option<Vec<SegmentBox>>
+    requires levels { needs_level segments.now ≡ true → IsSome zs }
+    requires ys_in { All IsCoordinate ys.now }
+    requires xs_in { All IsCoordinate xs.now }
+{
+    let mut boxes = Vec::new(alloc);
+    for number in 0..segments.len() {
+        let taken = segments.box_of(alloc, number, ts, zs, ys, xs).ok()?;
+        boxes.push(taken).ok()?;
+    }
+    Some(boxes)
+}
+
+// The first value of an axis.
+fn first_of(axis: &Axis) -> i64
+    ensures { All IsCoordinate axis.now → IsCoordinate result }
+{
+    let _some = axis.len();
+    axis.value(0)
+}
+
+// The first level, where there is one.
+fn first_level(zs: Option<&Axis>) -> Option<i64>
+    requires { IfSome zs (λ zs. All IsCoordinate zs.now) }
+    ensures { IfSome result IsCoordinate }
+{
+    match zs {
+        Some(zs) => Some(first_of(zs)),
+        None => None,
+    }
+}
+
+// Whether the nodes of a row are wanted so, by themselves and by the boxes of all segments.
+fn is_row(
+    alloc: Global,
+    corridor: &str,
+    line: &str,
+    at: &str,
+    along: &str,
+    picture: &str,
+) -> Option<bool> {
+    let (first, rest) = at.split_once(' ')?;
+    let (second, third) = rest.split_once(' ')?;
+    let ts = times_of(alloc, first)?;
+    let levels = levels_of(alloc, second);
+    let zs = levels.as_ref();
+    let ys = axis_of(alloc, third)?;
+    let xs = axis_of(alloc, along)?;
+    let segments = segments_of(alloc, corridor, line, zs)?;
+    let boxes = boxes_of(alloc, &segments, &ts, zs, &ys, &xs)?;
+    let wanted = are_wanted(
+        &segments,
+        first_of(&ts),
+        first_level(zs),
+        first_of(&ys),
+        &xs,
+        picture,
+    );
+    Some(wanted && are_taken(&boxes, xs.len(), picture))
+}
+
+// Whether a line is right.
+fn is_right(alloc: Global, asked: &str, picture: &str) -> bool {
+    let (corridor, rest) = asked.split_once(';').unwrap_or((asked, ""));
+    let (line, rest) = rest.split_once(';').unwrap_or((rest, ""));
+    let (at, along) = rest.split_once(';').unwrap_or((rest, ""));
+    is_row(alloc, corridor, line, at, along, picture).unwrap_or(false)
+}
+
+// The first line that isn't right; none is empty.
+fn first_wrong(alloc: Global, lines: &str) -> &str {
+    for line in lines.lines() {
+        let (asked, picture) = line.split_once(" => ").unwrap_or((line, ""));
+        if !line.starts_with('#') && !is_right(alloc, asked, picture) {
+            return line;
+        }
+    }
+    ""
+}
+
+// Whether the last segment of a line takes these times, levels, rows and columns of a grid.
+fn is_box(alloc: Global) -> Option<bool> {
+    let ts = times_of(alloc, "1704067200 1704067201 1704070800")?;
+    let zs = axis_of(alloc, "0 10 20 30")?;
+    let ys = axis_of(alloc, "0 100 200 300")?;
+    let xs = axis_of(alloc, "0 100 200 300")?;
+    let line = "LINESTRING ZM(0 0 0 1704067200,100 0 0 1704067201,300 100 20 1704070800)";
+    let segments = segments_of(alloc, "10 - 20", line, Some(&zs))?;
+    if segments.len() != 2 {
+        return None;
+    }
+    let taken = segments.box_of(alloc, 1, &ts, Some(&zs), &ys, &xs).ok()?;
+    let ranges = taken.times == (1, 3) && taken.levels == (0, 4);
+    let corner = taken.first_row == 0 && taken.first_column == 1 && taken.rows.len() == 2;
+    let first = taken.rows.first()?;
+    let last = taken.rows.last()?;
+    Some(ranges && corner && first.first() == Some(0) && last.last() == Some(2))
+}
+
+#[test]
+fn rows_of_nodes(rt: HostRuntime) {
+    assert_eq!(rt; first_wrong(rt.alloc(), ROWS), "");
+}
+
+#[test]
+fn ranges_and_masks(rt: HostRuntime) {
+    assert_eq!(rt; is_box(rt.alloc()), Some(true));
+}
