@@ -1,5 +1,5 @@
 //! Laws of replies.
-ghost use Rattle.edr_client.specs.Laws.{OneIsHeard, WrittenDocumentsAreHeard};
+ghost use Rattle.edr_client.specs.Laws.{OneIsHeard, WrittenDocumentsAreHeard, WrittenRefusalsAreHeard};
 
 use covjson_read::{
     document_rows_have_one_answer, texts_have_one_document, written_documents_are_read,
@@ -24,5 +24,12 @@ pub fn written_documents_are_heard()
     ensures { WrittenDocumentsAreHeard }
 {
     written_documents_are_read();
+    written_replies_are_read();
+}
+
+/// What the server writes of a refusal, from an edition or from none, is heard as no data, with its status and its code.
+pub fn written_refusals_are_heard()
+    ensures { WrittenRefusalsAreHeard }
+{
     written_replies_are_read();
 }

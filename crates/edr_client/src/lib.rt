@@ -8,6 +8,6 @@ mod replies;
 
 pub use edr_table::write_table;
 pub use edr_target::target_of;
-pub use laws::{one_is_heard, written_documents_are_heard};
+pub use laws::{one_is_heard, written_documents_are_heard, written_refusals_are_heard};
 pub use reading::read_reply;
 pub use replies::{Reply, ReplyFault};
