@@ -1,4 +1,5 @@
-"""The commands of the program: python3 plain/edr.py ask TARGET < input, check [--summary], replay FEED [--advance], or make NUMBER"""
+"""The commands of the program: python3 plain/edr.py ask TARGET < input, check [--summary], replay FEED [--advance], make NUMBER, or
+work NUMBER"""
 
 import os
 import re
@@ -13,8 +14,9 @@ from making import made_feed
 from names import is_utf8
 from sessions import serve
 from summaries import count_line, summary_lines
+from working import work_text
 
-USAGE = "usage: edr ask TARGET | replay FEED [--advance] | check [--summary] | make NUMBER | show | fetch URL"
+USAGE = "usage: edr ask TARGET | replay FEED [--advance] | check [--summary] | make NUMBER | work NUMBER | show | fetch URL"
 
 Read = Callable[[], bytes]  # gives all that there is; raises OSError
 
@@ -44,6 +46,8 @@ def run(words: list[bytes], read_input: Read, open_file: Callable[[bytes], Read]
         return _of_file(words[1], open_file, lambda feed: _replayed(feed, len(words) > 2, read_input))
     if len(words) == 2 and words[0] == b"make" and _is_number(words[1]):
         return Ending(0, made_feed(int(words[1])).encode("utf-8"))
+    if len(words) == 2 and words[0] == b"work" and _is_number(words[1]):
+        return Ending(0, work_text(int(words[1])).encode("utf-8"))
     return _ended(1, USAGE)
 
 

@@ -5,3 +5,4 @@ pub mod ReplayLemmas
 pub mod AdvanceLemmas
 pub mod EndLemmas
 pub mod ShowLemmas
+pub mod WorkLemmas

@@ -3,7 +3,7 @@ use Rattle.std.specs.Prelude.{◌≡◌, ◌⊎◌, ℕ, Bool, true, false, ⊤,
 use Rattle.std.specs.declared.option.Option.{Option}
 use Rattle.edr_base.specs.Outside.{Rose}
 use Rattle.edr.specs.declared.commands.Command.{Command}
-use Rattle.edr.specs.declared.commands.Command.TheVariants.{Ask, Replay, ReplayAdvance, Check, CheckSummary, Make, Show, Fetch}
+use Rattle.edr.specs.declared.commands.Command.TheVariants.{Ask, Replay, ReplayAdvance, Check, CheckSummary, Make, Work, Show, Fetch}
 use Rattle.edr.specs.declared.endings.Ending.{Ending}
 use Rattle.edr.specs.declared.endings.Ending.TheVariants.{Done, Usage, NotFeed, ReadFault, WriteFault, OutOfMemory, Refused, NoDocument, ConnectFault, OpenFault}
 use Rattle.edr.specs.Commands.{Asked, AskForNothing}
@@ -35,6 +35,7 @@ ReadFailed ReplayAdvance before after = Rose before.input after.input ⊎ FileFa
 ReadFailed Check before after = Rose before.input after.input
 ReadFailed CheckSummary before after = Rose before.input after.input
 ReadFailed (Make number) before after = ⊥
+ReadFailed (Work number) before after = ⊥
 ReadFailed Show before after = Rose before.input after.input
 ReadFailed Fetch before after = LinkFailed before after
 
@@ -46,6 +47,7 @@ WriteFailed ReplayAdvance before after = Rose before.output after.output
 WriteFailed Check before after = Rose before.output after.output
 WriteFailed CheckSummary before after = Rose before.output after.output
 WriteFailed (Make number) before after = Rose before.output after.output
+WriteFailed (Work number) before after = Rose before.output after.output
 WriteFailed Show before after = Rose before.output after.output
 WriteFailed Fetch before after = Rose before.output after.output ⊎ LinkFailed before after
 
@@ -57,6 +59,7 @@ OpenFailed ReplayAdvance before after = Rose before.files after.files × (after.
 OpenFailed Check before after = ⊥
 OpenFailed CheckSummary before after = ⊥
 OpenFailed (Make number) before after = ⊥
+OpenFailed (Work number) before after = ⊥
 OpenFailed Show before after = ⊥
 OpenFailed Fetch before after = ⊥
 
@@ -68,6 +71,7 @@ ConnectFailed ReplayAdvance before after = ⊥
 ConnectFailed Check before after = ⊥
 ConnectFailed CheckSummary before after = ⊥
 ConnectFailed (Make number) before after = ⊥
+ConnectFailed (Work number) before after = ⊥
 ConnectFailed Show before after = ⊥
 ConnectFailed Fetch before after = Rose before.link after.link × (after.unconnected ≡ true)
 

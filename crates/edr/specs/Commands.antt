@@ -9,7 +9,7 @@ use Rattle.edr_fetch.specs.Requests.{request_of}
 use Rattle.edr_fetch.specs.declared.requests.Request.{Request}
 use Rattle.edr_program.specs.Numbers.{is_number}
 use Rattle.edr.specs.declared.commands.Command.{Command}
-use Rattle.edr.specs.declared.commands.Command.TheVariants.{Ask, Replay, ReplayAdvance, Check, CheckSummary, Make, Show, Fetch}
+use Rattle.edr.specs.declared.commands.Command.TheVariants.{Ask, Replay, ReplayAdvance, Check, CheckSummary, Make, Work, Show, Fetch}
 
 -- a command, and the word behind it that it goes by, where it has one
 pub record Asked : Type 0 where
@@ -31,6 +31,7 @@ asked_by (word ∷ next ∷ []) =
     else if bytes_eq word (codes "replay") && is_utf8 next then asks Replay next
     else if bytes_eq word (codes "check") && bytes_eq next (codes "--summary") then asks CheckSummary []
     else if bytes_eq word (codes "make") && is_number next then asks (Make (digits_value 10 next)) []
+    else if bytes_eq word (codes "work") && is_number next then asks (Work (digits_value 10 next)) []
     else if bytes_eq word (codes "fetch") then asks Fetch next
     else None
 asked_by (word ∷ next ∷ more ∷ []) =
@@ -45,6 +46,7 @@ IsNoWord ReplayAdvance feed = ⊥
 IsNoWord Check argument = ⊥
 IsNoWord CheckSummary argument = ⊥
 IsNoWord (Make number) argument = ⊥
+IsNoWord (Work number) argument = ⊥
 IsNoWord Show argument = ⊥
 IsNoWord Fetch url = IsNone (request_of url)
 
@@ -61,6 +63,7 @@ writes_early ReplayAdvance = true
 writes_early Check = false
 writes_early CheckSummary = false
 writes_early (Make number) = false
+writes_early (Work number) = false
 writes_early Show = false
 writes_early Fetch = false
 
@@ -76,6 +79,7 @@ uses_input ReplayAdvance = true
 uses_input Check = true
 uses_input CheckSummary = true
 uses_input (Make number) = false
+uses_input (Work number) = false
 uses_input Show = true
 uses_input Fetch = false
 
@@ -92,6 +96,7 @@ files_asked ReplayAdvance feed = Some ((feed, 0) ∷ [])
 files_asked Check argument = None
 files_asked CheckSummary argument = None
 files_asked (Make number) argument = None
+files_asked (Work number) argument = None
 files_asked Show argument = None
 files_asked Fetch url = None
 
@@ -106,6 +111,7 @@ link_asked ReplayAdvance feed = None
 link_asked Check argument = None
 link_asked CheckSummary argument = None
 link_asked (Make number) argument = None
+link_asked (Work number) argument = None
 link_asked Show argument = None
 link_asked Fetch url = option_map peer_of (request_of url)
 
@@ -128,5 +134,6 @@ IsNamed ReplayAdvance feed = IsUtf8 feed
 IsNamed Check argument = ⊤
 IsNamed CheckSummary argument = ⊤
 IsNamed (Make number) argument = ⊤
+IsNamed (Work number) argument = ⊤
 IsNamed Show argument = ⊤
 IsNamed Fetch url = ⊤

@@ -13,7 +13,7 @@ use Rattle.edr_fetch.specs.Requests.{request_of, request_text}
 use Rattle.edr_fetch.specs.Exchanges.{LinkMoment, IsUnconnected, IsUnsent, IsSent}
 use Rattle.edr_program.specs.Lines.{feed_said, Tells}
 use Rattle.edr.specs.declared.commands.Command.{Command}
-use Rattle.edr.specs.declared.commands.Command.TheVariants.{Ask, Replay, ReplayAdvance, Check, CheckSummary, Make, Show, Fetch}
+use Rattle.edr.specs.declared.commands.Command.TheVariants.{Ask, Replay, ReplayAdvance, Check, CheckSummary, Make, Work, Show, Fetch}
 use Rattle.edr.specs.declared.endings.Ending.{Ending}
 use Rattle.edr.specs.declared.endings.Ending.TheVariants.{Done, Usage, NotFeed, ReadFault, WriteFault, OutOfMemory, Refused, NoDocument, ConnectFault, OpenFault}
 use Rattle.edr.specs.declared.endings.DocumentRefusal.{DocumentRefusal}
@@ -45,7 +45,7 @@ name_of (NotData status) = codes "NotData " ++ decimal status
 -- what is said on errors
 abbrev pub said_of : Ending → List ℕ
 said_of Done = []
-said_of Usage = codes "usage: edr ask TARGET | replay FEED [--advance] | check [--summary] | make NUMBER | show | fetch URL"
+said_of Usage = codes "usage: edr ask TARGET | replay FEED [--advance] | check [--summary] | make NUMBER | work NUMBER | show | fetch URL"
 said_of (NotFeed refusal) = feed_said refusal
 said_of ReadFault = codes "read fault"
 said_of WriteFault = codes "write fault"
@@ -161,6 +161,7 @@ LinkOf ReplayAdvance feed ending incoming output output' before after = ⊤
 LinkOf Check argument ending incoming output output' before after = ⊤
 LinkOf CheckSummary argument ending incoming output output' before after = ⊤
 LinkOf (Make number) argument ending incoming output output' before after = ⊤
+LinkOf (Work number) argument ending incoming output output' before after = ⊤
 LinkOf Show argument ending incoming output output' before after = ⊤
 LinkOf Fetch url ending incoming output output' before after =
     IfSome (request_of url) (λ request. LinkEnds ending (request_text request) incoming output output' before after)

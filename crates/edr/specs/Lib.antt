@@ -9,6 +9,7 @@ pub mod Checking
 pub mod Asking
 pub mod Replaying
 pub mod Making
+pub mod Working
 pub mod Showing
 pub mod Fetching
 pub mod Saying

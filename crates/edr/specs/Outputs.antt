@@ -11,10 +11,11 @@ use Rattle.edr_feed.specs.Made.{made}
 use Rattle.edr_feed.specs.Summaries.{summary_line}
 use Rattle.edr_feed.specs.declared.refusals.FeedRefusal.{FeedRefusal}
 use Rattle.edr_serve.specs.Answers.{IsAnswerTo}
+use Rattle.edr_work.specs.Working.{IsWork, IsMadeNoFeed, IsWorkRefused}
 use Rattle.edr.specs.Replays.{IsReplayOf, IsReplayBegun}
 use Rattle.edr.specs.Documents.{IsTableIn, IsNoDocumentIn, IsTableHeard, IsTableBegun, IsNoReplyHeard}
 use Rattle.edr.specs.declared.commands.Command.{Command}
-use Rattle.edr.specs.declared.commands.Command.TheVariants.{Ask, Replay, ReplayAdvance, Check, CheckSummary, Make, Show, Fetch}
+use Rattle.edr.specs.declared.commands.Command.TheVariants.{Ask, Replay, ReplayAdvance, Check, CheckSummary, Make, Work, Show, Fetch}
 use Rattle.edr.specs.declared.endings.DocumentRefusal.{DocumentRefusal}
 use Rattle.edr.specs.Commands.{Asked}
 
@@ -49,7 +50,7 @@ pub record IsAnswerFrom (input : Option (List ℕ)) (target : List ℕ) (answer 
   pub answered : IsAnswerTo edition target answer
 
 -- the text that is asked for: the answer to the target, the replies to the requests of the input, what is told of the feed, the
--- feed that is made, or the table of a document
+-- feed that is made, what is told of the feed that is made and read, or the table of a document
 abbrev pub IsOutputOf : Command → List ℕ → Inputs → List ℕ → Type 0
 IsOutputOf Ask target given text = IsAnswerFrom given.input target (Ok text)
 IsOutputOf Replay feed given text = IsReplayOf false (given.content feed) given.input text
@@ -57,6 +58,7 @@ IsOutputOf ReplayAdvance feed given text = IsReplayOf true (given.content feed) 
 IsOutputOf Check argument given text = IsTextOfFeed count_line given.input text
 IsOutputOf CheckSummary argument given text = IsTextOfFeed summary_lines given.input text
 IsOutputOf (Make number) argument given text = text ≡ made number
+IsOutputOf (Work number) argument given text = IsWork number text
 IsOutputOf Show argument given text = IsTableIn given.input text
 IsOutputOf Fetch url given text = IsTableHeard given.incoming text
 
@@ -69,10 +71,11 @@ IsBegunOf ReplayAdvance feed given text = IsReplayBegun true (given.content feed
 IsBegunOf Check argument given text = IsTextOfFeed count_line given.input text
 IsBegunOf CheckSummary argument given text = IsTextOfFeed summary_lines given.input text
 IsBegunOf (Make number) argument given text = text ≡ made number
+IsBegunOf (Work number) argument given text = IsWork number text
 IsBegunOf Show argument given text = IsTableIn given.input text
 IsBegunOf Fetch url given text = IsTableBegun given.incoming text
 
--- the input is no feed, or the file is none, for that reason
+-- the input is no feed, the file is none, or the feed that is made is none, for that reason
 abbrev pub IsNoInputOf : Command → List ℕ → Inputs → FeedRefusal → Type 0
 IsNoInputOf Ask target given refusal = FeedStandsIn given.input (Err refusal)
 IsNoInputOf Replay feed given refusal = FeedStandsIn (given.content feed) (Err refusal)
@@ -80,10 +83,11 @@ IsNoInputOf ReplayAdvance feed given refusal = FeedStandsIn (given.content feed)
 IsNoInputOf Check argument given refusal = FeedStandsIn given.input (Err refusal)
 IsNoInputOf CheckSummary argument given refusal = FeedStandsIn given.input (Err refusal)
 IsNoInputOf (Make number) argument given refusal = ⊥
+IsNoInputOf (Work number) argument given refusal = IsMadeNoFeed number refusal
 IsNoInputOf Show argument given refusal = ⊥
 IsNoInputOf Fetch url given refusal = ⊥
 
--- what is asked for is refused: the answer to the target is a refusal
+-- what is asked for is refused: the answer to the target is a refusal, or that to a target that is tried
 abbrev pub IsRefusedBy : Command → List ℕ → Inputs → Refusal → Type 0
 IsRefusedBy Ask target given refusal = IsAnswerFrom given.input target (Err refusal)
 IsRefusedBy Replay feed given refusal = ⊥
@@ -91,6 +95,7 @@ IsRefusedBy ReplayAdvance feed given refusal = ⊥
 IsRefusedBy Check argument given refusal = ⊥
 IsRefusedBy CheckSummary argument given refusal = ⊥
 IsRefusedBy (Make number) argument given refusal = ⊥
+IsRefusedBy (Work number) argument given refusal = IsWorkRefused number refusal
 IsRefusedBy Show argument given refusal = ⊥
 IsRefusedBy Fetch url given refusal = ⊥
 
@@ -102,6 +107,7 @@ IsNoDocumentOf ReplayAdvance feed given refusal = ⊥
 IsNoDocumentOf Check argument given refusal = ⊥
 IsNoDocumentOf CheckSummary argument given refusal = ⊥
 IsNoDocumentOf (Make number) argument given refusal = ⊥
+IsNoDocumentOf (Work number) argument given refusal = ⊥
 IsNoDocumentOf Show argument given refusal = IsNoDocumentIn given.input refusal
 IsNoDocumentOf Fetch url given refusal = IsNoReplyHeard given.incoming refusal
 

@@ -7,7 +7,7 @@ use Rattle.edr_base.specs.Calls.{ReadsAtMost, buffer_size}
 use Rattle.edr_reply.specs.Messages.{body_limit}
 use Rattle.edr.specs.Replays.{ReplayReads, ReplayWaits, IsServed}
 use Rattle.edr.specs.declared.commands.Command.{Command}
-use Rattle.edr.specs.declared.commands.Command.TheVariants.{Ask, Replay, ReplayAdvance, Check, CheckSummary, Make, Show, Fetch}
+use Rattle.edr.specs.declared.commands.Command.TheVariants.{Ask, Replay, ReplayAdvance, Check, CheckSummary, Make, Work, Show, Fetch}
 use Rattle.edr.specs.Commands.{Asked}
 use Rattle.edr.specs.Outputs.{Contents}
 
@@ -21,6 +21,7 @@ ReadsOf ReplayAdvance feed content input left old new = ReplayReads true (conten
 ReadsOf Check argument content input left old new = ReadsAtMost (feed_limit + buffer_size) input left
 ReadsOf CheckSummary argument content input left old new = ReadsAtMost (feed_limit + buffer_size) input left
 ReadsOf (Make number) argument content input left old new = left ≡ input
+ReadsOf (Work number) argument content input left old new = left ≡ input
 ReadsOf Show argument content input left old new = ReadsAtMost (body_limit + buffer_size) input left
 ReadsOf Fetch url content input left old new = left ≡ input
 
@@ -38,6 +39,7 @@ WaitsOf ReplayAdvance feed content input left old new flushed = ReplayWaits true
 WaitsOf Check argument content input left old new flushed = ⊤
 WaitsOf CheckSummary argument content input left old new flushed = ⊤
 WaitsOf (Make number) argument content input left old new flushed = ⊤
+WaitsOf (Work number) argument content input left old new flushed = ⊤
 WaitsOf Show argument content input left old new flushed = ⊤
 WaitsOf Fetch url content input left old new flushed = ⊤
 
@@ -54,6 +56,7 @@ IsReadBy ReplayAdvance input left = IsServed input left
 IsReadBy Check input left = IsAtEnd left
 IsReadBy CheckSummary input left = IsAtEnd left
 IsReadBy (Make number) input left = left ≡ input
+IsReadBy (Work number) input left = left ≡ input
 IsReadBy Show input left = IsAtEnd left
 IsReadBy Fetch input left = left ≡ input
 
@@ -71,6 +74,7 @@ LeavesInput ReplayAdvance status = (status ≡ 2) ⊎ (status ≡ 9)
 LeavesInput Check status = ⊥
 LeavesInput CheckSummary status = ⊥
 LeavesInput (Make number) status = ⊥
+LeavesInput (Work number) status = ⊥
 LeavesInput Show status = ⊥
 LeavesInput Fetch status = (status ≡ 1) ⊎ (status ≡ 3) ⊎ (status ≡ 7) ⊎ (status ≡ 8)
 

@@ -58,8 +58,8 @@ fn told(alloc: Global, summary: bool, editions: &[Edition]) -> Result<Text, OutO
     }
 }
 
-// Writes a text whole, and flushes.
-fn put<K: Sink>(output: &mut K, text: &[u8]) -> Result<(), SendFault>
+/// Writes a text whole, and flushes.
+pub fn put<K: Sink>(output: &mut K, text: &[u8]) -> Result<(), SendFault>
     ensures whole { OnOk result (WrittenWhole (λ t. t ≡ text.now) (K.written output.old) (K.written output.new) (K.flushed output.new)) }
     ensures part { WrittenInPart (λ t. t ≡ text.now) (K.written output.old) (K.written output.new) }
     ensures lent { SinkLent (K.beside output.old) (K.beside output.new) (K.faults output.old) (K.faults output.new) }

@@ -21,6 +21,8 @@ pub enum Command {
     CheckSummary,
     /// `make NUMBER`: writes the feed that is made of this number.
     Make(u64),
+    /// `work NUMBER`: makes the feed of this number and reads it, and tells of its edition and of the answers to four targets.
+    Work(u64),
     /// `show`: writes the table of the document on the input.
     Show,
     /// `fetch URL`: asks the server that the URL names, and writes the table of the document that it replies.
@@ -63,6 +65,12 @@ pub fn asked_by(words: &[Text]) -> Option<(Command, &[u8])>
         [word, number] if word.bytes() == b"make".as_slice() => {
             match number_of(number.bytes()) {
                 Some(number) => Some((Command::Make(number), &[])),
+                None => None,
+            }
+        }
+        [word, number] if word.bytes() == b"work".as_slice() => {
+            match number_of(number.bytes()) {
+                Some(number) => Some((Command::Work(number), &[])),
                 None => None,
             }
         }

@@ -13,7 +13,7 @@ use edr_program::{said_of_feed, tell_line};
 use itoa::Buffer;
 
 const USAGE: &[u8] =
-    b"usage: edr ask TARGET | replay FEED [--advance] | check [--summary] | make NUMBER | show | fetch URL";
+    b"usage: edr ask TARGET | replay FEED [--advance] | check [--summary] | make NUMBER | work NUMBER | show | fetch URL";
 
 /// Why no document is read.
 #[derive(Clone, Copy, Debug, PartialEq, Eq)]

@@ -11,6 +11,7 @@ mod replaying;
 mod running;
 mod showing;
 mod tabling;
+mod working;
 
 use edr_base::{RealFiles, RealLink, RealSink, RealSource};
 use edr_program::words_of;
@@ -55,3 +56,5 @@ mod line_tests;
 mod station_tests;
 #[cfg(test)]
 mod tests;
+#[cfg(test)]
+mod work_tests;

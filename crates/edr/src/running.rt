@@ -16,6 +16,7 @@ use crate::fetching::fetch_url;
 use crate::making::make;
 use crate::replaying::replay;
 use crate::showing::show;
+use crate::working::work;
 use edr_base::{Files, Link, Sink, Source, Text};
 use std::alloc::Global;
 
@@ -60,6 +61,7 @@ fn carry_out<S: Source, K: Sink, F: Files, L: Link>(
         Some((Command::Check, _)) => check(alloc, false, input, output),
         Some((Command::CheckSummary, _)) => check(alloc, true, input, output),
         Some((Command::Make(number), _)) => make(alloc, number, output),
+        Some((Command::Work(number), _)) => work(alloc, number, output),
         Some((Command::Show, _)) => show(alloc, input, output),
         Some((Command::Fetch, url)) => fetch_url(alloc, url, output, link),
         None => Ending::Usage,
@@ -72,7 +74,8 @@ fn carry_out<S: Source, K: Sink, F: Files, L: Link>(
 /// the feed in the file of that name, and serves `input` as one connection to `output`, from the feed's first edition; with
 /// `--advance` each request but the first finds the feed's next edition. `check` reads a feed from `input` and writes how many
 /// editions it has; `check --summary` writes what each of them has. `make NUMBER` writes the feed that is made of the number, and
-/// takes nothing from `input`. `show` reads a document of CoverageJSON from `input` and writes its table. `fetch URL` connects to
+/// takes nothing from `input`; nor does `work NUMBER`, which makes that feed in memory, reads it, and writes what its edition has and
+/// what documents it answers to four targets. `show` reads a document of CoverageJSON from `input` and writes its table. `fetch URL` connects to
 /// the server that the URL names, writes one request and flushes it, reads the reply, and writes the table of its document. The
 /// answer is the status of the program; with each but 0 one line says why on `errors`. Of files and of the link nothing is asked that the words don't ask for, and where they ask for
 /// nothing there neither is touched.

@@ -1,6 +1,6 @@
 use Rattle.std.proofs.Common.{rules, ◌≡◌, Some}
 use Rattle.edr.specs.Commands.{asked_by}
-use Rattle.edr.specs.declared.commands.Command.TheVariants.{Replay, ReplayAdvance}
+use Rattle.edr.specs.declared.commands.Command.TheVariants.{Replay, ReplayAdvance, Work}
 use Rattle.edr.proofs.running.carry_out.Goals as goal
 
 pub returns-in-Some-Replay-default-clause-read : goal.returns-in-Some-Replay-default-clause-read
@@ -22,3 +22,8 @@ pub returns-in-Some-ReplayAdvance-default-clause-output : goal.returns-in-Some-R
 returns-in-Some-ReplayAdvance-default-clause-output g c =
     let asked : asked_by c.args.words.now ≡ Some (record { command = ReplayAdvance; argument = c.in-Some-ReplayAdvance-default.feed.now }) = search rules in
     rw asked c.replay-in-Some-ReplayAdvance-default.ensures.output
+
+pub returns-in-Some-Work-default-clause-output : goal.returns-in-Some-Work-default-clause-output
+returns-in-Some-Work-default-clause-output g c =
+    let asked : asked_by c.args.words.now ≡ Some (record { command = Work c.in-Some-Work-default.number; argument = c.in-Some-Work-default.field-0-1.now }) = search rules in
+    rw asked c.work.ensures.output

@@ -1,0 +1,27 @@
+-- How a run ends that makes a feed and reads it; for private clauses.
+use Rattle.std.specs.Prelude.{ℕ, ⊤}
+use Rattle.edr_base.specs.Outside.{Rose}
+use Rattle.edr_work.specs.Working.{IsMadeNoFeed, IsWorkRefused}
+use Rattle.edr_work.specs.declared.faults.WorkFault.{WorkFault}
+use Rattle.edr_work.specs.declared.faults.WorkFault.TheVariants as faults
+use Rattle.edr.specs.declared.endings.Ending.{Ending}
+use Rattle.edr.specs.declared.endings.Ending.TheVariants.{Done, Usage, NotFeed, ReadFault, WriteFault, OutOfMemory, Refused, NoDocument, ConnectFault, OpenFault}
+
+-- how a run ends that has no text
+abbrev pub work_ends : WorkFault → Ending
+work_ends (faults.NotFeed refusal) = NotFeed refusal
+work_ends (faults.Refused refusal) = Refused refusal
+work_ends faults.OutOfMemory = OutOfMemory
+
+-- the cause of an ending: the feed that is made is none, its edition refuses a target, or a count rose
+abbrev pub WorkCause : Ending → ℕ → ℕ → ℕ → Type 0
+WorkCause Done number before after = ⊤
+WorkCause Usage number before after = ⊥
+WorkCause (NotFeed refusal) number before after = IsMadeNoFeed number refusal
+WorkCause ReadFault number before after = ⊥
+WorkCause WriteFault number before after = Rose before after
+WorkCause OutOfMemory number before after = ⊤
+WorkCause (Refused refusal) number before after = IsWorkRefused number refusal
+WorkCause (NoDocument refusal) number before after = ⊥
+WorkCause ConnectFault number before after = ⊥
+WorkCause OpenFault number before after = ⊥

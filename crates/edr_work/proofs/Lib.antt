@@ -1,0 +1,4 @@
+pub mod FeedLemmas
+pub mod CountLemmas
+pub mod TargetLemmas
+pub mod LineLemmas

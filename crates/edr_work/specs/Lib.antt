@@ -1,0 +1,3 @@
+pub mod Lines
+pub mod Working
+pub mod Counting
