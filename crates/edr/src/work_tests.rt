@@ -95,7 +95,7 @@ fn a_write_that_fails_ends_a_run(rt: HostRuntime) -> Result<(), Fail> {
             .as_slice()
             .starts_with(output.written())
     );
-    assert_eq!(rt; errors.written(), b"write fault\n");
+    assert_eq!(rt; errors.written(), b"write fault\n".as_slice());
     Ok(())
 }
 
