@@ -7,7 +7,7 @@ ghost use Rattle.covjson_value.specs.Coverages.{IsValidDocument};
 ghost use Rattle.covjson_checks.specs.declared.faults.CovFault.{CovFault};
 ghost use Rattle.covjson_read.specs.Standing.{StandsForDocument};
 ghost use Rattle.covjson_read.specs.Rows.{DocumentRows};
-ghost use Rattle.edr_reply.specs.Messages.{HasNoMessage, most_beyond, most_read};
+ghost use Rattle.edr_reply.specs.Messages.{HasNoMessage, BreaksOff, most_beyond, most_read};
 ghost use Rattle.edr_reply.specs.BrokenParts.{IsFirstBreak};
 ghost use Rattle.edr_client.specs.Replies.{IsCode, IsReply, IsNotData, IsNoDocument, IsLeft};
 ghost use Rattle.edr_client.specs.Answering.{TellsNotData, TellsCov, Answers};
@@ -73,6 +73,9 @@ fn reply_of(alloc: Global, message: &Message) -> Result<Reply, ReplyFault>
 ///
 /// `BadReply` is the first place at which a part of a reply isn't there, or isn't there whole, and nothing that begins so is a
 /// reply. Not much more is read than what stands before that place and a body of the longest, of 67,108,864 bytes.
+///
+/// `ReadFault` is answered only in the midst of a reply: none ends within the bytes that were taken, unless it goes on to the
+/// end of the input.
 pub fn read_reply<S: Source>(alloc: Global, source: &mut S) -> Result<Reply, ReplyFault>
     ensures reply { IfOk result (λ reply. Told (λ bytes left. IsLeft (IsReply bytes reply) left) (S.left source.old) (S.left source.new)) }
     ensures valid { IfOk result (λ reply. IsValidDocument reply.document) }
@@ -84,6 +87,7 @@ pub fn read_reply<S: Source>(alloc: Global, source: &mut S) -> Result<Reply, Rep
     ensures bounded { ReadsAtMost most_read (S.left source.old) (S.left source.new) }
     ensures lent { SourceLent (S.aside source.old) (S.aside source.new) (S.faults source.old) (S.faults source.new) }
     ensures cause { IsErrOf result ReplyFault.ReadFault → Rose (S.faults source.old) (S.faults source.new) }
+    ensures unfinished { IsErrOf result ReplyFault.ReadFault → BreaksOff (S.left source.old) (S.left source.new) }
 {
     match read_message(alloc, source) {
         Ok(message) => reply_of(alloc, &message),

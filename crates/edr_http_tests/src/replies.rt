@@ -193,7 +193,7 @@ fn cut_replies(rt: HostRuntime) -> Result<(), AllocError> {
     Ok(())
 }
 
-// A source that fails in the midst of a reply.
+// A source that fails in the midst of a reply, and one that would fail behind it.
 #[test]
 fn a_fault_is_answered(rt: HostRuntime) -> Result<(), AllocError> {
     let alloc = rt.alloc();
@@ -206,5 +206,9 @@ fn a_fault_is_answered(rt: HostRuntime) -> Result<(), AllocError> {
             "{call}"
         );
     }
+    let bytes = input_of(alloc, "HTTP/1.1 200 OK|Content-Length: 3||abc")?;
+    let mut source = MemorySource::of(bytes, 4, Vec::from_slice(alloc, &[12])?);
+    let answer = read_message(alloc, &mut source);
+    assert!(rt; is_wanted(alloc, answer, "200 - abc")?);
     Ok(())
 }

@@ -4,10 +4,11 @@ use Rattle.std.specs.Prelude.{IfSome}
 use Rattle.std.specs.declared.option.Option.{Option}
 use Rattle.std.specs.Io.KnownBytes.{prepend_known, IsAtEnd}
 use Rattle.edr_base.specs.Calls.{ReadsAtMost}
+use Rattle.edr_base.specs.KnownBytes.{took_on}
 use Rattle.edr_http.specs.Heads.{Told}
 use Rattle.edr_reply.specs.declared.framing.Framing.TheVariants.{Chunked, Sized, ToEnd}
 use Rattle.edr_reply.specs.Messages.{IsBody, body_limit}
-use Rattle.edr_reply.specs.Taking.{TakesOnto, TakesChunks, BodyBreaks}
+use Rattle.edr_reply.specs.Taking.{TakesSome, TakesOnto, TakesChunks, BodyBreaks, IsCutBody}
 
 -- a text before the rest, told of both
 pub told_behind : (x : List ℕ) (old new : Option (List ℕ)) (P : List ℕ → List ℕ → Type 0) → old ≡ prepend_known x new → ((rest : List ℕ) → P (x ++ rest) rest) → Told P old new
@@ -74,3 +75,9 @@ end_breaks_at place at old new e long read = record {
     each : (o : Option (List ℕ)) → IfSome o (λ bytes. body_limit < length bytes) → IfSome o (λ bytes. (body_limit < length bytes) × (◌≡◌ {A = ℕ} 0 0))
     each None h = tt
     each (Some b) h = (h, refl)
+
+-- ---- where the source failed
+
+-- some bytes of a body that goes on to the end of the input, with those that are held
+pub end_cut_at : (most : ℕ) (held : List ℕ) (old left : Option (List ℕ)) → ReadsAtMost most old (prepend_known held left) → TakesSome (IsCutBody ToEnd) old left
+end_cut_at most held old left read = record { bytes = read.bytes ++ held; read = took_on old (prepend_known held left) left _ _ read.read refl; holds = tt }

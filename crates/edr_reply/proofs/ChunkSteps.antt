@@ -15,8 +15,8 @@ use Rattle.edr_reply.specs.declared.held.PartFault.{PartFault}
 use Rattle.edr_reply.specs.declared.held.PartFault.TheVariants as part
 use Rattle.edr_reply.specs.declared.messages.MessageFault.TheVariants as message
 use Rattle.edr_reply.specs.Messages.{Chunk, IsChunk, print_chunk, print_chunks, joined, body_limit}
-use Rattle.edr_reply.specs.BrokenParts.{LacksEnd, BreaksChunk, BreaksChunks}
-use Rattle.edr_reply.specs.Taking.{TakesLine, TakesOnto, TakesNext, TakesLast, TakesChunks, at_place, most_of_chunk, latest_place, ChunkBreaks, ChunksBreak, Going}
+use Rattle.edr_reply.specs.BrokenParts.{LacksLine, LacksEnd, BreaksChunk, BreaksChunks}
+use Rattle.edr_reply.specs.Taking.{TakesSome, TakesLine, TakesOnto, TakesNext, TakesLast, TakesChunks, at_place, most_of_chunk, latest_place, ChunkBreaks, ChunksBreak, IsCutChunk, IsCutChunks, Going}
 
 -- what holds of the rest behind a text holds of all
 pub behind : (x : List ℕ) (old mid : Option (List ℕ)) (P Q : List ℕ → Type 0) → old ≡ prepend_known x mid → IfSome mid P → ((rest : List ℕ) → P rest → Q (x ++ rest)) → IfSome old Q
@@ -35,6 +35,12 @@ pub broken_is : (fault : PartFault) (place at : ℕ) → at_place fault place �
 broken_is part.Lacking place at e = (refl, cc)
 broken_is part.ReadFault place at e = absurd cc
 broken_is part.OutOfMemory place at e = absurd cc
+
+-- the source failed where it failed on a part
+pub failed_is : (fault : PartFault) (place : ℕ) → at_place fault place ≡ message.ReadFault → fault ≡ part.ReadFault
+failed_is part.Lacking place e = absurd cc
+failed_is part.ReadFault place e = refl
+failed_is part.OutOfMemory place e = absurd cc
 
 -- ---- a chunk
 
@@ -78,6 +84,38 @@ end_breaks place at room found body body' old mid far new t small some onto lack
         within = omega (arith, length-append (print_chunk_line t.0) onto.bytes, onto.count, t.2);
       };
     }
+
+-- ---- what was taken of it where the source failed
+
+pub line_cut : (room : ℕ) (old new : Option (List ℕ)) → TakesSome (LacksLine room) old new → TakesSome (IsCutChunk room) old new
+line_cut room old new s = record { bytes = s.bytes; read = s.read; holds = (0, BreaksChunk.at_line s.holds refl) }
+
+pub last_cut : (room : ℕ) (found : SizeLine) (old mid new : Option (List ℕ)) → TakesLine room found old mid → found.size ≡ 0 → TakesSome LacksEnd mid new → TakesSome (IsCutChunk room) old new
+last_cut room found old mid new t none s = record {
+  bytes = print_chunk_line t.0 ++ s.bytes;
+  read = took_on old mid new _ _ t.5 s.read;
+  holds = (length (print_chunk_line t.0), BreaksChunk.at_last t.0 s.bytes (t.1, refl) (sym t.3 ∙ none) s.holds refl);
+}
+
+pub piece_cut : (room : ℕ) (found : SizeLine) (old mid new : Option (List ℕ)) → TakesLine room found old mid → TakesSome (λ bytes. length bytes < found.size) mid new → TakesSome (IsCutChunk room) old new
+piece_cut room found old mid new t s =
+    let few = s.holds in
+    record {
+      bytes = print_chunk_line t.0 ++ s.bytes;
+      read = took_on old mid new _ _ t.5 s.read;
+      holds = (length (print_chunk_line t.0), BreaksChunk.at_piece t.0 s.bytes (t.1, refl) (omega (arith, t.3, t.4)) (omega (arith, few, t.3)) refl);
+    }
+
+pub end_cut : (room : ℕ) (found : SizeLine) (body body' : List ℕ) (old mid far new : Option (List ℕ)) → TakesLine room found old mid → ¬ (found.size ≡ 0) → TakesOnto found.size body body' mid far
+    → TakesSome LacksEnd far new → TakesSome (IsCutChunk room) old new
+end_cut room found body body' old mid far new t some onto s = record {
+  bytes = print_chunk_line t.0 ++ (onto.bytes ++ s.bytes);
+  read = took_on old mid new _ _ t.5 (took_on mid far new _ _ onto.rest_is s.read);
+  holds = (
+    length (print_chunk_line t.0) + length onto.bytes,
+    BreaksChunk.at_end t.0 onto.bytes s.bytes (t.1, refl) (omega (arith, t.3, t.4)) (onto.count ∙ t.3) (omega (arith, t.3, some)) s.holds refl,
+  );
+}
 
 -- what was read of it where it isn't taken
 pub piece_bounded : (room : ℕ) (found : SizeLine) (old mid new : Option (List ℕ)) → TakesLine room found old mid → room ≤ body_limit → ReadsAtMost found.size mid new → ReadsAtMost most_of_chunk old new
@@ -184,6 +222,24 @@ going_breaks start place at body old mid new g b = record {
     read = took_on old mid new _ _ g.rest_is b.read.read;
     within = omega (arith, length-append (print_chunks g.chunks) b.read.bytes, b.read.within);
   };
+}
+
+pub going_cut : (start place : ℕ) (body : List ℕ) (old mid new : Option (List ℕ)) → Going start place body old mid → TakesSome (IsCutChunk (body_limit - length body)) mid new → TakesSome IsCutChunks old new
+going_cut start place body old mid new g s = record {
+  bytes = print_chunks g.chunks ++ s.bytes;
+  read = took_on old mid new _ _ g.rest_is s.read;
+  holds = (
+    length (print_chunks g.chunks) + s.holds.0,
+    record {
+      chunks = g.chunks;
+      rest = s.bytes;
+      within = s.holds.0;
+      are_chunks = g.are_chunks;
+      bytes_are = refl;
+      breaks = subst (λ (w : List ℕ). BreaksChunk (body_limit - length w) s.bytes s.holds.0) g.body_is s.holds.1;
+      place_is = refl;
+    },
+  );
 }
 
 -- each chunk has a byte, a line end and its line

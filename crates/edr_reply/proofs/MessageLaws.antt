@@ -8,8 +8,9 @@ use Rattle.edr_http.specs.Checks.{Field}
 use Rattle.edr_reply.specs.declared.framing.Framing.{Framing}
 use Rattle.edr_reply.specs.declared.framing.Framing.TheVariants.{Chunked, Sized, TooLong, ToEnd}
 use Rattle.edr_reply.specs.declared.messages.Message.{Message}
-use Rattle.edr_reply.specs.Messages.{BeginsWithHead, fields_of, HasNumber, IsEdition, IsFraming, IsBody, IsMessage}
-use Rattle.edr_reply.specs.BrokenParts.{BreaksBody, BreaksBehindHead, BreaksAt, IsFirstBreak}
+use Rattle.edr_reply.specs.Messages.{BeginsWithHead, fields_of, HasNumber, IsEdition, IsFraming, IsBody, IsMessage, HasNoEnd}
+use Rattle.edr_reply.specs.BrokenParts.{LacksHead, BreaksBody, BreaksBehindHead, BreaksAt, IsFirstBreak}
+use Rattle.edr_reply.specs.Taking.{IsCutBody}
 use Rattle.edr_reply.specs.Laws.{MessageIsOne, BreakIsOne, BrokenIsNone}
 use Rattle.edr_reply.proofs.ChunkLaws.{front_same, chunked_one, chunked_broken, chunks_break_one}
 
@@ -122,3 +123,22 @@ first_break bytes k x = record {
   applies = x;
   none_before = λ other before y. let same = one_break bytes other k y x in omega (arith, before, same);
 }
+
+-- ---- bytes that end in the midst of a reply
+
+cut_ends : (framing : Framing) (bytes a r : List ℕ) → IsCutBody framing bytes → IsBody framing bytes a r → framing ≡ ToEnd
+cut_ends Chunked bytes a r cut y = absurd (chunked_broken bytes a r cut.0 cut.1 y)
+cut_ends (Sized size) bytes a r cut y = absurd (omega (arith, cut, ap length y.0, length-append a r, y.1))
+cut_ends TooLong bytes a r cut y = absurd y
+cut_ends ToEnd bytes a r cut y = refl
+
+pub head_no_end : (bytes : List ℕ) → LacksHead bytes → HasNoEnd bytes
+head_no_end bytes lacks message rest y = absurd (lacks y.head y.behind y.begins)
+
+pub body_no_end : (bytes behind : List ℕ) (head : ResponseHead) (framing : Framing) → BeginsWithHead bytes head behind → IsFraming (fields_of head) framing → IsCutBody framing behind → HasNoEnd bytes
+body_no_end bytes behind head framing begins is cut message rest y =
+    let one = head_one bytes head y.head behind y.behind begins y.begins in
+    let framed : IsFraming (fields_of y.head) framing = subst (λ (h : ResponseHead). IsFraming (fields_of h) framing) one.0 is in
+    let same = framing_one (fields_of y.head) framing y.framing framed y.framed in
+    let there : IsCutBody y.framing y.behind = subst (λ (f : Framing). IsCutBody f y.behind) same (subst (λ (b : List ℕ). IsCutBody framing b) one.1 cut) in
+    cut_ends y.framing y.behind message.body rest there y.body

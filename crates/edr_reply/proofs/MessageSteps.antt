@@ -11,10 +11,10 @@ use Rattle.edr_reply.specs.declared.framing.Framing.{Framing}
 use Rattle.edr_reply.specs.declared.framing.Framing.TheVariants.{Chunked, Sized, TooLong, ToEnd}
 use Rattle.edr_reply.specs.declared.heads.Opening.{Opening}
 use Rattle.edr_reply.specs.declared.messages.Message.{Message}
-use Rattle.edr_reply.specs.Messages.{fields_of, IsEdition, IsFraming, IsBody, TakesMessage, HasNoMessage}
+use Rattle.edr_reply.specs.Messages.{fields_of, IsEdition, IsFraming, IsBody, TakesMessage, HasNoMessage, BreaksOff}
 use Rattle.edr_reply.specs.BrokenParts.{LacksHead, BreaksBody, BreaksAt, IsFirstBreak}
-use Rattle.edr_reply.specs.Taking.{TakesHead, BodyBreaks, FramingFits}
-use Rattle.edr_reply.proofs.MessageLaws.{first_break, none_broken}
+use Rattle.edr_reply.specs.Taking.{TakesSome, TakesHead, BodyBreaks, IsCutBody, FramingFits}
+use Rattle.edr_reply.proofs.MessageLaws.{first_break, none_broken, head_no_end, body_no_end}
 use Rattle.edr_reply.proofs.ChunkSteps.{behind}
 
 -- a size that was found is within the limit
@@ -86,6 +86,18 @@ breaks_first place (Some bytes) h = first_break bytes place h
 pub breaks_none : (place : ℕ) (left : Option (List ℕ)) → IfSome left (λ bytes. BreaksAt bytes place) → IfSome left HasNoMessage
 breaks_none place None h = tt
 breaks_none place (Some bytes) h = none_broken bytes place h
+
+-- ---- where the source failed
+
+pub head_off : (left left' : Option (List ℕ)) → TakesSome LacksHead left left' → BreaksOff left left'
+head_off left left' s = record { bytes = s.bytes; read = s.read; unfinished = head_no_end s.bytes s.holds }
+
+pub body_off : (opening : Opening) (left mid left' : Option (List ℕ)) → TakesHead opening left mid → TakesSome (IsCutBody opening.framing) mid left' → BreaksOff left left'
+body_off opening left mid left' t s = record {
+  bytes = print_response t.0 ++ s.bytes;
+  read = took_on left mid left' _ _ t.3 s.read;
+  unfinished = body_no_end (print_response t.0 ++ s.bytes) s.bytes t.0 opening.framing (t.1, refl) t.2.framed s.holds;
+}
 
 -- ---- what was read
 

@@ -8,7 +8,7 @@ use Rattle.std.proofs.Math.Seq.{drop-append_seam}
 use mathlib.Core.List.{append_assoc}
 use Rattle.edr_base.specs.Calls.{ReadsAtMost}
 use Rattle.edr_base.specs.KnownBytes.{prepend_more, took_on}
-use Rattle.edr_reply.specs.Taking.{TakesOnto}
+use Rattle.edr_reply.specs.Taking.{TakesSome, TakesOnto}
 
 -- a text at the front of what is held was taken
 pub front_taken : (held text rest : List ℕ) (n : ℕ) (left : Option (List ℕ)) → held ≡ text ++ rest → n ≡ length text
@@ -30,6 +30,10 @@ lacks_now P held (Some bytes) p e = subst P (sym (ap (λ w. held ++ w) e ∙ app
 pub lacks_ever : (P : List ℕ → Type 0) (held : List ℕ) (left : Option (List ℕ)) → ((more : List ℕ) → P (held ++ more)) → IfSome (prepend_known held left) P
 lacks_ever P held None never = tt
 lacks_ever P held (Some bytes) never = never bytes
+
+-- what holds of what is held, where nothing else of what follows was taken
+pub some_held : (P : List ℕ → Type 0) (held held' : List ℕ) (old left : Option (List ℕ)) → P held → held' ≡ held → prepend_known held' left ≡ old → TakesSome P old left
+some_held P held held' old left p e f = record { bytes = held'; read = sym f; holds = subst P (sym e) p }
 
 -- ---- bytes that are put behind a body
 
@@ -85,3 +89,11 @@ too_many n limit a b (Some bytes) (Some rest) s many =
   where
     told : Some bytes ≡ Some (s.bytes ++ rest) → bytes ≡ s.bytes ++ rest
     told e = cc
+
+-- fewer than were to come, where nothing is held
+pub some_taken : (most n : ℕ) (a b held : List ℕ) (x left : Option (List ℕ)) → TakesOnto n a b x (prepend_known held left) → n < most → length held ≡ 0 → TakesSome (λ bytes. length bytes < most) x left
+some_taken most n a b held x left s few none = record {
+  bytes = s.bytes ++ held;
+  read = s.rest_is ∙ prepend_more left s.bytes held;
+  holds = omega (arith, length-append s.bytes held, s.count, few, none);
+}

@@ -4,6 +4,7 @@ use Rattle.std.specs.declared.option.Option.{Option}
 use Rattle.std.specs.Char.{is_ascii_digit}
 use Rattle.std.specs.List.{AllPass, flat_map}
 use Rattle.std.specs.Str.Parse.{digits_value}
+use Rattle.std.specs.Io.KnownBytes.{prepend_known}
 use Rattle.httparse.specs.Grammar.{ResponseHead, IsResponseHead, print_response, status_code, ChunkLine, IsChunkLine, print_chunk_line, chunk_size}
 use Rattle.httparse.specs.Spans.{name_and_value}
 use Rattle.edr_base.specs.Calls.{buffer_size}
@@ -137,6 +138,16 @@ pub record IsMessage (bytes : List ℕ) (message : Message) (rest : List ℕ) : 
 -- the bytes begin with none
 abbrev pub HasNoMessage : List ℕ → Type 0
 HasNoMessage bytes = (message : Message) (rest : List ℕ) → ¬ (IsMessage bytes message rest)
+
+-- the bytes begin with no reply that ends within them: none but one that goes on to the end of the input
+abbrev pub HasNoEnd : List ℕ → Type 0
+HasNoEnd bytes = (message : Message) (rest : List ℕ) (is : IsMessage bytes message rest) → is.framing ≡ ToEnd
+
+-- a call took some bytes, and broke off in the midst of a reply
+pub record BreaksOff (old new : Option (List ℕ)) : Type 0 where
+  pub bytes : List ℕ
+  pub read : old ≡ prepend_known bytes new
+  pub unfinished : HasNoEnd bytes
 
 -- what a call that takes a message leaves: at most so many bytes of the rest were read with it
 abbrev pub TakesMessage : Message → List ℕ → List ℕ → Type 0

@@ -15,8 +15,14 @@ use Rattle.edr_reply.specs.declared.held.PartFault.TheVariants as part
 use Rattle.edr_reply.specs.declared.messages.MessageFault.{MessageFault}
 use Rattle.edr_reply.specs.declared.messages.MessageFault.TheVariants as message
 use Rattle.edr_reply.specs.Messages.{IsHead, IsSizeLine, Chunk, IsChunk, AreChunks, print_chunk, print_chunks, joined, IsChunkedBody, body_limit}
-use Rattle.edr_reply.specs.BrokenParts.{BreaksChunk, BreaksBody}
+use Rattle.edr_reply.specs.BrokenParts.{BreaksChunk, BreaksChunks, BreaksBody}
 use Rattle.edr_reply.specs.Finding.{Opens}
+
+-- some bytes were taken, of which this holds
+pub record TakesSome (P : List ℕ → Type 0) (old new : Option (List ℕ)) : Type 0 where
+  pub bytes : List ℕ
+  pub read : old ≡ prepend_known bytes new
+  pub holds : P bytes
 
 -- a head was taken that says this
 abbrev pub TakesHead : Opening → Option (List ℕ) → Option (List ℕ) → Type 0
@@ -111,6 +117,21 @@ ChunksBreak place at old new = BodyBreaks Chunked place at old new
 -- what is read of a body at most where it isn't taken
 abbrev pub most_of_body : ℕ
 most_of_body = latest_place body_limit + most_of_chunk
+
+-- the bytes end in the midst of a chunk, where the body may still grow by `room` bytes
+abbrev pub IsCutChunk : ℕ → List ℕ → Type 0
+IsCutChunk room bytes = (place : ℕ) × BreaksChunk room bytes place
+
+-- the bytes end in the midst of a body in chunks
+abbrev pub IsCutChunks : List ℕ → Type 0
+IsCutChunks bytes = (place : ℕ) × BreaksChunks bytes place
+
+-- the bytes end in the midst of a body; one that is too long, or goes on to the end of the input, goes on behind any
+abbrev pub IsCutBody : Framing → List ℕ → Type 0
+IsCutBody Chunked bytes = IsCutChunks bytes
+IsCutBody (Sized size) bytes = length bytes < size
+IsCutBody TooLong bytes = ⊤
+IsCutBody ToEnd bytes = ⊤
 
 -- the size of a body is within the limit
 abbrev pub FramingFits : Framing → Type 0

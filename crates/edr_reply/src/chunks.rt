@@ -5,7 +5,7 @@ ghost use Rattle.edr_base.specs.Outside.{Rose};
 ghost use Rattle.edr_base.specs.Calls.{SourceLent, ReadsAtMost};
 ghost use Rattle.edr_reply.specs.Messages.{body_limit};
 ghost use Rattle.edr_reply.specs.BrokenParts.{BreaksChunk, BreaksChunks};
-ghost use Rattle.edr_reply.specs.Taking.{TakesChunk, TakesChunks, at_place, latest_place, ChunkBreaks, ChunksBreak, most_of_chunk, most_of_body};
+ghost use Rattle.edr_reply.specs.Taking.{TakesSome, TakesChunk, TakesChunks, IsCutChunk, IsCutChunks, at_place, latest_place, ChunkBreaks, ChunksBreak, most_of_chunk, most_of_body};
 
 use crate::held::{Held, PartFault};
 use crate::messages::{BODY_LIMIT, MessageFault};
@@ -39,6 +39,7 @@ fn take_chunk<S: Source>(
     ensures bounded { OnErr result (ReadsAtMost most_of_chunk (prepend_known held.old (S.left source.old)) (prepend_known held.new (S.left source.new))) }
     ensures lent { SourceLent (S.aside source.old) (S.aside source.new) (S.faults source.old) (S.faults source.new) }
     ensures cause { IsErrOf result MessageFault.ReadFault → Rose (S.faults source.old) (S.faults source.new) }
+    ensures unfinished { IsErrOf result MessageFault.ReadFault → TakesSome (IsCutChunk (body_limit - length body.old.items)) (prepend_known held.old (S.left source.old)) (S.left source.new) }
 {
     let line = match take_line(source, held, (BODY_LIMIT - body.len()) as u64) {
         Ok(line) => line,
@@ -77,6 +78,7 @@ pub(crate) fn take_chunks<S: Source>(
     ensures bounded { ReadsAtMost most_of_body (prepend_known held.old (S.left source.old)) (prepend_known held.new (S.left source.new)) }
     ensures lent { SourceLent (S.aside source.old) (S.aside source.new) (S.faults source.old) (S.faults source.new) }
     ensures cause { IsErrOf result MessageFault.ReadFault → Rose (S.faults source.old) (S.faults source.new) }
+    ensures unfinished { IsErrOf result MessageFault.ReadFault → TakesSome IsCutChunks (prepend_known held.old (S.left source.old)) (S.left source.new) }
 {
     let mut next_place = place;
     loop {

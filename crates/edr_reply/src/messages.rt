@@ -4,9 +4,9 @@ ghost use Rattle.std.specs.Io.KnownBytes.{prepend_known};
 ghost use Rattle.edr_base.specs.Outside.{Rose};
 ghost use Rattle.edr_base.specs.Calls.{SourceLent, ReadsAtMost};
 ghost use Rattle.edr_http.specs.Heads.{Told};
-ghost use Rattle.edr_reply.specs.Messages.{IsBody, TakesMessage, HasNoMessage, most_beyond, most_read};
+ghost use Rattle.edr_reply.specs.Messages.{IsBody, TakesMessage, HasNoMessage, BreaksOff, most_beyond, most_read};
 ghost use Rattle.edr_reply.specs.BrokenParts.{IsFirstBreak};
-ghost use Rattle.edr_reply.specs.Taking.{BodyBreaks, FramingFits, most_of_body};
+ghost use Rattle.edr_reply.specs.Taking.{TakesSome, BodyBreaks, IsCutBody, FramingFits, most_of_body};
 
 use crate::chunks::{at_place, take_chunks};
 use crate::framing::Framing;
@@ -42,7 +42,7 @@ pub enum MessageFault {
 }
 
 // Takes the body of a reply, whose end is known so, from this place on.
-#[tactic(auto, using(crate::proofs::BodySteps::chunks_are_body, crate::proofs::BodySteps::piece_is_body, crate::proofs::BodySteps::end_is_body))]
+#[tactic(auto, using(crate::proofs::BodySteps::chunks_are_body, crate::proofs::BodySteps::piece_is_body, crate::proofs::BodySteps::end_is_body, crate::proofs::BodySteps::end_cut_at))]
 fn take_body<S: Source>(
     alloc: Global,
     source: &mut S,
@@ -58,6 +58,7 @@ fn take_body<S: Source>(
     ensures bounded { ReadsAtMost most_of_body (prepend_known held.old (S.left source.old)) (prepend_known held.new (S.left source.new)) }
     ensures lent { SourceLent (S.aside source.old) (S.aside source.new) (S.faults source.old) (S.faults source.new) }
     ensures cause { IsErrOf result MessageFault.ReadFault → Rose (S.faults source.old) (S.faults source.new) }
+    ensures unfinished { IsErrOf result MessageFault.ReadFault → TakesSome (IsCutBody framing) (prepend_known held.old (S.left source.old)) (S.left source.new) }
 {
     let mut body = Vec::new(alloc);
     match framing {
@@ -82,6 +83,9 @@ fn take_body<S: Source>(
 ///
 /// `Broken` is the first place at which a part of a reply isn't there, or isn't there whole; no reply is there then, and
 /// not much more is read than what stands before that place and a body of the longest.
+///
+/// `ReadFault` is answered only in the midst of a reply: none ends within the bytes that were taken, unless it goes on to the
+/// end of the input.
 pub fn read_message<S: Source>(alloc: Global, source: &mut S) -> Result<Message, MessageFault>
     ensures message { IfOk result (λ message. Told (TakesMessage message) (S.left source.old) (S.left source.new)) }
     ensures broken { (place : ℕ) → result ≡ Err (MessageFault.Broken place) → IfSome (S.left source.old) (λ bytes. IsFirstBreak bytes place) }
@@ -90,6 +94,7 @@ pub fn read_message<S: Source>(alloc: Global, source: &mut S) -> Result<Message,
     ensures bounded { ReadsAtMost most_read (S.left source.old) (S.left source.new) }
     ensures lent { SourceLent (S.aside source.old) (S.aside source.new) (S.faults source.old) (S.faults source.new) }
     ensures cause { IsErrOf result MessageFault.ReadFault → Rose (S.faults source.old) (S.faults source.new) }
+    ensures unfinished { IsErrOf result MessageFault.ReadFault → BreaksOff (S.left source.old) (S.left source.new) }
 {
     let mut held = Held::new();
     let opening = match take_head(source, &mut held) {

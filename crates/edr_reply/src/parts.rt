@@ -5,7 +5,7 @@ ghost use Rattle.edr_base.specs.Outside.{Rose};
 ghost use Rattle.edr_base.specs.Calls.{SourceLent};
 ghost use Rattle.edr_http.specs.Chunks.{crlf};
 ghost use Rattle.edr_reply.specs.BrokenParts.{LacksHead, LacksLine, LacksEnd};
-ghost use Rattle.edr_reply.specs.Taking.{TakesHead, TakesLine};
+ghost use Rattle.edr_reply.specs.Taking.{TakesSome, TakesHead, TakesLine};
 
 use crate::heads::{FoundHead, Opening, find_head};
 use crate::held::{Held, PartFault, read_on};
@@ -13,13 +13,14 @@ use crate::lines::{FoundEnd, FoundLine, SizeLine, find_end, find_line};
 use edr_base::Source;
 
 /// Takes a head.
-#[tactic(auto, using(crate::proofs::RestLemmas::front_taken, crate::proofs::RestLemmas::front_short, crate::proofs::RestLemmas::lacks_now, crate::proofs::RestLemmas::lacks_ever))]
+#[tactic(auto, using(crate::proofs::RestLemmas::front_taken, crate::proofs::RestLemmas::front_short, crate::proofs::RestLemmas::lacks_now, crate::proofs::RestLemmas::lacks_ever, crate::proofs::RestLemmas::some_held))]
 pub(crate) fn take_head<S: Source>(source: &mut S, held: &mut Held) -> Result<Opening, PartFault>
     ensures taken { IfOk result (λ opening. TakesHead opening (prepend_known held.old (S.left source.old)) (prepend_known held.new (S.left source.new))) }
     ensures lacking { IsErrOf result PartFault.Lacking → IfSome (prepend_known held.old (S.left source.old)) LacksHead }
     ensures same { OnErr result (prepend_known held.new (S.left source.new) ≡ prepend_known held.old (S.left source.old)) }
     ensures lent { SourceLent (S.aside source.old) (S.aside source.new) (S.faults source.old) (S.faults source.new) }
     ensures cause { IsErrOf result PartFault.ReadFault → Rose (S.faults source.old) (S.faults source.new) }
+    ensures unfinished { IsErrOf result PartFault.ReadFault → TakesSome LacksHead (prepend_known held.old (S.left source.old)) (S.left source.new) }
 {
     loop {
         match find_head(held.bytes()) {
@@ -38,7 +39,7 @@ pub(crate) fn take_head<S: Source>(source: &mut S, held: &mut Held) -> Result<Op
 }
 
 /// Takes a line that gives the size of a chunk, which is at most `room` bytes.
-#[tactic(auto, using(crate::proofs::RestLemmas::front_taken, crate::proofs::RestLemmas::front_short, crate::proofs::RestLemmas::lacks_now, crate::proofs::RestLemmas::lacks_ever))]
+#[tactic(auto, using(crate::proofs::RestLemmas::front_taken, crate::proofs::RestLemmas::front_short, crate::proofs::RestLemmas::lacks_now, crate::proofs::RestLemmas::lacks_ever, crate::proofs::RestLemmas::some_held))]
 pub(crate) fn take_line<S: Source>(
     source: &mut S,
     held: &mut Held,
@@ -49,6 +50,7 @@ pub(crate) fn take_line<S: Source>(
     ensures same { OnErr result (prepend_known held.new (S.left source.new) ≡ prepend_known held.old (S.left source.old)) }
     ensures lent { SourceLent (S.aside source.old) (S.aside source.new) (S.faults source.old) (S.faults source.new) }
     ensures cause { IsErrOf result PartFault.ReadFault → Rose (S.faults source.old) (S.faults source.new) }
+    ensures unfinished { IsErrOf result PartFault.ReadFault → TakesSome (LacksLine room) (prepend_known held.old (S.left source.old)) (S.left source.new) }
 {
     loop {
         match find_line(held.bytes(), room) {
@@ -67,13 +69,14 @@ pub(crate) fn take_line<S: Source>(
 }
 
 /// Takes a line end.
-#[tactic(auto, using(crate::proofs::RestLemmas::front_taken, crate::proofs::RestLemmas::front_short, crate::proofs::RestLemmas::lacks_now, crate::proofs::RestLemmas::lacks_ever))]
+#[tactic(auto, using(crate::proofs::RestLemmas::front_taken, crate::proofs::RestLemmas::front_short, crate::proofs::RestLemmas::lacks_now, crate::proofs::RestLemmas::lacks_ever, crate::proofs::RestLemmas::some_held))]
 pub(crate) fn take_end<S: Source>(source: &mut S, held: &mut Held) -> Result<(), PartFault>
     ensures taken { OnOk result (prepend_known held.old (S.left source.old) ≡ prepend_known crlf (prepend_known held.new (S.left source.new))) }
     ensures lacking { IsErrOf result PartFault.Lacking → IfSome (prepend_known held.old (S.left source.old)) LacksEnd }
     ensures same { OnErr result (prepend_known held.new (S.left source.new) ≡ prepend_known held.old (S.left source.old)) }
     ensures lent { SourceLent (S.aside source.old) (S.aside source.new) (S.faults source.old) (S.faults source.new) }
     ensures cause { IsErrOf result PartFault.ReadFault → Rose (S.faults source.old) (S.faults source.new) }
+    ensures unfinished { IsErrOf result PartFault.ReadFault → TakesSome LacksEnd (prepend_known held.old (S.left source.old)) (S.left source.new) }
 {
     loop {
         match find_end(held.bytes()) {

@@ -3,7 +3,7 @@ ghost use Rattle.std.specs.Prelude.{◌≡◌, ◌≤◌, ◌<◌, ◌+◌, ◌+
 ghost use Rattle.std.specs.Io.KnownBytes.{prepend_known, IsAtEnd};
 ghost use Rattle.edr_base.specs.Outside.{Rose};
 ghost use Rattle.edr_base.specs.Calls.{SourceLent, ReadsAtMost};
-ghost use Rattle.edr_reply.specs.Taking.{TakesOnto, TakesUpTo};
+ghost use Rattle.edr_reply.specs.Taking.{TakesSome, TakesOnto, TakesUpTo};
 
 use crate::held::{Held, PartFault, read_on};
 use edr_base::Source;
@@ -37,6 +37,7 @@ fn take_up_to<S: Source>(
     ensures cut { ¬ (IsErrOf result PartFault.Lacking) }
     ensures lent { SourceLent (S.aside source.old) (S.aside source.new) (S.faults source.old) (S.faults source.new) }
     ensures cause { IsErrOf result PartFault.ReadFault → Rose (S.faults source.old) (S.faults source.new) }
+    ensures unfinished { IsErrOf result PartFault.ReadFault → TakesSome (λ bytes. length bytes < most) (prepend_known held.old (S.left source.old)) (S.left source.new) }
 {
     let mut taken = match move_held(held, body, most) {
         Ok(count) => count,
@@ -69,6 +70,7 @@ pub(crate) fn take_piece<S: Source>(
     ensures bounded { ReadsAtMost size (prepend_known held.old (S.left source.old)) (prepend_known held.new (S.left source.new)) }
     ensures lent { SourceLent (S.aside source.old) (S.aside source.new) (S.faults source.old) (S.faults source.new) }
     ensures cause { IsErrOf result PartFault.ReadFault → Rose (S.faults source.old) (S.faults source.new) }
+    ensures unfinished { IsErrOf result PartFault.ReadFault → TakesSome (λ bytes. length bytes < size) (prepend_known held.old (S.left source.old)) (S.left source.new) }
 {
     match take_up_to(source, held, body, size) {
         Ok(count) => {

@@ -1,6 +1,6 @@
 use Rattle.std.proofs.Common.{rules}
 use Rattle.edr_reply.specs.Taking.{most_of_chunk}
-use Rattle.edr_reply.proofs.ChunkSteps.{going_more, going_last, going_breaks, going_early, going_bounded, last_bounded}
+use Rattle.edr_reply.proofs.ChunkSteps.{going_more, going_last, going_breaks, going_cut, going_early, going_bounded, last_bounded}
 use Rattle.edr_reply.proofs.chunks.take_chunks.Goals as goal
 
 pub take_chunk-requires-clause-early : goal.take_chunk-requires-clause-early
@@ -26,3 +26,6 @@ pub returns-in-Ok-None-clause-bounded : goal.returns-in-Ok-None-clause-bounded
 returns-in-Ok-None-clause-bounded g c =
     let taken = rw c.in-Ok-None.field-0-is at c.in-Ok-None.ensures.next in
     going_bounded _ _ most_of_chunk _ _ _ _ c.loop-next.invariant.going (last_bounded _ _ _ _ taken)
+
+pub returns-in-Err-clause-unfinished : goal.returns-in-Err-clause-unfinished
+returns-in-Err-clause-unfinished g c e = going_cut _ _ _ _ _ _ c.loop-next.invariant.going (c.in-Err.ensures.unfinished cc)

@@ -4,7 +4,7 @@ use Rattle.std.specs.Io.KnownBytes.{prepend_known}
 use Rattle.edr_base.specs.KnownBytes.{prepend_nothing}
 use Rattle.edr_reply.specs.Messages.{most_beyond, most_read}
 use Rattle.edr_reply.specs.Taking.{TakesHead, most_of_body}
-use Rattle.edr_reply.proofs.MessageSteps.{body_breaks, breaks_first, breaks_none, body_read, head_early}
+use Rattle.edr_reply.proofs.MessageSteps.{body_breaks, body_off, breaks_first, breaks_none, body_read, head_early}
 use Rattle.edr_reply.proofs.messages.read_message.Goals as goal
 
 -- nothing was held before
@@ -43,3 +43,9 @@ returns-in-Ok-outcome-clause-bounded g c =
     let taken : TakesHead c.in-Ok.opening (g.S.Source.left c.args.source.now) (prepend_known c.take_head.new.held (g.S.Source.left c.take_head.new.source)) = (t.0, t.1, t.2, from_left _ _ _ c.new-held.ensures t.3) in
     let early = head_early c.in-Ok.opening _ _ taken in
     body_read c.in-Ok.opening most_of_body most_read _ _ _ _ taken c.in-Ok-outcome.ensures.bounded c.fits-2.ensures (omega (arith, early))
+
+pub returns-in-Err-outcome-clause-unfinished : goal.returns-in-Err-outcome-clause-unfinished
+returns-in-Err-outcome-clause-unfinished g c e =
+    let t = c.in-Ok.ensures.taken in
+    let taken : TakesHead c.in-Ok.opening (g.S.Source.left c.args.source.now) (prepend_known c.take_head.new.held (g.S.Source.left c.take_head.new.source)) = (t.0, t.1, t.2, from_left _ _ _ c.new-held.ensures t.3) in
+    body_off c.in-Ok.opening _ _ _ taken (c.in-Err-outcome.ensures.unfinished cc)

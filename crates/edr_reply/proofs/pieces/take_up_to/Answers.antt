@@ -3,7 +3,7 @@ use Rattle.std.specs.declared.option.Option.{Option}
 use Rattle.std.specs.Prelude.{List, ℕ}
 use Rattle.std.specs.Io.KnownBytes.{prepend_known}
 use Rattle.edr_reply.specs.Taking.{TakesOnto}
-use Rattle.edr_reply.proofs.RestLemmas.{moved_onto, onto_more}
+use Rattle.edr_reply.proofs.RestLemmas.{moved_onto, onto_more, some_taken}
 use Rattle.edr_reply.proofs.pieces.take_up_to.Goals as goal
 
 pub loop-taken-init : goal.loop-taken-init
@@ -32,3 +32,11 @@ loop-taken-preserved g c =
       empty = λ less. omega (arith, count, less, ap length more.held, length-drop c.in-Ok-move_held.count c.read_on.new.held);
       lent = search rules;
     }
+
+pub returns-in-Err-read_on-clause-unfinished : goal.returns-in-Err-read_on-clause-unfinished
+returns-in-Err-read_on-clause-unfinished g c e =
+    let i = c.loop-taken.invariant in
+    let none = i.empty c.loop-taken-test.true in
+    let kept = c.in-Err-read_on.ensures.kept in
+    let before = subst (λ (r : Option (List ℕ)). TakesOnto c.loop-taken.taken c.args.body.now.items c.loop-taken.body.items (prepend_known c.args.held.now (g.S.Source.left c.args.source.now)) r) (sym c.read_on.ensures.rest) i.takes in
+    some_taken c.args.most c.loop-taken.taken _ _ c.read_on.new.held _ _ before c.loop-taken-test.true (omega (arith, ap length kept, none))
