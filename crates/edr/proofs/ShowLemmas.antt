@@ -2,7 +2,7 @@
 use Rattle.std.proofs.Common.{◌≡◌, ◌∙◌, ℕ, inl, inr, List, [], ◌++◌, Ok, Err, None, Some, IfSome, false, refl, sym, ap, subst, append-nil}
 use Rattle.std.specs.declared.option.Option.{Option}
 use Rattle.edr_base.specs.Calls.{ReadsAll}
-use Rattle.edr_base.specs.KnownBytes.{front_none, front_whole}
+use Rattle.edr_base.specs.KnownBytes.{front_none}
 use Rattle.covjson_value.specs.Coverages.{IsValidDocument}
 use Rattle.edr_http.specs.Heads.{Told}
 use Rattle.edr_reply.specs.Messages.{HasNoMessage}
@@ -16,7 +16,7 @@ use Rattle.edr.specs.declared.endings.Ending.{Ending}
 use Rattle.edr.specs.declared.endings.Ending.TheVariants.{Done, Usage, NotFeed, ReadFault, WriteFault, OutOfMemory, Refused, NoDocument, ConnectFault, OpenFault}
 use Rattle.edr.specs.Documents.{OfInput, IsTableHeard, IsTableBegun}
 use Rattle.edr.specs.Causes.{Counts}
-use Rattle.edr.specs.Ends.{OutputEnds, LinkEnds, IsTaken}
+use Rattle.edr.specs.Ends.{OutputEnds, LinkEnds, IsTaken, IsBroken}
 use Rattle.edr.specs.Making.{MakeCause}
 use Rattle.edr.specs.Fetching.{FetchCause, fetch_ends}
 
@@ -64,7 +64,7 @@ table_link Usage text incoming output output' before after cause sent taken = ca
 table_link (NotFeed refusal) text incoming output output' before after cause sent taken = cause
 table_link ReadFault text incoming output output' before after cause sent taken = absurd cause
 table_link WriteFault text incoming output output' before after cause sent taken = inl (sent, taken, cause)
-table_link OutOfMemory text incoming output output' before after cause sent taken = front_whole _ _ _ sent.whole
+table_link OutOfMemory text incoming output output' before after cause sent taken = inr (inr (inr sent))
 table_link (Refused refusal) text incoming output output' before after cause sent taken = cause
 table_link (NoDocument refusal) text incoming output output' before after cause sent taken = absurd cause
 table_link ConnectFault text incoming output output' before after cause sent taken = absurd cause
@@ -100,12 +100,17 @@ fault_cause (fetches.Cov inner) url text incoming left before after counts count
     (λ bytes rest l. record { message = l.1.message; rest = l.0 ++ rest; is_message = l.1.is_message; status_is = l.1.status; none = l.1.none }) heard
 fault_cause fetches.OutOfMemory url text incoming left before after counts counts' exchanged heard a b c = tt
 
+-- where a reply breaks off
+broken_heard : (place : ℕ) (incoming left : Option (List ℕ)) → Heard (Err (fetches.BadReply place)) incoming left → IsBroken incoming left
+broken_heard place None left heard = tt
+broken_heard place (Some bytes) left (first, none, near) = (place, first, near)
+
 pub fault_link : (fault : FetchFault) (text : List ℕ) (incoming : Option (List ℕ)) (output output' : ℕ) (before after : LinkMoment)
     → Exchanged (Err fault) text incoming before after → Heard (Err fault) incoming after.left → LinkEnds (fetch_ends fault) text incoming output output' before after
 fault_link fetches.ConnectFault text incoming output output' before after exchanged heard = exchanged
 fault_link fetches.WriteFault text incoming output output' before after exchanged heard = inr exchanged
 fault_link fetches.ReadFault text incoming output output' before after exchanged heard = exchanged
-fault_link (fetches.BadReply place) text incoming output output' before after exchanged heard = exchanged
+fault_link (fetches.BadReply place) text incoming output output' before after exchanged heard = (exchanged, broken_heard place incoming after.left heard)
 fault_link (fetches.NotData status code) text incoming output output' before after exchanged heard = (
   exchanged,
   told_map (λ bytes rest. IsLeft (IsNotData bytes status code) rest) _ incoming after.left (λ bytes rest l. (l.1.message, (l.0, l.1.is_message, l.2))) heard,

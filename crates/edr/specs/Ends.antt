@@ -1,16 +1,17 @@
 -- How a run ends: its status, and what it leaves on each object. Each table goes by the ending, and by the command where it
 -- differs from command to command.
-use Rattle.std.specs.Prelude.{◌≡◌, ◌⊎◌, ℕ, Bool, true, false, ◌++◌, ⊤, codes, List, [], IsNone, None, Some, option_map, IfSome}
+use Rattle.std.specs.Prelude.{◌≡◌, ◌⊎◌, ℕ, ◌+◌, Bool, true, false, ◌++◌, ⊤, codes, List, [], IsNone, None, Some, option_map, IfSome}
 use Rattle.std.specs.declared.option.Option.{Option}
 use Rattle.std.specs.Fmt.{decimal}
 use Rattle.edr_base.specs.RefusalTable.{body_of}
 use Rattle.edr_base.specs.Outside.{Aside, Asked as AskedOf, Rose}
-use Rattle.edr_base.specs.Calls.{Front, WrittenWhole, WrittenInPart, IsFlushed}
+use Rattle.edr_base.specs.Calls.{WrittenWhole, WrittenInPart, IsFlushed, ReadsAtMost}
 use Rattle.edr_http.specs.Heads.{Told}
 use Rattle.edr_reply.specs.declared.messages.Message.{Message}
-use Rattle.edr_reply.specs.Messages.{TakesMessage}
+use Rattle.edr_reply.specs.Messages.{TakesMessage, most_beyond}
+use Rattle.edr_reply.specs.BrokenParts.{IsFirstBreak}
 use Rattle.edr_fetch.specs.Requests.{request_of, request_text}
-use Rattle.edr_fetch.specs.Exchanges.{LinkMoment, IsUnconnected, IsUnsent, IsSent}
+use Rattle.edr_fetch.specs.Exchanges.{LinkMoment, IsUnconnected, IsUnsent, IsSent, Halted}
 use Rattle.edr_program.specs.Lines.{feed_said, Tells}
 use Rattle.edr.specs.declared.commands.Command.{Command}
 use Rattle.edr.specs.declared.commands.Command.TheVariants.{Ask, Replay, ReplayAdvance, Check, CheckSummary, Make, Work, Show, Fetch}
@@ -135,6 +136,10 @@ AskedBeside aside (Some more) status old new = Asks more status (aside old).aske
 abbrev pub IsTaken : Option (List ℕ) → Option (List ℕ) → Type 0
 IsTaken incoming left = Told (λ bytes rest. (message : Message) × TakesMessage message bytes rest) incoming left
 
+-- a reply breaks off, and little more was read than what stands before that place and the longest body
+abbrev pub IsBroken : Option (List ℕ) → Option (List ℕ) → Type 0
+IsBroken incoming left = IfSome incoming (λ bytes. (place : ℕ) × IsFirstBreak bytes place × ReadsAtMost (place + most_beyond) (Some bytes) left)
+
 -- how far the exchange with the peer came; a write failed either on the output, behind it, or to the peer, before its end
 abbrev pub LinkEnds : Ending → List ℕ → Option (List ℕ) → ℕ → ℕ → LinkMoment → LinkMoment → Type 0
 LinkEnds Done text incoming output output' before after = IsSent text incoming before after × IsTaken incoming after.left
@@ -144,11 +149,11 @@ LinkEnds ReadFault text incoming output output' before after = IsSent text incom
 LinkEnds WriteFault text incoming output output' before after =
     (IsSent text incoming before after × IsTaken incoming after.left × Rose output output')
     ⊎ (IsUnsent text incoming before after × Rose before.faults after.faults)
-LinkEnds OutOfMemory text incoming output output' before after = Front text before.written after.written
+LinkEnds OutOfMemory text incoming output output' before after = Halted text incoming before after
 LinkEnds (Refused refusal) text incoming output output' before after = ⊥
 LinkEnds (NoDocument TooLong) text incoming output output' before after = ⊥
 LinkEnds (NoDocument Cov) text incoming output output' before after = IsSent text incoming before after × IsTaken incoming after.left
-LinkEnds (NoDocument BadReply) text incoming output output' before after = IsSent text incoming before after
+LinkEnds (NoDocument BadReply) text incoming output output' before after = IsSent text incoming before after × IsBroken incoming after.left
 LinkEnds (NoDocument (NotData status)) text incoming output output' before after = IsSent text incoming before after × IsTaken incoming after.left
 LinkEnds ConnectFault text incoming output output' before after = IsUnconnected before after × Rose before.faults after.faults
 LinkEnds OpenFault text incoming output output' before after = ⊥

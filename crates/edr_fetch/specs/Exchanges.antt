@@ -43,6 +43,11 @@ pub record IsSent (text : List ℕ) (incoming : Option (List ℕ)) (before after
   pub flushed : IsFlushed after.written after.flushed
   pub read : IfSome incoming (λ bytes. ReadsAtMost most_read (Some bytes) after.left)
 
+-- memory was wanting at some step: how far it came. Nothing was done, or it stands at one of the moments above
+abbrev pub Halted : List ℕ → Option (List ℕ) → LinkMoment → LinkMoment → Type 0
+Halted text incoming before after =
+    (after ≡ before) ⊎ (IsUnconnected before after ⊎ (IsUnsent text incoming before after ⊎ IsSent text incoming before after))
+
 -- ---- what is heard of a peer that gives these bytes, and how much of them is read
 
 abbrev pub Heard : Result Reply FetchFault → Option (List ℕ) → Option (List ℕ) → Type 0
@@ -67,7 +72,7 @@ Exchanged (Err ReadFault) text incoming before after = IsSent text incoming befo
 Exchanged (Err (BadReply place)) text incoming before after = IsSent text incoming before after
 Exchanged (Err (NotData status code)) text incoming before after = IsSent text incoming before after
 Exchanged (Err (Cov fault)) text incoming before after = IsSent text incoming before after
-Exchanged (Err OutOfMemory) text incoming before after = Front text before.written after.written
+Exchanged (Err OutOfMemory) text incoming before after = Halted text incoming before after
 
 -- the link was asked for this peer alone, once; where memory was wanting perhaps not at all
 abbrev pub AsksOnce : Result Reply FetchFault → Asked → Option (List Asked) → Option (List Asked) → Type 0
