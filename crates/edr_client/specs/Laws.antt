@@ -12,7 +12,7 @@ use Rattle.edr_client.specs.declared.replies.Reply.{Reply}
 use Rattle.edr_client.specs.declared.replies.ReplyFault.{ReplyFault}
 use Rattle.edr_client.specs.Replies.{IsReply, IsNotData, Hears}
 
--- one thing is heard in some bytes
+-- at most one thing is heard in some bytes
 abbrev pub OneIsHeard : Type 0
 OneIsHeard = (bytes : List ℕ) (one other : Result Reply ReplyFault) → Hears bytes one → Hears bytes other → one ≡ other
 

@@ -7,7 +7,7 @@ use covjson_read::{
 use edr_json::texts_have_one_tree;
 use edr_reply::{break_is_one, broken_is_none, message_is_one, written_replies_are_read};
 
-/// Some bytes begin with one reply of data, or there is one reason that they don't.
+/// In some bytes at most one thing is heard: one reply of data, or one reason that there is none.
 pub fn one_is_heard()
     ensures { OneIsHeard }
 {

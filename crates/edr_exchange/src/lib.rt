@@ -1,5 +1,5 @@
-//! Both ends of a connection: what the client asks for is what the server answers, and what the server replies is what the client
-//! hears.
+//! Both ends of a connection: the target that the client writes of a query asks the server for that query, and what the server
+//! replies is what the client hears.
 #![tactic(auto)]
 
 mod laws;
