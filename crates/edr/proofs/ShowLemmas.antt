@@ -109,7 +109,7 @@ pub fault_link : (fault : FetchFault) (text : List ℕ) (incoming : Option (List
     → Exchanged (Err fault) text incoming before after → Heard (Err fault) incoming after.left → LinkEnds (fetch_ends fault) text incoming output output' before after
 fault_link fetches.ConnectFault text incoming output output' before after exchanged heard = exchanged
 fault_link fetches.WriteFault text incoming output output' before after exchanged heard = inr exchanged
-fault_link fetches.ReadFault text incoming output output' before after exchanged heard = exchanged
+fault_link fetches.ReadFault text incoming output output' before after exchanged heard = (exchanged.0, exchanged.1, heard)
 fault_link (fetches.BadReply place) text incoming output output' before after exchanged heard = (exchanged, broken_heard place incoming after.left heard)
 fault_link (fetches.NotData status code) text incoming output output' before after exchanged heard = (
   exchanged,

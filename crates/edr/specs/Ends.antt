@@ -8,7 +8,7 @@ use Rattle.edr_base.specs.Outside.{Aside, Asked as AskedOf, Rose}
 use Rattle.edr_base.specs.Calls.{WrittenWhole, WrittenInPart, IsFlushed, ReadsAtMost}
 use Rattle.edr_http.specs.Heads.{Told}
 use Rattle.edr_reply.specs.declared.messages.Message.{Message}
-use Rattle.edr_reply.specs.Messages.{TakesMessage, most_beyond}
+use Rattle.edr_reply.specs.Messages.{TakesMessage, BreaksOff, most_beyond}
 use Rattle.edr_reply.specs.BrokenParts.{IsFirstBreak}
 use Rattle.edr_fetch.specs.Requests.{request_of, request_text}
 use Rattle.edr_fetch.specs.Exchanges.{LinkMoment, IsUnconnected, IsUnsent, IsSent, Halted}
@@ -145,7 +145,8 @@ abbrev pub LinkEnds : Ending → List ℕ → Option (List ℕ) → ℕ → ℕ 
 LinkEnds Done text incoming output output' before after = IsSent text incoming before after × IsTaken incoming after.left
 LinkEnds Usage text incoming output output' before after = ⊥
 LinkEnds (NotFeed refusal) text incoming output output' before after = ⊥
-LinkEnds ReadFault text incoming output output' before after = IsSent text incoming before after × Rose before.faults after.faults
+LinkEnds ReadFault text incoming output output' before after =
+    IsSent text incoming before after × Rose before.faults after.faults × IfSome incoming (λ bytes. BreaksOff (Some bytes) after.left)
 LinkEnds WriteFault text incoming output output' before after =
     (IsSent text incoming before after × IsTaken incoming after.left × Rose output output')
     ⊎ (IsUnsent text incoming before after × Rose before.faults after.faults)

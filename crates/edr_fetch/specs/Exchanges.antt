@@ -5,7 +5,7 @@ use Rattle.std.specs.Io.KnownBytes.{append_known, IsAtEnd}
 use Rattle.edr_base.specs.Outside.{Aside, Asked, Rose}
 use Rattle.edr_base.specs.Calls.{Front, IsFlushed, ReadsAtMost}
 use Rattle.edr_http.specs.Heads.{Told}
-use Rattle.edr_reply.specs.Messages.{HasNoMessage, most_beyond, most_read}
+use Rattle.edr_reply.specs.Messages.{HasNoMessage, BreaksOff, most_beyond, most_read}
 use Rattle.edr_reply.specs.BrokenParts.{IsFirstBreak}
 use Rattle.edr_client.specs.declared.replies.Reply.{Reply}
 use Rattle.edr_client.specs.Replies.{IsReply, IsNotData, IsNoDocument, IsLeft}
@@ -54,7 +54,7 @@ abbrev pub Heard : Result Reply FetchFault → Option (List ℕ) → Option (Lis
 Heard (Ok reply) incoming left = Told (λ bytes rest. IsLeft (IsReply bytes reply) rest) incoming left
 Heard (Err ConnectFault) incoming left = IsAtEnd left
 Heard (Err WriteFault) incoming left = ⊤
-Heard (Err ReadFault) incoming left = ⊤
+Heard (Err ReadFault) incoming left = IfSome incoming (λ bytes. BreaksOff (Some bytes) left)
 Heard (Err (BadReply place)) incoming left =
     IfSome incoming (λ bytes. IsFirstBreak bytes place × HasNoMessage bytes × ReadsAtMost (place + most_beyond) (Some bytes) left)
 Heard (Err (NotData status code)) incoming left = Told (λ bytes rest. IsLeft (IsNotData bytes status code) rest) incoming left
