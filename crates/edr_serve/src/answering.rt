@@ -3,6 +3,7 @@ ghost use Rattle.std.specs.Prelude.{◌≡◌, IsErrOf, option_map};
 ghost use Rattle.edr_base.specs.Outside.{Rose};
 ghost use Rattle.edr_base.specs.Calls.{SinkLent};
 ghost use Rattle.edr_query.specs.declared.pages.Page.TheVariants.{Ask};
+ghost use Rattle.edr_select.specs.Planning.{IsPlanFor};
 ghost use Rattle.edr_describe.specs.Describing.{IsDescription};
 ghost use Rattle.edr_serve.specs.Answers.{IsAnswer, IsAnswerTo, Answers};
 
@@ -11,7 +12,7 @@ use edr_describe::{DescribeFault, describe};
 use edr_edition::{Edition, Store};
 use edr_plan::plan;
 use edr_query::{Page, Query, TargetFault, read_target};
-use edr_select::PlanFault;
+use edr_select::{Plan, PlanFault};
 use edr_send::send;
 use std::alloc::Global;
 
@@ -36,7 +37,33 @@ pub(crate) fn instance_named(query: &Query) -> Option<&[u8]>
     }
 }
 
-// Answers a query with data.
+// Answers a query with data, by its plan.
+fn answer_planned<K: Sink>(
+    alloc: Global,
+    plan: &Plan,
+    query: &Query,
+    edition: &Edition,
+    sink: &mut K,
+) -> Result<(), AnswerFault>
+    requires { IsPlanFor edition.now query.now plan.now }
+    ensures written { Answers result (IsAnswer edition.now (Ask query.now)) (K.written sink.old) (K.written sink.new) }
+    ensures lent { SinkLent (K.beside sink.old) (K.beside sink.new) (K.faults sink.old) (K.faults sink.new) }
+    ensures cause { IsErrOf result AnswerFault.WriteFault → Rose (K.faults sink.old) (K.faults sink.new) }
+{
+    let mut store = Store::of(
+        alloc,
+        edition,
+        query.collection.bytes(),
+        instance_named(query),
+    );
+    match send(alloc, plan, &mut store, sink) {
+        Ok(()) => Ok(()),
+        Err(SendFault::WriteFault) => Err(AnswerFault::WriteFault),
+        Err(SendFault::OutOfMemory) => Err(AnswerFault::OutOfMemory),
+    }
+}
+
+// Answers a query.
 fn answer_query<K: Sink>(
     alloc: Global,
     query: &Query,
@@ -47,21 +74,10 @@ fn answer_query<K: Sink>(
     ensures lent { SinkLent (K.beside sink.old) (K.beside sink.new) (K.faults sink.old) (K.faults sink.new) }
     ensures cause { IsErrOf result AnswerFault.WriteFault → Rose (K.faults sink.old) (K.faults sink.new) }
 {
-    let plan = match plan(alloc, query, edition) {
-        Ok(plan) => plan,
-        Err(PlanFault::Refused(refusal)) => return Err(AnswerFault::Refused(refusal)),
-        Err(PlanFault::OutOfMemory) => return Err(AnswerFault::OutOfMemory),
-    };
-    let mut store = Store::of(
-        alloc,
-        edition,
-        query.collection.bytes(),
-        instance_named(query),
-    );
-    match send(alloc, &plan, &mut store, sink) {
-        Ok(()) => Ok(()),
-        Err(SendFault::WriteFault) => Err(AnswerFault::WriteFault),
-        Err(SendFault::OutOfMemory) => Err(AnswerFault::OutOfMemory),
+    match plan(alloc, query, edition) {
+        Ok(plan) => answer_planned(alloc, &plan, query, edition, sink),
+        Err(PlanFault::Refused(refusal)) => Err(AnswerFault::Refused(refusal)),
+        Err(PlanFault::OutOfMemory) => Err(AnswerFault::OutOfMemory),
     }
 }
 
