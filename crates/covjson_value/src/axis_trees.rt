@@ -11,10 +11,10 @@ ghost use Rattle.covjson_value.specs.Puts.{put_if};
 
 use crate::axis_names::{AxisName, axis_key};
 use crate::domains::{CoordinateName, Domain};
-use crate::leaves::time_tree;
+use crate::leaves::{only_member, put_text, time_tree};
 use crate::regular_axes::{is_regular, span_tree};
 use edr_base::{OutOfMemory, Position};
-use serde_json::{Map, Value, json};
+use serde_json::{Map, Value};
 use std::alloc::Global;
 
 impl CoordinateName {
@@ -61,7 +61,7 @@ fn list_tree(alloc: Global, name: CoordinateName, values: &[i64]) -> Result<Valu
     ensures { IfOk result (λ v. view v ≡ list_data name values.now) }
 {
     let values = axis_values_tree(alloc, name, values)?;
-    Ok(json!(in alloc; {"values": values})?)
+    only_member(alloc, "values", values)
 }
 
 // Times are always listed.
@@ -147,9 +147,13 @@ fn composite_tree(
     requires { All (λ tuple. All (λ name. IsAxisValue name (domains.coordinate name tuple)) names.now) tuples.now }
     ensures { IfOk result (λ v. view v ≡ composite_data names.now tuples.now) }
 {
+    let mut members = Map::new(alloc);
     let coordinates = keys_tree(alloc, names)?;
+    serde_json::put(&mut members, alloc, "coordinates", coordinates)?;
+    put_text(&mut members, alloc, "dataType", "tuple")?;
     let values = tuples_tree(alloc, names, tuples)?;
-    Ok(json!(in alloc; {"coordinates": coordinates, "dataType": "tuple", "values": values})?)
+    serde_json::put(&mut members, alloc, "values", values)?;
+    Ok(Value::Object(members))
 }
 
 fn put_axis(

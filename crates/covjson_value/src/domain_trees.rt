@@ -1,31 +1,67 @@
 //! The trees of domains and of the systems of their coordinates.
-ghost use Rattle.std.specs.Prelude.{◌≡◌, IfOk, IsUtf8, IfSome, option_map, option_copied};
-ghost use Rattle.serde_json.specs.View.{view};
+ghost use Rattle.std.specs.Prelude.{◌≡◌, codes, IfOk, OnOk, IsUtf8, IfSome, option_map, option_copied};
+ghost use Rattle.serde_json.specs.Data.{string};
+ghost use Rattle.serde_json.specs.View.{view, members_view};
 ghost use Rattle.covjson_value.specs.Coverages.{IsReferencing, HasAxes, HasTuples};
-ghost use Rattle.covjson_value.specs.Trees.{connection, text_if_some, system_data, horizontal_data, vertical_data, temporal_data, referencing_data, domain_type, domain_data};
+ghost use Rattle.covjson_value.specs.Trees.{connection_data, text_if_some, system_data, horizontal_data, vertical_data, temporal_data, referencing_data, domain_type, domain_data};
+ghost use Rattle.covjson_value.specs.Puts.{put_if, calendar_data};
 
-use crate::axis_trees::axes_tree;
+use crate::axis_trees::{axes_tree, keys_tree};
 use crate::coverages::Referencing;
 use crate::domains::{CoordinateName, Domain};
-use crate::leaves::text_of;
+use crate::leaves::{put_text, text_of};
 use edr_base::{OutOfMemory, Text};
-use serde_json::{Value, json};
+use serde_json::{Map, Value};
 use std::alloc::Global;
+
+// Puts the name of a system, where it is given.
+fn put_name(
+    members: &mut Map<String, Value>,
+    alloc: Global,
+    name: Option<&str>,
+) -> Result<(), OutOfMemory>
+    ensures { OnOk result (members_view members.new.entries
+        ≡ put_if (codes "id") (option_map string (option_copied name.entry)) (members_view members.old.entries)) }
+{
+    match name {
+        Some(name) => put_text(members, alloc, "id", name),
+        None => Ok(()),
+    }
+}
 
 // A system without a name where none is given.
 fn system_tree(alloc: Global, name: Option<&str>, kind: &str) -> Result<Value, OutOfMemory>
     ensures { IfOk result (λ v. view v ≡ system_data (option_copied name.entry) kind.now) }
 {
-    match name {
-        Some(name) => Ok(json!(in alloc; {"id": name, "type": kind})?),
-        None => Ok(json!(in alloc; {"type": kind})?),
-    }
+    let mut members = Map::new(alloc);
+    put_name(&mut members, alloc, name)?;
+    put_text(&mut members, alloc, "type", kind)?;
+    Ok(Value::Object(members))
 }
 
-fn connection_tree(alloc: Global, coordinates: Value, system: Value) -> Result<Value, OutOfMemory>
-    ensures { IfOk result (λ v. view v ≡ connection (view coordinates) (view system)) }
+// The system of times.
+fn calendar_tree(alloc: Global) -> Result<Value, OutOfMemory>
+    ensures { IfOk result (λ v. view v ≡ calendar_data) }
 {
-    Ok(json!(in alloc; {"coordinates": coordinates, "system": system})?)
+    let mut members = Map::new(alloc);
+    put_text(&mut members, alloc, "calendar", "Gregorian")?;
+    put_text(&mut members, alloc, "type", "TemporalRS")?;
+    Ok(Value::Object(members))
+}
+
+// The coordinates of some axes, and their system.
+fn connection_tree(
+    alloc: Global,
+    names: &[CoordinateName],
+    system: Value,
+) -> Result<Value, OutOfMemory>
+    ensures { IfOk result (λ v. view v ≡ connection_data names.now (view system)) }
+{
+    let mut members = Map::new(alloc);
+    serde_json::put(&mut members, alloc, "system", system)?;
+    let coordinates = keys_tree(alloc, names)?;
+    serde_json::put(&mut members, alloc, "coordinates", coordinates)?;
+    Ok(Value::Object(members))
 }
 
 // The name of a system, unless it is empty.
@@ -42,8 +78,7 @@ fn horizontal_tree(alloc: Global, crs: &Text) -> Result<Value, OutOfMemory>
     ensures { IfOk result (λ v. view v ≡ horizontal_data crs.now) }
 {
     let system = system_tree(alloc, name_of(crs), "ProjectedCRS")?;
-    let coordinates = json!(in alloc; ["x", "y"])?;
-    connection_tree(alloc, coordinates, system)
+    connection_tree(alloc, &[CoordinateName::X, CoordinateName::Y], system)
 }
 
 fn vertical_tree(alloc: Global, vertical: &Option<Text>) -> Result<Value, OutOfMemory>
@@ -55,16 +90,14 @@ fn vertical_tree(alloc: Global, vertical: &Option<Text>) -> Result<Value, OutOfM
         None => None,
     };
     let system = system_tree(alloc, name, "VerticalCRS")?;
-    let coordinates = json!(in alloc; ["z"])?;
-    connection_tree(alloc, coordinates, system)
+    connection_tree(alloc, &[CoordinateName::Z], system)
 }
 
 fn temporal_tree(alloc: Global) -> Result<Value, OutOfMemory>
     ensures { IfOk result (λ v. view v ≡ temporal_data) }
 {
-    let system = json!(in alloc; {"calendar": "Gregorian", "type": "TemporalRS"})?;
-    let coordinates = json!(in alloc; ["t"])?;
-    connection_tree(alloc, coordinates, system)
+    let system = calendar_tree(alloc)?;
+    connection_tree(alloc, &[CoordinateName::T], system)
 }
 
 fn referencing_tree(
@@ -97,12 +130,12 @@ pub fn domain_tree(
     requires referencing { IsReferencing referencing.now }
     ensures { IfOk result (λ v. view v ≡ domain_data domain.now referencing.now) }
 {
+    let mut members = Map::new(alloc);
     let axes = axes_tree(alloc, domain)?;
+    serde_json::put(&mut members, alloc, "axes", axes)?;
+    put_text(&mut members, alloc, "domainType", domain.type_name())?;
     let connections = referencing_tree(alloc, domain, referencing)?;
-    Ok(json!(in alloc; {
-        "axes": axes,
-        "domainType": domain.type_name(),
-        "referencing": connections,
-        "type": "Domain"
-    })?)
+    serde_json::put(&mut members, alloc, "referencing", connections)?;
+    put_text(&mut members, alloc, "type", "Domain")?;
+    Ok(Value::Object(members))
 }

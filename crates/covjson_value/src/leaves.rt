@@ -1,6 +1,6 @@
 //! The trees of texts, times and samples, and members of objects.
 ghost use Rattle.std.specs.Prelude.{◌≡◌, IfOk, OnOk, IsUtf8, option_map};
-ghost use Rattle.serde_json.specs.Data.{string, put};
+ghost use Rattle.serde_json.specs.Data.{string, object, no_members, member, put};
 ghost use Rattle.serde_json.specs.View.{view, members_view};
 ghost use Rattle.edr_axes.specs.Instants.{IsTime, instant_text};
 ghost use Rattle.covjson_value.specs.Trees.{sample_data, array_of};
@@ -59,6 +59,15 @@ pub fn samples_tree(alloc: Global, samples: &[Option<i64>]) -> Result<Value, Out
         items.push(sample_tree(*sample))?;
     }
     Ok(Value::Array(items))
+}
+
+/// An object of one member.
+pub fn only_member(alloc: Global, key: &str, tree: Value) -> Result<Value, OutOfMemory>
+    ensures { IfOk result (λ v. view v ≡ object (member key.now (view tree) no_members)) }
+{
+    let mut members = Map::new(alloc);
+    serde_json::put(&mut members, alloc, key, tree)?;
+    Ok(Value::Object(members))
 }
 
 /// Puts a member that is a text.

@@ -1,13 +1,14 @@
 //! The trees of parameters.
-ghost use Rattle.std.specs.Prelude.{◌≡◌, IfOk, All};
-ghost use Rattle.serde_json.specs.View.{view};
+ghost use Rattle.std.specs.Prelude.{◌≡◌, codes, IfOk, OnOk, All, IfSome, IsUtf8, option_map};
+ghost use Rattle.serde_json.specs.View.{view, members_view};
 ghost use Rattle.covjson_value.specs.Coverages.{IsParameter, AscendById};
-ghost use Rattle.covjson_value.specs.Trees.{property_data, parameter_data, parameters_data};
+ghost use Rattle.covjson_value.specs.Trees.{property_data, unit_data, parameter_data, parameters_data};
+ghost use Rattle.covjson_value.specs.Puts.{put_if};
 
 use crate::coverages::Parameter;
-use crate::leaves::{text_of, text_tree};
-use edr_base::OutOfMemory;
-use serde_json::{Map, Value, json};
+use crate::leaves::{only_member, put_text, text_of, text_tree};
+use edr_base::{OutOfMemory, Text};
+use serde_json::{Map, Value};
 use std::alloc::Global;
 
 fn property_tree(alloc: Global, parameter: &Parameter) -> Result<Value, OutOfMemory>
@@ -15,25 +16,45 @@ fn property_tree(alloc: Global, parameter: &Parameter) -> Result<Value, OutOfMem
     ensures { IfOk result (λ v. view v ≡ property_data parameter.now) }
 {
     let label = text_tree(alloc, &parameter.label)?;
-    let mut labels = Map::new(alloc);
-    serde_json::put(&mut labels, alloc, text_of(parameter.lang.bytes()), label)?;
-    let labels = Value::Object(labels);
-    Ok(json!(in alloc; {"label": labels})?)
+    let labels = only_member(alloc, text_of(parameter.lang.bytes()), label)?;
+    only_member(alloc, "label", labels)
+}
+
+fn unit_tree(alloc: Global, unit: &Text) -> Result<Value, OutOfMemory>
+    requires { IsUtf8 unit.now }
+    ensures { IfOk result (λ v. view v ≡ unit_data unit.now) }
+{
+    let symbol = text_tree(alloc, unit)?;
+    only_member(alloc, "symbol", symbol)
+}
+
+// Puts the unit of a parameter, where it has one.
+fn put_unit(
+    members: &mut Map<String, Value>,
+    alloc: Global,
+    unit: &Option<Text>,
+) -> Result<(), OutOfMemory>
+    requires { IfSome unit.now IsUtf8 }
+    ensures { OnOk result (members_view members.new.entries
+        ≡ put_if (codes "unit") (option_map unit_data unit.now) (members_view members.old.entries)) }
+{
+    if let Some(unit) = unit {
+        let tree = unit_tree(alloc, unit)?;
+        serde_json::put(members, alloc, "unit", tree)?;
+    }
+    Ok(())
 }
 
 fn parameter_tree(alloc: Global, parameter: &Parameter) -> Result<Value, OutOfMemory>
     requires { IsParameter parameter.now }
     ensures { IfOk result (λ v. view v ≡ parameter_data parameter.now) }
 {
+    let mut members = Map::new(alloc);
     let property = property_tree(alloc, parameter)?;
-    match &parameter.unit {
-        Some(unit) => Ok(json!(in alloc; {
-            "observedProperty": property,
-            "type": "Parameter",
-            "unit": {"symbol": text_of(unit.bytes())}
-        })?),
-        None => Ok(json!(in alloc; {"observedProperty": property, "type": "Parameter"})?),
-    }
+    serde_json::put(&mut members, alloc, "observedProperty", property)?;
+    put_text(&mut members, alloc, "type", "Parameter")?;
+    put_unit(&mut members, alloc, &parameter.unit)?;
+    Ok(Value::Object(members))
 }
 
 /// The tree of some parameters, by their ids.

@@ -105,14 +105,14 @@ fn array_where_some(items: Vec<Value>) -> Option<Value>
 fn range_tree(alloc: Global, domain: &Domain, range: &NdArray) -> Result<Value, OutOfMemory>
     ensures { IfOk result (λ v. view v ≡ range_data domain.now range.now) }
 {
-    let names = array_where_some(axis_names(alloc, domain)?);
-    let lengths = array_where_some(shape(alloc, domain)?);
-    let values = samples_tree(alloc, range.values.items())?;
     let mut members = Map::new(alloc);
+    let names = array_where_some(axis_names(alloc, domain)?);
     put_given(&mut members, alloc, "axisNames", names)?;
     put_text(&mut members, alloc, "dataType", "integer")?;
+    let lengths = array_where_some(shape(alloc, domain)?);
     put_given(&mut members, alloc, "shape", lengths)?;
     put_text(&mut members, alloc, "type", "NdArray")?;
+    let values = samples_tree(alloc, range.values.items())?;
     serde_json::put(&mut members, alloc, "values", values)?;
     Ok(Value::Object(members))
 }

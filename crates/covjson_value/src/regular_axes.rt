@@ -6,7 +6,7 @@ ghost use Rattle.covjson_value.specs.Coverages.{IsCoordinate};
 ghost use Rattle.covjson_value.specs.Trees.{is_regular, span_data};
 
 use edr_base::{NODE_LIMIT, OutOfMemory};
-use serde_json::{Value, json};
+use serde_json::{Map, Value};
 use std::alloc::Global;
 
 // An axis of fewer values is listed.
@@ -45,6 +45,10 @@ pub fn span_tree(alloc: Global, values: &[i64]) -> Result<Value, OutOfMemory>
     requires { 0 < length values.now }
     ensures { IfOk result (λ v. view v ≡ span_data values.now) }
 {
+    let mut members = Map::new(alloc);
     let last = values[values.len() - 1];
-    Ok(json!(in alloc; {"num": values.len(), "start": values[0], "stop": last})?)
+    serde_json::put(&mut members, alloc, "num", Value::from(values.len()))?;
+    serde_json::put(&mut members, alloc, "start", Value::from(values[0]))?;
+    serde_json::put(&mut members, alloc, "stop", Value::from(last))?;
+    Ok(Value::Object(members))
 }

@@ -1,10 +1,11 @@
 //! The trees of coverages and documents.
-ghost use Rattle.std.specs.Prelude.{◌≡◌, All, IfOk, IfSome, IsUtf8, false, option_map};
+ghost use Rattle.std.specs.Prelude.{◌≡◌, All, IfOk, OnOk, IfSome, IsUtf8, false, option_map};
 ghost use Rattle.serde_json.specs.Data.{string};
-ghost use Rattle.serde_json.specs.View.{view};
+ghost use Rattle.serde_json.specs.View.{view, members_view};
 ghost use Rattle.serde_json.specs.Written.{has_float};
 ghost use Rattle.covjson_value.specs.Coverages.{IsValid, IsValidDocument};
-ghost use Rattle.covjson_value.specs.Trees.{array_of, coverage_object, coverage_data, collection_data, document_data};
+ghost use Rattle.covjson_value.specs.Trees.{array_of, domain_data, parameters_data, ranges_data, coverage_data, collection_data, document_data};
+ghost use Rattle.covjson_value.specs.Puts.{put_head, put_rest};
 
 use crate::coverages::{Coverage, Document};
 use crate::domain_trees::domain_tree;
@@ -12,7 +13,7 @@ use crate::leaves::{put_given, put_text, text_tree};
 use crate::parameter_trees::parameters_tree;
 use crate::range_trees::ranges_tree;
 use edr_base::{OutOfMemory, Text};
-use serde_json::{Map, Value, json};
+use serde_json::{Map, Value};
 use std::alloc::Global;
 
 fn id_tree(alloc: Global, id: &Option<Text>) -> Result<Option<Value>, OutOfMemory>
@@ -25,21 +26,52 @@ fn id_tree(alloc: Global, id: &Option<Text>) -> Result<Option<Value>, OutOfMemor
     }
 }
 
-fn object_of(
+// Puts the domain of a coverage, and its id where it has one.
+fn put_domain(
+    members: &mut Map<String, Value>,
     alloc: Global,
-    domain: Value,
-    id: Option<Value>,
-    parameters: Value,
-    ranges: Value,
-) -> Result<Value, OutOfMemory>
-    ensures { IfOk result (λ v.
-        view v ≡ coverage_object (view domain) (option_map view id) (view parameters) (view ranges)) }
+    coverage: &Coverage,
+) -> Result<(), OutOfMemory>
+    requires { IsValid coverage.now }
+    ensures { OnOk result (members_view members.new.entries
+        ≡ put_head (domain_data coverage.now.domain coverage.now.referencing) (option_map string coverage.now.id) (members_view members.old.entries)) }
+{
+    let domain = domain_tree(alloc, &coverage.domain, &coverage.referencing)?;
+    serde_json::put(members, alloc, "domain", domain)?;
+    let id = id_tree(alloc, &coverage.id)?;
+    put_given(members, alloc, "id", id)
+}
+
+// Puts its parameters, and a range for each.
+fn put_ranges(
+    members: &mut Map<String, Value>,
+    alloc: Global,
+    coverage: &Coverage,
+) -> Result<(), OutOfMemory>
+    requires { IsValid coverage.now }
+    ensures { OnOk result (members_view members.new.entries
+        ≡ put_rest (parameters_data coverage.now.parameters) (ranges_data coverage.now.domain coverage.now.parameters coverage.now.ranges) (members_view members.old.entries)) }
+{
+    let parameters = parameters_tree(alloc, coverage.parameters.items())?;
+    serde_json::put(members, alloc, "parameters", parameters)?;
+    let ranges = ranges_tree(
+        alloc,
+        &coverage.domain,
+        coverage.parameters.items(),
+        coverage.ranges.items(),
+    )?;
+    serde_json::put(members, alloc, "ranges", ranges)?;
+    Ok(())
+}
+
+// A coverage, member by member.
+fn object_of(alloc: Global, coverage: &Coverage) -> Result<Value, OutOfMemory>
+    requires { IsValid coverage.now }
+    ensures { IfOk result (λ v. view v ≡ coverage_data coverage.now) }
 {
     let mut members = Map::new(alloc);
-    serde_json::put(&mut members, alloc, "domain", domain)?;
-    put_given(&mut members, alloc, "id", id)?;
-    serde_json::put(&mut members, alloc, "parameters", parameters)?;
-    serde_json::put(&mut members, alloc, "ranges", ranges)?;
+    put_domain(&mut members, alloc, coverage)?;
+    put_ranges(&mut members, alloc, coverage)?;
     put_text(&mut members, alloc, "type", "Coverage")?;
     Ok(Value::Object(members))
 }
@@ -52,13 +84,7 @@ pub fn tree_of(alloc: Global, coverage: &Coverage) -> Result<Value, OutOfMemory>
     ensures tree { IfOk result (λ v. view v ≡ coverage_data coverage.now) }
     ensures no_float { IfOk result (λ v. has_float (view v) ≡ false) }
 {
-    let parameters = coverage.parameters.items();
-    let ranges = coverage.ranges.items();
-    let domain_part = domain_tree(alloc, &coverage.domain, &coverage.referencing)?;
-    let id_part = id_tree(alloc, &coverage.id)?;
-    let parameters_part = parameters_tree(alloc, parameters)?;
-    let ranges_part = ranges_tree(alloc, &coverage.domain, parameters, ranges)?;
-    let tree = object_of(alloc, domain_part, id_part, parameters_part, ranges_part)?;
+    let tree = object_of(alloc, coverage)?;
     Ok(tree)
 }
 
@@ -76,7 +102,10 @@ fn coverages_tree(alloc: Global, coverages: &[Coverage]) -> Result<Value, OutOfM
 fn collection_tree(alloc: Global, coverages: Value) -> Result<Value, OutOfMemory>
     ensures { IfOk result (λ v. view v ≡ collection_data (view coverages)) }
 {
-    Ok(json!(in alloc; {"coverages": coverages, "type": "CoverageCollection"})?)
+    let mut members = Map::new(alloc);
+    serde_json::put(&mut members, alloc, "coverages", coverages)?;
+    put_text(&mut members, alloc, "type", "CoverageCollection")?;
+    Ok(Value::Object(members))
 }
 
 /// The tree of a document (OGC 21-069r2, Coverage and CoverageCollection objects) that is valid (`Document::is_valid`), with

@@ -70,6 +70,26 @@ fn range_head(alloc: Global, head: &Coverage) -> Result<RangeHead, OutOfMemory>
     })
 }
 
+// Writes a coverage as far as its ranges.
+#[tactic(auto, using(crate::proofs::SendLemmas::writes_nothing))]
+fn send_head<K: Sink>(
+    alloc: Global,
+    sink: &mut K,
+    later: bool,
+    head: &Coverage,
+) -> Result<(), SendFault>
+    requires { IsHead head.now }
+    ensures bytes { Writes result (comma_if later ++ coverage_begin head.now) (K.written sink.old) (K.written sink.new) }
+    ensures flushed { K.flushed sink.new ≡ K.flushed sink.old }
+    ensures lent { SinkLent (K.beside sink.old) (K.beside sink.new) (K.faults sink.old) (K.faults sink.new) }
+    ensures cause { IsErrOf result SendFault.WriteFault → Rose (K.faults sink.old) (K.faults sink.new) }
+{
+    let Ok(text) = coverage_text(alloc, later, head) else {
+        return Err(SendFault::OutOfMemory);
+    };
+    send(sink, &text)
+}
+
 /// Writes a coverage as far as its ranges, and answers what is kept of it for these.
 #[tactic(auto, using(crate::proofs::SendLemmas::writes_nothing))]
 pub fn send_coverage<K: Sink>(
@@ -88,10 +108,7 @@ pub fn send_coverage<K: Sink>(
     let Ok(kept) = range_head(alloc, head) else {
         return Err(SendFault::OutOfMemory);
     };
-    let Ok(text) = coverage_text(alloc, later, head) else {
-        return Err(SendFault::OutOfMemory);
-    };
-    match send(sink, &text) {
+    match send_head(alloc, sink, later, head) {
         Ok(()) => Ok(kept),
         Err(fault) => Err(fault),
     }

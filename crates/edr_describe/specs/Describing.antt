@@ -1,6 +1,6 @@
 -- What describing answers.
 use Rattle.std.specs.Prelude.{◌≡◌, ⊤, ℕ, codes, List, [], ◌∷◌, Option, Result, Ok, Err, None, Some, option_map}
-use Rattle.serde_json.specs.Data.{Data, Members, string, array, object, no_items, no_members, member, put}
+use Rattle.serde_json.specs.Data.{Data, Members, string, array, object, no_items, item, no_members, member, put}
 use Rattle.serde_json.specs.Written.{compact_text}
 use Rattle.covjson_value.specs.Trees.{array_of, member_if, parameters_data}
 use Rattle.edr_edition.specs.Values.{InstanceValue, CollectionValue, EditionValue}
@@ -60,23 +60,32 @@ abbrev pub data_path : List ℕ → Option (List ℕ) → List ℕ
 data_path c None = path_text (to.Collection c)
 data_path c (Some i) = path_text (to.Instance c i)
 
--- the first members of a page, and those with the others behind them
+-- the first members of a page
 abbrev pub head_members : List ℕ → Data → Option Data → List ℕ → Members
 head_members crs queries extent id =
     member (codes "crs") (array_of string (crs ∷ []))
     (member (codes "data_queries") queries (member_if (codes "extent") extent (member (codes "id") (string id) no_members)))
 
+-- members with no links, with the one format of data, and with all that stands behind the first members of a page
+abbrev pub with_links : Members → Members
+with_links members = put (codes "links") (array no_items) members
+
+abbrev pub with_formats : Members → Members
+with_formats members = put (codes "output_formats") (array_of string (codes "CoverageJSON" ∷ [])) members
+
 abbrev pub with_rest : Members → Data → List ℕ → Members
 with_rest members parameters title =
-    put (codes "title") (string title)
-    (put (codes "parameter_names") parameters
-    (put (codes "output_formats") (array_of string (codes "CoverageJSON" ∷ [])) (put (codes "links") (array no_items) members)))
+    put (codes "title") (string title) (put (codes "parameter_names") parameters (with_formats (with_links members)))
 
 -- the page of a grid, or of no data, with some queries
 abbrev pub data_object : CollectionValue → Data → List ℕ → Option InstanceValue → Data
 data_object collection queries id grid =
     page_object collection.referencing.crs queries (option_map (λ i. extent_data collection.referencing.crs (coordinates_of_grid i)) grid) id
     (parameters_data (parameters_of_held (option_map of_grid grid))) collection.title
+
+-- the links of the page that leads to all others
+abbrev pub landing_links : Data
+landing_links = array (item (link_data (codes "/collections") (codes "data")) (item (link_data (codes "/conformance") (codes "conformance")) no_items))
 
 -- the tree is that of the description, and no refusal applies
 pub record IsTreeOf (edition : EditionValue) (page : Page) (tree : Data) : Type 0 where

@@ -6,15 +6,17 @@ ghost use Rattle.edr_query.specs.declared.pages.Page.TheVariants.{Collection, In
 ghost use Rattle.edr_base.specs.declared.refusals.Refusal.TheVariants.{UnknownCollection};
 ghost use Rattle.edr_describe.specs.declared.describing.DescribeFault.TheVariants as why;
 ghost use Rattle.edr_describe.specs.Descriptions.{landing_page, conformance_page, collection_in};
-ghost use Rattle.edr_describe.specs.Describing.{IsDescription, MatchDescription, IsTreeOf, IsFaultOf};
+ghost use Rattle.edr_describe.specs.Describing.{IsDescription, MatchDescription, landing_links, IsTreeOf, IsFaultOf};
 
+use crate::leaves::{only_member, pair_of};
 use crate::locations::locations_tree;
 use crate::pages::{collection_tree, collections_tree, instance_tree, instances_tree};
 use crate::paths::link_tree;
+use covjson_value::put_text;
 use edr_base::{OutOfMemory, Refusal, Text};
 use edr_edition::{CollectionData, Edition, Kind};
 use edr_query::Page;
-use serde_json::{Value, json};
+use serde_json::{Map, Value};
 use std::alloc::Global;
 
 /// Why there is no description.
@@ -34,19 +36,30 @@ impl From<OutOfMemory> for DescribeFault {
     }
 }
 
+// The links to all collections, and to what the service conforms to.
+fn links_tree(alloc: Global) -> Result<Value, OutOfMemory>
+    ensures { IfOk result (λ v. view v ≡ landing_links) }
+{
+    let collections = link_tree(alloc, "/collections", "data")?;
+    let conformance = link_tree(alloc, "/conformance", "conformance")?;
+    pair_of(alloc, collections, conformance)
+}
+
 // The page that leads to all others.
 fn landing_tree(alloc: Global) -> Result<Value, OutOfMemory>
     ensures { IfOk result (λ v. view v ≡ landing_page) }
 {
-    let collections = link_tree(alloc, "/collections", "data")?;
-    let conformance = link_tree(alloc, "/conformance", "conformance")?;
-    Ok(json!(in alloc; {"links": [collections, conformance], "title": "EDR"})?)
+    let mut members = Map::new(alloc);
+    let links = links_tree(alloc)?;
+    serde_json::put(&mut members, alloc, "links", links)?;
+    put_text(&mut members, alloc, "title", "EDR")?;
+    Ok(Value::Object(members))
 }
 
 fn conformance_tree(alloc: Global) -> Result<Value, OutOfMemory>
     ensures { IfOk result (λ v. view v ≡ conformance_page) }
 {
-    Ok(json!(in alloc; {"conformsTo": []})?)
+    only_member(alloc, "conformsTo", Value::Array(Vec::new(alloc)))
 }
 
 // The collection of an id.

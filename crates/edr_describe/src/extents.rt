@@ -1,26 +1,36 @@
 //! The member `extent` of a page: where, when and at which levels data lie (OGC 19-086r6).
-ghost use Rattle.std.specs.Prelude.{◌≡◌, IfOk, option_map, codes};
-ghost use Rattle.serde_json.specs.Data.{object, no_members, member};
-ghost use Rattle.serde_json.specs.View.{view};
+ghost use Rattle.std.specs.Prelude.{◌≡◌, ◌∷◌, [], IfOk, OnOk, option_map, codes};
+ghost use Rattle.serde_json.specs.Data.{array, object, no_items, item, no_members, member};
+ghost use Rattle.serde_json.specs.View.{view, members_view};
 ghost use Rattle.edr_axes.specs.Instants.{IsTime};
-ghost use Rattle.covjson_value.specs.Trees.{member_if, integer};
+ghost use Rattle.covjson_value.specs.Trees.{array_of, integer};
+ghost use Rattle.covjson_value.specs.Puts.{put_if};
 ghost use Rattle.edr_describe.specs.Extents.{time_data, extent_data, coordinates_where_some};
 ghost use Rattle.edr_describe.specs.Reaches.{span_data, box_data, reach_data, IsTimed, coordinates_of_grid};
 
+use crate::leaves::{only_item, only_member, pair_of};
 use crate::reaches::{Reach, Span};
-use covjson_value::{put_given, time_tree};
+use covjson_value::{put_text, time_tree};
 use edr_base::OutOfMemory;
 use edr_edition::GridInstance;
 use edr_station::Stations;
-use serde_json::{Map, Value, json};
+use serde_json::{Map, Value};
 use std::alloc::Global;
+
+// An interval by its ends.
+fn interval_of(alloc: Global, ends: Value) -> Result<Value, OutOfMemory>
+    ensures { IfOk result (λ v. view v ≡ object (member (codes "interval") (array (item (view ends) no_items)) no_members)) }
+{
+    let intervals = only_item(alloc, ends)?;
+    only_member(alloc, "interval", intervals)
+}
 
 // The interval of some levels.
 fn interval_tree(alloc: Global, span: Span) -> Result<Value, OutOfMemory>
     ensures { IfOk result (λ v. view v ≡ span_data integer span) }
 {
-    let Span { low, high } = span;
-    Ok(json!(in alloc; {"interval": [[low, high]]})?)
+    let ends = pair_of(alloc, Value::from(span.low), Value::from(span.high))?;
+    interval_of(alloc, ends)
 }
 
 // The interval of some times.
@@ -31,43 +41,47 @@ fn times_tree(alloc: Global, span: Span) -> Result<Value, OutOfMemory>
 {
     let first = time_tree(alloc, span.low)?;
     let last = time_tree(alloc, span.high)?;
-    Ok(json!(in alloc; {"interval": [[first, last]]})?)
+    let ends = pair_of(alloc, first, last)?;
+    interval_of(alloc, ends)
 }
 
-// The interval of the levels, where there are some.
-fn vertical_tree(alloc: Global, levels: Option<Span>) -> Result<Option<Value>, OutOfMemory>
-    ensures { IfOk result (λ v. option_map view v ≡ option_map (span_data integer) levels) }
-{
-    match levels {
-        Some(levels) => Ok(Some(interval_tree(alloc, levels)?)),
-        None => Ok(None),
-    }
-}
-
-// An extent by its parts.
-fn extent_of(
+// Puts the interval of the levels, where there are some.
+fn put_levels(
+    members: &mut Map<String, Value>,
     alloc: Global,
-    spatial: Value,
-    temporal: Value,
-    vertical: Option<Value>,
-) -> Result<Value, OutOfMemory>
-    ensures { IfOk result (λ v. view v ≡ object (member (codes "spatial") (view spatial) (member (codes "temporal") (view temporal)
-        (member_if (codes "vertical") (option_map view vertical) no_members)))) }
+    levels: Option<Span>,
+) -> Result<(), OutOfMemory>
+    ensures { OnOk result (members_view members.new.entries ≡ put_if (codes "vertical") (option_map (span_data integer) levels) (members_view members.old.entries)) }
 {
-    let mut members = Map::new(alloc);
-    serde_json::put(&mut members, alloc, "spatial", spatial)?;
-    serde_json::put(&mut members, alloc, "temporal", temporal)?;
-    put_given(&mut members, alloc, "vertical", vertical)?;
-    Ok(Value::Object(members))
+    if let Some(levels) = levels {
+        let interval = interval_tree(alloc, levels)?;
+        serde_json::put(members, alloc, "vertical", interval)?;
+    }
+    Ok(())
+}
+
+// The corners of a box: the least x and y, and the greatest.
+fn corners_tree(alloc: Global, xs: Span, ys: Span) -> Result<Value, OutOfMemory>
+    ensures { IfOk result (λ v. view v ≡ array_of integer (xs.low ∷ ys.low ∷ xs.high ∷ ys.high ∷ [])) }
+{
+    let mut corners = Vec::new(alloc);
+    corners.push(Value::from(xs.low))?;
+    corners.push(Value::from(ys.low))?;
+    corners.push(Value::from(xs.high))?;
+    corners.push(Value::from(ys.high))?;
+    Ok(Value::Array(corners))
 }
 
 // The box of some data.
 fn spatial_tree(alloc: Global, crs: &str, xs: Span, ys: Span) -> Result<Value, OutOfMemory>
     ensures { IfOk result (λ v. view v ≡ box_data crs.now xs ys) }
 {
-    let (least_x, greatest_x) = (xs.low, xs.high);
-    let (least_y, greatest_y) = (ys.low, ys.high);
-    Ok(json!(in alloc; {"bbox": [[least_x, least_y, greatest_x, greatest_y]], "crs": crs})?)
+    let mut members = Map::new(alloc);
+    let corners = corners_tree(alloc, xs, ys)?;
+    let boxes = only_item(alloc, corners)?;
+    serde_json::put(&mut members, alloc, "bbox", boxes)?;
+    put_text(&mut members, alloc, "crs", crs)?;
+    Ok(Value::Object(members))
 }
 
 // The extent of what lies so.
@@ -75,10 +89,13 @@ fn reach_tree(alloc: Global, crs: &str, reach: Reach) -> Result<Value, OutOfMemo
     requires { IsTimed reach }
     ensures { IfOk result (λ v. view v ≡ reach_data crs.now reach) }
 {
+    let mut members = Map::new(alloc);
     let spatial = spatial_tree(alloc, crs, reach.xs, reach.ys)?;
+    serde_json::put(&mut members, alloc, "spatial", spatial)?;
     let temporal = times_tree(alloc, reach.ts)?;
-    let vertical = vertical_tree(alloc, reach.zs)?;
-    extent_of(alloc, spatial, temporal, vertical)
+    serde_json::put(&mut members, alloc, "temporal", temporal)?;
+    put_levels(&mut members, alloc, reach.zs)?;
+    Ok(Value::Object(members))
 }
 
 /// The extent of a grid, in metres and times, with the text of its reference system.

@@ -3,6 +3,7 @@
 
 mod describing;
 mod extents;
+mod leaves;
 mod locations;
 mod pages;
 mod paths;

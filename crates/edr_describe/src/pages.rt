@@ -1,19 +1,47 @@
 //! The pages of collections and instances.
-ghost use Rattle.std.specs.Prelude.{◌≡◌, None, Some, IfOk, OnOk, option_map};
+ghost use Rattle.std.specs.Prelude.{◌≡◌, ◌∷◌, [], codes, None, Some, IfOk, OnOk, option_map};
+ghost use Rattle.serde_json.specs.Data.{string, put};
 ghost use Rattle.serde_json.specs.View.{view, members_view};
 ghost use Rattle.covjson_value.specs.Trees.{array_of};
 ghost use Rattle.edr_edition.specs.declared.kinds.Kind.TheVariants.{Grid, Station};
 ghost use Rattle.edr_describe.specs.Descriptions.{page_object, collection_page, instance_page, instances_page, collections_page};
-ghost use Rattle.edr_describe.specs.Describing.{data_object, head_members, with_rest};
+ghost use Rattle.edr_describe.specs.Describing.{data_object, head_members, with_links, with_formats, with_rest};
 
 use crate::extents::{extent_tree, stations_extent};
+use crate::leaves::only_text;
 use crate::queries::{grid_queries, instance_queries, station_queries};
 use covjson_value::{parameters_tree, put_given, put_text, text_of};
 use edr_base::OutOfMemory;
 use edr_edition::{CollectionData, Edition, GridInstance};
 use edr_station::Stations;
-use serde_json::{Map, Value, json};
+use serde_json::{Map, Value};
 use std::alloc::Global;
+
+// Puts the text of the reference system of a page.
+fn put_system(members: &mut Map<String, Value>, alloc: Global, crs: &str) -> Result<(), OutOfMemory>
+    ensures { OnOk result (members_view members.new.entries ≡ put (codes "crs") (array_of string (crs.now ∷ [])) (members_view members.old.entries)) }
+{
+    let systems = only_text(alloc, crs)?;
+    serde_json::put(members, alloc, "crs", systems)?;
+    Ok(())
+}
+
+// Puts an empty list of links.
+fn put_links(members: &mut Map<String, Value>, alloc: Global) -> Result<(), OutOfMemory>
+    ensures { OnOk result (members_view members.new.entries ≡ with_links (members_view members.old.entries)) }
+{
+    serde_json::put(members, alloc, "links", Value::Array(Vec::new(alloc)))?;
+    Ok(())
+}
+
+// Puts the one format of all data.
+fn put_formats(members: &mut Map<String, Value>, alloc: Global) -> Result<(), OutOfMemory>
+    ensures { OnOk result (members_view members.new.entries ≡ with_formats (members_view members.old.entries)) }
+{
+    let formats = only_text(alloc, "CoverageJSON")?;
+    serde_json::put(members, alloc, "output_formats", formats)?;
+    Ok(())
+}
 
 // The first members of a page.
 fn head_of(
@@ -25,11 +53,10 @@ fn head_of(
 ) -> Result<Map<String, Value>, OutOfMemory>
     ensures { IfOk result (λ members. members_view members.entries ≡ head_members crs.now (view queries) (option_map view extent) id.now) }
 {
-    let systems = json!(in alloc; [crs])?;
     let mut members = Map::new(alloc);
-    serde_json::put(&mut members, alloc, "crs", systems)?;
     serde_json::put(&mut members, alloc, "data_queries", queries)?;
     put_given(&mut members, alloc, "extent", extent)?;
+    put_system(&mut members, alloc, crs)?;
     put_text(&mut members, alloc, "id", id)?;
     Ok(members)
 }
@@ -43,13 +70,10 @@ fn put_rest(
 ) -> Result<(), OutOfMemory>
     ensures { OnOk result (members_view members.new.entries ≡ with_rest (members_view members.old.entries) (view parameters) title.now) }
 {
-    let links = json!(in alloc; [])?;
-    let formats = json!(in alloc; ["CoverageJSON"])?;
-    serde_json::put(members, alloc, "links", links)?;
-    serde_json::put(members, alloc, "output_formats", formats)?;
+    put_links(members, alloc)?;
+    put_formats(members, alloc)?;
     serde_json::put(members, alloc, "parameter_names", parameters)?;
-    put_text(members, alloc, "title", title)?;
-    Ok(())
+    put_text(members, alloc, "title", title)
 }
 
 // A page by what differs from one to the next.
@@ -178,14 +202,20 @@ pub fn instances_tree(alloc: Global, collection: &CollectionData) -> Result<Valu
     requires { collection.now.kind ≡ Grid }
     ensures { IfOk result (λ v. view v ≡ instances_page collection.now) }
 {
+    let mut members = Map::new(alloc);
     let pages = instance_trees(alloc, collection)?;
-    Ok(json!(in alloc; {"instances": pages, "links": []})?)
+    serde_json::put(&mut members, alloc, "instances", pages)?;
+    put_links(&mut members, alloc)?;
+    Ok(Value::Object(members))
 }
 
 /// The page of all collections.
 pub fn collections_tree(alloc: Global, edition: &Edition) -> Result<Value, OutOfMemory>
     ensures { IfOk result (λ v. view v ≡ collections_page edition.now.collections) }
 {
+    let mut members = Map::new(alloc);
     let pages = collection_trees(alloc, edition)?;
-    Ok(json!(in alloc; {"collections": pages, "links": []})?)
+    serde_json::put(&mut members, alloc, "collections", pages)?;
+    put_links(&mut members, alloc)?;
+    Ok(Value::Object(members))
 }

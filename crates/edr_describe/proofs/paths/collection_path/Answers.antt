@@ -7,5 +7,6 @@ use Rattle.edr_describe.proofs.paths.collection_path.Goals as goal
 pub returns : goal.returns
 returns c =
     let id = c.args.collection.now in
-    let first = c.in_ok-push_part.ensures ∙ ap (λ (l : List ℕ). l ++ 47 ∷ escaped IDS (codes "collections")) c.new-path.ensures.bytes in
-    c.in_ok-push_part-2.ensures ∙ (ap (λ (l : List ℕ). l ++ 47 ∷ escaped IDS id) first ∙ collection_path_is id)
+    c.in_ok-push_parts.ensures
+    ∙ (ap (λ (l : List ℕ). (l ++ 47 ∷ escaped IDS (codes "collections")) ++ 47 ∷ escaped IDS id) c.new-path.ensures.bytes
+    ∙ collection_path_is id)

@@ -7,5 +7,6 @@ use Rattle.edr_describe.proofs.paths.instance_path.Goals as goal
 pub returns : goal.returns
 returns c =
     let id = c.args.instance.now in
-    let first = c.in_ok-push_part.ensures ∙ ap (λ (l : List ℕ). l ++ 47 ∷ escaped IDS (codes "instances")) c.in_ok-path.ensures in
-    c.in_ok-push_part-2.ensures ∙ (ap (λ (l : List ℕ). l ++ 47 ∷ escaped IDS id) first ∙ instance_path_is c.args.collection.now id)
+    c.in_ok-push_parts.ensures
+    ∙ (ap (λ (l : List ℕ). (l ++ 47 ∷ escaped IDS (codes "instances")) ++ 47 ∷ escaped IDS id) c.in_ok-path.ensures
+    ∙ instance_path_is c.args.collection.now id)
