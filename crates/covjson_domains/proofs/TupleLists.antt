@@ -1,6 +1,6 @@
 -- Tests along the items of tuples, and the values that are found there.
 use Rattle.std.specs.Prelude.{option_and_then, unsigned_abs, bytes_eq}
-use Rattle.std.proofs.Common.{◌≡◌, ℕ, suc, ◌+◌, ◌-◌, ◌<◌, ◌≤◌, ◌++◌, ℤ, List, [], ◌∷◌, length, get_or, drop, map, true, false, true≢false, Option, Some, Ok, inl, inr, refl, sym, ap, ◌∙◌, subst, arith}
+use Rattle.std.proofs.Common.{◌≡◌, ℕ, suc, ◌+◌, ◌-◌, ◌<◌, ◌≤◌, ◌++◌, ℤ, List, [], ◌∷◌, length, get_or, drop, map, true, false, true≢false, Option, Some, Ok, Err, inl, inr, refl, sym, ap, ◌∙◌, subst, arith}
 use Rattle.std.proofs.lemmas.Bool.{and_parts, cases_Bool, cond-true, cond-false}
 use Rattle.std.proofs.lemmas.List.{drop_more, length-drop}
 use Rattle.serde_json.specs.Data.{Data, Items, no_items, item}
@@ -12,6 +12,7 @@ use Rattle.edr_base.specs.Limits.{coordinate_limit}
 use Rattle.covjson_value.specs.declared.domains.CoordinateName.{CoordinateName}
 use Rattle.covjson_value.specs.declared.domains.CoordinateName.TheVariants.{T, Z, Y, X}
 use Rattle.covjson_value.specs.Domains.{coordinate_key, coordinate}
+use Rattle.covjson_checks.specs.declared.faults.CovFault.{CovFault}
 use Rattle.covjson_checks.specs.declared.faults.Member.TheVariants.{Composite}
 use Rattle.covjson_domains.specs.declared.tuples.Test.{Test}
 use Rattle.covjson_domains.specs.declared.tuples.Test.TheVariants.{Within}
@@ -120,6 +121,24 @@ read_more names xs i x found new tuple h is read pushed =
     let next = ap (λ (a : Answer Position). onto found (and_then a (λ t. and_then (tuples_from names (suc i) ds) (λ tuples. Ok (t ∷ tuples))))) here in
     let place = ap (λ (n : ℕ). onto found (and_then (tuples_from names n ds) (λ tuples. Ok (tuple ∷ tuples)))) after in
     begin ∙ next ∙ place ∙ sym (onto_more found tuple (tuples_from names (i + 1) ds)) ∙ ap (λ (ts : List Position). onto ts (tuples_from names (i + 1) ds)) (sym pushed)
+
+-- nor is the first of them outside the limits
+pub pass_first : (names : List CoordinateName) (xs : List Value) (i : ℕ) (x : Value) → i < length xs → x ≡ get_or xs i x → tuples_pass Within names (items_view (drop i xs)) ≡ true
+    → list_passes Within names (as_array (view x)) ≡ true
+pass_first names xs i x h is pass =
+    let begin = ap (λ (ys : List Value). tuples_pass Within names (items_view ys)) (drop_more xs i x h) in
+    let parts = and_parts (list_passes Within names (as_array (view (get_or xs i x)))) (tuples_pass Within names (items_view (drop (i + 1) xs))) (sym begin ∙ pass) in
+    ap (λ (v : Value). list_passes Within names (as_array (view v))) is ∙ parts.0
+
+-- the fault of the first tuple of the rest is the answer
+pub read_stops : (names : List CoordinateName) (xs : List Value) (i : ℕ) (x : Value) (found : List Position) (f : CovFault) (all : Answer (List Position)) → i < length xs
+    → x ≡ get_or xs i x → Err f ≡ tuple_at names i (view x) → onto found (tuples_from names i (items_view (drop i xs))) ≡ all → all ≡ Err f
+read_stops names xs i x found f all h is read before =
+    let ds = items_view (drop (i + 1) xs) in
+    let here : tuple_at names i (view (get_or xs i x)) ≡ Err f = ap (λ (v : Value). tuple_at names i (view v)) (sym is) ∙ sym read in
+    let begin = ap (λ (ys : List Value). onto found (tuples_from names i (items_view ys))) (drop_more xs i x h) in
+    let next = ap (λ (a : Answer Position). onto found (and_then a (λ t. and_then (tuples_from names (suc i) ds) (λ tuples. Ok (t ∷ tuples))))) here in
+    sym before ∙ begin ∙ next
 
 -- one tuple or none never falls
 falls_not : (tuples : List Position) → length tuples ≤ 1 → never_falls (map (coordinate T) tuples) ≡ true

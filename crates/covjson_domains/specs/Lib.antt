@@ -9,5 +9,6 @@ pub mod DomainRows
 pub mod Laws
 pub mod TypeAnswers
 pub mod AxisAnswers
+pub mod SpanAnswers
 pub mod TupleAnswers
 pub mod DomainAnswers

@@ -180,50 +180,44 @@ fn domain_formed(kind: DomainType, read: ReadAxes) -> Domain
     ensures formed { result ≡ domains.domain_formed kind read }
     ensures counted { AreCounted result }
 {
-    let ReadAxes {
-        t,
-        z,
-        y,
-        x,
-        composite,
-    } = read;
+    let mut read = read;
     match kind {
         DomainType::Grid => Domain::Grid {
-            t: axis_in(t),
-            z: axis_in(z),
-            y: axis_of(y),
-            x: axis_of(x),
+            t: axis_in(read.t.take()),
+            z: axis_in(read.z.take()),
+            y: axis_of(read.y.take()),
+            x: axis_of(read.x.take()),
         },
         DomainType::Point => Domain::Point {
-            t: value_in(&t),
-            z: value_in(&z),
-            y: value_of(&y),
-            x: value_of(&x),
+            t: value_in(&read.t),
+            z: value_in(&read.z),
+            y: value_of(&read.y),
+            x: value_of(&read.x),
         },
         DomainType::PointSeries => Domain::PointSeries {
-            t: axis_of(t),
-            z: value_in(&z),
-            y: value_of(&y),
-            x: value_of(&x),
+            t: axis_of(read.t.take()),
+            z: value_in(&read.z),
+            y: value_of(&read.y),
+            x: value_of(&read.x),
         },
         DomainType::VerticalProfile => Domain::VerticalProfile {
-            t: value_in(&t),
-            z: axis_of(z),
-            y: value_of(&y),
-            x: value_of(&x),
+            t: value_in(&read.t),
+            z: axis_of(read.z.take()),
+            y: value_of(&read.y),
+            x: value_of(&read.x),
         },
         DomainType::MultiPoint => {
-            let places = tuples_of(composite);
+            let places = tuples_of(read.composite.take());
             Domain::MultiPoint {
-                t: value_in(&t),
+                t: value_in(&read.t),
                 has_z: places.has_z,
                 spots: places.tuples,
             }
         }
         DomainType::Trajectory => {
-            let places = tuples_of(composite);
+            let places = tuples_of(read.composite.take());
             Domain::Trajectory {
-                z: value_in(&z),
+                z: value_in(&read.z),
                 has_z: places.has_z,
                 steps: places.tuples,
             }

@@ -6,6 +6,7 @@ ghost use Rattle.covjson_value.specs.Coverages.{IsCoordinate};
 ghost use Rattle.covjson_checks.specs.Answers.{Gives, GivesUnlessMemory};
 ghost use Rattle.covjson_checks.specs.Members as members;
 ghost use Rattle.covjson_domains.specs.AxisAnswers as axes;
+ghost use Rattle.covjson_domains.specs.SpanAnswers as spans;
 
 use covjson_checks::{CovFault, Member, is_within, number_at, part};
 use edr_base::{COORDINATE_LIMIT, NODE_LIMIT};
@@ -98,6 +99,43 @@ fn regular(alloc: Global, first: i128, last: i128, count: i128) -> Result<Vec<i6
     stepped(alloc, first as i64, step as i64, count as usize)
 }
 
+// The values between these whole numbers: NotWhole where the step isn't whole, then OutOfRange.
+fn spanned_between(
+    alloc: Global,
+    first: i128,
+    last: i128,
+    count: i128,
+    member: Member,
+) -> Result<Vec<i64>, CovFault>
+    requires first { unsigned_abs first < 2 ^ 64 }
+    requires last { unsigned_abs last < 2 ^ 64 }
+    ensures { GivesUnlessMemory (λ v. v.items) result (spans.spanned_between member first last count) }
+{
+    if !has_whole_steps(first, last, count) {
+        return Err(CovFault::NotWhole(member));
+    }
+    if !is_span_within(first, last, count) {
+        return Err(CovFault::OutOfRange(member));
+    }
+    regular(alloc, first, last, count)
+}
+
+// The values by these numbers: NotWhole where one of them or the step isn't whole, then OutOfRange.
+fn spanned_by(
+    alloc: Global,
+    start: &Number,
+    stop: &Number,
+    num: &Number,
+    member: Member,
+) -> Result<Vec<i64>, CovFault>
+    ensures { GivesUnlessMemory (λ v. v.items) result (spans.spanned_by member (number_view start.now) (number_view stop.now) (number_view num.now)) }
+{
+    let first = whole_in(start, member)?;
+    let last = whole_in(stop, member)?;
+    let count = whole_in(num, member)?;
+    spanned_between(alloc, first, last, count, member)
+}
+
 /// The values of an axis of numbers by `start`, `stop` and `num`: WrongType, then NotWhole where one of them or the step
 /// isn't whole, then OutOfRange.
 pub fn spanned(alloc: Global, axis: &Value, member: Member) -> Result<Vec<i64>, CovFault>
@@ -106,14 +144,5 @@ pub fn spanned(alloc: Global, axis: &Value, member: Member) -> Result<Vec<i64>, 
     let start = number_in(axis, "start", member)?;
     let stop = number_in(axis, "stop", member)?;
     let num = number_in(axis, "num", member)?;
-    let first = whole_in(start, member)?;
-    let last = whole_in(stop, member)?;
-    let count = whole_in(num, member)?;
-    if !has_whole_steps(first, last, count) {
-        return Err(CovFault::NotWhole(member));
-    }
-    if !is_span_within(first, last, count) {
-        return Err(CovFault::OutOfRange(member));
-    }
-    regular(alloc, first, last, count)
+    spanned_by(alloc, start, stop, num, member)
 }

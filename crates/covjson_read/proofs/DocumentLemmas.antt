@@ -1,12 +1,14 @@
 -- The answers of the items of a list in turn, and of trees by their type.
-use Rattle.std.proofs.Common.{◌≡◌, ℕ, ◌+◌, ◌<◌, List, [], ◌∷◌, ◌++◌, length, get_or, drop, Ok, codes, sym, ap, ◌∙◌}
+use Rattle.std.proofs.Common.{◌≡◌, ℕ, ◌+◌, ◌<◌, List, [], ◌∷◌, ◌++◌, length, get_or, drop, Result, Ok, Err, IsErrAnd, ◌⊎◌, inl, inr, codes, refl, sym, ap, ◌∙◌}
 use Rattle.std.proofs.lemmas.List.{drop_more}
 use Rattle.serde_json.specs.Data.{Data, Members}
 use Rattle.serde_json.specs.Find.{get}
 use Rattle.serde_json.specs.View.{view, items_view}
 use Rattle.serde_json.specs.declared.value.Value.{Value}
 use Rattle.covjson_checks.specs.declared.faults.Member.TheVariants.{Document as TheDocument, Kind}
-use Rattle.covjson_checks.specs.Answers.{Answer, each, onto}
+use Rattle.covjson_checks.specs.declared.faults.CovFault.{CovFault}
+use Rattle.covjson_checks.specs.declared.faults.CovFault.TheVariants.{OutOfMemory}
+use Rattle.covjson_checks.specs.Answers.{Answer, GivesUnlessMemory, each, onto}
 use Rattle.covjson_checks.specs.Members.{need, object_at}
 use Rattle.edr_json.specs.Trees.{text_or_empty}
 use Rattle.covjson_read.specs.CoverageAnswers.{document_of_type, document_of}
@@ -21,6 +23,17 @@ pub each_more : {V : Type 0} (answer_of : Data → Answer V) (items : List Value
 each_more answer_of items place one found new v within is given pushed =
     let here : answer_of (view (get_or items place one)) ≡ Ok v = rw (← is) given in
     rw (pushed, drop_more items place one within, here) (onto_more found v (each answer_of (items_view (drop (place + 1) items))))
+
+-- an item's fault is the answer of all
+pub each_stopped : {T V : Type 0} (seen : T → List V) (r : Result T CovFault) (answer_of : Data → Answer V) (items : List Value) (place : ℕ) (one : Value) (found : List V) (fault : CovFault) (all : Answer (List V))
+    → place < length items → one ≡ get_or items place one → (answer_of (view one) ≡ Err fault) ⊎ (fault ≡ OutOfMemory) → IsErrAnd r (λ e. e ≡ fault)
+    → onto found (each answer_of (items_view (drop place items))) ≡ all → GivesUnlessMemory seen r all
+each_stopped seen (Ok x) answer_of items place one found fault all within is given same before = absurd same
+each_stopped seen (Err e) answer_of items place one found fault all within is (inr memory) same before = inr (same ∙ memory)
+each_stopped seen (Err e) answer_of items place one found fault all within is (inl given) same before =
+    let here : answer_of (view (get_or items place one)) ≡ Err fault = rw (← is) given in
+    let stopped : onto found (each answer_of (items_view (drop place items))) ≡ Err fault = rw (drop_more items place one within, here) refl in
+    inl (sym before ∙ stopped ∙ ap (λ f. Err f) (sym same))
 
 -- an object with a type is answered by its type
 pub document_by_kind : (tree kind : Data) (ms : Members) (text : List ℕ) → object_at TheDocument tree ≡ Ok ms → need (codes "type") Kind tree ≡ Ok kind

@@ -1,5 +1,5 @@
 -- The ranges of an object, one by one in ascending order of their names.
-use Rattle.std.proofs.Common.{◌≡◌, ℕ, List, [], ◌∷◌, ◌++◌, length, map, String, string_bytes, Global, Less, nat_cmp, Ok, Err, true, codes, refl, sym, ap, ◌∙◌, append_assoc, append-nil, subst}
+use Rattle.std.proofs.Common.{◌≡◌, ℕ, List, [], ◌∷◌, ◌++◌, length, map, String, string_bytes, Global, Less, nat_cmp, Result, Ok, Err, IsErrAnd, ◌⊎◌, inl, inr, true, codes, refl, sym, ap, ◌∙◌, append_assoc, append-nil, subst}
 use Rattle.std.specs.List.{AllByRecursion}
 use Rattle.std.specs.List.Sorted.{IsStrictlySortedBy}
 use Rattle.std.specs.Cmp.Lexicographic.{slice_cmp}
@@ -13,7 +13,9 @@ use Rattle.covjson_value.specs.Coverages.{ids_of, AscendById}
 use Rattle.covjson_checks.specs.declared.turned.ReadDomain.{ReadDomain}
 use Rattle.covjson_read.specs.declared.collected.ReadRanges.{ReadRanges}
 use Rattle.covjson_checks.specs.declared.faults.Member.TheVariants.{Parameters, Ranges}
-use Rattle.covjson_checks.specs.Answers.{Answer}
+use Rattle.covjson_checks.specs.declared.faults.CovFault.{CovFault}
+use Rattle.covjson_checks.specs.declared.faults.CovFault.TheVariants.{OutOfMemory}
+use Rattle.covjson_checks.specs.Answers.{Answer, GivesUnlessMemory}
 use Rattle.edr_base.specs.FirstThatApplies.{and_then}
 use Rattle.covjson_checks.specs.Members.{need, object_at}
 use Rattle.covjson_read.specs.ParameterAnswers.{parameter_of}
@@ -53,6 +55,29 @@ one_more read parameters kept all_kept found all_found es next k v tree p r all 
     ≡ after_these kept found (and_then left (λ others. Ok (record { parameters = p ∷ others.parameters; ranges = r ∷ others.ranges }))) =
     ap (from_here read parameters kept found) is ∙ rw (needed, parameter, range) refl in
     rw (pushed, put) (sym (twice kept found p r left)) ∙ sym here ∙ before
+
+-- a fault at an entry is the answer of all
+module _ (read : ReadDomain) (parameters : Data) (kept : List Parameter) (found : List NdArray) (es next : Entries) (k : String Global) (v : Value) (all : Answer ReadRanges) (r : Result ReadRanges CovFault)
+    (fault : CovFault) (is : es ≡ (k, v) ∷ next) (before : from_here read parameters kept found es ≡ all) (same : IsErrAnd r (λ e. e ≡ fault)) where
+  answered : (r : Result ReadRanges CovFault) → IsErrAnd r (λ e. e ≡ fault) → from_here read parameters kept found ((k, v) ∷ next) ≡ Err fault → GivesUnlessMemory (λ given. given) r all
+  answered (Ok u) same here = absurd same
+  answered (Err e) same here = inl (sym before ∙ ap (from_here read parameters kept found) is ∙ here ∙ ap (λ f. Err f) (sym same))
+
+  wanting : (r : Result ReadRanges CovFault) → IsErrAnd r (λ e. e ≡ fault) → fault ≡ OutOfMemory → GivesUnlessMemory (λ given. given) r all
+  wanting (Ok u) same memory = absurd same
+  wanting (Err e) same memory = inr (same ∙ memory)
+
+  pub need_stops : need (string_bytes k) Parameters parameters ≡ Err fault → GivesUnlessMemory (λ given. given) r all
+  need_stops needed = answered r same (rw needed refl)
+
+  pub parameter_stops : (tree : Data) → need (string_bytes k) Parameters parameters ≡ Ok tree → (parameter_of (string_bytes k) tree ≡ Err fault) ⊎ (fault ≡ OutOfMemory) → GivesUnlessMemory (λ given. given) r all
+  parameter_stops tree needed (inl parameter) = answered r same (rw (needed, parameter) refl)
+  parameter_stops tree needed (inr memory) = wanting r same memory
+
+  pub range_stops : (tree : Data) (p : Parameter) → need (string_bytes k) Parameters parameters ≡ Ok tree → parameter_of (string_bytes k) tree ≡ Ok p
+      → (range_of read (view v) ≡ Err fault) ⊎ (fault ≡ OutOfMemory) → GivesUnlessMemory (λ given. given) r all
+  range_stops tree p needed parameter (inl range) = answered r same (rw (needed, parameter, range) refl)
+  range_stops tree p needed parameter (inr memory) = wanting r same memory
 
 -- ---- the parameters' ids
 

@@ -9,4 +9,5 @@ pub mod CollectedAnswers
 pub mod Standing
 pub mod Rows
 pub mod CoverageAnswers
+pub mod CoverageParts
 pub mod Laws

@@ -7,17 +7,18 @@ ghost use Rattle.covjson_value.specs.Coverages.{HasAxes, HasTuples, IsValid};
 ghost use Rattle.covjson_checks.specs.Answers.{Gives, GivesUnlessMemory};
 ghost use Rattle.covjson_value.specs.declared.coverages.Coverage.{Coverage};
 ghost use Rattle.covjson_read.specs.CoverageAnswers.{over_domain};
+ghost use Rattle.covjson_read.specs.CoverageParts.{with_domain};
 ghost use Rattle.covjson_read.specs.CoverageAnswers as answers;
 ghost use Rattle.covjson_read.specs.Standing.{Stands, type_of};
 ghost use Rattle.covjson_read.specs.Rows.{CoverageRows};
 
-use crate::collected::ranges_in;
+use crate::collected::{ReadRanges, ranges_in};
 use crate::laws::{answers_are_what_stands, coverage_answers_follow_rows};
 use crate::parameters::parameters_of;
 use crate::systems::referencing_of;
 use covjson_checks::{CovFault, Member, ReadDomain, lent, need, object_at, text_where_given};
 use covjson_domains::domain_of;
-use covjson_value::{CoordinateName, Coverage};
+use covjson_value::{CoordinateName, Coverage, Referencing};
 use edr_base::Text;
 use edr_json::text_or_empty;
 use serde_json::Value;
@@ -65,7 +66,40 @@ fn type_of<'a>(domain: &'a Value, tree: &'a Value, collection: &'a Value) -> Opt
     }
 }
 
-// The coverage over a domain that was read: its systems, its parameters and its ranges.
+// What a coverage has beside its domain.
+#[derive(Drop)]
+struct Parts {
+    id: Option<Text>,
+    referencing: Referencing,
+    ranges: ReadRanges,
+}
+
+// What a coverage has over a domain that was read: its systems, its parameters and its ranges.
+fn parts_over(
+    alloc: Global,
+    tree: &Value,
+    collection: &Value,
+    domain: &Value,
+    read: &ReadDomain,
+) -> Result<Parts, CovFault>
+    requires axes { HasAxes read.now.domain }
+    requires tuples { HasTuples read.now.domain }
+    ensures answer { GivesUnlessMemory (with_domain read.now.domain) result (over_domain (view collection.now) (view tree.now) (view domain.now) read.now) }
+    ensures valid { IfOk result (λ p. IsValid (with_domain read.now.domain p)) }
+{
+    let levels = read.domain.has(CoordinateName::Z);
+    let referencing = referencing_of(alloc, lent(domain, collection, "referencing"), levels)?;
+    let parameters = parameters_of(lent(tree, collection, "parameters"))?;
+    let ranges = ranges_in(alloc, tree, parameters, read)?;
+    let id = id_of(alloc, tree)?;
+    Ok(Parts {
+        id,
+        referencing,
+        ranges,
+    })
+}
+
+// The coverage over a domain that was read.
 fn over_domain(
     alloc: Global,
     tree: &Value,
@@ -78,11 +112,11 @@ fn over_domain(
     ensures answer { GivesUnlessMemory (λ c. c) result (over_domain (view collection.now) (view tree.now) (view domain.now) read) }
     ensures valid { IfOk result IsValid }
 {
-    let levels = read.domain.has(CoordinateName::Z);
-    let referencing = referencing_of(alloc, lent(domain, collection, "referencing"), levels)?;
-    let parameters = parameters_of(lent(tree, collection, "parameters"))?;
-    let ranges = ranges_in(alloc, tree, parameters, &read)?;
-    let id = id_of(alloc, tree)?;
+    let Parts {
+        id,
+        referencing,
+        ranges,
+    } = parts_over(alloc, tree, collection, domain, &read)?;
     Ok(Coverage {
         id,
         domain: read.domain,

@@ -1,17 +1,24 @@
-use Rattle.std.proofs.Common.{rules, arith, ◌≡◌, ◌∙◌, ℕ, suc, ◌+◌, ◌<◌, ℤ, List, [], ◌∷◌, ◌++◌, length, get_or, drop, Ok, Err, refl, sym, ap, append_assoc, add-one}
+use Rattle.std.proofs.Common.{rules, arith, ◌≡◌, ◌∙◌, ℕ, suc, ◌+◌, ◌<◌, ℤ, List, [], ◌∷◌, ◌++◌, length, get_or, drop, Ok, Err, inl, sym, ap, add-one}
 use Rattle.std.proofs.lemmas.List.{drop_more}
+use Rattle.std.proofs.lemmas.Result.{err_from_is_err_and}
 use Rattle.serde_json.specs.View.{view, items_view}
 use Rattle.serde_json.specs.declared.value.Value.{Value}
 use Rattle.covjson_checks.specs.declared.faults.Member.TheVariants.{T as TimeAxis}
+use Rattle.covjson_checks.specs.declared.faults.CovFault.{CovFault}
 use Rattle.covjson_checks.specs.Answers.{Answer, onto}
+use Rattle.covjson_checks.specs.CheckLaws.{onto_more}
 use Rattle.edr_base.specs.FirstThatApplies.{and_then}
 use Rattle.covjson_domains.specs.AxisAnswers.{time_at, times_from}
 use Rattle.covjson_domains.proofs.axes.times.Goals as goal
 
--- one more that was found stands before the rest
-onto_push : (found : List ℤ) (t : ℤ) (rest : Answer (List ℤ)) → onto (found ++ t ∷ []) rest ≡ onto found (and_then rest (λ ts. Ok (t ∷ ts)))
-onto_push found t (Ok ts) = ap Ok (append_assoc found (t ∷ []) ts)
-onto_push found t (Err f) = refl
+-- the times of the texts from a place on, by that of the text there
+times_there : (xs : List Value) (place : ℕ) (x : Value) (here : Answer ℤ) → place < length xs → x ≡ get_or xs place x → here ≡ time_at TimeAxis place (view x)
+    → times_from place (items_view (drop place xs)) ≡ and_then here (λ t. and_then (times_from (suc place) (items_view (drop (suc place) xs))) (λ ts. Ok (t ∷ ts)))
+times_there xs place x here h is read =
+    let more : drop place xs ≡ get_or xs place x ∷ drop (suc place) xs = rw add-one at (drop_more xs place x h) in
+    let rest = times_from (suc place) (items_view (drop (suc place) xs)) in
+    let first : time_at TimeAxis place (view (get_or xs place x)) ≡ here = ap (λ v. time_at TimeAxis place (view v)) (sym is) ∙ sym read in
+    ap (λ vs. times_from place (items_view vs)) more ∙ ap (λ (a : Answer ℤ). and_then a (λ time. and_then rest (λ ts. Ok (time ∷ ts)))) first
 
 -- after one more time the rest of the texts is one shorter
 times_more : (xs : List Value) (place : ℕ) (x : Value) (found new : List ℤ) (t : ℤ) (all : Answer (List ℤ))
@@ -19,12 +26,22 @@ times_more : (xs : List Value) (place : ℕ) (x : Value) (found new : List ℤ) 
     → onto found (times_from place (items_view (drop place xs))) ≡ all
     → onto new (times_from (place + 1) (items_view (drop (place + 1) xs))) ≡ all
 times_more xs place x found new t all h is here pushed before =
-    let more : drop place xs ≡ get_or xs place x ∷ drop (suc place) xs = rw add-one at (drop_more xs place x h) in
     let rest = times_from (suc place) (items_view (drop (suc place) xs)) in
-    let first : time_at TimeAxis place (view (get_or xs place x)) ≡ Ok t = ap (λ v. time_at TimeAxis place (view v)) (sym is) ∙ sym here in
-    let step : times_from place (items_view (drop place xs)) ≡ and_then rest (λ ts. Ok (t ∷ ts)) =
-    ap (λ vs. times_from place (items_view vs)) more ∙ ap (λ (a : Answer ℤ). and_then a (λ time. and_then rest (λ ts. Ok (time ∷ ts)))) first in
-    rw (pushed, add-one) (onto_push found t rest ∙ ap (λ a. onto found a) (sym step) ∙ before)
+    rw (pushed, add-one) (onto_more found t rest ∙ ap (λ a. onto found a) (sym (times_there xs place x (Ok t) h is here)) ∙ before)
+
+-- the fault of a text is the answer
+times_stop : (xs : List Value) (place : ℕ) (x : Value) (found : List ℤ) (f : CovFault) (all : Answer (List ℤ))
+    → place < length xs → x ≡ get_or xs place x → Err f ≡ time_at TimeAxis place (view x)
+    → onto found (times_from place (items_view (drop place xs))) ≡ all → all ≡ Err f
+times_stop xs place x found f all h is here before =
+    sym before ∙ ap (λ a. onto found a) (times_there xs place x (Err f) h is here)
+
+pub returns-in_err-time : goal.returns-in_err-time
+returns-in_err-time c =
+    let xs = c.args.items.now.items in
+    let p = err_from_is_err_and c.from_residual-in_err-time.result c.from_residual-in_err-time.ensures.1 in
+    rw (p.1, p.2) (inl (times_stop xs c.loop-place.place c.item-item.result c.loop-place.found.items c.in_err-time.field-0.0 (times_from 0 (items_view xs))
+    (omega arith) (search rules) c.in_err-time.ensures c.loop-place.invariant))
 
 pub loop-place-preserved : goal.loop-place-preserved
 loop-place-preserved c =

@@ -1,11 +1,28 @@
 use Rattle.std.proofs.Common.{◌≡◌, arith, pos, ◌≤◌, ◌*◌, ◌+ℤ◌, ◌-ℤ◌, ◌*ℤ◌, unsigned_abs, Vec, Global, ℤ, List, Ok, subst}
-use Rattle.std.proofs.lemmas.Int.{to_z-of_z, fits_signed_from_abs}
+use Rattle.std.proofs.lemmas.Int.{ints, to_z-of_z, fits_signed_from_abs}
 use mir.Syntax.{w64, w128}
 use Rattle.edr_base.specs.Limits.{coordinate_limit}
 use Rattle.covjson_checks.specs.Answers.{GivesUnlessMemory}
 use Rattle.covjson_domains.specs.AxisAnswers as axes
 use Rattle.covjson_domains.proofs.SpanLemmas.{span_tells, last_reached}
 use Rattle.covjson_domains.proofs.spans.regular.Goals as goal
+
+pub stepped-requires-clause-some : goal.stepped-requires-clause-some
+stepped-requires-clause-some c =
+    let span = span_tells c.args.first c.args.last c.args.count c.requires.within in
+    rw (to_z-of_z w128 c.args.count c.ranges.count) (omega (arith, ints, span.some))
+
+pub stepped-requires-clause-few : goal.stepped-requires-clause-few
+stepped-requires-clause-few c =
+    let span = span_tells c.args.first c.args.last c.args.count c.requires.within in
+    rw (to_z-of_z w128 c.args.count c.ranges.count) (omega (arith, ints, span.some, span.few))
+
+pub stepped-requires-clause-first : goal.stepped-requires-clause-first
+stepped-requires-clause-first c =
+    let first = c.args.first in
+    let span = span_tells first c.args.last c.args.count c.requires.within in
+    let first_small = to_z-of_z w64 first (fits_signed_from_abs w64 first (omega (arith, span.first_in))) in
+    rw (to_z-of_z w128 first c.ranges.first, first_small) span.first_in
 
 pub stepped-requires-clause-last : goal.stepped-requires-clause-last
 stepped-requires-clause-last c =

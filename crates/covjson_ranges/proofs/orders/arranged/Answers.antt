@@ -1,7 +1,7 @@
-use Rattle.std.proofs.Common.{rules, ◌≡◌, ◌/◌, ◌<◌, ◌++◌, map, get_or, length, None, ap, ◌∙◌, sym}
+use Rattle.std.proofs.Common.{rules, arith, ◌≡◌, ◌*◌, ◌/◌, ◌<◌, ◌++◌, map, get_or, length, None, Ok, ap, ◌∙◌, sym}
 use Rattle.covjson_value.specs.Domains.{count_of}
 use Rattle.covjson_ranges.specs.Ranges.{tree_number}
-use Rattle.covjson_ranges.specs.Orders.{below, in_row}
+use Rattle.covjson_ranges.specs.Orders.{below, in_row, places_at, value_in_tree}
 use Rattle.covjson_ranges.proofs.RowLemmas.{row_stays, row_more}
 use Rattle.covjson_ranges.proofs.orders.arranged.Goals as goal
 
@@ -25,3 +25,11 @@ loop-number-preserved c =
     c.row_of-row.ensures
     (c.tree_number-first.ensures.number ∙ ap (tree_number d c.args.turned c.args.names.now) c.places_of.ensures.places)
     pushed c.loop-number.invariant
+
+pub returns : goal.returns
+returns c =
+    let d = c.args.domain.now in
+    let size = c.row_of-row.result.length in
+    let ended : c.loop-number.number ≡ length c.args.values.now / size = omega arith in
+    let whole : c.loop-number.number * size ≡ count_of d = ap (λ n. n * size) (ended ∙ ap (λ n. n / size) c.requires.counted) ∙ c.row_of-row.ensures.whole in
+    sym (ap Ok (c.loop-number.invariant ∙ ap (λ n. map (λ k. value_in_tree d c.args.turned c.args.names.now c.args.values.now (places_at d k)) (below n)) whole))

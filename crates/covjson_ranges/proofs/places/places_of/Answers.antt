@@ -1,5 +1,25 @@
-use Rattle.covjson_ranges.proofs.PlaceLemmas.{places_at_inside, places_at_number}
+use Rattle.std.proofs.Common.{◌<◌, arith, refl}
+use Rattle.covjson_ranges.proofs.PlaceLemmas.{all_some, places_at_inside, places_at_number}
 use Rattle.covjson_ranges.proofs.places.places_of.Goals as goal
+
+pub nonzero_div-node : goal.nonzero_div-node
+nonzero_div-node c =
+    let some : 0 < c.axis_len-tuples.result = rw c.axis_len-tuples.ensures (all_some c.args.domain.now c.args.number c.requires).4 in
+    omega (arith, some)
+
+pub nonzero_div-row : goal.nonzero_div-row
+nonzero_div-row c =
+    let some : 0 < c.axis_len-columns.result = rw c.axis_len-columns.ensures (all_some c.args.domain.now c.args.number c.requires).3 in
+    omega (arith, some)
+
+pub nonzero_div-level : goal.nonzero_div-level
+nonzero_div-level c =
+    let some : 0 < c.axis_len-rows.result = rw c.axis_len-rows.ensures (all_some c.args.domain.now c.args.number c.requires).2 in
+    omega (arith, some)
+
+pub returns-clause-places : goal.returns-clause-places
+returns-clause-places c =
+    rw (c.axis_len-tuples.ensures, c.axis_len-columns.ensures, c.axis_len-rows.ensures, c.axis_len-levels.ensures) refl
 
 pub returns-clause-inside : goal.returns-clause-inside
 returns-clause-inside c =

@@ -1,8 +1,9 @@
-use Rattle.std.proofs.Common.{rules, arith, ◌≡◌, [], ◌∷◌, ◌++◌, Ok, length, string_bytes, ap, subst}
+use Rattle.std.proofs.Common.{rules, arith, ◌≡◌, [], ◌∷◌, ◌++◌, ◌⊎◌, Ok, Err, length, string_bytes, sym, ap, subst}
 use Rattle.std.proofs.lemmas.List.{length_push}
 use Rattle.serde_json.specs.Find.{get}
 use Rattle.serde_json.specs.View.{view}
 use Rattle.covjson_value.specs.Coverages.{IsParameter, IsRange}
+use Rattle.covjson_checks.specs.declared.faults.CovFault.TheVariants.{OutOfMemory}
 use Rattle.covjson_checks.specs.declared.faults.Member.TheVariants.{Parameters}
 use Rattle.covjson_checks.specs.Members.{need}
 use Rattle.edr_base.specs.Names.{IsName}
@@ -10,8 +11,47 @@ use Rattle.covjson_read.specs.ParameterAnswers.{parameter_of}
 use Rattle.edr_json.specs.AnswerLaws.{or_fault_ok, All-push}
 use Rattle.covjson_read.proofs.ParameterLaws.{parameter_is}
 use Rattle.covjson_read.proofs.ParameterNames.{named_found}
-use Rattle.covjson_read.proofs.RangesInTurn.{one_more, ids_more, ids_ascend}
+use Rattle.covjson_read.proofs.RangesInTurn.{one_more, need_stops, parameter_stops, range_stops, ids_more, ids_ascend}
 use Rattle.covjson_read.proofs.collected.ranges_from.Goals as goal
+
+pub returns-in_err-tree-clause-answer : goal.returns-in_err-tree-clause-answer
+returns-in_err-tree-clause-answer c =
+    let k = c.in-Some.id.now in
+    let v = c.in-Some.range.now in
+    let read = c.args.read.now in
+    let d = view c.args.parameters.now in
+    let fault = c.in_err-tree.field-0.0 in
+    let needed : need (string_bytes k) Parameters d ≡ Err fault = search rules in
+    need_stops read d c.loop-id.kept.items c.loop-id.found.items c.loop-id.id-iterator c.next.new.self k v _ c.from_residual.result fault c.in-Some.ensures.steps c.loop-id.invariant.answer
+    c.from_residual.ensures.1 needed
+
+pub returns-in_err-parameter-clause-answer : goal.returns-in_err-parameter-clause-answer
+returns-in_err-parameter-clause-answer c =
+    let k = c.in-Some.id.now in
+    let v = c.in-Some.range.now in
+    let read = c.args.read.now in
+    let d = view c.args.parameters.now in
+    let tree = view c.in_ok-tree.tree.now in
+    let fault = c.in_err-parameter.field-0.0 in
+    let needed : need (string_bytes k) Parameters d ≡ Ok tree = search rules in
+    let same : string_bytes k ≡ c.deref-in-loop-id.result.now = search rules in
+    let given = subst (λ i. (parameter_of i tree ≡ Err fault) ⊎ (fault ≡ OutOfMemory)) (sym same) c.in_err-parameter.ensures.answer in
+    parameter_stops read d c.loop-id.kept.items c.loop-id.found.items c.loop-id.id-iterator c.next.new.self k v _ c.from_residual-in_err-parameter.result fault c.in-Some.ensures.steps c.loop-id.invariant.answer
+    c.from_residual-in_err-parameter.ensures.1 tree needed given
+
+pub returns-in_err-array-clause-answer : goal.returns-in_err-array-clause-answer
+returns-in_err-array-clause-answer c =
+    let k = c.in-Some.id.now in
+    let v = c.in-Some.range.now in
+    let read = c.args.read.now in
+    let d = view c.args.parameters.now in
+    let tree = view c.in_ok-tree.tree.now in
+    let p = c.in_ok-parameter.parameter in
+    let fault = c.in_err-array.field-0.0 in
+    let needed : need (string_bytes k) Parameters d ≡ Ok tree = search rules in
+    let parameter : parameter_of (string_bytes k) tree ≡ Ok p = search rules in
+    range_stops read d c.loop-id.kept.items c.loop-id.found.items c.loop-id.id-iterator c.next.new.self k v _ c.from_residual-in_err-array.result fault c.in-Some.ensures.steps c.loop-id.invariant.answer
+    c.from_residual-in_err-array.ensures.1 tree p needed parameter c.in_err-array.ensures.answer
 
 pub loop-id-preserved : goal.loop-id-preserved
 loop-id-preserved c =

@@ -1,4 +1,4 @@
-use Rattle.std.proofs.Common.{rules, ◌≡◌, Ok, codes, length}
+use Rattle.std.proofs.Common.{◌≡◌, Ok, codes, length}
 use Rattle.serde_json.specs.View.{view, members_view}
 use Rattle.covjson_checks.specs.declared.faults.Member.TheVariants.{Ranges}
 use Rattle.covjson_checks.specs.Members.{need, object_at}
@@ -9,8 +9,8 @@ pub returns-clause-answer : goal.returns-clause-answer
 returns-clause-answer c =
     let es = c.in_ok-members.members.now.entries in
     let found = view c.in_ok-found.found.now in
-    let needed : need (codes "ranges") Ranges (view c.args.tree.now) ≡ Ok found = search rules in
-    let are : object_at Ranges found ≡ Ok (members_view es) = search rules in
+    let needed : need (codes "ranges") Ranges (view c.args.tree.now) ≡ Ok found = c.in_ok-found.ensures in
+    let are : object_at Ranges found ≡ Ok (members_view es) = c.in_ok-members.ensures in
     let some : ¬ (length es ≡ 0) = λ e. cc (c.is_empty.ensures.1 e) in
     rw (some_ranges c.args.read.now (view c.args.parameters.now) (view c.args.tree.now) found (members_view es) needed are (some_members es some))
     c.ranges_from.ensures.answer

@@ -3,7 +3,7 @@ use Rattle.serde_json.specs.View.{view}
 use Rattle.covjson_read.proofs.ParameterLaws.{parameters_are}
 use Rattle.covjson_read.proofs.ParameterNames.{have_names}
 use Rattle.covjson_read.proofs.RangeSome.{some_parameters}
-use Rattle.covjson_read.proofs.coverages.over_domain.Goals as goal
+use Rattle.covjson_read.proofs.coverages.parts_over.Goals as goal
 
 pub ranges_in-requires-clause-named : goal.ranges_in-requires-clause-named
 ranges_in-requires-clause-named c =
@@ -20,7 +20,7 @@ returns-clause-valid c =
       tuples = c.requires.tuples;
       referencing = c.in_ok-referencing.ensures.valid;
       vertical = λ given. sym c.has-levels.ensures ∙ c.in_ok-referencing.ensures.vertical given;
-      some = some_parameters c.args.read (view c.in_ok-parameters.parameters.now) (view c.args.tree.now) c.in_ok-ranges.ranges c.in_ok-ranges.ensures.answer;
+      some = some_parameters c.args.read.now (view c.in_ok-parameters.parameters.now) (view c.args.tree.now) c.in_ok-ranges.ranges c.in_ok-ranges.ensures.answer;
       parameters = valid.parameters;
       ascending = valid.ascending;
       as_many = valid.as_many;

@@ -1,0 +1,31 @@
+use Rattle.std.proofs.Common.{rules, arith, ◌≡◌, ◌<◌, ◌++◌, [], ◌∷◌, length, get_or, Ok, Err, inl}
+use Rattle.std.proofs.lemmas.Result.{err_from_is_err_and}
+use Rattle.serde_json.specs.View.{view, items_view}
+use Rattle.covjson_checks.specs.Answers.{each}
+use Rattle.covjson_checks.specs.Members.{whole_within}
+use Rattle.covjson_checks.specs.CheckLaws.{each_more, each_stops}
+use Rattle.covjson_checks.proofs.members.wholes.Goals as goal
+
+pub returns-in_err-whole : goal.returns-in_err-whole
+returns-in_err-whole c =
+    let xs = c.args.items.now.items in
+    let i = c.loop-item.item-index in
+    let x = c.item-item.result in
+    let answer_of = whole_within c.args.member c.args.limit in
+    let p = err_from_is_err_and c.from_residual-in_err-whole.result c.from_residual-in_err-whole.ensures.1 in
+    let inside : i < length xs = omega arith in
+    let is : x ≡ get_or xs i x = search rules in
+    rw (p.1, p.2) (inl (each_stops answer_of xs i x c.loop-item.found.items c.in_err-whole.field-0.0 (each answer_of (items_view xs)) inside is c.in_err-whole.ensures c.loop-item.invariant))
+
+pub loop-item-preserved : goal.loop-item-preserved
+loop-item-preserved c =
+    let xs = c.args.items.now.items in
+    let i = c.loop-item.item-index in
+    let x = c.item-item.result in
+    let found = c.loop-item.found.items in
+    let whole = c.in_ok-whole.whole in
+    let answer_of = whole_within c.args.member c.args.limit in
+    let pushed : c.push.new.self.items ≡ found ++ whole ∷ [] = search rules in
+    let inside : i < length xs = omega arith in
+    let is : x ≡ get_or xs i x = search rules in
+    each_more answer_of xs i x found c.push.new.self.items whole (each answer_of (items_view xs)) inside is c.in_ok-whole.ensures pushed c.loop-item.invariant
