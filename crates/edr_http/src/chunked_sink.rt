@@ -296,7 +296,6 @@ impl<K: Sink> ChunkedSink<K> {
 }
 
 // Sends two texts, one behind the other.
-#[tactic(auto, using(edr_base::specs::KnownBytes::writes_stop))]
 fn send_two<K: Sink>(sink: &mut K, first: &[u8], second: &[u8]) -> Result<(), SendFault>
     ensures bytes { Writes result (first.now ++ second.now) (K.written sink.old) (K.written sink.new) }
     ensures flushed { K.flushed sink.new ≡ K.flushed sink.old }

@@ -16,7 +16,6 @@ use edr_base::{Refusal, Source};
 use std::alloc::Global;
 
 // Takes the head at the front of what is held and what is left of the source.
-#[tactic(auto, using(crate::proofs::RestLemmas::finds_end, crate::proofs::RestLemmas::finds_bad, crate::proofs::RestLemmas::rest_after, crate::proofs::RestLemmas::rest_same))]
 fn take_head<S: Source>(
     alloc: Global,
     source: &mut S,

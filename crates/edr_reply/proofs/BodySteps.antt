@@ -50,6 +50,10 @@ end_is_body n none body (Some bytes) (Some rest) t e few end =
     told : Some bytes ≡ Some (t.bytes ++ rest) → bytes ≡ t.bytes ++ rest
     told e = cc
 
+-- what is read at most is at most more
+pub read_fewer : (few most : ℕ) (old new : Option (List ℕ)) → few ≤ most → ReadsAtMost few old new → ReadsAtMost most old new
+read_fewer few most old new h read = record { bytes = read.bytes; read = read.read; within = omega (arith, read.within, h) }
+
 -- ---- bodies that break off at their first byte
 
 pub sized_breaks : (size place at : ℕ) (old new : Option (List ℕ)) → at ≡ place → IfSome old (λ bytes. length bytes < size) → size ≤ body_limit → ReadsAtMost size old new → BodyBreaks (Sized size) place at old new

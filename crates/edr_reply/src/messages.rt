@@ -42,7 +42,6 @@ pub enum MessageFault {
 }
 
 // Takes the body of a reply, whose end is known so, from this place on.
-#[tactic(auto, using(crate::proofs::BodySteps::chunks_are_body, crate::proofs::BodySteps::piece_is_body, crate::proofs::BodySteps::end_is_body, crate::proofs::BodySteps::end_cut_at))]
 fn take_body<S: Source>(
     alloc: Global,
     source: &mut S,

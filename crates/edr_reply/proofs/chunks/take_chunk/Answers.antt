@@ -75,3 +75,27 @@ returns-in-Err-take_end-2-clause-unfinished g c e =
     let fault : c.at_place-in-Err-take_end-2.result ≡ ReadFault = cc in
     let f = failed_is c.in-Err-take_end-2.fault ((c.args.place + c.in-Ok.line.len) + c.in-Ok.line.size) (sym c.at_place-in-Err-take_end-2.ensures ∙ fault) in
     room_is _ _ _ _ _ room (end_cut _ c.in-Ok.line _ _ _ _ _ _ c.in-Ok.ensures.taken c.if-line-eq0.false c.in-Ok-take_piece.ensures.taken (c.in-Err-take_end-2.ensures.unfinished (ap Err f)))
+
+pub returns-in-Err-clause-cause : goal.returns-in-Err-clause-cause
+returns-in-Err-clause-cause g c e =
+    let fault : c.at_place.result ≡ ReadFault = cc in
+    let rose = c.in-Err.ensures.cause (ap Err (failed_is c.in-Err.fault c.args.place (sym c.at_place.ensures ∙ fault))) in
+    omega (arith, rose)
+
+pub returns-in-Err-take_end-clause-cause : goal.returns-in-Err-take_end-clause-cause
+returns-in-Err-take_end-clause-cause g c e =
+    let fault : c.at_place-in-Err-take_end.result ≡ ReadFault = cc in
+    let rose = c.in-Err-take_end.ensures.cause (ap Err (failed_is c.in-Err-take_end.fault (c.args.place + c.in-Ok.line.len) (sym c.at_place-in-Err-take_end.ensures ∙ fault))) in
+    omega (arith, rose, c.take_line.ensures.lent.later)
+
+pub returns-in-Err-take_piece-clause-cause : goal.returns-in-Err-take_piece-clause-cause
+returns-in-Err-take_piece-clause-cause g c e =
+    let fault : c.at_place-in-Err-take_piece.result ≡ ReadFault = cc in
+    let rose = c.in-Err-take_piece.ensures.cause (ap Err (failed_is c.in-Err-take_piece.fault (c.args.place + c.in-Ok.line.len) (sym c.at_place-in-Err-take_piece.ensures ∙ fault))) in
+    omega (arith, rose, c.take_line.ensures.lent.later)
+
+pub returns-in-Err-take_end-2-clause-cause : goal.returns-in-Err-take_end-2-clause-cause
+returns-in-Err-take_end-2-clause-cause g c e =
+    let fault : c.at_place-in-Err-take_end-2.result ≡ ReadFault = cc in
+    let rose = c.in-Err-take_end-2.ensures.cause (ap Err (failed_is c.in-Err-take_end-2.fault ((c.args.place + c.in-Ok.line.len) + c.in-Ok.line.size) (sym c.at_place-in-Err-take_end-2.ensures ∙ fault))) in
+    omega (arith, rose, c.take_line.ensures.lent.later, c.take_piece.ensures.lent.later)
