@@ -1,6 +1,8 @@
-//! Tests of editions, of drafts of them, and of feeds.
+//! Tests of stations, of editions, of drafts of them, and of feeds.
 #![tactic(auto)]
 
+#[cfg(test)]
+mod blocks;
 #[cfg(test)]
 mod drafts;
 #[cfg(test)]
@@ -9,3 +11,7 @@ mod editions;
 mod feeds;
 #[cfg(test)]
 mod lines;
+#[cfg(test)]
+mod stations;
+#[cfg(test)]
+mod words;

@@ -10,8 +10,6 @@ mod points;
 mod polygons;
 mod rows;
 mod strips;
-#[cfg(test)]
-mod tests;
 mod toggles;
 mod traces;
 

@@ -1,6 +1,7 @@
-ghost use Rattle.std.specs.Prelude.{◌≡◌, ◌<◌, ◌+◌, ◌^◌, IfOk, length};
+ghost use Rattle.std.specs.Prelude.{◌≡◌, ◌<◌, ◌+◌, ◌^◌, IfOk, OnOk, length};
 ghost use Rattle.edr_chunk.specs.Samples.{HasSample, AreSamples};
-ghost use Rattle.edr_chunk.specs.Places.{count};
+ghost use Rattle.edr_chunk.specs.Places.{count, nodes};
+ghost use Rattle.edr_chunk.specs.Tiles.{with_parameters};
 
 use edr_base::{OutOfMemory, SAMPLE_LIMIT};
 use edr_chunk::{
@@ -86,14 +87,19 @@ fn comes_back(
     Ok(unpacked.as_slice() == samples && opened.as_slice() == samples)
 }
 
+// Whether the list of a line comes back, noted by the next number.
+fn line_comes_back(alloc: Global, line: &str, reads: &mut Reads) -> Result<bool, OutOfMemory> {
+    let samples = samples_of(alloc, line)?;
+    let number = reads.numbers().len() as u64;
+    comes_back(alloc, &samples, number, reads)
+}
+
 // Whether all lists come back, and are noted by their numbers.
 fn all_come_back(alloc: Global, lists: &str) -> Result<bool, OutOfMemory> {
     let mut reads = Reads::new(alloc);
     let mut whole = true;
     for line in lists.lines() {
-        let samples = samples_of(alloc, line)?;
-        let number = reads.numbers().len() as u64;
-        whole = comes_back(alloc, &samples, number, &mut reads)? && whole;
+        whole = line_comes_back(alloc, line, &mut reads)? && whole;
     }
     Ok(whole && reads.numbers() == [0, 1, 2, 3, 4, 5, 6, 7, 8, 9, 10, 11, 12].as_slice())
 }
@@ -172,42 +178,61 @@ const BELOW: GridPlace = GridPlace {
     x: 0,
 };
 
+// Whether the first and the last value of the lowest row of a square are read from the tiles 2 and 3.
+fn has_lowest_row(alloc: Global, grid: &PackedGrid) -> Result<bool, OutOfMemory>
+    requires { count grid.now.shape ≡ 4225 }
+{
+    let mut reads = Reads::new(alloc);
+    let first = value_at(alloc, grid, 4_160, &mut reads)?;
+    let last = value_at(alloc, grid, 4_224, &mut reads)?;
+    Ok(first == Some(7_480) && last == Some(7_672) && reads.numbers() == [2, 3].as_slice())
+}
+
 // Whether the tiles of a square are numbered row by row, and each is opened for its values.
 fn is_tiled(alloc: Global) -> Result<bool, OutOfMemory> {
     let samples = samples_from(alloc, 0, 4_225)?;
     let grid = PackedGrid::pack(alloc, SQUARE, &samples)?;
-    let mut reads = Reads::new(alloc);
-    let first = value_at(alloc, &grid, 4_160, &mut reads)?;
-    let last = value_at(alloc, &grid, 4_224, &mut reads)?;
     Ok(
-        first == Some(7_480)
-            && last == Some(7_672)
-            && grid.tiles() == 4
+        grid.tiles() == 4
             && grid.tile_of(BELOW) == 2
-            && reads.numbers() == [2, 3].as_slice()
+            && has_lowest_row(alloc, &grid)?
             && has_many(alloc, &grid, &samples)?,
     )
+}
+
+// Adds a parameter with the values from a number on.
+fn add_from(alloc: Global, packer: &mut GridPacker, first: u32) -> Result<(), OutOfMemory>
+    requires fits { first + 17160 < 2 ^ 32 }
+    requires whole { nodes packer.old.shape ≡ 17160 }
+    ensures { OnOk result (packer.new.shape ≡ with_parameters packer.old.shape (packer.old.shape.parameters + 1)) }
+{
+    packer.add(alloc, &samples_from(alloc, first, 17_160)?)
 }
 
 // A grid that gets its parameters in turn.
 fn added(alloc: Global) -> Result<PackedGrid, OutOfMemory> {
     let mut packer = GridPacker::new(alloc, SEVERAL);
-    packer.add(alloc, &samples_from(alloc, 0, 17_160)?)?;
-    packer.add(alloc, &samples_from(alloc, 17_160, 17_160)?)?;
+    add_from(alloc, &mut packer, 0)?;
+    add_from(alloc, &mut packer, 17_160)?;
     Ok(packer.finish())
+}
+
+// Whether a grid has several parameters, in so many tiles, and these values.
+fn is_several(
+    alloc: Global,
+    grid: &PackedGrid,
+    samples: &[Option<i64>],
+) -> Result<bool, OutOfMemory>
+    requires { length samples.now ≡ 34320 }
+{
+    Ok(grid.shape() == SEVERAL && grid.tiles() == 32 && has_many(alloc, grid, samples)?)
 }
 
 // Whether a grid of several parameters has its values, and so has one that got them in turn.
 fn is_packed(alloc: Global) -> Result<bool, OutOfMemory> {
     let samples = samples_from(alloc, 0, 34_320)?;
     let grid = PackedGrid::pack(alloc, SEVERAL, &samples)?;
-    let same = added(alloc)?;
-    Ok(
-        grid.tiles() == 32
-            && has_many(alloc, &grid, &samples)?
-            && same.shape() == SEVERAL
-            && has_many(alloc, &same, &samples)?,
-    )
+    Ok(is_several(alloc, &grid, &samples)? && is_several(alloc, &added(alloc)?, &samples)?)
 }
 
 #[test]

@@ -5,8 +5,8 @@ ghost use Rattle.edr_wkt.specs.Faults.{IsGeometry};
 ghost use Rattle.edr_geometry.specs.Limits.{IsCoordinate, IsDistance};
 ghost use Rattle.edr_corridor.specs.Values.{needs_level};
 
+use crate::words::{axis_of, coordinate, distance, is_marked};
 use edr_axes::Axis;
-use edr_base::COORDINATE_LIMIT;
 use edr_corridor::{SegmentBox, Segments};
 use edr_geometry::RowMask;
 use edr_wkt::{Geometry, read_wkt};
@@ -85,26 +85,6 @@ const ROWS: &str = "\
 0 100000000 399999999;LINESTRING(0 0,0 0);0 -100000000 0;0 => .
 ";
 
-// A coordinate or a level in metres.
-fn coordinate(text: &str) -> Option<i64>
-    ensures { IfSome result IsCoordinate }
-{
-    match text.parse::<i64>() {
-        Ok(number) if number.unsigned_abs() <= COORDINATE_LIMIT => Some(number),
-        _ => None,
-    }
-}
-
-// A width or a height in metres.
-fn distance(text: &str) -> Option<i64>
-    ensures { IfSome result IsDistance }
-{
-    match text.parse::<i64>() {
-        Ok(number) if 0 <= number && number <= 400_000_000 => Some(number),
-        _ => None,
-    }
-}
-
 // A level, where there is one.
 fn level_if(text: &str) -> Option<i64>
     ensures { IfSome result IsCoordinate }
@@ -117,17 +97,6 @@ fn height_if(text: &str) -> Option<i64>
     ensures { IfSome result IsDistance }
 {
     if text == "-" { None } else { distance(text) }
-}
-
-// An axis of coordinates.
-fn axis_of(alloc: Global, text: &str) -> Option<Axis>
-    ensures { IfSome result (λ axis. All IsCoordinate axis) }
-{
-    let mut numbers = Vec::new(alloc);
-    for word in text.split(' ') {
-        numbers.push(coordinate(word)?).ok()?;
-    }
-    Axis::of(alloc, &numbers).ok()
 }
 
 // An axis of levels, where there are any.
@@ -148,6 +117,32 @@ fn times_of(alloc: Global, text: &str) -> Option<Axis> {
         times.push(word.parse::<i64>().ok()?).ok()?;
     }
     Axis::of(alloc, &times).ok()
+}
+
+// The axes of some nodes, where those without a level have no axis of levels.
+#[derive(Drop)]
+struct Axes {
+    ts: Axis,
+    zs: Option<Axis>,
+    ys: Axis,
+    xs: Axis,
+}
+
+// The axes of four texts.
+fn axes_of(alloc: Global, times: &str, levels: &str, rows: &str, columns: &str) -> Option<Axes>
+    ensures zs_in { IfSome result (λ axes. IfSome axes.zs (All IsCoordinate)) }
+    ensures ys_in { IfSome result (λ axes. All IsCoordinate axes.ys) }
+    ensures xs_in { IfSome result (λ axes. All IsCoordinate axes.xs) }
+{
+    let zs = levels_of(alloc, levels);
+    match (
+        times_of(alloc, times),
+        axis_of(alloc, rows),
+        axis_of(alloc, columns),
+    ) {
+        (Some(ts), Some(ys), Some(xs)) => Some(Axes { ts, zs, ys, xs }),
+        _ => None,
+    }
 }
 
 // The segments of a geometry that is a line, for nodes that have a level or not.
@@ -192,11 +187,6 @@ fn segments_of(alloc: Global, asked: &str, line: &str, zs: Option<&Axis>) -> Opt
     let height = height_if(third);
     let geometry = read_wkt(alloc, line.as_bytes()).ok()?;
     segments_along(alloc, &geometry, width, level, height, zs)
-}
-
-// Whether a picture has a place as one that is wanted.
-fn is_marked(picture: &str, place: usize) -> bool {
-    place < picture.len() && picture.as_bytes()[place] == b'#'
 }
 
 // Whether the nodes of a row are wanted so, each asked by itself.
@@ -287,33 +277,54 @@ fn first_level(zs: Option<&Axis>) -> Option<i64>
     }
 }
 
-// Whether the nodes of a row are wanted so, by themselves and by the boxes of all segments.
-fn is_row(
-    alloc: Global,
-    corridor: &str,
-    line: &str,
-    at: &str,
-    along: &str,
-    picture: &str,
-) -> Option<bool> {
-    let (first, rest) = at.split_once(' ')?;
-    let (second, third) = rest.split_once(' ')?;
-    let ts = times_of(alloc, first)?;
-    let levels = levels_of(alloc, second);
-    let zs = levels.as_ref();
-    let ys = axis_of(alloc, third)?;
-    let xs = axis_of(alloc, along)?;
-    let segments = segments_of(alloc, corridor, line, zs)?;
-    let boxes = boxes_of(alloc, &segments, &ts, zs, &ys, &xs)?;
+// Whether the nodes of a row are wanted so by some segments: by themselves, and by the boxes of all segments.
+fn is_wanted(alloc: Global, segments: &Segments, axes: &Axes, picture: &str) -> Option<bool>
+    requires levels { needs_level segments.now ≡ true → IsSome axes.now.zs }
+    requires zs_in { IfSome axes.now.zs (All IsCoordinate) }
+    requires ys_in { All IsCoordinate axes.now.ys }
+    requires xs_in { All IsCoordinate axes.now.xs }
+{
+    let zs = axes.zs.as_ref();
+    let y = first_of(&axes.ys);
+    let boxes = boxes_of(alloc, segments, &axes.ts, zs, &axes.ys, &axes.xs)?;
     let wanted = are_wanted(
-        &segments,
-        first_of(&ts),
+        segments,
+        first_of(&axes.ts),
         first_level(zs),
-        first_of(&ys),
-        &xs,
+        y,
+        &axes.xs,
         picture,
     );
-    Some(wanted && are_taken(&boxes, xs.len(), picture))
+    Some(wanted && are_taken(&boxes, axes.xs.len(), picture))
+}
+
+// Whether the nodes of a row are wanted so by a corridor along a line.
+fn is_along(alloc: Global, corridor: &str, line: &str, axes: &Axes, picture: &str) -> Option<bool>
+    requires zs_in { IfSome axes.now.zs (All IsCoordinate) }
+    requires ys_in { All IsCoordinate axes.now.ys }
+    requires xs_in { All IsCoordinate axes.now.xs }
+{
+    let segments = segments_of(alloc, corridor, line, axes.zs.as_ref())?;
+    is_wanted(alloc, &segments, axes, picture)
+}
+
+// The axes of a row: its time, its level and its y, and its x.
+fn axes_at(alloc: Global, at: &str, along: &str) -> Option<Axes>
+    ensures zs_in { IfSome result (λ axes. IfSome axes.zs (All IsCoordinate)) }
+    ensures ys_in { IfSome result (λ axes. All IsCoordinate axes.ys) }
+    ensures xs_in { IfSome result (λ axes. All IsCoordinate axes.xs) }
+{
+    let (first, rest) = at.split_once(' ')?;
+    let (second, third) = rest.split_once(' ')?;
+    axes_of(alloc, first, second, third, along)
+}
+
+// Whether a row as text is wanted so by a corridor.
+fn is_row(alloc: Global, corridor: &str, line: &str, at: &str, along: &str, picture: &str) -> bool {
+    match axes_at(alloc, at, along) {
+        Some(axes) => is_along(alloc, corridor, line, &axes, picture) == Some(true),
+        None => false,
+    }
 }
 
 // Whether a line is right.
@@ -321,7 +332,7 @@ fn is_right(alloc: Global, asked: &str, picture: &str) -> bool {
     let (corridor, rest) = asked.split_once(';').unwrap_or((asked, ""));
     let (line, rest) = rest.split_once(';').unwrap_or((rest, ""));
     let (at, along) = rest.split_once(';').unwrap_or((rest, ""));
-    is_row(alloc, corridor, line, at, along, picture).unwrap_or(false)
+    is_row(alloc, corridor, line, at, along, picture)
 }
 
 // The first line that isn't right; none is empty.
@@ -335,23 +346,45 @@ fn first_wrong(alloc: Global, lines: &str) -> &str {
     ""
 }
 
-// Whether the last segment of a line takes these times, levels, rows and columns of a grid.
-fn is_box(alloc: Global) -> Option<bool> {
-    let ts = times_of(alloc, "1704067200 1704067201 1704070800")?;
-    let zs = axis_of(alloc, "0 10 20 30")?;
-    let ys = axis_of(alloc, "0 100 200 300")?;
-    let xs = axis_of(alloc, "0 100 200 300")?;
-    let line = "LINESTRING ZM(0 0 0 1704067200,100 0 0 1704067201,300 100 20 1704070800)";
-    let segments = segments_of(alloc, "10 - 20", line, Some(&zs))?;
+// Whether there are two masks: the first one begins at place 0, the last one ends at place 2.
+fn are_two_masks(rows: &[RowMask]) -> Option<bool> {
+    let first = rows.first()?.first();
+    let last = rows.last()?.last();
+    Some(rows.len() == 2 && first == Some(0) && last == Some(2))
+}
+
+// Whether the second of two segments takes these times, levels, rows and columns of a grid.
+fn is_second_box(alloc: Global, segments: &Segments, axes: &Axes) -> Option<bool>
+    requires levels { needs_level segments.now ≡ true → IsSome axes.now.zs }
+    requires ys_in { All IsCoordinate axes.now.ys }
+    requires xs_in { All IsCoordinate axes.now.xs }
+{
     if segments.len() != 2 {
         return None;
     }
-    let taken = segments.box_of(alloc, 1, &ts, Some(&zs), &ys, &xs).ok()?;
+    let zs = axes.zs.as_ref();
+    let taken = segments
+        .box_of(alloc, 1, &axes.ts, zs, &axes.ys, &axes.xs)
+        .ok()?;
     let ranges = taken.times == (1, 3) && taken.levels == (0, 4);
-    let corner = taken.first_row == 0 && taken.first_column == 1 && taken.rows.len() == 2;
-    let first = taken.rows.first()?;
-    let last = taken.rows.last()?;
-    Some(ranges && corner && first.first() == Some(0) && last.last() == Some(2))
+    let corner = taken.first_row == 0 && taken.first_column == 1;
+    Some(ranges && corner && are_two_masks(&taken.rows)?)
+}
+
+// Whether the last of the two segments of a line takes its part of a grid.
+fn is_last_box(alloc: Global, axes: &Axes) -> Option<bool>
+    requires ys_in { All IsCoordinate axes.now.ys }
+    requires xs_in { All IsCoordinate axes.now.xs }
+{
+    let line = "LINESTRING ZM(0 0 0 1704067200,100 0 0 1704067201,300 100 20 1704070800)";
+    let segments = segments_of(alloc, "10 - 20", line, axes.zs.as_ref())?;
+    is_second_box(alloc, &segments, axes)
+}
+
+fn is_box(alloc: Global) -> Option<bool> {
+    let times = "1704067200 1704067201 1704070800";
+    let axes = axes_of(alloc, times, "0 10 20 30", "0 100 200 300", "0 100 200 300")?;
+    is_last_box(alloc, &axes)
 }
 
 #[test]

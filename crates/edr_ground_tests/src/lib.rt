@@ -15,3 +15,7 @@ mod ids;
 mod numbers;
 #[cfg(test)]
 mod outside;
+#[cfg(test)]
+mod planes;
+#[cfg(test)]
+mod words;

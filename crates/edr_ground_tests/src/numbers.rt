@@ -2,53 +2,67 @@
 use edr_base::{Whole, whole_number};
 use std::rt::HostRuntime;
 
+// A line for each text: the text, and the answer to it with the limit 100, which is its value or why it has none.
+const TABLE: &str = "\
+5 => 5
++5 => 5
+-5 => -5
+005 => 5
+5. => 5
+5.00 => 5
+.0 => 0
+-.0 => 0
+-0 => 0
+  5   => 5
+ -12.  => -12
+100 => 100
+-100 => -100
+00000000000000000000000000000000000100 => 100
+101 => TooLarge
+-101 => TooLarge
+1000 => TooLarge
+99999999999999999999999999999999999999999999 => TooLarge
+18446744073709551616.0 => TooLarge
+ => NotWhole
+  => NotWhole
+. => NotWhole
++ => NotWhole
++. => NotWhole
+5.5 => NotWhole
+5.05 => NotWhole
+5..0 => NotWhole
+5 5 => NotWhole
+- 5 => NotWhole
+--5 => NotWhole
+5- => NotWhole
+1e3 => NotWhole
+\t5 => NotWhole
+99999999999999999999999999999999999999999999x => NotWhole
+";
+
+// Whether this is the answer to a text.
+fn is_answered(text: &str, answer: &str) -> bool {
+    match whole_number(text.as_bytes(), 100) {
+        Whole::Value(value) => answer.parse::<i64>() == Ok(value),
+        Whole::TooLarge => answer == "TooLarge",
+        Whole::NotWhole => answer == "NotWhole",
+    }
+}
+
+// The first line that isn't answered so; none is empty.
+fn first_wrong(lines: &str) -> &str {
+    for line in lines.lines() {
+        let (text, answer) = line.split_once(" => ").unwrap_or((line, ""));
+        if !is_answered(text, answer) {
+            return line;
+        }
+    }
+    ""
+}
+
 #[test]
 fn whole_numbers(rt: HostRuntime) {
-    let table: [(&[u8], Whole); 34] = [
-        (b"5", Whole::Value(5)),
-        (b"+5", Whole::Value(5)),
-        (b"-5", Whole::Value(-5)),
-        (b"005", Whole::Value(5)),
-        (b"5.", Whole::Value(5)),
-        (b"5.00", Whole::Value(5)),
-        (b".0", Whole::Value(0)),
-        (b"-.0", Whole::Value(0)),
-        (b"-0", Whole::Value(0)),
-        (b"  5  ", Whole::Value(5)),
-        (b" -12. ", Whole::Value(-12)),
-        (b"100", Whole::Value(100)),
-        (b"-100", Whole::Value(-100)),
-        (b"00000000000000000000000000000000000100", Whole::Value(100)),
-        (b"101", Whole::TooLarge),
-        (b"-101", Whole::TooLarge),
-        (b"1000", Whole::TooLarge),
-        (
-            b"99999999999999999999999999999999999999999999",
-            Whole::TooLarge,
-        ),
-        (b"18446744073709551616.0", Whole::TooLarge),
-        (b"", Whole::NotWhole),
-        (b" ", Whole::NotWhole),
-        (b".", Whole::NotWhole),
-        (b"+", Whole::NotWhole),
-        (b"+.", Whole::NotWhole),
-        (b"5.5", Whole::NotWhole),
-        (b"5.05", Whole::NotWhole),
-        (b"5..0", Whole::NotWhole),
-        (b"5 5", Whole::NotWhole),
-        (b"- 5", Whole::NotWhole),
-        (b"--5", Whole::NotWhole),
-        (b"5-", Whole::NotWhole),
-        (b"1e3", Whole::NotWhole),
-        (b"\t5", Whole::NotWhole),
-        (
-            b"99999999999999999999999999999999999999999999x",
-            Whole::NotWhole,
-        ),
-    ];
-    for (text, answer) in table.iter() {
-        assert!(rt; whole_number(text, 100) == *answer);
-    }
+    assert_eq!(rt; first_wrong(TABLE), "");
     assert!(rt; whole_number(b"-9223372036854775807", i64::MAX) == Whole::Value(-i64::MAX));
     assert!(rt; whole_number(b"0", 0) == Whole::Value(0));
 }

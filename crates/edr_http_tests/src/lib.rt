@@ -10,6 +10,8 @@ mod fetching;
 #[cfg(test)]
 mod heads;
 #[cfg(test)]
+mod queries;
+#[cfg(test)]
 mod replies;
 #[cfg(test)]
 mod targets;

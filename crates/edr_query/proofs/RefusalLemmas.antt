@@ -101,3 +101,9 @@ stopped {T = T} Reads page pairs fault r (inl e) passed =
 stopped {T = T} Reads page pairs fault r (inr (e, applies)) passed =
     let P : TargetFault → Type 0 = λ f. Steps {T = T} (Err f) Reads page pairs in
     subst P (sym e) (record { applies = applies; none_before = passed })
+
+-- a refusal is the same, whatever is read where there is none
+pub refused : {T U : Type 0} (Reads : T → Type 0) (Wanted : U → Type 0) (page : PageKind) (pairs : List Pair) (fault : TargetFault)
+    → Steps {T = T} (Err fault) Reads page pairs → Steps {T = U} (Err fault) Wanted page pairs
+refused Reads Wanted page pairs OutOfMemory steps = tt
+refused Reads Wanted page pairs (Refused r) steps = steps

@@ -24,7 +24,7 @@ use Rattle.edr_query.specs.Parameters.{Pair, value_of, is_required, Given, Given
 use Rattle.edr_query.specs.Distances.{IsDistance, HasNoDistance, IsBoxText}
 use Rattle.edr_query.specs.Queries.{IsGeometryText, IsSaid, conflicts}
 use Rattle.edr_query.specs.Targets.{HasBadCoords, HasBadDistance, HasBadFormat, LacksRequired, LacksHeight}
-use Rattle.edr_query.specs.Reads.{Passed, Steps, is_given, has_required, IsAllSaid}
+use Rattle.edr_query.specs.Reads.{Passed, Steps, IsComplete, is_given, has_required, IsAllSaid}
 use Rattle.edr_query.proofs.ListLemmas.{true_false, some_same, none_some, given, absent}
 use Rattle.edr_query.proofs.CoordsLemmas.{WktIsOne, said_some, said_none}
 use Rattle.edr_query.proofs.SaidLemmas.{said_same}
@@ -112,6 +112,12 @@ pub passed_coords : (page : PageKind) (pairs : List Pair) (coords : Option Geome
     → MaySay IsGeometryText (value_of p.Coords pairs) coords → ¬ (LacksHeight page pairs) → Passed page pairs 12
 passed_coords page pairs coords passed format required said height =
     more page pairs BadCoords (more page pairs MissingParameter (more page pairs BadFormat passed format) (λ m. ⊎_elim required height m))
+    (said_fine IsGeometryText p.Coords pairs coords said)
+
+pub passed_place : (page : PageKind) (pairs : List Pair) (coords : Option Geometry) → IsComplete page pairs
+    → MaySay IsGeometryText (value_of p.Coords pairs) coords → ¬ (LacksHeight page pairs) → Passed page pairs 12
+passed_place page pairs coords complete said height =
+    more page pairs BadCoords (more page pairs MissingParameter complete.passed (λ m. ⊎_elim complete.required height m))
     (said_fine IsGeometryText p.Coords pairs coords said)
 
 pub passed_box : (page : PageKind) (pairs : List Pair) (box : Option BoundingBox) → Passed page pairs 13 → MaySay IsBoxText (value_of p.Bbox pairs) box → Passed page pairs 14

@@ -1,5 +1,6 @@
 -- A target has one answer, and the least refusal of parameters is that of their target.
 use Rattle.std.proofs.Common.{◌≡◌, ◌⊎◌, inl, inr, ⊎_elim, ℕ, ◌<◌, ◌≤◌, List, refl, ap, sym, ◌∙◌, subst, arith, Some, None, Ok, Err}
+use Rattle.std.specs.Prelude.{Result}
 use Rattle.std.specs.declared.option.Option.{Option}
 use Rattle.std.proofs.lemmas.Bool.Decides.{leb_tells}
 use Rattle.edr_base.specs.FirstThatApplies.{IsLeast, NoneApplies}
@@ -24,7 +25,7 @@ use Rattle.edr_query.specs.Targets.{Names, Refuses, Applies, rank, IsPage, IsAsk
 use Rattle.edr_query.specs.declared.reading.TargetFault.{TargetFault}
 use Rattle.edr_query.specs.declared.reading.TargetFault.TheVariants.{Refused, OutOfMemory}
 use Rattle.edr_query.specs.declared.addresses.PageKind.{PageKind}
-use Rattle.edr_query.specs.Reads.{Steps, IsAllSaid}
+use Rattle.edr_query.specs.Reads.{Steps, IsGoodPage}
 use Rattle.edr_query.proofs.ListLemmas.{some_same, none_some}
 use Rattle.edr_query.proofs.AddressLemmas.{address_back}
 use Rattle.edr_query.proofs.PathLemmas.{parts_same}
@@ -180,19 +181,14 @@ pub target_page : (target : List ℕ) (a : Address) (page : Page) → Names targ
 target_page target a page n none is = record { address = a; path = n; page_is = is; none = none_up target a n none }
 
 -- the same, of the pieces that were read
-pub at_fault : {T : Type 0} (Reads : T → Type 0) (target path text : List ℕ) (a : Address) (page : PageKind) (pairs : List Pair) (fault : TargetFault)
-    → path ≡ path_in target → text ≡ query_in target → page ≡ page_kind a → pairs ≡ pairs_in text → IsPath path a → Steps {T = T} (Err fault) Reads page pairs → MatchTarget (Err fault) target
-at_fault Reads target path text a page pairs (Refused r) e f g h n s =
-    let P : PageKind → List Pair → Type 0 = λ k l. IsLeast rank (Applies k l) r in
+pub at_page : (target path text : List ℕ) (a : Address) (result : Result Page TargetFault) → path ≡ path_in target → text ≡ query_in target → IsPath path a
+    → Steps result (λ page. IsGoodPage a (pairs_in text) page) (page_kind a) (pairs_in text) → MatchTarget result target
+at_page target path text a (Ok page) e f n good =
     let N : List ℕ → Type 0 = λ t. IsPath t a in
-    least_up target a r (subst N e n) (subst (λ (l : List Pair). P (page_kind a) l) (h ∙ ap pairs_in f) (subst (λ (k : PageKind). P k pairs) g s))
-at_fault Reads target path text a page pairs OutOfMemory e f g h n s = tt
-
-pub at_page : (target path text : List ℕ) (a : Address) (page : PageKind) (pairs : List Pair) (said : Said) (found : Page)
-    → path ≡ path_in target → text ≡ query_in target → page ≡ page_kind a → pairs ≡ pairs_in text → IsPath path a → IsAllSaid page pairs said → IsPage a pairs found → IsAsked target found
-at_page target path text a page pairs said found e f g h n all is =
-    let P : PageKind → List Pair → Type 0 = λ k l. NoneApplies (Applies k l) in
+    let G : List ℕ → Type 0 = λ t. IsGoodPage a (pairs_in t) page in
+    let at = subst G f good in
+    target_page target a page (subst N e n) at.none at.is_page
+at_page target path text a (Err fault) e f n steps =
     let N : List ℕ → Type 0 = λ t. IsPath t a in
-    let Q : List Pair → Type 0 = λ l. IsPage a l found in
-    let same = h ∙ ap pairs_in f in
-    target_page target a found (subst N e n) (subst (λ (l : List Pair). P (page_kind a) l) same (subst (λ (k : PageKind). P k pairs) g all.none)) (subst Q same is)
+    let S : List ℕ → Type 0 = λ t. Steps {T = Page} (Err fault) (λ page. IsGoodPage a (pairs_in t) page) (page_kind a) (pairs_in t) in
+    target_fault (λ page. IsGoodPage a (pairs_at target) page) target a fault (subst N e n) (subst S f steps)

@@ -6,6 +6,9 @@ use Rattle.edr_base.specs.FirstThatApplies.{IsLeast, NoneApplies}
 use Rattle.edr_base.specs.declared.refusals.Refusal.{Refusal}
 use Rattle.edr_wkt.specs.declared.geometry.Geometry.{Geometry}
 use Rattle.edr_wkt.specs.declared.geometry.Geometry.TheVariants.{Line}
+use Rattle.edr_axes.specs.Times.{IsTimesText}
+use Rattle.edr_axes.specs.Levels.{IsLevelsText}
+use Rattle.edr_axes.specs.declared.times.Times.{Times}
 use Rattle.edr_axes.specs.declared.levels.Levels.{Levels}
 use Rattle.edr_axes.specs.declared.levels.Levels.TheVariants as some_levels
 use Rattle.edr_query.specs.declared.addresses.QueryKind.{QueryKind}
@@ -20,11 +23,11 @@ use Rattle.edr_query.specs.declared.said.Said.{Said}
 use Rattle.edr_query.specs.declared.reading.TargetFault.{TargetFault}
 use Rattle.edr_query.specs.declared.reading.TargetFault.TheVariants.{Refused, OutOfMemory}
 use Rattle.edr_query.specs.Paths.{page_kind}
-use Rattle.edr_query.specs.Parameters.{Pair, name_of, value_of, IsGiven, HasUnknown, HasRepeat}
+use Rattle.edr_query.specs.Parameters.{Pair, name_of, value_of, MaySay, MaySayBoth, IsGiven, HasUnknown, HasRepeat}
 use Rattle.edr_query.specs.declared.shapes.BoundingBox.{BoundingBox}
-use Rattle.edr_query.specs.Distances.{numbers_of, IsOrdered, IsRange}
-use Rattle.edr_query.specs.Queries.{IsSaid}
-use Rattle.edr_query.specs.Targets.{rank, Applies, IsPage}
+use Rattle.edr_query.specs.Distances.{numbers_of, IsDistance, IsBoxText, IsOrdered, IsRange}
+use Rattle.edr_query.specs.Queries.{IsGeometryText, IsSaid}
+use Rattle.edr_query.specs.Targets.{rank, Applies, LacksRequired, IsPage}
 
 -- the parameter of a name that says where a query selects
 abbrev pub place_in : List ℕ → Option Parameter
@@ -97,6 +100,30 @@ IsHeightPaired other pairs = Unit {0}
 abbrev pub is_along_z : Option Geometry → Bool
 is_along_z (Some (Line has_z has_m positions)) = has_z
 is_along_z other = false
+
+-- what a page can't do without is given, and no refusal before this applies
+pub record IsComplete (page : PageKind) (pairs : List Pair) : Type 0 where
+  pub passed : Passed page pairs 10
+  pub required : ¬ (LacksRequired page pairs)
+  pub paired : IsHeightPaired page pairs
+
+-- the geometry of `coords`, and no refusal up to a wrong one applies
+pub record IsPlace (page : PageKind) (pairs : List Pair) (coords : Option Geometry) : Type 0 where
+  pub said : MaySay IsGeometryText (value_of p.Coords pairs) coords
+  pub passed : Passed page pairs 13
+
+-- the box, the times and the levels, and no refusal up to theirs applies
+pub record AreLimits (page : PageKind) (pairs : List Pair) (bbox : Option BoundingBox) (times : Option Times) (levels : Option Levels) : Type 0 where
+  pub bbox_said : MaySay IsBoxText (value_of p.Bbox pairs) bbox
+  pub times_said : MaySay IsTimesText (value_of p.Datetime pairs) times
+  pub levels_said : MaySay IsLevelsText (value_of p.Z pairs) levels
+  pub passed : Passed page pairs 16
+
+-- the distances of numbers and units
+pub record AreDistances (pairs : List Pair) (within width height : Option ℤ) : Type 0 where
+  pub within_said : MaySayBoth IsDistance (value_of p.Within pairs) (value_of p.WithinUnits pairs) within
+  pub width_said : MaySayBoth IsDistance (value_of p.CorridorWidth pairs) (value_of p.WidthUnits pairs) width
+  pub height_said : MaySayBoth IsDistance (value_of p.CorridorHeight pairs) (value_of p.HeightUnits pairs) height
 
 -- what the parameters of a page say, and no refusal applies
 pub record IsAllSaid (page : PageKind) (pairs : List Pair) (said : Said) : Type 0 where

@@ -1,8 +1,8 @@
 //! The query that a target asks.
-ghost use Rattle.std.specs.Prelude.{◌≡◌, None, IfOk, option_map};
+ghost use Rattle.std.specs.Prelude.{◌≡◌, None, IfOk, IfSome, IsUtf8, option_map};
 ghost use Rattle.edr_query.specs.declared.parameters.Parameter.TheVariants as p;
 ghost use Rattle.edr_query.specs.Parameters.{value_of};
-ghost use Rattle.edr_query.specs.Queries.{around, along, inside, shape_of, names_in, IsQuery};
+ghost use Rattle.edr_query.specs.Queries.{around, along, inside, shape_of, names_in, AreNames, IsQuery};
 
 use crate::addresses::QueryKind;
 use crate::filters::{read_crs, read_names};
@@ -10,7 +10,7 @@ use crate::pairs::Parameters;
 use crate::queries::Query;
 use crate::shapes::{BoundingBox, Shape};
 use edr_axes::{Levels, Times};
-use edr_base::{OutOfMemory, Text};
+use edr_base::{Items, OutOfMemory, Text};
 use edr_wkt::Geometry;
 use std::alloc::Global;
 
@@ -82,6 +82,19 @@ pub fn shape_of(
     }
 }
 
+// The names and the reference system that the parameters say.
+fn read_filters(
+    alloc: Global,
+    parameters: &Parameters<'_>,
+) -> Result<(Option<Items<Text>>, Option<Text>), OutOfMemory>
+    ensures names { IfOk result (λ read. (read.0 ≡ option_map names_in (value_of p.ParameterName parameters.now)) × IfSome read.0 AreNames) }
+    ensures crs { IfOk result (λ read. (read.1 ≡ value_of p.Crs parameters.now) × IfSome read.1 IsUtf8) }
+{
+    let names = read_names(alloc, parameters)?;
+    let crs = read_crs(alloc, parameters)?;
+    Ok((names, crs))
+}
+
 /// The query of a collection that selects there, with the names and the reference system that the parameters say.
 pub fn ask(
     alloc: Global,
@@ -103,8 +116,7 @@ pub fn ask(
       crs = value_of p.Crs parameters.now;
     }) }
 {
-    let names = read_names(alloc, parameters)?;
-    let crs = read_crs(alloc, parameters)?;
+    let (names, crs) = read_filters(alloc, parameters)?;
     Ok(Query {
         collection,
         instance,

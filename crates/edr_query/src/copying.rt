@@ -178,18 +178,54 @@ fn copy_levels_where_given(
     }
 }
 
+// The ids in the path of a query.
+fn copy_ids(
+    alloc: Global,
+    collection: &Text,
+    instance: &Option<Text>,
+) -> Result<(Text, Option<Text>), OutOfMemory>
+    ensures { IfOk result (λ copies. (copies.0 ≡ collection.now) × (copies.1 ≡ instance.now)) }
+{
+    let collection = Text::of(alloc, collection.bytes())?;
+    let instance = copy_text(alloc, instance)?;
+    Ok((collection, instance))
+}
+
+// Where a query selects.
+fn copy_place(
+    alloc: Global,
+    shape: &Shape,
+    levels: &Option<Levels>,
+) -> Result<(Shape, Option<Levels>), OutOfMemory>
+    ensures { IfOk result (λ copies. (copies.0 ≡ shape.now) × (copies.1 ≡ levels.now)) }
+{
+    let shape = copy_shape(alloc, shape)?;
+    let levels = copy_levels_where_given(alloc, levels)?;
+    Ok((shape, levels))
+}
+
+// The names and the reference system of a query.
+fn copy_filters(
+    alloc: Global,
+    names: &Option<Items<Text>>,
+    crs: &Option<Text>,
+) -> Result<(Option<Items<Text>>, Option<Text>), OutOfMemory>
+    ensures { IfOk result (λ copies. (copies.0 ≡ names.now) × (copies.1 ≡ crs.now)) }
+{
+    let names = copy_names(alloc, names)?;
+    let crs = copy_text(alloc, crs)?;
+    Ok((names, crs))
+}
+
 impl Query {
     /// An equal query, or want of memory.
     pub fn copy(&self, alloc: Global) -> Result<Query, OutOfMemory>
         ensures same { IfOk result (λ copy. copy ≡ self.now) }
         ensures query { IsQuery self.now }
     {
-        let collection = Text::of(alloc, self.collection.bytes())?;
-        let instance = copy_text(alloc, &self.instance)?;
-        let shape = copy_shape(alloc, &self.shape)?;
-        let levels = copy_levels_where_given(alloc, &self.levels)?;
-        let parameters = copy_names(alloc, &self.parameters)?;
-        let crs = copy_text(alloc, &self.crs)?;
+        let (collection, instance) = copy_ids(alloc, &self.collection, &self.instance)?;
+        let (shape, levels) = copy_place(alloc, &self.shape, &self.levels)?;
+        let (parameters, crs) = copy_filters(alloc, &self.parameters, &self.crs)?;
         Ok(Query {
             collection,
             instance,

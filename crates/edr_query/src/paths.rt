@@ -139,6 +139,42 @@ fn instance_page(collection: Text, name: &[u8], id: Text, last: &[u8]) -> Option
     }
 }
 
+// What stands below an id of a collection, or its page.
+fn page_below_id(
+    alloc: Global,
+    collection: Text,
+    name: &[u8],
+    id: Text,
+    below: &[u8],
+) -> Result<Option<Address>, OutOfMemory>
+    ensures { IfOk result (λ address. address ≡ collection_page collection (name.now ∷ id ∷ parts_in below.now)) }
+{
+    let Some((last, below)) = first_part(below) else {
+        return Ok(id_page(collection, name, id));
+    };
+    let last = decoded(alloc, last)?;
+    match first_part(below) {
+        Some(_) => Ok(None),
+        None => Ok(instance_page(collection, name, id, last.as_slice())),
+    }
+}
+
+// What stands below a part of a collection, or its page.
+fn page_below_name(
+    alloc: Global,
+    collection: Text,
+    name: &[u8],
+    below: &[u8],
+) -> Result<Option<Address>, OutOfMemory>
+    ensures { IfOk result (λ address. address ≡ collection_page collection (name.now ∷ parts_in below.now)) }
+{
+    let Some((id, below)) = first_part(below) else {
+        return Ok(named_page(collection, name));
+    };
+    let id = read_id(alloc, id)?;
+    page_below_id(alloc, collection, name, id, below)
+}
+
 // A collection, or what stands below it.
 fn collection_page(
     alloc: Global,
@@ -151,18 +187,21 @@ fn collection_page(
         return Ok(Some(Address::Collection(collection)));
     };
     let name = decoded(alloc, name)?;
-    let Some((id, below)) = first_part(below) else {
-        return Ok(named_page(collection, name.as_slice()));
+    page_below_name(alloc, collection, name.as_slice(), below)
+}
+
+// What stands below a part that a path begins with, or its page.
+fn page_below(alloc: Global, name: &[u8], below: &[u8]) -> Result<Option<Address>, OutOfMemory>
+    ensures { IfOk result (λ address. address ≡ address_in (name.now ∷ parts_in below.now)) }
+{
+    let Some((collection, below)) = first_part(below) else {
+        return Ok(top_page(name));
     };
-    let id = read_id(alloc, id)?;
-    let Some((last, below)) = first_part(below) else {
-        return Ok(id_page(collection, name.as_slice(), id));
-    };
-    let last = decoded(alloc, last)?;
-    match first_part(below) {
-        Some(_) => Ok(None),
-        None => Ok(instance_page(collection, name.as_slice(), id, last.as_slice())),
+    if name != b"collections".as_slice() {
+        return Ok(None);
     }
+    let collection = read_id(alloc, collection)?;
+    collection_page(alloc, collection, below)
 }
 
 // The address that the parts behind a slash have, whatever its ids are.
@@ -173,14 +212,7 @@ fn address_of(alloc: Global, inner: &[u8]) -> Result<Option<Address>, OutOfMemor
         return Ok(Some(Address::Landing));
     };
     let name = decoded(alloc, name)?;
-    let Some((collection, below)) = first_part(below) else {
-        return Ok(top_page(name.as_slice()));
-    };
-    if name.as_slice() != b"collections".as_slice() {
-        return Ok(None);
-    }
-    let collection = read_id(alloc, collection)?;
-    collection_page(alloc, collection, below)
+    page_below(alloc, name.as_slice(), below)
 }
 
 // Whether some bytes are a part of a path.

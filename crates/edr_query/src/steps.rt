@@ -5,9 +5,9 @@ ghost use Rattle.edr_query.specs.declared.parameters.Parameter.TheVariants as p;
 ghost use Rattle.edr_query.specs.declared.parameters.Parameter.{Parameter as AnyParameter};
 ghost use Rattle.edr_query.specs.Parameters.{value_of, IsFormat, GivenBoth, MaySayBoth};
 ghost use Rattle.edr_query.specs.Distances.{IsDistance, HasNoDistance};
-ghost use Rattle.edr_query.specs.Queries.{conflicts, has_m, has_z, has_levels, are_several};
-ghost use Rattle.edr_query.specs.Targets.{HasBadFormat, LacksRequired, IsMissing};
-ghost use Rattle.edr_query.specs.Reads.{Checks, Steps, Passed, IsHeightPaired, IsAllSaid, has_required};
+ghost use Rattle.edr_query.specs.Queries.{IsSaid, conflicts, has_m, has_z, has_levels, are_several};
+ghost use Rattle.edr_query.specs.Targets.{HasBadDistance, HasBadFormat, LacksRequired, IsMissing};
+ghost use Rattle.edr_query.specs.Reads.{Checks, Steps, Passed, IsComplete, IsPlace, AreLimits, AreDistances, IsHeightPaired, IsAllSaid, has_required};
 
 use crate::addresses::{PageKind, QueryKind};
 use crate::coords::{check_geometry, check_height_along, is_corridor, read_bbox, read_coords};
@@ -18,7 +18,7 @@ use crate::parameters::Parameter;
 use crate::reading::TargetFault;
 use crate::said::Said;
 use crate::shapes::BoundingBox;
-use edr_axes::{Levels, levels_are_unique, times_are_unique};
+use edr_axes::{Levels, Times, levels_are_unique, times_are_unique};
 use edr_base::Refusal;
 use edr_wkt::{Geometry, wkt_is_one};
 use std::alloc::Global;
@@ -184,6 +184,84 @@ fn conflicts(said: &Said) -> bool
     said.height.is_some() && !has_z(&said.coords) && are_several(&said.levels)
 }
 
+// `f` is a format of the page, and what the page can't do without is given.
+fn check_complete(page: PageKind, parameters: &Parameters<'_>) -> Result<(), TargetFault>
+    requires { Passed page parameters.now 9 }
+    ensures { Steps result (λ done. IsComplete page parameters.now) page parameters.now }
+{
+    check_format(page, parameters)?;
+    check_required(page, parameters)?;
+    check_height(page, parameters)?;
+    Ok(())
+}
+
+// The geometry of `coords`, which the page takes; or the first refusal.
+fn read_place(
+    alloc: Global,
+    page: PageKind,
+    parameters: &Parameters<'_>,
+) -> Result<Option<Geometry>, TargetFault>
+    requires { Passed page parameters.now 9 }
+    ensures { Steps result (λ coords. IsPlace page parameters.now coords) page parameters.now }
+{
+    wkt_is_one();
+    check_complete(page, parameters)?;
+    let coords = read_coords(alloc, parameters)?;
+    check_height_along(page, parameters, &coords)?;
+    check_geometry(page, parameters, &coords)?;
+    Ok(coords)
+}
+
+// The box, the times and the levels, or the first refusal from these on.
+fn read_limits(
+    alloc: Global,
+    page: PageKind,
+    parameters: &Parameters<'_>,
+) -> Result<(Option<BoundingBox>, Option<Times>, Option<Levels>), TargetFault>
+    requires { Passed page parameters.now 13 }
+    ensures { Steps result (λ limits. AreLimits page parameters.now limits.0 limits.1 limits.2) page parameters.now }
+{
+    let bbox = read_bbox(alloc, parameters)?;
+    let times = read_datetime(parameters)?;
+    let levels = read_z(alloc, parameters)?;
+    Ok((bbox, times, levels))
+}
+
+// The distances `within`, `corridor-width` and `corridor-height`.
+fn read_distances(
+    parameters: &Parameters<'_>,
+) -> Result<(Option<i64>, Option<i64>, Option<i64>), TargetFault>
+    ensures { Checks result (λ metres. AreDistances parameters.now metres.0 metres.1 metres.2) BadDistance (HasBadDistance parameters.now) }
+{
+    let within = read_metres(parameters, Parameter::Within, Parameter::WithinUnits)?;
+    let width = read_metres(parameters, Parameter::CorridorWidth, Parameter::WidthUnits)?;
+    let height = read_metres(
+        parameters,
+        Parameter::CorridorHeight,
+        Parameter::HeightUnits,
+    )?;
+    Ok((within, width, height))
+}
+
+// What is said, unless it contradicts itself.
+fn without_conflict(
+    page: PageKind,
+    parameters: &Parameters<'_>,
+    said: Said,
+) -> Result<Said, TargetFault>
+    requires passed { Passed page parameters.now 16 }
+    requires said { IsSaid parameters.now said }
+    ensures { Steps result (λ said. IsAllSaid page parameters.now said) page parameters.now }
+{
+    wkt_is_one();
+    times_are_unique();
+    levels_are_unique();
+    if conflicts(&said) {
+        return Err(TargetFault::Refused(Refusal::Conflict));
+    }
+    Ok(said)
+}
+
 /// What the parameters of a page say, whose names are known and stand once; or the first refusal.
 pub fn read_said(
     alloc: Global,
@@ -193,25 +271,9 @@ pub fn read_said(
     requires { Passed page parameters.now 9 }
     ensures { Steps result (λ said. IsAllSaid page parameters.now said) page parameters.now }
 {
-    wkt_is_one();
-    times_are_unique();
-    levels_are_unique();
-    check_format(page, parameters)?;
-    check_required(page, parameters)?;
-    check_height(page, parameters)?;
-    let coords = read_coords(alloc, parameters)?;
-    check_height_along(page, parameters, &coords)?;
-    check_geometry(page, parameters, &coords)?;
-    let bbox = read_bbox(alloc, parameters)?;
-    let times = read_datetime(parameters)?;
-    let levels = read_z(alloc, parameters)?;
-    let within = read_metres(parameters, Parameter::Within, Parameter::WithinUnits)?;
-    let width = read_metres(parameters, Parameter::CorridorWidth, Parameter::WidthUnits)?;
-    let height = read_metres(
-        parameters,
-        Parameter::CorridorHeight,
-        Parameter::HeightUnits,
-    )?;
+    let coords = read_place(alloc, page, parameters)?;
+    let (bbox, times, levels) = read_limits(alloc, page, parameters)?;
+    let (within, width, height) = read_distances(parameters)?;
     let said = Said {
         coords,
         within,
@@ -221,8 +283,5 @@ pub fn read_said(
         times,
         levels,
     };
-    if conflicts(&said) {
-        return Err(TargetFault::Refused(Refusal::Conflict));
-    }
-    Ok(said)
+    without_conflict(page, parameters, said)
 }

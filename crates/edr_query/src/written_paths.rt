@@ -1,5 +1,5 @@
 //! Writing the path of an address.
-ghost use Rattle.std.specs.Prelude.{◌≡◌, ◌∷◌, [], codes, IfOk, OnOk, string_bytes};
+ghost use Rattle.std.specs.Prelude.{◌≡◌, ◌∷◌, ◌++◌, [], codes, IfOk, OnOk, string_bytes};
 ghost use Rattle.edr_query.specs.declared.addresses.Address.TheVariants.{Query};
 ghost use Rattle.edr_query.specs.Paths.{parts_of, path_text};
 ghost use Rattle.edr_query.specs.PathReads.{with_parts, with_address};
@@ -29,6 +29,32 @@ fn add_below(path: &mut String, collection: &Text, part: &[u8]) -> Result<(), Ou
     Ok(())
 }
 
+// The path of a collection, and two parts below it.
+fn add_two_below(
+    path: &mut String,
+    collection: &Text,
+    part: &[u8],
+    id: &Text,
+) -> Result<(), OutOfMemory>
+    ensures { OnOk result (string_bytes path.new ≡ with_parts (string_bytes path.old) (codes "collections" ∷ collection.now ∷ part.now ∷ id.now ∷ [])) }
+{
+    add_below(path, collection, part)?;
+    add_part(path, id.bytes())
+}
+
+// The path of an instance, and a part below it.
+fn add_below_instance(
+    path: &mut String,
+    collection: &Text,
+    instance: &Text,
+    part: &[u8],
+) -> Result<(), OutOfMemory>
+    ensures { OnOk result (string_bytes path.new ≡ with_parts (string_bytes path.old) (codes "collections" ∷ collection.now ∷ codes "instances" ∷ instance.now ∷ part.now ∷ [])) }
+{
+    add_two_below(path, collection, b"instances", instance)?;
+    add_part(path, part)
+}
+
 // The path of a query.
 fn add_query(
     path: &mut String,
@@ -39,14 +65,24 @@ fn add_query(
     ensures { OnOk result (string_bytes path.new ≡ with_parts (string_bytes path.old) (parts_of (Query kind collection.now instance.now))) }
 {
     match instance {
-        Some(instance) => {
-            add_below(path, collection, b"instances")?;
-            add_part(path, instance.bytes())?;
-            add_part(path, kind.name())?;
-            Ok(())
-        }
+        Some(instance) => add_below_instance(path, collection, instance, kind.name()),
         None => add_below(path, collection, kind.name()),
     }
+}
+
+// The path of a collection.
+fn add_collection(path: &mut String, collection: &Text) -> Result<(), OutOfMemory>
+    ensures { OnOk result (string_bytes path.new ≡ with_parts (string_bytes path.old) (codes "collections" ∷ collection.now ∷ [])) }
+{
+    add_part(path, b"collections")?;
+    add_part(path, collection.bytes())
+}
+
+// The path of the landing page.
+fn add_root(path: &mut String) -> Result<(), OutOfMemory>
+    ensures { OnOk result (string_bytes path.new ≡ string_bytes path.old ++ codes "/") }
+{
+    Ok(path.push_str("/")?)
 }
 
 // The path of an address.
@@ -54,25 +90,17 @@ fn add_address(path: &mut String, address: &Address) -> Result<(), OutOfMemory>
     ensures { OnOk result (string_bytes path.new ≡ with_address (string_bytes path.old) address.now) }
 {
     match address {
-        Address::Landing => Ok(path.push_str("/")?),
+        Address::Landing => add_root(path),
         Address::Conformance => add_part(path, b"conformance"),
         Address::Collections => add_part(path, b"collections"),
-        Address::Collection(collection) => {
-            add_part(path, b"collections")?;
-            add_part(path, collection.bytes())?;
-            Ok(())
-        }
+        Address::Collection(collection) => add_collection(path, collection),
         Address::Instances(collection) => add_below(path, collection, b"instances"),
         Address::Instance(collection, instance) => {
-            add_below(path, collection, b"instances")?;
-            add_part(path, instance.bytes())?;
-            Ok(())
+            add_two_below(path, collection, b"instances", instance)
         }
         Address::Locations(collection) => add_below(path, collection, b"locations"),
         Address::Location(collection, station) => {
-            add_below(path, collection, b"locations")?;
-            add_part(path, station.bytes())?;
-            Ok(())
+            add_two_below(path, collection, b"locations", station)
         }
         Address::Query {
             kind,

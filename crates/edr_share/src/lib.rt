@@ -15,6 +15,3 @@ pub use opening::open_shelf;
 pub use places::Places;
 pub use publishers::{Publisher, Told};
 pub use shelves::SharedShelf;
-
-#[cfg(test)]
-mod tests;

@@ -5,6 +5,7 @@ pub mod ForkLists
 pub mod SortedPlaces
 pub mod BlockNumbers
 pub mod KeptStations
+pub mod StationParts
 pub mod LeastIds
 pub mod SeenIds
 pub mod MadeOf

@@ -12,15 +12,9 @@ mod station;
 mod stations;
 mod tallies;
 
+pub use faults::has_counts;
 pub use inputs::{StationFault, StationInput};
 pub use laws::stations_cross_threads;
 pub use station::Station;
 pub use stations::Stations;
 pub use tallies::{Tally, tallies_add_up};
-
-#[cfg(test)]
-mod block_tests;
-#[cfg(test)]
-mod tests;
-#[cfg(test)]
-mod words;

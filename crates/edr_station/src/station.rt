@@ -1,5 +1,5 @@
 //! One station.
-ghost use Rattle.std.specs.Prelude.{◌≡◌, ◌<◌, ◌++◌, All, IsTrue, length, option_map, IfOk, ℤ, List, Option};
+ghost use Rattle.std.specs.Prelude.{◌≡◌, ◌<◌, ◌≤◌, ◌^◌, ◌++◌, All, IsTrue, length, option_map, IfOk, OnOk, ℤ, List, Option};
 ghost use Rattle.std.specs.Arc.{arc_value};
 ghost use Rattle.std.specs.List.{flat_map};
 ghost use Rattle.edr_base.specs.Names.{IsName};
@@ -7,7 +7,8 @@ ghost use Rattle.edr_chunk.specs.Samples.{AreSamples};
 ghost use Rattle.edr_station.specs.Stations.{IsPlaced, HasSeries, IsStation, levels_along, values_along};
 ghost use Rattle.edr_station.specs.Blocks.{blocks_of, cut_block, place_in_series, series_at};
 ghost use Rattle.edr_station.specs.Inputs.{station_of};
-ghost use Rattle.edr_station.specs.Tallies.{tally_of};
+ghost use Rattle.edr_station.specs.Tallies.{tally_of, and_of};
+ghost use Rattle.edr_station.specs.Kept.{IsKept, station_with};
 
 use crate::few::Few;
 use crate::inputs::StationInput;
@@ -146,6 +147,55 @@ fn axes_of(
     Ok(Arc::new(alloc, Axes { times, levels })?)
 }
 
+// The same, for an input.
+fn axes_for(
+    alloc: Global,
+    near: Option<&Station>,
+    input: StationInput,
+) -> Result<Arc<Axes>, OutOfMemory>
+    ensures { IfOk result (λ axes. arc_value axes ≡ record { times = input.times; levels = input.levels }) }
+{
+    axes_of(alloc, near, input.times, input.levels)
+}
+
+// Where an input is.
+fn spot_of(input: &StationInput) -> Spot
+    ensures { result ≡ record { x = input.now.x; y = input.now.y } }
+{
+    Spot {
+        x: input.x,
+        y: input.y,
+    }
+}
+
+// The length of an id.
+fn len_of(id: &Text) -> u8
+    requires { IsName id.now }
+    ensures { result ≡ length id.now }
+{
+    id.bytes().len() as u8
+}
+
+// What an input is called, and its packed values. Want of memory also stands for more values than can be counted.
+fn names_and_series(alloc: Global, input: &StationInput) -> Result<(Text, Few<Series>), OutOfMemory>
+    requires { All AreSamples input.now.series }
+    ensures names { IfOk result (λ kept. kept.0 ≡ input.now.id ++ input.now.label) }
+    ensures series { IfOk result (λ kept. kept.1 ≡ input.now.series) }
+    ensures counted { OnOk result (values_along (station_of input.now) < 2 ^ 64) }
+{
+    if input
+        .times
+        .len()
+        .checked_mul(levels_in(&input.levels))
+        .is_none()
+    {
+        return Err(OutOfMemory);
+    }
+    let names = joined(alloc, input.id.bytes(), input.label.bytes())?;
+    let series = packed(alloc, input.series.items())?;
+    Ok((names, Few::of(series)))
+}
+
 impl Station {
     // The station that an input describes. It shares its axes with one that stands near by, where they are equal.
     pub(crate) fn of(
@@ -157,27 +207,26 @@ impl Station {
         requires series { HasSeries (length input.series) (station_of input) }
         ensures { IfOk result (λ station. station ≡ station_of input) }
     {
-        let StationInput {
-            id,
-            label,
-            x,
-            y,
-            times,
-            levels,
-            series,
-        } = input;
-        if times.len().checked_mul(levels_in(&levels)).is_none() {
-            return Err(OutOfMemory);
-        }
-        let names = joined(alloc, id.bytes(), label.bytes())?;
-        let series = packed(alloc, series.items())?;
-        Ok(Station {
+        let (names, series) = names_and_series(alloc, &input)?;
+        let id_len = len_of(&input.id);
+        let spot = spot_of(&input);
+        let axes = axes_for(alloc, near, input)?;
+        Ok(Station::with(names, id_len, spot, axes, series))
+    }
+
+    // The station of finished parts: its names one behind the other, where it is, its axes and its values.
+    fn with(names: Text, id_len: u8, spot: Spot, axes: Arc<Axes>, series: Few<Series>) -> Station
+        requires inside { id_len ≤ length names }
+        requires kept { IsKept (station_with names id_len spot (arc_value axes).times (arc_value axes).levels series) }
+        ensures { result ≡ station_with names id_len spot (arc_value axes).times (arc_value axes).levels series }
+    {
+        Station {
             names,
-            id_len: id.bytes().len() as u8,
-            spot: Spot { x, y },
-            axes: axes_of(alloc, near, times, levels)?,
-            series: Few::of(series),
-        })
+            id_len,
+            spot,
+            axes,
+            series,
+        }
     }
 
     /// Its id, which is a name.
@@ -238,9 +287,22 @@ impl Station {
     {
         let mut tally = Tally::none();
         for parameter in 0..self.series.len() {
-            tally = tally.and(self.series.at(parameter).tally(alloc)?)?;
+            tally = self.tally_with(alloc, tally, parameter)?;
         }
         Ok(tally)
+    }
+
+    // A tally and that of the values of a parameter.
+    fn tally_with(
+        &self,
+        alloc: Global,
+        tally: Tally,
+        parameter: usize,
+    ) -> Result<Tally, OutOfMemory>
+        requires { parameter < length self.now.series }
+        ensures { IfOk result (λ more. more ≡ and_of tally (tally_of (series_at self.now parameter))) }
+    {
+        tally.and(self.series.at(parameter).tally(alloc)?)
     }
 
     // Where the value of a time and a level stands among those of a parameter.

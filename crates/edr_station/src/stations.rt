@@ -4,7 +4,8 @@ ghost use Rattle.std.specs.List.{slice_index_or};
 ghost use Rattle.edr_base.specs.FirstThatApplies.{IsLeast, NoneApplies};
 ghost use Rattle.edr_ids.specs.Ids as ids;
 ghost use Rattle.edr_ids.specs.Ids.{AscendBy, with_item, without_id};
-ghost use Rattle.edr_station.specs.Stations.{StationValue, AreStations, IsStation, station_id, station_at};
+ghost use Rattle.std.specs.Arc.{arc_value};
+ghost use Rattle.edr_station.specs.Stations.{StationValue, IsPlaced, HasSeries, AreStations, IsStation, station_id, station_at};
 ghost use Rattle.edr_station.specs.Blocks.{blocks, blocks_of, block_of, first_block, place_at, Within, IsBlock};
 ghost use Rattle.edr_station.specs.Boxes.{places_inside};
 ghost use Rattle.edr_station.specs.Inputs.{station_of, IsInput, HasCounts, rank, Applies, AreOf};
@@ -87,6 +88,20 @@ fn near(shelf: &Shelf, place: usize) -> Option<&Station> {
         return Some(shelf.at(place));
     }
     None
+}
+
+// The station that an input describes, to be shared.
+fn shared(
+    alloc: Global,
+    near: Option<&Station>,
+    input: StationInput,
+) -> Result<Arc<Station>, OutOfMemory>
+    requires placed { IsPlaced (station_of input) }
+    requires series { HasSeries (length input.series) (station_of input) }
+    ensures { IfOk result (λ station. arc_value station ≡ station_of input) }
+{
+    let station = Station::of(alloc, near, input)?;
+    Ok(Arc::new(alloc, station)?)
 }
 
 // The stations, unless the blocks of so many parameters are too many to be counted.
@@ -229,9 +244,8 @@ impl Stations {
         ensures kept { OnErr result (self.new ≡ self.old) }
     {
         let (place, end) = span_of(&self.shelf, input.id.bytes());
-        let station = Station::of(alloc, near(&self.shelf, place), input)?;
-        let shared = Arc::new(alloc, station)?;
-        let shelf = self.shelf.spliced(alloc, place, end, Some(shared))?;
+        let station = shared(alloc, near(&self.shelf, place), input)?;
+        let shelf = self.shelf.spliced(alloc, place, end, Some(station))?;
         self.shelf = counted(self.parameters, shelf)?;
         Ok(())
     }

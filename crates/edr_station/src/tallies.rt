@@ -58,10 +58,17 @@ impl Tally {
     pub fn and(self, other: Tally) -> Result<Tally, OutOfMemory>
         ensures { IfOk result (λ tally. tally ≡ and_of self other) }
     {
-        let samples = self.samples.checked_add(other.samples).ok_or(OutOfMemory)?;
-        let present = self.present.checked_add(other.present).ok_or(OutOfMemory)?;
-        let sum = self.sum.checked_add(other.sum).ok_or(OutOfMemory)?;
-        Ok(Tally {
+        self.with_tally(other).ok_or(OutOfMemory)
+    }
+
+    // The same, or None where a count or the sum is above what can be held.
+    fn with_tally(self, other: Tally) -> Option<Tally>
+        ensures { IfSome result (λ tally. tally ≡ and_of self other) }
+    {
+        let samples = self.samples.checked_add(other.samples)?;
+        let present = self.present.checked_add(other.present)?;
+        let sum = self.sum.checked_add(other.sum)?;
+        Some(Tally {
             samples,
             present,
             sum,

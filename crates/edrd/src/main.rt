@@ -51,6 +51,8 @@ fn main(rt: HostRuntime) -> ExitCode {
 #[cfg(test)]
 mod run_tests;
 #[cfg(test)]
+mod shelf_tests;
+#[cfg(test)]
 mod test_coming;
 #[cfg(test)]
 mod test_doors;

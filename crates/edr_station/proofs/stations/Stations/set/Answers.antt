@@ -16,7 +16,7 @@ invariant_of-self c =
     let place = c.span_of-place.result.0 in
     let end = c.span_of-place.result.1 in
     let span : IsSpanOf new.id i.stations place end = subst (λ k. IsSpanOf k i.stations place end) c.bytes.ensures c.span_of-place.ensures in
-    let station : arc_value c.in_ok-shared.shared ≡ new = c.in_ok-shared.ensures.ok ∙ c.in_ok-station.ensures in
+    let station : arc_value c.in_ok-station.station ≡ new = c.in_ok-station.ensures in
     let made : c.in_ok-self-inside.field-0 ≡ splice place end (Some new) i.stations =
     c.in_ok-self-inside.ensures.same ∙ (c.in_ok-shelf.ensures ∙ ap (λ (x : StationValue). splice place end (Some x) i.stations) station) in
     let is : IsStation i.parameters new = record {
@@ -33,7 +33,7 @@ returns-clause-set c =
     let place = c.span_of-place.result.0 in
     let end = c.span_of-place.result.1 in
     let span : IsSpanOf new.id i.stations place end = subst (λ k. IsSpanOf k i.stations place end) c.bytes.ensures c.span_of-place.ensures in
-    let station : arc_value c.in_ok-shared.shared ≡ new = c.in_ok-shared.ensures.ok ∙ c.in_ok-station.ensures in
+    let station : arc_value c.in_ok-station.station ≡ new = c.in_ok-station.ensures in
     let made : c.in_ok-self-inside.field-0 ≡ splice place end (Some new) i.stations =
     c.in_ok-self-inside.ensures.same ∙ (c.in_ok-shelf.ensures ∙ ap (λ (x : StationValue). splice place end (Some x) i.stations) station) in
     made ∙ (sym (with_span new i.stations place end c.self.invariant.stations.ascending span) ∙ ap (λ (v : StationsValue). with_item station_id new v.stations) c.self.view_is)

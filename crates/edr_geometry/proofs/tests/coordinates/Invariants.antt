@@ -1,6 +1,0 @@
-use Rattle.std.specs.List.{All}
-use Rattle.edr_geometry.specs.Limits.{IsCoordinate}
-use Rattle.edr_geometry.proofs.tests.coordinates.Given as goal
-
-abbrev pub invariant-loop-word : goal.invariant-loop-word
-invariant-loop-word l = All IsCoordinate l.numbers.items

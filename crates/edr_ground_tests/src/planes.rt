@@ -1,0 +1,334 @@
+//! Places that people can draw: a line for each case, cut here. `#` is a place that is taken, `.` one that isn't.
+ghost use Rattle.std.specs.Prelude.{◌≡◌, IfSome, length, ◌+◌, ◌<◌};
+ghost use Rattle.std.specs.List.{All};
+ghost use Rattle.edr_wkt.specs.Faults.{IsGeometry};
+ghost use Rattle.edr_geometry.specs.Limits.{IsCoordinate, IsSpot, IsDistance, IsPlacedPolygon};
+
+use crate::words::{axis_of, coordinate, coordinates, distance, is_marked};
+use edr_axes::Axis;
+use edr_base::Spot;
+use edr_geometry::{
+    RowMask, geometries_are_placed, in_disc, in_polygons, near_segment, on_segment,
+    squared_distance,
+};
+use edr_wkt::{Geometry, Polygon, read_wkt};
+use std::alloc::Global;
+use std::rt::HostRuntime;
+
+// A row's y, its x, a shape, and which of its places are taken.
+const ROWS: &str = "\
+# on edges and vertices, inside and outside
+0;0 100 200;POLYGON((0 0,200 0,0 100,0 0)) => ###
+100;0 100 200;POLYGON((0 0,200 0,0 100,0 0)) => #..
+50;0 100 101 200;POLYGON((0 0,200 0,0 100,0 0)) => ##..
+-1;0 100 200;POLYGON((0 0,200 0,0 100,0 0)) => ...
+101;0 100 200;POLYGON((0 0,200 0,0 100,0 0)) => ...
+# the other way round, and with positions that repeat
+0;0 100 200;POLYGON((0 0,0 100,200 0,0 0)) => ###
+50;0 100 101 200;POLYGON((0 0,0 0,0 100,0 100,200 0,200 0,0 0,0 0)) => ##..
+# a hole: its border belongs, its inside doesn't
+0;0 50 100 150 200;POLYGON((-50 -50,250 -50,250 150,-50 150,-50 -50),(50 0,150 0,150 120,50 120,50 0)) => #####
+100;0 50 100 150 200;POLYGON((-50 -50,250 -50,250 150,-50 150,-50 -50),(50 0,150 0,150 120,50 120,50 0)) => ##.##
+120;0 50 100 150 200;POLYGON((-50 -50,250 -50,250 150,-50 150,-50 -50),(50 0,150 0,150 120,50 120,50 0)) => #####
+# a hole that touches the outer ring, and an island in a hole
+4;0 1 2 3 4 5 6 7 8;POLYGON((0 0,8 0,8 8,0 8,0 0),(0 4,4 2,4 6,0 4)) => #...#####
+4;0 1 2 3 4 5 6 7 8;MULTIPOLYGON(((0 0,8 0,8 8,0 8,0 0),(1 1,7 1,7 7,1 7,1 1)),((3 3,5 3,5 5,3 5,3 3))) => ##.###.##
+# polygons that overlap are one of them
+2;0 1 2 3 4 5 6;MULTIPOLYGON(((0 0,4 0,4 4,0 4,0 0)),((2 0,6 0,6 4,2 4,2 0))) => #######
+0;0 100 200;MULTIPOLYGON(((0 0,50 0,50 50,0 0)),((150 50,200 50,200 100,150 50))) => #..
+100;0 100 200;MULTIPOLYGON(((0 0,50 0,50 50,0 0)),((150 50,200 50,200 100,150 50))) => ..#
+# rows through vertices that point up, down and aside
+2;0 1 2 3 4 5 6;POLYGON((0 0,2 2,4 0,6 4,0 4,0 0)) => ######.
+2;0 1 2 3 4 5 6;POLYGON((0 0,6 0,6 4,4 2,2 4,0 4,0 0)) => #######
+2;0 1 2 3 4 5 6;POLYGON((0 2,3 0,6 2,3 4,0 2)) => #######
+0;0 1 2 3 4 5 6;POLYGON((0 2,3 0,6 2,3 4,0 2)) => ...#...
+4;0 1 2 3 4 5 6;POLYGON((0 2,3 0,6 2,3 4,0 2)) => ...#...
+0;0 1 2 3 4 5 6;POLYGON((0 0,1 4,2 0,3 4,4 0,5 4,6 4,6 9,0 9,0 0)) => #.#.#..
+# rows along level edges, one at the top, one at the bottom, steps between
+2;0 1 2 3 4 5 6;POLYGON((0 0,3 0,3 2,6 2,6 4,0 4,0 0)) => #######
+2;0 1 2 3 4 5 6;POLYGON((0 0,6 0,6 4,4 4,4 2,2 2,2 4,0 4,0 0)) => #######
+2;-1 0 1 2 3 4 5 6 7;POLYGON((0 2,2 2,2 4,4 4,4 2,6 2,6 6,0 6,0 2)) => .###.###.
+0;-1 0 5 9 10;POLYGON((0 0,9 0,9 9,0 9,0 0)) => .###.
+9;-1 0 5 9 10;POLYGON((0 0,9 0,9 9,0 9,0 0)) => .###.
+# polygons without an inside
+3;0 1 2 3 4 5 6;POLYGON((1 3,5 3,1 3,1 3)) => .#####.
+3;0 1 2 3 4 5 6;POLYGON((0 0,6 6,0 0,0 0)) => ...#...
+3;0 1 2 3 4 5 6;POLYGON((3 3,3 3,3 3,3 3)) => ...#...
+# a ring that crosses itself
+1;0 1 2 3 4;POLYGON((0 0,4 4,4 0,0 4,0 0)) => ##.##
+# at the ends of the limits
+100000000;-100000000 0 100000000;POLYGON((-100000000 -100000000,100000000 -100000000,100000000 100000000,-100000000 100000000,-100000000 -100000000)) => ###
+0;-100000000 -1 0 1 100000000;POLYGON((-100000000 -100000000,100000000 100000000,-100000000 100000000,-100000000 -100000000)) => ###..
+# discs: equality, a metre less, a radius of 0 on a node and between nodes
+0;0 100 200;DISC 100 100 0 => ###
+100;0 100 200;DISC 100 100 0 => .#.
+0;0 100 200;DISC 99 100 0 => .#.
+3;-5 -4 0 4 5;DISC 5 0 0 => .###.
+4;-4 -3 0 3 4;DISC 5 0 0 => .###.
+0;0 100 200;DISC 0 100 0 => .#.
+0;0 100 200;DISC 0 99 0 => ...
+0;-100000000 0 100000000;DISC 200000000 -100000000 0 => ###
+0;-100000000 0 100000000;DISC 199999999 -100000000 0 => ##.
+100000000;-100000000 0 100000000;DISC 400000000 100000000 -100000000 => ###
+# segments: ends half the width away, a metre less, before and behind
+0;0 100 200;SEGMENT 100 0 50 200 50 => ###
+0;0 100 200;SEGMENT 99 0 50 200 50 => ...
+0;-6 -5 -4 0 10 14 15 16;SEGMENT 10 0 0 10 0 => .######.
+3;-5 -4 0 10 14 15;SEGMENT 10 0 0 10 0 => .####.
+3;-5 -4 -3 3 4 5;SEGMENT 10 0 0 0 0 => .####.
+0;0 1 2 3 4 5 6 7;SEGMENT 0 1 0 6 0 => .######.
+0;0 1 2;SEGMENT 0 1 0 1 0 => .#.
+1;0 1 2;SEGMENT 1 1 0 1 0 => ...
+5;0 1 3 5 7 9;SEGMENT 5 0 0 10 10 => ..###.
+0;-100000000 0 100000000;SEGMENT 400000000 100000000 -100000000 100000000 100000000 => ###
+0;-100000000 0 100000000;SEGMENT 141421357 -100000000 -100000000 100000000 100000000 => ###
+0;-100000000 0 100000000;SEGMENT 141421356 -100000000 -100000000 100000000 100000000 => .#.
+";
+
+// The numbers of two ends and a place, whether the place is on the segment, and its squared distance to the first end.
+const SEGMENTS: &str = "\
+0 0 10 10 5 5 => true 50
+0 0 10 10 5 6 => false 61
+0 0 10 10 0 0 => true 0
+0 0 10 10 10 10 => true 200
+0 0 10 10 11 11 => false 242
+0 0 10 10 -1 -1 => false 2
+10 10 0 0 5 5 => true 50
+3 0 3 9 3 4 => true 16
+3 0 3 9 3 10 => false 100
+0 4 9 4 5 4 => true 25
+0 4 9 4 10 4 => false 100
+7 7 7 7 7 7 => true 0
+7 7 7 7 7 8 => false 1
+-100000000 -100000000 100000000 100000000 0 0 => true 20000000000000000
+-100000000 -100000000 100000000 100000000 100000000 100000000 => true 80000000000000000
+-100000000 -100000000 100000000 99999999 0 0 => false 20000000000000000
+";
+
+// The place whose two numbers stand from this one on.
+fn spot_at(numbers: &[i64], first: usize) -> Spot
+    requires numbers_in { All IsCoordinate numbers.now }
+    requires inside { first + 1 < length numbers.now }
+    ensures { IsSpot result }
+{
+    Spot {
+        x: numbers[first],
+        y: numbers[first + 1],
+    }
+}
+
+// A disc, its radius in metres.
+#[derive(Clone, Copy)]
+struct Disc {
+    centre: Spot,
+    radius: i64,
+}
+
+// A disc: its radius and its centre.
+fn disc_of(alloc: Global, text: &str) -> Option<Disc>
+    ensures centre { IfSome result (λ disc. IsSpot disc.centre) }
+    ensures radius { IfSome result (λ disc. IsDistance disc.radius) }
+{
+    let (first, rest) = text.split_once(' ')?;
+    let radius = distance(first)?;
+    let numbers = coordinates(alloc, rest)?;
+    if numbers.len() != 2 {
+        return None;
+    }
+    let centre = spot_at(&numbers, 0);
+    Some(Disc { centre, radius })
+}
+
+// A segment with the width of the strip about it, in metres.
+#[derive(Clone, Copy)]
+struct Segment {
+    a: Spot,
+    b: Spot,
+    width: i64,
+}
+
+// A segment: its width and its ends.
+fn segment_of(alloc: Global, text: &str) -> Option<Segment>
+    ensures a { IfSome result (λ segment. IsSpot segment.a) }
+    ensures b { IfSome result (λ segment. IsSpot segment.b) }
+    ensures width { IfSome result (λ segment. IsDistance segment.width) }
+{
+    let (first, rest) = text.split_once(' ')?;
+    let width = distance(first)?;
+    let numbers = coordinates(alloc, rest)?;
+    if numbers.len() != 4 {
+        return None;
+    }
+    let a = spot_at(&numbers, 0);
+    let b = spot_at(&numbers, 2);
+    Some(Segment { a, b, width })
+}
+
+// The polygons of a geometry that is some.
+fn polygons_in(geometry: &Geometry) -> Option<&[Polygon]>
+    requires { IsGeometry geometry.now }
+    ensures { IfSome result (λ polygons. All IsPlacedPolygon polygons.now) }
+{
+    geometries_are_placed();
+    match geometry {
+        Geometry::Polygons { polygons, .. } => Some(polygons.items()),
+        _ => None,
+    }
+}
+
+// The mask of a shape.
+fn mask_of(alloc: Global, shape: &str, y: i64, xs: &Axis) -> Option<RowMask>
+    requires y_in { IsCoordinate y }
+    requires xs_in { All IsCoordinate xs.now }
+{
+    if let Some(text) = shape.strip_prefix("DISC ") {
+        let disc = disc_of(alloc, text)?;
+        return RowMask::of_disc(alloc, disc.centre, disc.radius, y, xs).ok();
+    }
+    if let Some(text) = shape.strip_prefix("SEGMENT ") {
+        let segment = segment_of(alloc, text)?;
+        return RowMask::of_segment(alloc, segment.a, segment.b, segment.width, y, xs).ok();
+    }
+    let geometry = read_wkt(alloc, shape.as_bytes()).ok()?;
+    RowMask::of_polygons(alloc, polygons_in(&geometry)?, y, xs).ok()
+}
+
+// The test of one place by a shape.
+fn is_taken(alloc: Global, shape: &str, p: Spot) -> Option<bool>
+    requires p_in { IsSpot p }
+{
+    if let Some(text) = shape.strip_prefix("DISC ") {
+        let disc = disc_of(alloc, text)?;
+        return Some(in_disc(p, disc.centre, disc.radius));
+    }
+    if let Some(text) = shape.strip_prefix("SEGMENT ") {
+        let segment = segment_of(alloc, text)?;
+        return Some(near_segment(p, segment.a, segment.b, segment.width));
+    }
+    let geometry = read_wkt(alloc, shape.as_bytes()).ok()?;
+    Some(in_polygons(p, polygons_in(&geometry)?))
+}
+
+// Whether a mask has these places, and their first and last one.
+fn is_mask(mask: &RowMask, picture: &str) -> bool {
+    let mut whole = mask.len() == picture.len();
+    for place in 0..mask.len() {
+        whole = mask.is_set(place) == is_marked(picture, place) && whole;
+    }
+    whole && mask.first() == picture.find('#') && mask.last() == picture.rfind('#')
+}
+
+// Whether the test of one place each takes these.
+fn are_taken(alloc: Global, shape: &str, y: i64, xs: &Axis, picture: &str) -> bool
+    requires y_in { IsCoordinate y }
+    requires xs_in { All IsCoordinate xs.now }
+{
+    let mut whole = xs.len() == picture.len();
+    for place in 0..xs.len() {
+        let p = Spot {
+            x: xs.value(place),
+            y,
+        };
+        whole = is_taken(alloc, shape, p) == Some(is_marked(picture, place)) && whole;
+    }
+    whole
+}
+
+fn is_masked(alloc: Global, shape: &str, y: i64, xs: &Axis, picture: &str) -> bool
+    requires y_in { IsCoordinate y }
+    requires xs_in { All IsCoordinate xs.now }
+{
+    match mask_of(alloc, shape, y, xs) {
+        Some(mask) => is_mask(&mask, picture),
+        None => false,
+    }
+}
+
+// Whether a row is taken so by a shape: by its mask, and by the test of each place.
+fn is_row(alloc: Global, row: &str, shape: &str, picture: &str) -> bool {
+    let (first, second) = row.split_once(';').unwrap_or((row, ""));
+    match (coordinate(first), axis_of(alloc, second)) {
+        (Some(y), Some(xs)) => {
+            is_masked(alloc, shape, y, &xs, picture) && are_taken(alloc, shape, y, &xs, picture)
+        }
+        _ => false,
+    }
+}
+
+// Whether a place is on a segment, or not, and has this squared distance to the first end.
+fn is_apart(alloc: Global, text: &str, on: bool, square: i128) -> bool {
+    let Some(numbers) = coordinates(alloc, text) else {
+        return false;
+    };
+    if numbers.len() != 6 {
+        return false;
+    }
+    let a = spot_at(&numbers, 0);
+    let b = spot_at(&numbers, 2);
+    let p = spot_at(&numbers, 4);
+    on_segment(p, a, b) == on && squared_distance(a, p) == square
+}
+
+fn is_measured(alloc: Global, text: &str, answer: &str) -> bool {
+    let (on, square) = answer.split_once(' ').unwrap_or((answer, ""));
+    match square.parse::<i128>() {
+        Ok(square) => is_apart(alloc, text, on == "true", square),
+        Err(_) => false,
+    }
+}
+
+// Whether a line is right: one with a shape behind the last `;` is a row, another one a segment and a place.
+fn is_right(alloc: Global, asked: &str, answer: &str) -> bool {
+    match asked.rsplit_once(';') {
+        Some((row, shape)) => is_row(alloc, row, shape, answer),
+        None => is_measured(alloc, asked, answer),
+    }
+}
+
+// The first line that isn't right; none is empty.
+fn first_wrong(alloc: Global, lines: &str) -> &str {
+    for line in lines.lines() {
+        let (asked, answer) = line.split_once(" => ").unwrap_or((line, ""));
+        if !line.starts_with('#') && !is_right(alloc, asked, answer) {
+            return line;
+        }
+    }
+    ""
+}
+
+// Whether a mask has the places of two once they are joined.
+fn are_joined(mask: &mut RowMask, other: &RowMask, picture: &str) -> bool {
+    if mask.len() != other.len() {
+        return false;
+    }
+    mask.join(other);
+    is_mask(mask, picture)
+}
+
+// Whether of a row of four places two shapes together take these.
+fn join_to(alloc: Global, first: &str, second: &str, picture: &str) -> bool {
+    let Some(xs) = axis_of(alloc, "0 100 200 300") else {
+        return false;
+    };
+    match (
+        mask_of(alloc, first, 0, &xs),
+        mask_of(alloc, second, 0, &xs),
+    ) {
+        (Some(mut mask), Some(other)) => are_joined(&mut mask, &other, picture),
+        _ => false,
+    }
+}
+
+#[test]
+fn rows_and_segments(rt: HostRuntime) {
+    assert_eq!(rt; first_wrong(rt.alloc(), ROWS), "");
+    assert_eq!(rt; first_wrong(rt.alloc(), SEGMENTS), "");
+}
+
+#[test]
+fn masks_are_joined(rt: HostRuntime) {
+    let alloc = rt.alloc();
+    assert!(rt; is_row(alloc, "0;0 100 200 300", "DISC 100 0 0", "##.."));
+    assert!(rt; is_row(alloc, "0;0 100 200 300", "DISC 0 300 0", "...#"));
+    assert!(rt; join_to(alloc, "DISC 100 0 0", "DISC 0 300 0", "##.#"));
+}

@@ -1,6 +1,0 @@
-use Rattle.std.specs.List.{All}
-use Rattle.edr_chunk.specs.Samples.{AreSamples}
-use Rattle.edr_station.proofs.words.series_of.Given as goal
-
-abbrev pub invariant-loop-length : goal.invariant-loop-length
-invariant-loop-length l = All AreSamples l.series.items
