@@ -77,7 +77,7 @@ one_is_name = record {
 letter : (byte : ℕ) → 97 < byte → byte < 123 → IsNameByte byte
 letter byte low high = record { printed = (omega arith, omega arith); no_comma = omega arith }
 
-grid_is_name : IsName (codes "grid")
+pub grid_is_name : IsName (codes "grid")
 grid_is_name = record {
   length_in = (omega arith, omega arith);
   bytes = All-cons IsNameByte 103 (114 ∷ 105 ∷ 100 ∷ []) (letter 103 (omega arith) (omega arith))

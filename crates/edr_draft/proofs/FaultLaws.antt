@@ -15,7 +15,7 @@ use Rattle.edr_draft.specs.declared.changes.ChangeFault.{ChangeFault}
 use Rattle.edr_draft.specs.declared.changes.ChangeFault.TheVariants.{SameCollection, UnknownCollection, WrongKind, UnknownInstance, UnknownStation, NoTimes, CrsDiffers, TooManyNodes, ParametersDiffer, LevelsDiffer, OutOfMemory}
 use Rattle.edr_draft.specs.Parameters.{DifferFirstAt}
 use Rattle.edr_draft.specs.Changes.{rank, Setting, AppliesToSet}
-use Rattle.edr_draft.specs.Steps.{Finds, AppliesBeside}
+use Rattle.edr_draft.specs.Steps.{Finds, AppliesBeside, Fits}
 use Rattle.edr_draft.proofs.ParameterLaws.{same_text, same_or_differ, same_never_differ}
 
 -- ---- beside others or none
@@ -215,15 +215,6 @@ kind_or_not Grid Grid = inl refl
 kind_or_not Grid Station = inr (λ h. cc)
 kind_or_not Station Grid = inr (λ h. cc)
 kind_or_not Station Station = inl refl
-
--- what a collection and a coverage have where no fault applies
-pub record Fits (setting : Setting) (collection : CollectionValue) (coverage : Coverage) : Type 0 where
-  pub kind : collection.kind ≡ setting.kind
-  pub domain : setting.fits coverage.domain ≡ true
-  pub times : has_axis coverage.domain T ≡ true
-  pub few : count_of coverage.domain ≤ node_limit
-  pub same : setting.has_others collection → collection.parameters ≡ coverage.parameters
-  pub alike : ¬ (setting.levels_differ collection coverage)
 
 pub fits : (setting : Setting) (c : CollectionValue) (coverage : Coverage) → IsCollection c → IsValid coverage → NoneApplies (AppliesToSet setting (Some c) coverage) → Fits setting c coverage
 fits setting c coverage is valid none = record {

@@ -28,8 +28,8 @@ use Rattle.edr_edition.specs.Values.{CollectionValue}
 use Rattle.edr_edition.specs.Editions.{AreAlike}
 use Rattle.edr_edition.specs.CollectionLaws.{All-without_id}
 use Rattle.edr_draft.specs.Changes.{as_station}
+use Rattle.edr_draft.specs.Steps.{Fits}
 use Rattle.edr_draft.specs.Series.{is_at_one_place, IsTimedSeries, first_of, range_values, station_of, input_over}
-use Rattle.edr_draft.proofs.FaultLaws.{Fits}
 
 -- ---- the axes of one place
 
@@ -205,8 +205,8 @@ alike_without id stations (inr lack) = inr (All-without_id station_id (λ (s : S
 
 -- ---- a series that fits
 
-module _ (c : CollectionValue) (bytes id label : List ℕ) (coverage : Coverage) (input : StationInput) (f : Fits (as_station bytes) c coverage) (valid : IsValid coverage) (named : IsName id) (text : IsUtf8 label)
-    (name : bytes ≡ id) (is : input ≡ input_over id label coverage.domain coverage.ranges) where
+module _ (c : CollectionValue) (id label : List ℕ) (coverage : Coverage) (input : StationInput) (f : Fits (as_station id) c coverage) (valid : IsValid coverage) (named : IsName id) (text : IsUtf8 label)
+    (is : input ≡ input_over id label coverage.domain coverage.ranges) where
   fitting : IsTimedSeries coverage
   fitting = record { valid = valid; place = f.domain; times = f.times; few = f.few }
 
@@ -223,9 +223,8 @@ module _ (c : CollectionValue) (bytes id label : List ℕ) (coverage : Coverage)
   fits_few = subst (λ i. values_along (inputs.station_of i) ≤ node_limit) (sym is) (series_few id label coverage fitting)
 
   pub fits_same : without_id station_id input.id c.stations ≢ [] → c.parameters ≡ coverage.parameters
-  fits_same = subst (λ (i : StationInput). without_id station_id i.id c.stations ≢ [] → c.parameters ≡ coverage.parameters) (sym is)
-      (subst (λ b. without_id station_id b c.stations ≢ [] → c.parameters ≡ coverage.parameters) name f.same)
+  fits_same = subst (λ (i : StationInput). without_id station_id i.id c.stations ≢ [] → c.parameters ≡ coverage.parameters) (sym is) f.same
 
   pub fits_alike : All (λ (s : StationValue). is_some s.zs ≡ is_some input.levels) (without_id station_id input.id c.stations)
   fits_alike = subst (λ (i : StationInput). All (λ (s : StationValue). is_some s.zs ≡ is_some i.levels) (without_id station_id i.id c.stations)) (sym is)
-      (subst (λ b. All (λ (s : StationValue). is_some s.zs ≡ has_axis coverage.domain Z) (without_id station_id b c.stations)) name (others_alike coverage c bytes f.alike))
+      (others_alike coverage c id f.alike)

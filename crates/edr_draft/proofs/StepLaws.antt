@@ -7,15 +7,16 @@ use Rattle.edr_base.specs.FirstThatApplies.{IsLeast, NoneApplies}
 use Rattle.edr_ids.specs.Ids.{has_id, item_of, with_item, without_id}
 use Rattle.edr_edition.specs.declared.kinds.Kind.{Kind}
 use Rattle.edr_edition.specs.declared.kinds.Kind.TheVariants.{Grid as Grids, Station as Stations}
+use Rattle.edr_draft.specs.declared.changes.Change.{Change}
 use Rattle.edr_draft.specs.declared.changes.Change.TheVariants.{Collection, Grid, Station, DropCollection, DropInstance, DropStation, Bare}
 use Rattle.edr_draft.specs.declared.changes.ChangeFault.{ChangeFault}
 use Rattle.edr_draft.specs.declared.changes.ChangeFault.TheVariants.{SameCollection, UnknownCollection, WrongKind, UnknownInstance, UnknownStation, OutOfMemory}
 use Rattle.edr_station.specs.Stations.{station_id}
 use Rattle.edr_edition.specs.Values.{InstanceValue, CollectionValue, instance_id, collection_id}
 use Rattle.edr_edition.specs.Instances.{instance_of}
-use Rattle.edr_edition.specs.Collections.{without_instance, without_station}
+use Rattle.edr_edition.specs.Collections.{empty_collection, without_instance, without_station}
 use Rattle.edr_draft.specs.Changes.{collection_in, with_grid, with_series, bare_collection, with_changed, made, rank, as_instance, as_station, AppliesToSet, AppliesToDrop, AppliesToDropStation, Applies, IsRefused}
-use Rattle.edr_draft.specs.Steps.{Finds, Becomes, IsMade}
+use Rattle.edr_draft.specs.Steps.{Finds, IsMade}
 use Rattle.edr_draft.proofs.RefusalLaws.{same_refuses, none_to_add, unknown_refuses, none_to_drop, set_unknown_first, drop_unknown, drop_wrong_kind, drop_unknown_instance, drop_no_fault, drop_station_unknown, drop_station_wrong_kind, drop_unknown_station, drop_station_no_fault}
 
 pub without_missing : {V : Type 0} (key : V → List ℕ) (xs : List V) (id : List ℕ) → is_some (item_of key id xs) ≡ false → without_id key id xs ≡ xs
@@ -45,31 +46,28 @@ same_where_ok (Err e) one other is same = tt
 
 -- ---- a coverage set
 
--- as a change of the collection of an id
-pub set_is_made : {T : Type 0} (r : Result T ChangeFault) (cs new : List CollectionValue) (collection instance : List ℕ) (coverage : Coverage) (c : CollectionValue) → collection_in cs collection ≡ Some c
-    → Finds (AppliesToSet (as_instance instance) (Some c) coverage) r → Becomes cs (with_item collection_id (with_grid instance coverage c) cs) r new
-    → IsMade cs (Grid collection instance coverage) r new
-set_is_made r cs new collection instance coverage c is finds becomes = record {
-  finds = subst (λ (o : Option CollectionValue). Finds (AppliesToSet (as_instance instance) o coverage) r) (sym is) finds;
-  becomes = subst (λ (o : Option CollectionValue). Becomes cs (with_changed (with_grid instance coverage) o cs) r new) (sym is) becomes;
-}
+-- in the collection of an id
+pub becomes_with_grid : (cs new : List CollectionValue) (collection instance : List ℕ) (coverage : Coverage) (c : CollectionValue) → collection_in cs collection ≡ Some c
+    → new ≡ with_item collection_id (with_grid instance coverage c) cs → new ≡ made cs (Grid collection instance coverage)
+becomes_with_grid cs new collection instance coverage c is put = subst (λ (o : Option CollectionValue). new ≡ with_changed (with_grid instance coverage) o cs) (sym is) put
 
-pub series_is_made : {T : Type 0} (r : Result T ChangeFault) (cs new : List CollectionValue) (collection id label : List ℕ) (coverage : Coverage) (c : CollectionValue) → collection_in cs collection ≡ Some c
-    → Finds (AppliesToSet (as_station id) (Some c) coverage) r → Becomes cs (with_item collection_id (with_series id label coverage c) cs) r new
-    → IsMade cs (Station collection id label coverage) r new
-series_is_made r cs new collection id label coverage c is finds becomes = record {
-  finds = subst (λ (o : Option CollectionValue). Finds (AppliesToSet (as_station id) o coverage) r) (sym is) finds;
-  becomes = subst (λ (o : Option CollectionValue). Becomes cs (with_changed (with_series id label coverage) o cs) r new) (sym is) becomes;
-}
+pub becomes_with_series : (cs new : List CollectionValue) (collection id label : List ℕ) (coverage : Coverage) (c : CollectionValue) → collection_in cs collection ≡ Some c
+    → new ≡ with_item collection_id (with_series id label coverage c) cs → new ≡ made cs (Station collection id label coverage)
+becomes_with_series cs new collection id label coverage c is put = subst (λ (o : Option CollectionValue). new ≡ with_changed (with_series id label coverage) o cs) (sym is) put
 
-pub bare_is_made : {T : Type 0} (r : Result T ChangeFault) (cs new : List CollectionValue) (one : List ℕ) (coverage : Coverage) (c : CollectionValue) → bare_collection cs coverage.referencing ≡ c → one ≡ codes "1"
-    → Finds (AppliesToSet (as_instance one) (Some c) coverage) r → Becomes cs (with_item collection_id (with_grid one coverage c) cs) r new
-    → IsMade cs (Bare coverage) r new
-bare_is_made r cs new one coverage c is name finds becomes = record {
-  finds = subst (λ b. Finds (AppliesToSet (as_instance (codes "1")) (Some b) coverage) r) (sym is) (subst (λ i. Finds (AppliesToSet (as_instance i) (Some c) coverage) r) name finds);
-  becomes = subst (λ b. Becomes cs (with_item collection_id (with_grid (codes "1") coverage b) cs) r new) (sym is)
-      (subst (λ i. Becomes cs (with_item collection_id (with_grid i coverage c) cs) r new) name becomes);
-}
+-- in the collection of bare coverages
+pub becomes_with_bare : (cs new : List CollectionValue) (one : List ℕ) (coverage : Coverage) (c : CollectionValue) → c ≡ bare_collection cs coverage.referencing → one ≡ codes "1"
+    → new ≡ with_item collection_id (with_grid one coverage c) cs → new ≡ made cs (Bare coverage)
+becomes_with_bare cs new one coverage c is name put = subst (λ b. new ≡ with_item collection_id (with_grid (codes "1") coverage b) cs) is (subst (λ i. new ≡ with_item collection_id (with_grid i coverage c) cs) name put)
+
+pub empty_same : {E : Type 0} (r : Result CollectionValue E) (id title : List ℕ) (own referencing : Referencing) → IfOk r (λ c. c ≡ empty_collection id Grids title own) → id ≡ codes "grid" → title ≡ codes "grid" → own ≡ referencing
+    → IfOk r (λ c. c ≡ bare_collection [] referencing)
+empty_same (Ok c) id title own referencing is name named same =
+    is
+    ∙ (ap (λ i. empty_collection i Grids title own) name
+    ∙ (ap (λ t. empty_collection (codes "grid") Grids t own) named
+    ∙ ap (empty_collection (codes "grid") Grids (codes "grid")) same))
+empty_same (Err e) id title own referencing is name named same = tt
 
 pub bare_found : (cs : List CollectionValue) (referencing : Referencing) (c : CollectionValue) → Some c ≡ collection_in cs (codes "grid") → c ≡ bare_collection cs referencing
 bare_found cs referencing c is = ap (λ o. unwrap_or o (bare_collection [] referencing)) is
@@ -153,10 +151,13 @@ pub still_finds : {T : Type 0} (Applying : ChangeFault → Type 0) (r : Result T
 still_finds Applying (Ok u) fault same found = absurd same
 still_finds Applying (Err e) fault same found = λ other. subst (IsLeast rank Applying) (sym same) (found (λ own. other (same ∙ own)))
 
+pub still_made : {T : Type 0} (cs : List CollectionValue) (change : Change) (r : Result T ChangeFault) (fault : ChangeFault) → IsErrAnd r (λ e. e ≡ fault)
+    → (fault ≢ OutOfMemory → IsLeast rank (Applies cs change) fault) → IsMade cs change r cs
+still_made cs change (Ok u) fault same found = absurd same
+still_made cs change (Err e) fault same found = record { finds = λ other. subst (IsLeast rank (Applies cs change)) (sym same) (found (λ own. other (same ∙ own))); becomes = refl }
+
 -- ---- an instance that fits
 
-pub same_others : (c : CollectionValue) (bytes id : List ℕ) (coverage : Coverage) (i : InstanceValue) → ((as_instance bytes).has_others c → c.parameters ≡ coverage.parameters) → bytes ≡ id → i ≡ instance_of id coverage
+pub same_others : (c : CollectionValue) (id : List ℕ) (coverage : Coverage) (i : InstanceValue) → ((as_instance id).has_others c → c.parameters ≡ coverage.parameters) → i ≡ instance_of id coverage
     → without_id instance_id i.id c.instances ≢ [] → c.parameters ≡ i.parameters
-same_others c bytes id coverage i same name is =
-    subst (λ (j : InstanceValue). without_id instance_id j.id c.instances ≢ [] → c.parameters ≡ j.parameters) (sym is)
-    (subst (λ b. without_id instance_id b c.instances ≢ [] → c.parameters ≡ coverage.parameters) name same)
+same_others c id coverage i same is = subst (λ (j : InstanceValue). without_id instance_id j.id c.instances ≢ [] → c.parameters ≡ j.parameters) (sym is) same

@@ -1,5 +1,5 @@
 -- What the steps of a change answer, for private clauses.
-use Rattle.std.specs.Prelude.{◌≡◌, ◌≢◌, ◌<◌, false, List, [], Result, Ok, Err}
+use Rattle.std.specs.Prelude.{◌≡◌, ◌≢◌, ◌<◌, ◌≤◌, true, false, List, [], Result, Ok, Err}
 use Rattle.covjson_value.specs.declared.domains.CoordinateName.TheVariants.{T}
 use Rattle.covjson_value.specs.declared.coverages.Coverage.{Coverage}
 use Rattle.covjson_value.specs.Domains.{has_axis, count_of}
@@ -9,7 +9,7 @@ use Rattle.edr_draft.specs.declared.changes.Change.{Change}
 use Rattle.edr_draft.specs.declared.changes.ChangeFault.{ChangeFault}
 use Rattle.edr_draft.specs.declared.changes.ChangeFault.TheVariants.{NoTimes, CrsDiffers, TooManyNodes, ParametersDiffer, OutOfMemory}
 use Rattle.edr_edition.specs.Values.{CollectionValue}
-use Rattle.edr_draft.specs.Changes.{rank, Applies, made}
+use Rattle.edr_draft.specs.Changes.{rank, Setting, Applies, made}
 use Rattle.edr_draft.specs.Parameters.{DifferFirstAt}
 
 -- no fault applies, or the first that does is found, unless memory was wanting
@@ -37,3 +37,14 @@ AppliesBeside HasOthers c coverage CrsDiffers = (coverage.referencing.crs ≢ []
 AppliesBeside HasOthers c coverage (TooManyNodes count) = (count ≡ count_of coverage.domain) × (node_limit < count)
 AppliesBeside HasOthers c coverage (ParametersDiffer differing) = HasOthers × DifferFirstAt c.parameters coverage.parameters differing
 AppliesBeside HasOthers c coverage other = ⊥
+
+-- ---- a coverage that fits
+
+-- what a collection and a coverage have where no fault applies
+pub record Fits (setting : Setting) (collection : CollectionValue) (coverage : Coverage) : Type 0 where
+  pub kind : collection.kind ≡ setting.kind
+  pub domain : setting.fits coverage.domain ≡ true
+  pub times : has_axis coverage.domain T ≡ true
+  pub few : count_of coverage.domain ≤ node_limit
+  pub same : setting.has_others collection → collection.parameters ≡ coverage.parameters
+  pub alike : ¬ (setting.levels_differ collection coverage)

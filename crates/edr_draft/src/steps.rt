@@ -1,14 +1,13 @@
 //! The steps of a change, on the collections of a draft.
-ghost use Rattle.std.specs.Prelude.{◌≡◌, ◌<◌, Some, [], IfOk, IsUtf8, length};
-ghost use Rattle.std.specs.List.{slice_index_or};
+ghost use Rattle.std.specs.Prelude.{◌≡◌, codes, Some, [], IfOk, OnOk, OnErr, IsUtf8};
 ghost use Rattle.covjson_value.specs.Coverages.{IsReferencing, IsValid};
 ghost use Rattle.edr_base.specs.Names.{IsName};
 ghost use Rattle.edr_ids.specs.Ids.{with_item};
 ghost use Rattle.edr_draft.specs.declared.changes.Change.TheVariants.{Collection, Grid, Station, DropCollection, DropInstance, DropStation, Bare};
-ghost use Rattle.edr_edition.specs.Values.{CollectionValue, collection_id};
+ghost use Rattle.edr_edition.specs.Values.{collection_id};
 ghost use Rattle.edr_edition.specs.Editions.{AreCollections};
-ghost use Rattle.edr_draft.specs.Changes.{as_instance, as_station, AppliesToSet, with_grid, with_series, bare_collection};
-ghost use Rattle.edr_draft.specs.Steps.{Finds, Becomes, IsMade};
+ghost use Rattle.edr_draft.specs.Changes.{as_instance, as_station, AppliesToSet, collection_in, with_grid, with_series, bare_collection};
+ghost use Rattle.edr_draft.specs.Steps.{Finds, Fits, IsMade};
 
 use crate::changes::ChangeFault;
 use crate::checks::{check_grid, check_series};
@@ -42,26 +41,61 @@ pub fn add_collection(
     Ok(())
 }
 
-// Sets an instance of a collection, and sets that among the collections.
-fn set_with(
+// The collection of an id, shared, where a grid may become its instance of an id, or the first fault.
+fn held_for_grid(
+    alloc: Global,
+    collections: &ById<CollectionData>,
+    collection: &[u8],
+    id: &[u8],
+    coverage: &Coverage,
+) -> Result<CollectionData, ChangeFault>
+    requires collections { AreCollections collections.now }
+    requires coverage { IsValid coverage.now }
+    ensures finds { Finds (AppliesToSet (as_instance id.now) (collection_in collections.now collection.now) coverage.now) result }
+    ensures held { IfOk result (λ held. collection_in collections.now collection.now ≡ Some held) }
+    ensures fits { IfOk result (λ held. Fits (as_instance id.now) held coverage.now) }
+{
+    let Some(held) = collections.item_of(collection) else {
+        return Err(ChangeFault::UnknownCollection);
+    };
+    check_grid(alloc, held, id, coverage)?;
+    Ok(held.share()?)
+}
+
+// Sets the instance that a grid is, in a collection that it fits.
+fn set_grid(
+    alloc: Global,
+    collection: &mut CollectionData,
+    id: Text,
+    coverage: Coverage,
+) -> Result<(), OutOfMemory>
+    requires id { IsName id }
+    requires coverage { IsValid coverage }
+    requires fits { Fits (as_instance id) collection.old coverage }
+    ensures set { OnOk result (collection.new ≡ with_grid id coverage collection.old) }
+    ensures kept { OnErr result (collection.new ≡ collection.old) }
+{
+    let instance = GridInstance::of(alloc, id, coverage)?;
+    collection.set_instance(alloc, instance)
+}
+
+// Sets an instance of a collection that it fits, and sets that among the collections.
+fn put_with_grid(
     alloc: Global,
     collections: &mut ById<CollectionData>,
     collection: CollectionData,
     id: Text,
     coverage: Coverage,
-) -> Result<(), ChangeFault>
-    requires collections { AreCollections collections.old }
+) -> Result<(), OutOfMemory>
     requires id { IsName id }
     requires coverage { IsValid coverage }
-    ensures finds { Finds (AppliesToSet (as_instance id) (Some collection) coverage) result }
-    ensures becomes { Becomes collections.old (with_item collection_id (with_grid id coverage collection) collections.old) result collections.new }
+    requires fits { Fits (as_instance id) collection coverage }
+    ensures put { OnOk result (collections.new ≡ with_item collection_id (with_grid id coverage collection) collections.old) }
+    ensures kept { OnErr result (collections.new ≡ collections.old) }
 {
-    check_grid(alloc, &collection, id.bytes(), &coverage)?;
     let mut collection = collection;
-    let instance = GridInstance::of(alloc, id, coverage)?;
-    collection.set_instance(alloc, instance)?;
-    collections.put(alloc, collection)?;
-    Ok(())
+    set_grid(alloc, &mut collection, id, coverage)?;
+    collections.put(alloc, collection)
 }
 
 /// Sets an instance: UnknownCollection, and then as the grid is.
@@ -77,31 +111,47 @@ pub fn set_instance(
     requires coverage { IsValid coverage }
     ensures made { IsMade collections.old (Grid collection.now id coverage) result collections.new }
 {
+    let held = held_for_grid(alloc, collections, collection, id.bytes(), &coverage)?;
+    put_with_grid(alloc, collections, held, id, coverage)?;
+    Ok(())
+}
+
+// The collection of an id, shared, where a series may become its station of an id, or the first fault.
+fn held_for_series(
+    alloc: Global,
+    collections: &ById<CollectionData>,
+    collection: &[u8],
+    id: &[u8],
+    coverage: &Coverage,
+) -> Result<CollectionData, ChangeFault>
+    requires collections { AreCollections collections.now }
+    requires coverage { IsValid coverage.now }
+    ensures finds { Finds (AppliesToSet (as_station id.now) (collection_in collections.now collection.now) coverage.now) result }
+    ensures held { IfOk result (λ held. collection_in collections.now collection.now ≡ Some held) }
+    ensures fits { IfOk result (λ held. Fits (as_station id.now) held coverage.now) }
+{
     let Some(held) = collections.item_of(collection) else {
         return Err(ChangeFault::UnknownCollection);
     };
-    let held = held.share()?;
-    set_with(alloc, collections, held, id, coverage)
+    check_series(alloc, held, id, coverage)?;
+    Ok(held.share()?)
 }
 
-// Sets a station of a collection, and sets that among the collections.
+// Sets the station that a series is, in a collection that it fits.
 fn set_series(
     alloc: Global,
-    collections: &mut ById<CollectionData>,
-    collection: CollectionData,
+    collection: &mut CollectionData,
     id: Text,
     label: Text,
     coverage: Coverage,
-) -> Result<(), ChangeFault>
-    requires collections { AreCollections collections.old }
+) -> Result<(), OutOfMemory>
     requires id { IsName id }
     requires label { IsUtf8 label }
     requires coverage { IsValid coverage }
-    ensures finds { Finds (AppliesToSet (as_station id) (Some collection) coverage) result }
-    ensures becomes { Becomes collections.old (with_item collection_id (with_series id label coverage collection) collections.old) result collections.new }
+    requires fits { Fits (as_station id) collection.old coverage }
+    ensures set { OnOk result (collection.new ≡ with_series id label coverage collection.old) }
+    ensures kept { OnErr result (collection.new ≡ collection.old) }
 {
-    check_series(alloc, &collection, id.bytes(), &coverage)?;
-    let mut collection = collection;
     let Coverage {
         id: _,
         domain,
@@ -110,9 +160,7 @@ fn set_series(
         ranges,
     } = coverage;
     let input = input_of(alloc, id, label, domain, ranges)?;
-    collection.set_station(alloc, parameters, input)?;
-    collections.put(alloc, collection)?;
-    Ok(())
+    collection.set_station(alloc, parameters, input)
 }
 
 /// Sets a station: UnknownCollection, and then as the series is.
@@ -130,11 +178,10 @@ pub fn set_station(
     requires coverage { IsValid coverage }
     ensures made { IsMade collections.old (Station collection.now id label coverage) result collections.new }
 {
-    let Some(held) = collections.item_of(collection) else {
-        return Err(ChangeFault::UnknownCollection);
-    };
-    let held = held.share()?;
-    set_series(alloc, collections, held, id, label, coverage)
+    let mut held = held_for_series(alloc, collections, collection, id.bytes(), &coverage)?;
+    set_series(alloc, &mut held, id, label, coverage)?;
+    collections.put(alloc, held)?;
+    Ok(())
 }
 
 /// Drops a collection: UnknownCollection.
@@ -221,6 +268,13 @@ fn copy_referencing(alloc: Global, referencing: &Referencing) -> Result<Referenc
     })
 }
 
+// The id and the title of the collection of bare coverages.
+fn bare_name(alloc: Global) -> Result<Text, OutOfMemory>
+    ensures { IfOk result (λ name. name ≡ codes "grid") }
+{
+    Text::of(alloc, b"grid")
+}
+
 // An empty collection for bare coverages with these systems.
 fn empty_bare_collection(
     alloc: Global,
@@ -229,8 +283,8 @@ fn empty_bare_collection(
     requires { IsReferencing referencing.now }
     ensures { IfOk result (λ collection. collection ≡ bare_collection [] referencing.now) }
 {
-    let id = Text::of(alloc, b"grid")?;
-    let title = Text::of(alloc, b"grid")?;
+    let id = bare_name(alloc)?;
+    let title = bare_name(alloc)?;
     let referencing = copy_referencing(alloc, referencing)?;
     CollectionData::empty(alloc, id, Kind::Grid, title, referencing)
 }
@@ -250,6 +304,25 @@ fn bare_collection_of(
     }
 }
 
+// The id of a bare coverage's instance and the collection that it goes to, where it may be set there, or the first fault.
+fn bare_place(
+    alloc: Global,
+    collections: &ById<CollectionData>,
+    coverage: &Coverage,
+) -> Result<(Text, CollectionData), ChangeFault>
+    requires collections { AreCollections collections.now }
+    requires coverage { IsValid coverage.now }
+    ensures finds { Finds (AppliesToSet (as_instance (codes "1")) (Some (bare_collection collections.now coverage.now.referencing)) coverage.now) result }
+    ensures id { IfOk result (λ place. place.0 ≡ codes "1") }
+    ensures held { IfOk result (λ place. place.1 ≡ bare_collection collections.now coverage.now.referencing) }
+    ensures fits { IfOk result (λ place. Fits (as_instance (codes "1")) place.1 coverage.now) }
+{
+    let id = Text::of(alloc, b"1")?;
+    let held = bare_collection_of(alloc, collections, &coverage.referencing)?;
+    check_grid(alloc, &held, id.bytes(), coverage)?;
+    Ok((id, held))
+}
+
 /// Sets a bare coverage: as the grid is.
 pub fn set_bare(
     alloc: Global,
@@ -260,7 +333,7 @@ pub fn set_bare(
     requires coverage { IsValid coverage }
     ensures made { IsMade collections.old (Bare coverage) result collections.new }
 {
-    let id = Text::of(alloc, b"1")?;
-    let collection = bare_collection_of(alloc, collections, &coverage.referencing)?;
-    set_with(alloc, collections, collection, id, coverage)
+    let (id, held) = bare_place(alloc, collections, &coverage)?;
+    put_with_grid(alloc, collections, held, id, coverage)?;
+    Ok(())
 }

@@ -1,11 +1,16 @@
 -- The coverages of the made feed in the pieces that are written one after another; for private clauses.
-use Rattle.std.specs.Prelude.{ℕ, ℤ, List, ◌++◌, Result}
+use Rattle.std.specs.Prelude.{ℕ, ℤ, codes, List, ◌++◌, Result, Some}
 use Rattle.std.specs.declared.option.Option.{Option}
 use Rattle.edr_base.specs.Calls.{Writes}
 use Rattle.edr_base.specs.declared.sending.SendFault.{SendFault}
 use Rattle.covjson_value.specs.declared.coverages.Coverage.{Coverage}
+use Rattle.covjson_value.specs.declared.coverages.Parameter.{Parameter}
 use Rattle.covjson_write.specs.declared.range_heads.RangeHead.{RangeHead}
 use Rattle.covjson_write.specs.Pieces.{coverage_begin, head_of, range_begin, range_end, values_from}
+
+-- a parameter whose label is its id
+abbrev pub parameter_over : List ℕ → List ℕ → Parameter
+parameter_over id unit = record { id = id; lang = codes "en"; label = id; unit = Some unit }
 
 -- the text of a coverage of one parameter before its values
 unfoldable pub opening : Coverage → List ℕ

@@ -105,14 +105,14 @@ fn collection_entry(alloc: Global, tree: &Value) -> Result<Entry, LineFault>
     ensures reads { ReadsEntry (line_of (codes "collection") (view tree.now)) result }
     ensures is { IfOk result IsEntry }
 {
-    let id = name_in(alloc, tree, "id")?;
     let kind = kind_in(tree)?;
-    let title = kept_text_in(alloc, tree, "title")?;
-    let crs = kept_text_in(alloc, tree, "crs")?;
     let vertical = text_if_given(alloc, tree, "vertical")?;
     if !has_members(tree, collection_members(&vertical)) {
         return Err(LineFault::NotFeedLine);
     }
+    let id = name_in(alloc, tree, "id")?;
+    let title = kept_text_in(alloc, tree, "title")?;
+    let crs = kept_text_in(alloc, tree, "crs")?;
     Ok(Entry::Change(Change::Collection {
         id,
         kind,
@@ -127,14 +127,14 @@ fn grid_entry(alloc: Global, tree: &Value) -> Result<Entry, LineFault>
     ensures reads { ReadsEntry (line_of (codes "grid") (view tree.now)) result }
     ensures is { IfOk result IsEntry }
 {
-    let collection = name_in(alloc, tree, "collection")?;
-    let instance = name_in(alloc, tree, "instance")?;
     let Some(found) = tree.get("coverage") else {
         return Err(LineFault::NotFeedLine);
     };
     if !has_members(tree, 3) {
         return Err(LineFault::NotFeedLine);
     }
+    let collection = name_in(alloc, tree, "collection")?;
+    let instance = name_in(alloc, tree, "instance")?;
     let coverage = coverage_of(alloc, found)?;
     Ok(Entry::Change(Change::Grid {
         collection,
@@ -148,15 +148,15 @@ fn station_entry(alloc: Global, tree: &Value) -> Result<Entry, LineFault>
     ensures reads { ReadsEntry (line_of (codes "station") (view tree.now)) result }
     ensures is { IfOk result IsEntry }
 {
-    let collection = name_in(alloc, tree, "collection")?;
-    let id = name_in(alloc, tree, "id")?;
-    let label = kept_text_in(alloc, tree, "label")?;
     let Some(found) = tree.get("coverage") else {
         return Err(LineFault::NotFeedLine);
     };
     if !has_members(tree, 4) {
         return Err(LineFault::NotFeedLine);
     }
+    let collection = name_in(alloc, tree, "collection")?;
+    let id = name_in(alloc, tree, "id")?;
+    let label = kept_text_in(alloc, tree, "label")?;
     let coverage = coverage_of(alloc, found)?;
     Ok(Entry::Change(Change::Station {
         collection,

@@ -1,6 +1,7 @@
 //! The coverages of the feed that is made of a number, but for their values.
-ghost use Rattle.std.specs.Prelude.{◌≡◌, ◌+◌, ◌*◌, ◌<◌, pos, [], codes, IfOk};
+ghost use Rattle.std.specs.Prelude.{◌≡◌, ◌+◌, ◌*◌, ◌<◌, pos, [], ◌∷◌, codes, None, IfOk};
 ghost use Rattle.edr_feed.specs.Made.{spaced, coverage_over, grid_domain, series_domain};
+ghost use Rattle.edr_feed.specs.MadeParts.{parameter_over};
 
 use covjson_value::{Coverage, Domain, Parameter, Referencing};
 use edr_axes::{Axis, AxisFault};
@@ -43,27 +44,54 @@ fn axis(alloc: Global, first: u32, step: u16, count: u32) -> Result<Axis, OutOfM
     }
 }
 
+// A parameter whose label is its id.
+fn parameter(alloc: Global, id: &[u8], unit: &[u8]) -> Result<Parameter, OutOfMemory>
+    ensures { IfOk result (λ parameter. parameter ≡ parameter_over id.now unit.now) }
+{
+    let unit = Text::of(alloc, unit)?;
+    let lang = Text::of(alloc, b"en")?;
+    let label = Text::of(alloc, id)?;
+    let id = Text::of(alloc, id)?;
+    Ok(Parameter {
+        id,
+        lang,
+        label,
+        unit: Some(unit),
+    })
+}
+
+// It alone.
+fn parameters(alloc: Global, id: &[u8], unit: &[u8]) -> Result<Items<Parameter>, OutOfMemory>
+    ensures { IfOk result (λ parameters. parameters ≡ parameter_over id.now unit.now ∷ []) }
+{
+    let mut parameters = Vec::new(alloc);
+    parameters.push(parameter(alloc, id, unit)?)?;
+    Ok(Items::of(parameters))
+}
+
+// A coverage by its parts, without ranges.
+fn coverage_of(alloc: Global, domain: Domain, crs: Text, parameters: Items<Parameter>) -> Coverage
+    ensures { result ≡ record { id = None; domain = domain; referencing = record { crs = crs; vertical = None }; parameters = parameters; ranges = [] } }
+{
+    Coverage {
+        id: None,
+        domain,
+        referencing: Referencing {
+            crs,
+            vertical: None,
+        },
+        parameters,
+        ranges: Items::of(Vec::new(alloc)),
+    }
+}
+
 // A coverage over a domain, without ranges.
 fn head(alloc: Global, domain: Domain, id: &[u8], unit: &[u8]) -> Result<Coverage, OutOfMemory>
     ensures { IfOk result (λ head. head ≡ coverage_over domain id.now unit.now []) }
 {
-    let mut parameters = Vec::new(alloc);
-    parameters.push(Parameter {
-        id: Text::of(alloc, id)?,
-        lang: Text::of(alloc, b"en")?,
-        label: Text::of(alloc, id)?,
-        unit: Some(Text::of(alloc, unit)?),
-    })?;
-    Ok(Coverage {
-        id: None,
-        domain,
-        referencing: Referencing {
-            crs: Text::of(alloc, b"local")?,
-            vertical: None,
-        },
-        parameters: Items::of(parameters),
-        ranges: Items::of(Vec::new(alloc)),
-    })
+    let crs = Text::of(alloc, b"local")?;
+    let parameters = parameters(alloc, id, unit)?;
+    Ok(coverage_of(alloc, domain, crs, parameters))
 }
 
 /// The grid, without its values.

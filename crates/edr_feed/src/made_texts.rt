@@ -14,7 +14,28 @@ use covjson_write::Writer;
 use edr_base::{SendFault, Sink};
 use std::alloc::Global;
 
-// Writes a coverage as far as the values of its first range.
+// Writes a coverage into a document that was begun, as far as the values of its first range.
+fn open_range<K: Sink>(
+    alloc: Global,
+    writer: &mut Writer,
+    sink: &mut K,
+    head: &Coverage,
+) -> Result<(), SendFault>
+    requires started { writer.old ≡ started false }
+    requires head { IsHead head.now }
+    ensures writer { OnOk result (writer.new ≡ with_range (with_coverage (started false) head.now)) }
+    ensures bytes { Writes result (opening head.now) (K.written sink.old) (K.written sink.new) }
+    ensures lent { SinkLent (K.beside sink.old) (K.beside sink.new) (K.faults sink.old) (K.faults sink.new) }
+    ensures cause { IsErrOf result SendFault.WriteFault → Rose (K.faults sink.old) (K.faults sink.new) }
+{
+    match writer.coverage(alloc, sink, head) {
+        Ok(()) => {}
+        Err(fault) => return Err(fault),
+    }
+    writer.range_begin(alloc, sink, 0)
+}
+
+// Begins a document of one coverage, and writes it as far as the values of its first range.
 fn begin_coverage<K: Sink>(
     alloc: Global,
     sink: &mut K,
@@ -30,11 +51,7 @@ fn begin_coverage<K: Sink>(
         Ok(writer) => writer,
         Err(fault) => return Err(fault),
     };
-    match writer.coverage(alloc, sink, head) {
-        Ok(()) => {}
-        Err(fault) => return Err(fault),
-    }
-    match writer.range_begin(alloc, sink, 0) {
+    match open_range(alloc, &mut writer, sink, head) {
         Ok(()) => Ok(writer),
         Err(fault) => Err(fault),
     }

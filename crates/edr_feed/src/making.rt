@@ -85,10 +85,10 @@ fn write_series<K: Sink>(
     ensures lent { SinkLent (K.beside sink.old) (K.beside sink.new) (K.faults sink.old) (K.faults sink.new) }
     ensures cause { IsErrOf result SendFault.WriteFault → Rose (K.faults sink.old) (K.faults sink.new) }
 {
-    let Ok(head) = series_head(alloc, times, station) else {
+    let Ok(values) = series_of(alloc, number, times, station) else {
         return Err(SendFault::OutOfMemory);
     };
-    let Ok(values) = series_of(alloc, number, times, station) else {
+    let Ok(head) = series_head(alloc, times, station) else {
         return Err(SendFault::OutOfMemory);
     };
     write_coverage(alloc, sink, &head, &values)

@@ -1,5 +1,5 @@
 //! What an edition has, in one line.
-ghost use Rattle.std.specs.Prelude.{◌≡◌, ◌+◌, ◌++◌, [], ℤ, List, Option, length, IfOk, OnOk};
+ghost use Rattle.std.specs.Prelude.{◌≡◌, ◌+◌, ◌++◌, [], codes, ℤ, List, Option, length, IfOk, OnOk};
 ghost use Rattle.std.specs.Fmt.{decimal, signed_decimal};
 ghost use Rattle.edr_station.specs.Tallies.{tally_of, and_of};
 ghost use Rattle.edr_feed.specs.Summaries.{instances_of, samples_of, stations_of, series_of, tally_text, summary_line};
@@ -123,18 +123,40 @@ fn push_sum(line: &mut Vec<u8>, sum: i128) -> Result<(), OutOfMemory>
     Ok(())
 }
 
+// Words, and a number behind them.
+fn push_counted(line: &mut Vec<u8>, words: &[u8], count: u64) -> Result<(), OutOfMemory>
+    ensures { OnOk result (line.new.items ≡ line.old.items ++ words.now ++ decimal count) }
+{
+    line.extend_from_slice(words)?;
+    push_count(line, count)
+}
+
 // What is said of the samples, behind a line that has a beginning.
 fn push_tally(line: &mut Vec<u8>, tally: Tally) -> Result<(), OutOfMemory>
     ensures { OnOk result (line.new.items ≡ tally_text line.old.items tally) }
 {
-    line.extend_from_slice(b", samples ")?;
-    push_count(line, tally.samples)?;
-    line.extend_from_slice(b", present ")?;
-    push_count(line, tally.present)?;
+    push_counted(line, b", samples ", tally.samples)?;
+    push_counted(line, b", present ", tally.present)?;
     line.extend_from_slice(b", sum ")?;
     push_sum(line, tally.sum)?;
     line.push(b'\n')?;
     Ok(())
+}
+
+// The number of an edition, and how many collections, instances and stations it has.
+fn push_counts(
+    line: &mut Vec<u8>,
+    edition: &Edition,
+    instances: usize,
+    stations: usize,
+) -> Result<(), OutOfMemory>
+    ensures { OnOk result (line.new.items ≡ line.old.items ++ codes "edition " ++ decimal edition.now.number ++ codes ": collections " ++ decimal (length edition.now.collections)
+        ++ codes ", instances " ++ decimal instances ++ codes ", stations " ++ decimal stations) }
+{
+    push_counted(line, b"edition ", edition.number())?;
+    push_counted(line, b": collections ", edition.len() as u64)?;
+    push_counted(line, b", instances ", instances as u64)?;
+    push_counted(line, b", stations ", stations as u64)
 }
 
 /// The line `edition N: collections A, instances B, stations C, samples D, present E, sum F` and a line feed: B and C count the
@@ -148,14 +170,7 @@ pub fn summary(alloc: Global, edition: &Edition) -> Result<Text, OutOfMemory>
     let stations = station_totals(alloc, edition)?;
     let tally = whole_tally(instances.tally, stations.tally)?;
     let mut line = Vec::new(alloc);
-    line.extend_from_slice(b"edition ")?;
-    push_count(&mut line, edition.number())?;
-    line.extend_from_slice(b": collections ")?;
-    push_count(&mut line, edition.len() as u64)?;
-    line.extend_from_slice(b", instances ")?;
-    push_count(&mut line, instances.count as u64)?;
-    line.extend_from_slice(b", stations ")?;
-    push_count(&mut line, stations.count as u64)?;
+    push_counts(&mut line, edition, instances.count, stations.count)?;
     push_tally(&mut line, tally)?;
     Ok(Text::from_vec(line))
 }

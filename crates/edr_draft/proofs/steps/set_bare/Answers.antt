@@ -1,16 +1,29 @@
 use Rattle.std.proofs.Common.{sym, subst}
 use Rattle.edr_base.specs.Names.{IsName}
+use Rattle.edr_draft.specs.declared.changes.Change.TheVariants.{Bare}
+use Rattle.edr_draft.specs.Changes.{as_instance}
+use Rattle.edr_draft.specs.Steps.{Fits}
 use Rattle.edr_draft.proofs.CollectionLaws.{one_is_name}
-use Rattle.edr_draft.proofs.StepLaws.{bare_is_made}
+use Rattle.edr_draft.proofs.StepLaws.{becomes_with_bare, still_made}
 use Rattle.edr_draft.proofs.steps.set_bare.Goals as goal
 
-pub set_with-requires-clause-id : goal.set_with-requires-clause-id
-set_with-requires-clause-id c = subst IsName (sym c.in_ok-id.ensures) one_is_name
+pub put_with_grid-requires-clause-id : goal.put_with_grid-requires-clause-id
+put_with_grid-requires-clause-id c = subst IsName (sym c.in_ok-id.ensures.id) one_is_name
+
+pub put_with_grid-requires-clause-fits : goal.put_with_grid-requires-clause-fits
+put_with_grid-requires-clause-fits c = subst (λ i. Fits (as_instance i) c.in_ok-id.held c.args.coverage) (sym c.in_ok-id.ensures.id) c.in_ok-id.ensures.fits
+
+pub returns-in_err-id : goal.returns-in_err-id
+returns-in_err-id c =
+    record { made = still_made c.args.collections.now (Bare c.args.coverage) c.from_residual.result c.in_err-id.field-0.0 c.from_residual.ensures.1 c.in_err-id.ensures.finds }
 
 pub returns : goal.returns
 returns c =
     record {
-      made =
-          bare_is_made c.set_with.result c.args.collections.now c.set_with.new.collections c.in_ok-id.id c.args.coverage c.in_ok-collection.collection
-          (sym c.in_ok-collection.ensures) c.in_ok-id.ensures c.set_with.ensures.finds c.set_with.ensures.becomes;
+      made = record {
+        finds = c.in_ok-id.ensures.finds;
+        becomes =
+            becomes_with_bare c.args.collections.now c.put_with_grid.new.collections c.in_ok-id.id c.args.coverage c.in_ok-id.held c.in_ok-id.ensures.held c.in_ok-id.ensures.id
+            c.in_ok-put_with_grid.ensures.put;
+      };
     }

@@ -1,15 +1,34 @@
-use Rattle.std.proofs.Common.{Some, refl, sym, ap, ◌∙◌}
-use Rattle.edr_draft.proofs.StepLaws.{set_is_made, set_unknown}
+use Rattle.std.proofs.Common.{◌≢◌, subst}
+use Rattle.edr_base.specs.FirstThatApplies.{IsLeast, NoneApplies}
+use Rattle.edr_draft.specs.declared.changes.Change.TheVariants.{Grid}
+use Rattle.edr_draft.specs.declared.changes.ChangeFault.TheVariants.{OutOfMemory}
+use Rattle.edr_draft.specs.Changes.{rank, as_instance, collection_in, AppliesToSet}
+use Rattle.edr_draft.specs.Steps.{Fits}
+use Rattle.edr_draft.proofs.StepLaws.{becomes_with_grid, still_made}
 use Rattle.edr_draft.proofs.steps.set_instance.Goals as goal
 
-pub returns-in_default : goal.returns-in_default
-returns-in_default c =
-    record { made = record { finds = λ _. set_unknown c.args.collections.now c.args.collection.now c.args.id c.args.coverage (sym c.in_default.ensures); becomes = refl } }
+pub put_with_grid-requires-clause-fits : goal.put_with_grid-requires-clause-fits
+put_with_grid-requires-clause-fits c = subst (λ i. Fits (as_instance i) c.in_ok-held.held c.args.coverage) c.bytes.ensures c.in_ok-held.ensures.fits
+
+pub returns-in_err-held : goal.returns-in_err-held
+returns-in_err-held c =
+    let there = collection_in c.args.collections.now c.args.collection.now in
+    let coverage = c.args.coverage in
+    let fault = c.in_err-held.field-0.0 in
+    record {
+      made =
+          still_made c.args.collections.now (Grid c.args.collection.now c.args.id coverage) c.from_residual.result fault c.from_residual.ensures.1
+          (subst (λ i. fault ≢ OutOfMemory → IsLeast rank (AppliesToSet (as_instance i) there coverage) fault) c.bytes.ensures c.in_err-held.ensures.finds);
+    }
 
 pub returns : goal.returns
 returns c =
+    let cs = c.args.collections.now in
+    let collection = c.args.collection.now in
+    let coverage = c.args.coverage in
     record {
-      made =
-          set_is_made c.set_with.result c.args.collections.now c.set_with.new.collections c.args.collection.now c.args.id c.args.coverage c.in_ok-held.held
-          (sym c.in-Some.ensures ∙ ap Some (sym c.in_ok-held.ensures)) c.set_with.ensures.finds c.set_with.ensures.becomes;
+      made = record {
+        finds = subst (λ i. NoneApplies (AppliesToSet (as_instance i) (collection_in cs collection) coverage)) c.bytes.ensures c.in_ok-held.ensures.finds;
+        becomes = becomes_with_grid cs c.put_with_grid.new.collections collection c.args.id coverage c.in_ok-held.held c.in_ok-held.ensures.held c.in_ok-put_with_grid.ensures.put;
+      };
     }

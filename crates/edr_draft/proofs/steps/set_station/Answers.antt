@@ -1,15 +1,38 @@
-use Rattle.std.proofs.Common.{Some, refl, sym, ap, ◌∙◌}
-use Rattle.edr_draft.proofs.StepLaws.{series_is_made, series_unknown}
+use Rattle.std.proofs.Common.{◌≢◌, ap, ◌∙◌, subst}
+use Rattle.edr_base.specs.FirstThatApplies.{IsLeast, NoneApplies}
+use Rattle.edr_ids.specs.Ids.{with_item}
+use Rattle.edr_edition.specs.Values.{collection_id}
+use Rattle.edr_draft.specs.declared.changes.Change.TheVariants.{Station}
+use Rattle.edr_draft.specs.declared.changes.ChangeFault.TheVariants.{OutOfMemory}
+use Rattle.edr_draft.specs.Changes.{rank, as_station, collection_in, AppliesToSet}
+use Rattle.edr_draft.specs.Steps.{Fits}
+use Rattle.edr_draft.proofs.StepLaws.{becomes_with_series, still_made}
 use Rattle.edr_draft.proofs.steps.set_station.Goals as goal
 
-pub returns-in_default : goal.returns-in_default
-returns-in_default c =
-    record { made = record { finds = λ _. series_unknown c.args.collections.now c.args.collection.now c.args.id c.args.label c.args.coverage (sym c.in_default.ensures); becomes = refl } }
+pub set_series-requires-clause-fits : goal.set_series-requires-clause-fits
+set_series-requires-clause-fits c = subst (λ i. Fits (as_station i) c.in_ok-held.held c.args.coverage) c.bytes.ensures c.in_ok-held.ensures.fits
+
+pub returns-in_err-held : goal.returns-in_err-held
+returns-in_err-held c =
+    let there = collection_in c.args.collections.now c.args.collection.now in
+    let coverage = c.args.coverage in
+    let fault = c.in_err-held.field-0.0 in
+    record {
+      made =
+          still_made c.args.collections.now (Station c.args.collection.now c.args.id c.args.label coverage) c.from_residual.result fault c.from_residual.ensures.1
+          (subst (λ i. fault ≢ OutOfMemory → IsLeast rank (AppliesToSet (as_station i) there coverage) fault) c.bytes.ensures c.in_err-held.ensures.finds);
+    }
 
 pub returns : goal.returns
 returns c =
+    let cs = c.args.collections.now in
+    let collection = c.args.collection.now in
+    let coverage = c.args.coverage in
     record {
-      made =
-          series_is_made c.set_series.result c.args.collections.now c.set_series.new.collections c.args.collection.now c.args.id c.args.label c.args.coverage c.in_ok-held.held
-          (sym c.in-Some.ensures ∙ ap Some (sym c.in_ok-held.ensures)) c.set_series.ensures.finds c.set_series.ensures.becomes;
+      made = record {
+        finds = subst (λ i. NoneApplies (AppliesToSet (as_station i) (collection_in cs collection) coverage)) c.bytes.ensures c.in_ok-held.ensures.finds;
+        becomes =
+            becomes_with_series cs c.put.new.self collection c.args.id c.args.label coverage c.in_ok-held.held c.in_ok-held.ensures.held
+            (c.in_ok-put.ensures.put ∙ ap (λ b. with_item collection_id b cs) c.in_ok-set_series.ensures.set);
+      };
     }

@@ -10,13 +10,13 @@ use Rattle.edr_feed.proofs.forms.collection_entry.Goals as goal
 pub returns-in_err-id-clause-reads : goal.returns-in_err-id-clause-reads
 returns-in_err-id-clause-reads c =
     let d = view c.args.tree.now in
-    let p = err_from_is_err_and c.from_residual.result c.from_residual.ensures.1 in
+    let p = err_from_is_err_and c.from_residual-in_err-id.result c.from_residual-in_err-id.ensures.1 in
     rw (p.1, p.2) (no_entry_by (HasName (codes "id") d) (line_of (codes "collection") d) _ c.in_err-id.ensures (λ outline. let adds = (collection_outline d outline).1 in (adds.id, adds.parts.has_id)))
 
 pub returns-in_err-kind-clause-reads : goal.returns-in_err-kind-clause-reads
 returns-in_err-kind-clause-reads c =
     let d = view c.args.tree.now in
-    let p = err_from_is_err_and c.from_residual-in_err-kind.result c.from_residual-in_err-kind.ensures.1 in
+    let p = err_from_is_err_and c.from_residual.result c.from_residual.ensures.1 in
     rw (p.1, p.2) (no_entry_by (HasKind d) (line_of (codes "collection") d) _ c.in_err-kind.ensures (λ outline. let adds = (collection_outline d outline).1 in (adds.kind, adds.parts.has_kind)))
 
 pub returns-in_err-title-clause-reads : goal.returns-in_err-title-clause-reads
