@@ -4,6 +4,7 @@ ghost use Rattle.std.specs.Fmt.{signed_decimal};
 ghost use Rattle.form_urlencoded.specs.Form.{append_pair};
 ghost use Rattle.edr_wkt.specs.Spelling.{joined, spelled};
 ghost use Rattle.edr_query.specs.declared.parameters.Parameter.TheVariants as p;
+ghost use Rattle.edr_query.specs.declared.shapes.Shape.TheVariants.{Radius, Corridor};
 ghost use Rattle.edr_query.specs.Distances.{numbers_with};
 ghost use Rattle.edr_query.specs.Spelling.{metres_unit};
 ghost use Rattle.edr_target.specs.Forms.{with_pair, with_place};
@@ -61,6 +62,34 @@ fn push_height(form: &mut Vec<u8>, alloc: Global, height: Option<i64>) -> Result
     }
 }
 
+// Within a distance of a geometry.
+fn push_radius(
+    form: &mut Vec<u8>,
+    alloc: Global,
+    geometry: &Geometry,
+    within: i64,
+) -> Result<(), OutOfMemory>
+    ensures { OnOk result (form.new.items ≡ with_place form.old.items (Radius geometry.now within)) }
+{
+    push_coords(form, alloc, geometry)?;
+    push_distance(form, alloc, b"within", b"within-units", within)
+}
+
+// Along a geometry, by a width and a height.
+fn push_corridor(
+    form: &mut Vec<u8>,
+    alloc: Global,
+    geometry: &Geometry,
+    width: i64,
+    height: Option<i64>,
+) -> Result<(), OutOfMemory>
+    ensures { OnOk result (form.new.items ≡ with_place form.old.items (Corridor geometry.now width height)) }
+{
+    push_coords(form, alloc, geometry)?;
+    push_distance(form, alloc, b"corridor-width", b"width-units", width)?;
+    push_height(form, alloc, height)
+}
+
 /// Puts the pairs that say where a query selects.
 pub fn push_place(form: &mut Vec<u8>, alloc: Global, shape: &Shape) -> Result<(), OutOfMemory>
     ensures { OnOk result (form.new.items ≡ with_place form.old.items shape.now) }
@@ -69,20 +98,13 @@ pub fn push_place(form: &mut Vec<u8>, alloc: Global, shape: &Shape) -> Result<()
         Shape::Position(geometry) | Shape::Area(geometry) | Shape::Trajectory(geometry) => {
             push_coords(form, alloc, geometry)
         }
-        Shape::Radius { geometry, within } => {
-            push_coords(form, alloc, geometry)?;
-            push_distance(form, alloc, b"within", b"within-units", *within)
-        }
+        Shape::Radius { geometry, within } => push_radius(form, alloc, geometry, *within),
         Shape::Cube { lo, hi, levels } => push_box(form, alloc, *lo, *hi, *levels),
         Shape::Corridor {
             geometry,
             width,
             height,
-        } => {
-            push_coords(form, alloc, geometry)?;
-            push_distance(form, alloc, b"corridor-width", b"width-units", *width)?;
-            push_height(form, alloc, *height)
-        }
+        } => push_corridor(form, alloc, geometry, *width, *height),
         Shape::Location(_) => Ok(()),
     }
 }

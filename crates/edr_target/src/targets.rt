@@ -1,8 +1,9 @@
 //! The written form of a query.
 ghost use Rattle.std.specs.Prelude.{◌≡◌, ◌++◌, [], Ok, IfOk, OnOk};
 ghost use Rattle.edr_query.specs.declared.pages.Page.TheVariants.{Ask};
+ghost use Rattle.edr_query.specs.Paths.{path_text};
 ghost use Rattle.edr_query.specs.Queries.{IsQuery};
-ghost use Rattle.edr_query.specs.Spelling.{pairs_of, query_text, spell};
+ghost use Rattle.edr_query.specs.Spelling.{address_of, pairs_of, query_text, spell};
 ghost use Rattle.edr_query.specs.Targets.{IsTarget};
 ghost use Rattle.form_urlencoded.specs.Form.{extend_pairs};
 
@@ -46,6 +47,14 @@ fn push_query(text: &mut Vec<u8>, alloc: Global, query: &Query) -> Result<(), Ou
     Ok(())
 }
 
+// The path that a query is asked at.
+fn path_at(alloc: Global, query: &Query) -> Result<Text, OutOfMemory>
+    ensures { IfOk result (λ path. path ≡ path_text (address_of query.now)) }
+{
+    let address = address_of(alloc, query)?;
+    path_of(alloc, &address)
+}
+
 /// The target that asks a query, as it is written (OGC 19-086r6, sections 7 and 8): its path, in whose ids all bytes are
 /// escaped but letters, digits, `-`, `.`, `_` and `~`; and, where it has any, `?` and its parameters as forms write them,
 /// in the order coords, within, within-units, bbox, corridor-width, width-units, corridor-height, height-units, datetime,
@@ -58,8 +67,7 @@ pub fn target_of(alloc: Global, query: &Query) -> Result<Text, OutOfMemory>
 {
     written_queries_read_back();
     query_stands(query);
-    let address = address_of(alloc, query)?;
-    let path = path_of(alloc, &address)?;
+    let path = path_at(alloc, query)?;
     let mut text = Vec::from_slice(alloc, path.bytes())?;
     push_query(&mut text, alloc, query)?;
     Ok(Text::from_vec(text))

@@ -30,13 +30,21 @@ pub fn number_text(alloc: Global, number: i64) -> Result<Vec<u8>, OutOfMemory>
     Ok(text)
 }
 
+// Puts a number behind a comma.
+fn push_next(text: &mut Vec<u8>, number: i64) -> Result<(), OutOfMemory>
+    ensures { OnOk result (text.new.items ≡ text.old.items ++ 44 ∷ signed_decimal number) }
+{
+    text.push(b',')?;
+    push_number(text, number)?;
+    Ok(())
+}
+
 // Puts numbers, each behind a comma.
 fn push_more(text: &mut Vec<u8>, numbers: &[i64]) -> Result<(), OutOfMemory>
     ensures { OnOk result (text.new.items ≡ text.old.items ++ flat_map (λ number. 44 ∷ signed_decimal number) numbers.now) }
 {
     for number in numbers {
-        text.push(b',')?;
-        push_number(text, *number)?;
+        push_next(text, *number)?;
     }
     Ok(())
 }
@@ -108,14 +116,23 @@ fn push_two(text: &mut Vec<u8>, one: i64, other: i64) -> Result<(), OutOfMemory>
     Ok(())
 }
 
+// Three numbers with slashes between them.
+fn push_three(text: &mut Vec<u8>, n: i64, first: i64, step: i64) -> Result<(), OutOfMemory>
+    ensures { OnOk result (text.new.items ≡ text.old.items ++ (signed_decimal n ++ 47 ∷ (signed_decimal first ++ 47 ∷ signed_decimal step))) }
+{
+    push_number(text, n)?;
+    text.push(b'/')?;
+    push_two(text, first, step)?;
+    Ok(())
+}
+
 // A series: `R` and three numbers with slashes between them.
 fn push_series(text: &mut Vec<u8>, n: i64, first: i64, step: i64) -> Result<(), OutOfMemory>
     ensures { OnOk result (text.new.items ≡ text.old.items ++ levels_text (Series n first step)) }
 {
     text.push(b'R')?;
-    push_number(text, n)?;
-    text.push(b'/')?;
-    push_two(text, first, step)
+    push_three(text, n, first, step)?;
+    Ok(())
 }
 
 /// Levels as they are written: a number, `min/max`, `a,b` or `Rn/min/step`; nothing for all levels.
