@@ -1,8 +1,9 @@
 -- How many values and coverages the stations along a corridor have that are gathered so far.
-use Rattle.std.proofs.Common.{◌≡◌, ℕ, suc, ◌+◌, ◌*◌, ◌<◌, true, false, List, [], ◌∷◌, ◌++◌, length, refl, ap₂, sym, ◌∙◌, arith, inl, inr, zero-mul, length-append}
+use Rattle.std.proofs.Common.{◌≡◌, ℕ, suc, ◌+◌, ◌*◌, ◌<◌, true, false, List, [], ◌∷◌, ◌++◌, length, refl, ap, ap₂, sym, ◌∙◌, arith, inl, inr, zero-mul, length-append}
 use Rattle.std.specs.declared.option.Option.{Option}
-use Rattle.std.specs.Prelude.{map, nat_le, nat_lt, sum_by}
+use Rattle.std.specs.Prelude.{map, ◌&&◌, nat_le, nat_lt, sum_by}
 use Rattle.std.proofs.lemmas.Bool.{and_parts, and_cases, leb-true, leb-false, ltb-true, ltb-false}
+use Rattle.std.proofs.lemmas.Bool.Decides.{nat_tests}
 use Rattle.std.proofs.lemmas.List.{length-map}
 use Rattle.std.proofs.lemmas.List.Sums.{sum_by-cons, sum_by-append, sum_by_push}
 use Rattle.covjson_value.specs.declared.coverages.NdArray.{NdArray}
@@ -56,8 +57,12 @@ no_room n g s v is room same =
       | inr full ↦ inr (omega (arith, push_length g.series s, ltb-false (length g.series) coverage_limit full))
     ]
 
-pub too_many_values : (n : ℕ) (xs : List GappedSeriesValue) (s : GappedSeriesValue) → value_limit < n * length s.cells → IsTooMany n (xs ++ s ∷ [])
-too_many_values n xs s above = inl (omega (arith, above, values_push n xs s))
+-- more values than a reply has find no room
+pub none_fit : (g : GatheredValue) (v : ℕ) → value_limit < v → has_room g v ≡ false
+none_fit g v above = ap (λ b. b && nat_lt (length g.series) coverage_limit) (le_false (g.values + v) value_limit (omega (arith, above)))
+  where
+    le_false : (a b : ℕ) → b < a → nat_le a b ≡ false
+    le_false a b h = grind (arith, nat_tests, h)
 
 -- ---- the sizes of coverages
 

@@ -1,5 +1,5 @@
 -- The coverages of the stations along a corridor, one after the other.
-use Rattle.std.proofs.Common.{◌≡◌, ℕ, ◌+◌, ◌*◌, ◌<◌, true, false, cond, List, [], ◌∷◌, ◌++◌, length, take, drop, get_or, ap, ap₂, sym, ◌∙◌, subst, arith}
+use Rattle.std.proofs.Common.{◌≡◌, ℕ, ◌+◌, ◌*◌, ◌<◌, true, false, cond, List, [], ◌∷◌, ◌++◌, length, take, drop, get_or, ap, ap₂, sym, ◌∙◌, subst}
 use Rattle.std.specs.declared.option.Option.{Option}
 use Rattle.std.specs.List.{flat_map}
 use Rattle.std.proofs.lemmas.Grind.{flat_map-append}
@@ -9,12 +9,11 @@ use Rattle.edr_edition.specs.Values.{CollectionValue}
 use Rattle.edr_query.specs.Values.{QueryValue}
 use Rattle.edr_select.specs.Choices.{parameter_places}
 use Rattle.edr_select.specs.Gaps.{GappedSeriesValue}
-use Rattle.edr_select.specs.Limits.{value_limit}
 use Rattle.edr_select.specs.Stacks.{SidesValue}
 use Rattle.edr_plan.specs.StationPlans.{ChoiceValue}
 use Rattle.edr_plan.specs.CorridorPlans.{CorridorValue, choice_along, choice_in, cells_along, is_taken, gapped_with, gapped_of, gapped_where_taken, value_count, IsTooMany, GatheredValue, IsGathered, has_room, with_series}
 use Rattle.edr_plan.proofs.GappedCells.{along_count}
-use Rattle.edr_plan.proofs.GappedSizes.{room_is, no_room, too_many_values, too_many_front}
+use Rattle.edr_plan.proofs.GappedSizes.{room_is, no_room, too_many_front}
 
 -- ---- a station more
 
@@ -37,12 +36,6 @@ module _ (collection : CollectionValue) (q : QueryValue) (c : CorridorValue) (k 
   count_is =
       ap (λ n. length parameters * n)
       (ap (λ (choice : ChoiceValue). length choice.times * length choice.levels) is ∙ sym (along_count q c (station_at collection.stations k)))
-
-  -- its values alone are too many
-  pub too_many_alone : (old : List GappedSeriesValue) → value_limit < value_count (length parameters) sides → IsTooMany (length parameters) (old ++ gapped_where_taken collection q c k)
-  too_many_alone old above =
-      subst (λ (more : List GappedSeriesValue). IsTooMany (length parameters) (old ++ more)) where_is
-      (too_many_values (length parameters) old planned (omega (arith, above, count_is)))
 
   module _ (gathered : GatheredValue) (values : ℕ) (so_far : IsGathered (length parameters) gathered) (counted : values ≡ value_count (length parameters) sides) where
     -- there is no room for it

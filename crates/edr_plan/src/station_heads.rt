@@ -1,5 +1,6 @@
 //! The heads of stations' coverages.
 ghost use Rattle.std.specs.Prelude.{◌≡◌, ◌<◌, All, length, IfOk};
+ghost use Rattle.edr_plan.specs.StationPlans as plans;
 ghost use Rattle.edr_plan.specs.StationPlans.{domain_of, head_of_station, IsChoiceOf};
 
 use crate::station_choices::{StationChoice, station_stands};
@@ -30,6 +31,16 @@ fn domain_of(
     }
 }
 
+// A coverage with an id.
+fn with_id(id: Text, head: Coverage) -> Coverage
+    ensures { result ≡ plans.with_id id head }
+{
+    Coverage {
+        id: Some(id),
+        ..head
+    }
+}
+
 // The head of a station's coverage, which has the station's id.
 pub(crate) fn head_at(
     alloc: Global,
@@ -42,6 +53,7 @@ pub(crate) fn head_at(
     requires parameters { All (λ place. place < length collection.now.parameters) parameters.now }
     ensures { IfOk result (λ head. head ≡ head_of_station collection.now parameters.now station.now choice.now) }
 {
+    let id = Text::of(alloc, station.id())?;
     let domain = domain_of(alloc, station, choice)?;
     let head = head_of(
         alloc,
@@ -50,9 +62,5 @@ pub(crate) fn head_at(
         parameters,
         domain,
     )?;
-    let id = Text::of(alloc, station.id())?;
-    Ok(Coverage {
-        id: Some(id),
-        ..head
-    })
+    Ok(with_id(id, head))
 }

@@ -75,7 +75,11 @@ fn answer_query<K: Sink>(
     ensures cause { IsErrOf result AnswerFault.WriteFault → Rose (K.faults sink.old) (K.faults sink.new) }
 {
     match plan(alloc, query, edition) {
-        Ok(plan) => answer_planned(alloc, &plan, query, edition, sink),
+        Ok(plan) => {
+            let outcome = answer_planned(alloc, &plan, query, edition, sink);
+            drop(plan);
+            outcome
+        }
         Err(PlanFault::Refused(refusal)) => Err(AnswerFault::Refused(refusal)),
         Err(PlanFault::OutOfMemory) => Err(AnswerFault::OutOfMemory),
     }
@@ -138,7 +142,11 @@ pub fn answer<K: Sink>(
     ensures cause { IsErrOf result AnswerFault.WriteFault → Rose (K.faults sink.old) (K.faults sink.new) }
 {
     match read_target(alloc, target) {
-        Ok(page) => answer_page(alloc, &page, edition, sink),
+        Ok(page) => {
+            let outcome = answer_page(alloc, &page, edition, sink);
+            drop(page);
+            outcome
+        }
         Err(TargetFault::Refused(refusal)) => Err(AnswerFault::Refused(refusal)),
         Err(TargetFault::OutOfMemory) => Err(AnswerFault::OutOfMemory),
     }

@@ -122,7 +122,10 @@ fn answer_page<K: Sink, E: Editions>(
 {
     match shelf.take() {
         Ok(edition) => reply_from(alloc, sink, page, &edition, is_head, end),
-        Err(_) => Err(SendFault::OutOfMemory),
+        Err(_) => {
+            drop(page);
+            Err(SendFault::OutOfMemory)
+        }
     }
 }
 

@@ -159,7 +159,11 @@ fn reply_query<K: Sink>(
     ensures cause { IsErrOf result SendFault.WriteFault → Rose (K.faults sink.old) (K.faults sink.new) }
 {
     match plan_of(alloc, query, edition) {
-        Ok(plan) => reply_planned(alloc, sink, &plan, edition, number, is_head, close),
+        Ok(plan) => {
+            let outcome = reply_planned(alloc, sink, &plan, edition, number, is_head, close);
+            drop(plan);
+            outcome
+        }
         Err(PlanFault::Refused(refusal)) => {
             reply_refused(alloc, sink, refusal, number, is_head, close)
         }
@@ -207,6 +211,10 @@ pub(crate) fn reply_page<K: Sink>(
     let number = Some(edition.number());
     match page {
         Page::Ask(query) => reply_query(alloc, sink, query, edition, number, is_head, close),
-        page => reply_unopened(alloc, sink, &page, edition, number, is_head, close),
+        page => {
+            let outcome = reply_unopened(alloc, sink, &page, edition, number, is_head, close);
+            drop(page);
+            outcome
+        }
     }
 }

@@ -10,9 +10,9 @@ returns-in-Err-Refused-clause-bytes g c =
 pub returns-in-Err-OutOfMemory-clause-bytes : goal.returns-in-Err-OutOfMemory-clause-bytes
 returns-in-Err-OutOfMemory-clause-bytes g c = nothing_written _ _ _ _
 
-pub reply_planned-requires : goal.reply_planned-requires
-reply_planned-requires g c = plan_own c.args.edition.now c.args.query c.in-Ok.plan c.in-Ok.ensures
+pub reply_planned-outcome-requires : goal.reply_planned-outcome-requires
+reply_planned-outcome-requires g c = plan_own c.args.edition.now c.args.query c.in-Ok.plan c.in-Ok.ensures
 
 pub returns-in-Ok-clause-bytes : goal.returns-in-Ok-clause-bytes
 returns-in-Ok-clause-bytes g c =
-    plan_written c.reply_planned.result _ _ c.args.edition.now c.args.query c.in-Ok.plan c.args.number c.args.is_head c.args.close c.in-Ok.ensures c.reply_planned.ensures.bytes
+    plan_written c.reply_planned-outcome.result _ _ c.args.edition.now c.args.query c.in-Ok.plan c.args.number c.args.is_head c.args.close c.in-Ok.ensures c.reply_planned-outcome.ensures.bytes
