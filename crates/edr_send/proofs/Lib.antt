@@ -7,6 +7,7 @@ mod Puts
 mod SlotLists
 mod TextSteps
 mod TileSteps
+mod WriterSteps
 mod BandLaws
 mod RunSteps
 mod PlansOfOne

@@ -1,5 +1,5 @@
 //! A reply over a frame, whose values are written strip by strip: those of its rows in one row of tiles, at one time and level.
-ghost use Rattle.std.specs.Prelude.{◌≡◌, ◌<◌, ◌≤◌, ◌+◌, ◌-◌, ◌/◌, ◌*◌, ◌++◌, true, false, length, map, slice_index_or, OnOk, IsErrOf};
+ghost use Rattle.std.specs.Prelude.{◌≡◌, ◌<◌, ◌≤◌, ◌+◌, ◌-◌, ◌/◌, ◌*◌, ◌++◌, true, false, All, length, map, OnOk, IsErrOf};
 ghost use Rattle.std.specs.List.{flat_map};
 ghost use Rattle.edr_base.specs.Outside.{Rose};
 ghost use Rattle.edr_base.specs.Calls.{SinkLent, Writes};
@@ -8,7 +8,7 @@ ghost use Rattle.covjson_write.specs.Pieces.{values_from, range_end, range_piece
 ghost use Rattle.covjson_write.specs.Writers.{with_values, without_range};
 ghost use Rattle.edr_chunk.specs.Tiles.{tiles};
 ghost use Rattle.edr_select.specs.Samples.{ascending_once};
-ghost use Rattle.edr_select.specs.Listings.{tiles_of_range};
+ghost use Rattle.edr_select.specs.Listings.{tiles_of_range, NumbersRise};
 ghost use Rattle.edr_send.specs.Filling.{grid_of, Adds};
 ghost use Rattle.edr_select.specs.Framings.{strip_cells, plane_cells, frame_cells, taken, cell_value, framed_range, framed_tiles};
 ghost use Rattle.edr_send.specs.FrameTexts.{framed_coverage_text, framed_text};
@@ -173,30 +173,78 @@ fn write_range<K: Sink>(
     sink: &mut K,
     framing: &Framing,
     number: usize,
+    parameter: u64,
     values: &mut Vec<Option<i64>>,
 ) -> Result<(), SendFault>
     requires grid { framing.now.shape ≡ (grid_of store.old.subject.held).shape }
-    requires number { number < length framing.now.parameters }
+    requires parameter { parameter < framing.now.shape.parameters }
     requires within { writer.old.stage ≡ Within }
     requires next { number ≡ writer.old.ranges }
     requires one { number < length writer.old.head.keys }
     requires whole { length (frame_cells framing.now.frame) ≡ writer.old.head.count }
-    ensures bytes { Writes result (range_piece writer.old.head number (framed_range (grid_of store.old.subject.held) framing.now.frame (slice_index_or framing.now.parameters number 0)).values) (K.written sink.old) (K.written sink.new) }
+    ensures bytes { Writes result (range_piece writer.old.head number (framed_range (grid_of store.old.subject.held) framing.now.frame parameter).values) (K.written sink.old) (K.written sink.new) }
     ensures writer { OnOk result (writer.new ≡ without_range writer.old) }
-    ensures reads { Adds result (ascending_once (tiles framing.now.shape) (tiles_of_range framing.now.shape (taken (frame_cells framing.now.frame)) (slice_index_or framing.now.parameters number 0))) store.old.numbers store.new.numbers }
+    ensures reads { Adds result (ascending_once (tiles framing.now.shape) (tiles_of_range framing.now.shape (taken (frame_cells framing.now.frame)) parameter)) store.old.numbers store.new.numbers }
     ensures subject { store.new.subject ≡ store.old.subject }
     ensures lent { SinkLent (K.beside sink.old) (K.beside sink.new) (K.faults sink.old) (K.faults sink.new) }
     ensures cause { IsErrOf result SendFault.WriteFault → Rose (K.faults sink.old) (K.faults sink.new) }
 {
-    framing_stands(framing);
-    let parameter = framing.parameters.items()[number];
     match writer.range_begin(alloc, sink, number) {
         Ok(()) => write_filled(alloc, store, writer, sink, framing, parameter, values),
         Err(fault) => Err(fault),
     }
 }
 
-// Writes the ranges of all parameters. Each strip takes the memory of the one before.
+// Writes the ranges of some parameters. Each strip takes the memory of the one before.
+fn write_parameters<K: Sink>(
+    alloc: Global,
+    store: &mut Store<'_>,
+    writer: &mut Writer,
+    sink: &mut K,
+    framing: &Framing,
+    parameters: &[u64],
+) -> Result<(), SendFault>
+    requires grid { framing.now.shape ≡ (grid_of store.old.subject.held).shape }
+    requires parameters { All (λ parameter. parameter < framing.now.shape.parameters) parameters.now }
+    requires rise { NumbersRise parameters.now }
+    requires within { writer.old.stage ≡ Within }
+    requires none { writer.old.ranges ≡ 0 }
+    requires some { 0 < length parameters.now }
+    requires each { length writer.old.head.keys ≡ length parameters.now }
+    requires whole { length (frame_cells framing.now.frame) ≡ writer.old.head.count }
+    ensures bytes { Writes result (ranges_from writer.old.head 0 (map (framed_range (grid_of store.old.subject.held) framing.now.frame) parameters.now)) (K.written sink.old) (K.written sink.new) }
+    ensures stage { OnOk result (writer.new.stage ≡ Ready) }
+    ensures many { OnOk result (writer.new.many ≡ writer.old.many) }
+    ensures begun { OnOk result (writer.new.begun ≡ writer.old.begun) }
+    ensures reads { Adds result (ascending_once (tiles framing.now.shape) (flat_map (tiles_of_range framing.now.shape (taken (frame_cells framing.now.frame))) parameters.now)) store.old.numbers store.new.numbers }
+    ensures subject { store.new.subject ≡ store.old.subject }
+    ensures lent { SinkLent (K.beside sink.old) (K.beside sink.new) (K.faults sink.old) (K.faults sink.new) }
+    ensures cause { IsErrOf result SendFault.WriteFault → Rose (K.faults sink.old) (K.faults sink.new) }
+{
+    framing_stands(framing);
+    tiles_are_numbered();
+    numbers_tell_places();
+    let mut values = Vec::new(alloc);
+    for number in 0..parameters.len() {
+        let parameter = parameters[number];
+        match write_range(
+            alloc,
+            store,
+            writer,
+            sink,
+            framing,
+            number,
+            parameter,
+            &mut values,
+        ) {
+            Ok(()) => {}
+            Err(fault) => return Err(fault),
+        }
+    }
+    Ok(())
+}
+
+// Writes the ranges of all parameters of a framing.
 fn write_ranges<K: Sink>(
     alloc: Global,
     store: &mut Store<'_>,
@@ -220,16 +268,8 @@ fn write_ranges<K: Sink>(
     ensures cause { IsErrOf result SendFault.WriteFault → Rose (K.faults sink.old) (K.faults sink.new) }
 {
     framing_stands(framing);
-    tiles_are_numbered();
-    numbers_tell_places();
-    let mut values = Vec::new(alloc);
-    for number in 0..framing.parameters.items().len() {
-        match write_range(alloc, store, writer, sink, framing, number, &mut values) {
-            Ok(()) => {}
-            Err(fault) => return Err(fault),
-        }
-    }
-    Ok(())
+    let parameters = framing.parameters.items();
+    write_parameters(alloc, store, writer, sink, framing, parameters)
 }
 
 // Writes the one coverage of a framing.

@@ -1,5 +1,5 @@
 //! Planes: the values of a frame at one time and level, which are written strip by strip: those of its rows in one row of tiles.
-ghost use Rattle.std.specs.Prelude.{◌≡◌, ◌<◌, ◌≤◌, ◌+◌, ◌-◌, ◌/◌, ◌*◌, ◌^◌, length, map, OnOk, IsErrOf};
+ghost use Rattle.std.specs.Prelude.{◌≡◌, ◌<◌, ◌≤◌, ◌+◌, ◌-◌, ◌/◌, ◌*◌, ◌^◌, length, map, min, max, OnOk, IsErrOf};
 ghost use Rattle.edr_base.specs.Outside.{Rose};
 ghost use Rattle.edr_base.specs.Calls.{SinkLent, Writes};
 ghost use Rattle.covjson_write.specs.declared.stages.Stage.TheVariants.{Open};
@@ -62,6 +62,15 @@ fn write_strip<K: Sink>(
     }
 }
 
+// Where the rows of a frame in a row of tiles begin.
+fn strip_edge(frame: &Frame, down: u32) -> u32
+    requires down { down < 2 ^ 26 }
+    requires rows { frame.now.row + frame.now.rows < 2 ^ 32 }
+    ensures { result ≡ min (max (down * 64) frame.now.row) (frame.now.row + frame.now.rows) }
+{
+    (down * 64).max(frame.row).min(frame.row + frame.rows)
+}
+
 // Writes the values of a frame at a time and a level, strip by strip.
 pub(crate) fn write_strips<K: Sink>(
     alloc: Global,
@@ -96,8 +105,8 @@ pub(crate) fn write_strips<K: Sink>(
     let row = frame.row;
     let end = row + frame.rows;
     for down in row / 64..(end + 63) / 64 {
-        let from = (down * 64).max(row);
-        let to = (down * 64 + 64).min(end);
+        let from = strip_edge(frame, down);
+        let to = strip_edge(frame, down + 1);
         match write_strip(
             alloc, store, writer, sink, shape, frame, parameter, t, z, from, to, values,
         ) {

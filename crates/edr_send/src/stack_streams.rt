@@ -1,5 +1,6 @@
 //! A reply over a stack, whose values are written plane by plane, and those of a plane strip by strip.
-ghost use Rattle.std.specs.Prelude.{◌≡◌, ◌<◌, ◌≤◌, ◌+◌, ◌*◌, ◌++◌, [], ◌∷◌, true, false, length, map, slice_index_or, slice_range, IfOk, OnOk, IsErrOf};
+ghost use Rattle.std.specs.Prelude.{◌≡◌, ◌<◌, ◌≤◌, ◌+◌, ◌*◌, ◌++◌, [], ◌∷◌, true, false, All, length, map, slice_range, IfOk, OnOk, IsErrOf};
+ghost use Rattle.std.specs.List.{flat_map};
 ghost use Rattle.edr_base.specs.Limits.{node_limit};
 ghost use Rattle.edr_base.specs.Outside.{Rose};
 ghost use Rattle.edr_base.specs.Calls.{SinkLent, Writes};
@@ -8,7 +9,7 @@ ghost use Rattle.covjson_write.specs.Pieces.{values_from, range_end, range_piece
 ghost use Rattle.covjson_write.specs.Writers.{with_values, without_range};
 ghost use Rattle.edr_chunk.specs.Tiles.{tiles};
 ghost use Rattle.edr_select.specs.Samples.{ascending_once};
-ghost use Rattle.edr_select.specs.Listings.{tiles_of_range};
+ghost use Rattle.edr_select.specs.Listings.{tiles_of_range, NumbersRise};
 ghost use Rattle.edr_send.specs.Filling.{grid_of, Adds};
 ghost use Rattle.edr_select.specs.Framings.{taken, cell_value};
 ghost use Rattle.edr_select.specs.Stacks.{stack_count, plane_at, cells_of_plane, cells_of_time, stack_cells, stacked_range, stacked_tiles};
@@ -228,30 +229,78 @@ fn write_range<K: Sink>(
     sink: &mut K,
     stacking: &Stacking,
     number: usize,
+    parameter: u64,
     values: &mut Vec<Option<i64>>,
 ) -> Result<(), SendFault>
     requires grid { stacking.now.shape ≡ (grid_of store.old.subject.held).shape }
-    requires number { number < length stacking.now.parameters }
+    requires parameter { parameter < stacking.now.shape.parameters }
     requires within { writer.old.stage ≡ Within }
     requires next { number ≡ writer.old.ranges }
     requires one { number < length writer.old.head.keys }
     requires whole { length (stack_cells stacking.now.stack) ≡ writer.old.head.count }
-    ensures bytes { Writes result (range_piece writer.old.head number (stacked_range (grid_of store.old.subject.held) stacking.now.stack (slice_index_or stacking.now.parameters number 0)).values) (K.written sink.old) (K.written sink.new) }
+    ensures bytes { Writes result (range_piece writer.old.head number (stacked_range (grid_of store.old.subject.held) stacking.now.stack parameter).values) (K.written sink.old) (K.written sink.new) }
     ensures writer { OnOk result (writer.new ≡ without_range writer.old) }
-    ensures reads { Adds result (ascending_once (tiles stacking.now.shape) (tiles_of_range stacking.now.shape (taken (stack_cells stacking.now.stack)) (slice_index_or stacking.now.parameters number 0))) store.old.numbers store.new.numbers }
+    ensures reads { Adds result (ascending_once (tiles stacking.now.shape) (tiles_of_range stacking.now.shape (taken (stack_cells stacking.now.stack)) parameter)) store.old.numbers store.new.numbers }
     ensures subject { store.new.subject ≡ store.old.subject }
     ensures lent { SinkLent (K.beside sink.old) (K.beside sink.new) (K.faults sink.old) (K.faults sink.new) }
     ensures cause { IsErrOf result SendFault.WriteFault → Rose (K.faults sink.old) (K.faults sink.new) }
 {
-    stacking_stands(stacking);
-    let parameter = stacking.parameters.items()[number];
     match writer.range_begin(alloc, sink, number) {
         Ok(()) => write_filled(alloc, store, writer, sink, stacking, parameter, values),
         Err(fault) => Err(fault),
     }
 }
 
-// Writes the ranges of all parameters. Each strip takes the memory of the one before.
+// Writes the ranges of some parameters. Each strip takes the memory of the one before.
+fn write_parameters<K: Sink>(
+    alloc: Global,
+    store: &mut Store<'_>,
+    writer: &mut Writer,
+    sink: &mut K,
+    stacking: &Stacking,
+    parameters: &[u64],
+) -> Result<(), SendFault>
+    requires grid { stacking.now.shape ≡ (grid_of store.old.subject.held).shape }
+    requires parameters { All (λ parameter. parameter < stacking.now.shape.parameters) parameters.now }
+    requires rise { NumbersRise parameters.now }
+    requires within { writer.old.stage ≡ Within }
+    requires none { writer.old.ranges ≡ 0 }
+    requires some { 0 < length parameters.now }
+    requires each { length writer.old.head.keys ≡ length parameters.now }
+    requires whole { length (stack_cells stacking.now.stack) ≡ writer.old.head.count }
+    ensures bytes { Writes result (ranges_from writer.old.head 0 (map (stacked_range (grid_of store.old.subject.held) stacking.now.stack) parameters.now)) (K.written sink.old) (K.written sink.new) }
+    ensures stage { OnOk result (writer.new.stage ≡ Ready) }
+    ensures many { OnOk result (writer.new.many ≡ writer.old.many) }
+    ensures begun { OnOk result (writer.new.begun ≡ writer.old.begun) }
+    ensures reads { Adds result (ascending_once (tiles stacking.now.shape) (flat_map (tiles_of_range stacking.now.shape (taken (stack_cells stacking.now.stack))) parameters.now)) store.old.numbers store.new.numbers }
+    ensures subject { store.new.subject ≡ store.old.subject }
+    ensures lent { SinkLent (K.beside sink.old) (K.beside sink.new) (K.faults sink.old) (K.faults sink.new) }
+    ensures cause { IsErrOf result SendFault.WriteFault → Rose (K.faults sink.old) (K.faults sink.new) }
+{
+    stacking_stands(stacking);
+    tiles_are_numbered();
+    numbers_tell_places();
+    let mut values = Vec::new(alloc);
+    for number in 0..parameters.len() {
+        let parameter = parameters[number];
+        match write_range(
+            alloc,
+            store,
+            writer,
+            sink,
+            stacking,
+            number,
+            parameter,
+            &mut values,
+        ) {
+            Ok(()) => {}
+            Err(fault) => return Err(fault),
+        }
+    }
+    Ok(())
+}
+
+// Writes the ranges of all parameters of a stacking.
 fn write_ranges<K: Sink>(
     alloc: Global,
     store: &mut Store<'_>,
@@ -275,16 +324,8 @@ fn write_ranges<K: Sink>(
     ensures cause { IsErrOf result SendFault.WriteFault → Rose (K.faults sink.old) (K.faults sink.new) }
 {
     stacking_stands(stacking);
-    tiles_are_numbered();
-    numbers_tell_places();
-    let mut values = Vec::new(alloc);
-    for number in 0..stacking.parameters.items().len() {
-        match write_range(alloc, store, writer, sink, stacking, number, &mut values) {
-            Ok(()) => {}
-            Err(fault) => return Err(fault),
-        }
-    }
-    Ok(())
+    let parameters = stacking.parameters.items();
+    write_parameters(alloc, store, writer, sink, stacking, parameters)
 }
 
 // Writes the one coverage of a stacking.

@@ -1,23 +1,26 @@
 //! A reply of one coverage whose values are written as they are read.
-ghost use Rattle.std.specs.Prelude.{◌≡◌, ◌<◌, ◌++◌, true, false, length, map, slice_index_or, OnOk, IsErrOf};
+ghost use Rattle.std.specs.Prelude.{◌≡◌, ◌<◌, ◌^◌, ◌++◌, true, false, All, length, map, OnOk, IsErrOf};
+ghost use Rattle.std.specs.List.{flat_map};
 ghost use Rattle.edr_base.specs.Outside.{Rose};
 ghost use Rattle.edr_base.specs.Calls.{SinkLent, Writes};
 ghost use Rattle.serde_json.specs.Written.{comma_if};
 ghost use Rattle.covjson_write.specs.declared.stages.Stage.TheVariants.{Ready, Within, Open};
 ghost use Rattle.covjson_write.specs.Pieces.{values_from, range_end, range_piece, ranges_from, coverage_begin, head_of, coverages_from, document_end};
 ghost use Rattle.covjson_write.specs.Writers.{without_range};
+ghost use Rattle.edr_chunk.specs.Places as places;
+ghost use Rattle.edr_chunk.specs.Places.{IsShape, count};
 ghost use Rattle.edr_chunk.specs.Tiles.{tiles};
 ghost use Rattle.edr_select.specs.Samples.{ascending_once};
-ghost use Rattle.edr_select.specs.Listings.{range_over, coverage_of, tiles_of_range, tiles_of_coverage, listing_tiles, IsPlanned, NumbersRise};
+ghost use Rattle.edr_select.specs.Listings.{place_at, range_over, coverage_of, tiles_of_range, tiles_of_coverage, listing_tiles, IsPlanned, NumbersRise};
 ghost use Rattle.edr_send.specs.Filling.{grid_of, Adds};
 ghost use Rattle.edr_send.specs.Bands.{BandsRise, Rises, listing_text};
 
 use crate::value_runs::{Run, write_runs};
 use covjson_write::Writer;
 use edr_base::{SendFault, Sink};
-use edr_chunk::{numbers_tell_places, tiles_are_numbered};
+use edr_chunk::{GridShape, numbers_tell_places, tiles_are_numbered};
 use edr_edition::Store;
-use edr_select::{Listing, Planned, listing_stands};
+use edr_select::{GridNode, Listing, Planned, listing_stands};
 use std::alloc::Global;
 
 // Writes the values of the open range of a parameter, and the end of it.
@@ -27,38 +30,29 @@ fn write_filled<K: Sink>(
     store: &mut Store<'_>,
     writer: &mut Writer,
     sink: &mut K,
-    listing: &Listing,
+    shape: GridShape,
     parameter: u64,
-    planned: &Planned,
+    cells: &[GridNode],
     run: &mut Run,
 ) -> Result<(), SendFault>
-    requires grid { listing.now.shape ≡ (grid_of store.old.subject.held).shape }
-    requires parameter { parameter < listing.now.shape.parameters }
-    requires planned { IsPlanned listing.now.shape listing.now.parameters planned.now }
-    requires rise { BandsRise listing.now.shape planned.now.cells }
+    requires grid { shape ≡ (grid_of store.old.subject.held).shape }
+    requires shape { IsShape shape }
+    requires fits { count shape < 2 ^ 64 }
+    requires parameter { parameter < shape.parameters }
+    requires cells { All (λ cell. places.Within shape (place_at 0 cell)) cells.now }
+    requires rise { BandsRise shape cells.now }
     requires open { writer.old.stage ≡ Open }
     requires none { writer.old.values ≡ 0 }
     requires one { writer.old.ranges < length writer.old.head.keys }
-    requires whole { length planned.now.cells ≡ writer.old.head.count }
-    ensures bytes { Writes result (values_from 0 (range_over (grid_of store.old.subject.held) planned.now.cells parameter).values ++ range_end writer.old.head writer.old.ranges) (K.written sink.old) (K.written sink.new) }
+    requires whole { length cells.now ≡ writer.old.head.count }
+    ensures bytes { Writes result (values_from 0 (range_over (grid_of store.old.subject.held) cells.now parameter).values ++ range_end writer.old.head writer.old.ranges) (K.written sink.old) (K.written sink.new) }
     ensures writer { OnOk result (writer.new ≡ without_range writer.old) }
-    ensures reads { Adds result (ascending_once (tiles listing.now.shape) (tiles_of_range listing.now.shape planned.now.cells parameter)) store.old.numbers store.new.numbers }
+    ensures reads { Adds result (ascending_once (tiles shape) (tiles_of_range shape cells.now parameter)) store.old.numbers store.new.numbers }
     ensures subject { store.new.subject ≡ store.old.subject }
     ensures lent { SinkLent (K.beside sink.old) (K.beside sink.new) (K.faults sink.old) (K.faults sink.new) }
     ensures cause { IsErrOf result SendFault.WriteFault → Rose (K.faults sink.old) (K.faults sink.new) }
 {
-    listing_stands(listing);
-    let cells = planned.cells.items();
-    match write_runs(
-        alloc,
-        store,
-        writer,
-        sink,
-        listing.shape,
-        parameter,
-        cells,
-        run,
-    ) {
+    match write_runs(alloc, store, writer, sink, shape, parameter, cells, run) {
         Ok(()) => writer.range_end(sink),
         Err(fault) => Err(fault),
     }
@@ -71,35 +65,85 @@ fn write_range<K: Sink>(
     store: &mut Store<'_>,
     writer: &mut Writer,
     sink: &mut K,
-    listing: &Listing,
+    shape: GridShape,
     number: usize,
-    planned: &Planned,
+    parameter: u64,
+    cells: &[GridNode],
     run: &mut Run,
 ) -> Result<(), SendFault>
-    requires grid { listing.now.shape ≡ (grid_of store.old.subject.held).shape }
-    requires number { number < length listing.now.parameters }
-    requires planned { IsPlanned listing.now.shape listing.now.parameters planned.now }
-    requires rise { BandsRise listing.now.shape planned.now.cells }
+    requires grid { shape ≡ (grid_of store.old.subject.held).shape }
+    requires shape { IsShape shape }
+    requires fits { count shape < 2 ^ 64 }
+    requires parameter { parameter < shape.parameters }
+    requires cells { All (λ cell. places.Within shape (place_at 0 cell)) cells.now }
+    requires rise { BandsRise shape cells.now }
     requires within { writer.old.stage ≡ Within }
     requires next { number ≡ writer.old.ranges }
     requires one { number < length writer.old.head.keys }
-    requires whole { length planned.now.cells ≡ writer.old.head.count }
-    ensures bytes { Writes result (range_piece writer.old.head number (range_over (grid_of store.old.subject.held) planned.now.cells (slice_index_or listing.now.parameters number 0)).values) (K.written sink.old) (K.written sink.new) }
+    requires whole { length cells.now ≡ writer.old.head.count }
+    ensures bytes { Writes result (range_piece writer.old.head number (range_over (grid_of store.old.subject.held) cells.now parameter).values) (K.written sink.old) (K.written sink.new) }
     ensures writer { OnOk result (writer.new ≡ without_range writer.old) }
-    ensures reads { Adds result (ascending_once (tiles listing.now.shape) (tiles_of_range listing.now.shape planned.now.cells (slice_index_or listing.now.parameters number 0))) store.old.numbers store.new.numbers }
+    ensures reads { Adds result (ascending_once (tiles shape) (tiles_of_range shape cells.now parameter)) store.old.numbers store.new.numbers }
     ensures subject { store.new.subject ≡ store.old.subject }
     ensures lent { SinkLent (K.beside sink.old) (K.beside sink.new) (K.faults sink.old) (K.faults sink.new) }
     ensures cause { IsErrOf result SendFault.WriteFault → Rose (K.faults sink.old) (K.faults sink.new) }
 {
-    listing_stands(listing);
-    let parameter = listing.parameters.items()[number];
     match writer.range_begin(alloc, sink, number) {
-        Ok(()) => write_filled(alloc, store, writer, sink, listing, parameter, planned, run),
+        Ok(()) => write_filled(alloc, store, writer, sink, shape, parameter, cells, run),
         Err(fault) => Err(fault),
     }
 }
 
-// Writes the ranges of all parameters.
+// Writes the ranges of some parameters, of each at the same nodes.
+fn write_parameters<K: Sink>(
+    alloc: Global,
+    store: &mut Store<'_>,
+    writer: &mut Writer,
+    sink: &mut K,
+    shape: GridShape,
+    parameters: &[u64],
+    cells: &[GridNode],
+) -> Result<(), SendFault>
+    requires grid { shape ≡ (grid_of store.old.subject.held).shape }
+    requires shape { IsShape shape }
+    requires fits { count shape < 2 ^ 64 }
+    requires parameters { All (λ parameter. parameter < shape.parameters) parameters.now }
+    requires numbers { NumbersRise parameters.now }
+    requires cells { All (λ cell. places.Within shape (place_at 0 cell)) cells.now }
+    requires rise { BandsRise shape cells.now }
+    requires within { writer.old.stage ≡ Within }
+    requires none { writer.old.ranges ≡ 0 }
+    requires some { 0 < length parameters.now }
+    requires each { length writer.old.head.keys ≡ length parameters.now }
+    requires whole { length cells.now ≡ writer.old.head.count }
+    ensures bytes { Writes result (ranges_from writer.old.head 0 (map (range_over (grid_of store.old.subject.held) cells.now) parameters.now)) (K.written sink.old) (K.written sink.new) }
+    ensures stage { OnOk result (writer.new.stage ≡ Ready) }
+    ensures many { OnOk result (writer.new.many ≡ writer.old.many) }
+    ensures begun { OnOk result (writer.new.begun ≡ writer.old.begun) }
+    ensures reads { Adds result (ascending_once (tiles shape) (flat_map (tiles_of_range shape cells.now) parameters.now)) store.old.numbers store.new.numbers }
+    ensures subject { store.new.subject ≡ store.old.subject }
+    ensures lent { SinkLent (K.beside sink.old) (K.beside sink.new) (K.faults sink.old) (K.faults sink.new) }
+    ensures cause { IsErrOf result SendFault.WriteFault → Rose (K.faults sink.old) (K.faults sink.new) }
+{
+    tiles_are_numbered();
+    numbers_tell_places();
+    let mut run = Run {
+        slots: Vec::new(alloc),
+        values: Vec::new(alloc),
+    };
+    for number in 0..parameters.len() {
+        let parameter = parameters[number];
+        match write_range(
+            alloc, store, writer, sink, shape, number, parameter, cells, &mut run,
+        ) {
+            Ok(()) => {}
+            Err(fault) => return Err(fault),
+        }
+    }
+    Ok(())
+}
+
+// Writes the ranges of all parameters of a listing.
 fn write_ranges<K: Sink>(
     alloc: Global,
     store: &mut Store<'_>,
@@ -127,21 +171,9 @@ fn write_ranges<K: Sink>(
     ensures cause { IsErrOf result SendFault.WriteFault → Rose (K.faults sink.old) (K.faults sink.new) }
 {
     listing_stands(listing);
-    tiles_are_numbered();
-    numbers_tell_places();
-    let mut run = Run {
-        slots: Vec::new(alloc),
-        values: Vec::new(alloc),
-    };
-    for number in 0..listing.parameters.items().len() {
-        match write_range(
-            alloc, store, writer, sink, listing, number, planned, &mut run,
-        ) {
-            Ok(()) => {}
-            Err(fault) => return Err(fault),
-        }
-    }
-    Ok(())
+    let parameters = listing.parameters.items();
+    let cells = planned.cells.items();
+    write_parameters(alloc, store, writer, sink, listing.shape, parameters, cells)
 }
 
 // Writes the one coverage of a listing.

@@ -33,6 +33,17 @@ nodes_of c = has_nodes (counts_of (axes_of c.args.instance.now)) (takes c.in_ok-
 pub sides_taken-requires-clause-few : goal.sides_taken-requires-clause-few
 sides_taken-requires-clause-few c = axes_few c.args.instance.now c.requires.asked.grid c.of_grid-axes.result c.of_grid-axes.ensures
 
+pub sides_taken-requires-clause-levels : goal.sides_taken-requires-clause-levels
+sides_taken-requires-clause-levels c =
+    levels_there c.args.collection.now c.args.query.now c.args.instance.now c.in_ok-corridor.corridor (along_of (goal.at.sides_taken-requires-clause-levels c).In_ok-corridor)
+    c.of_grid-axes.result c.of_grid-axes.ensures c.in_ok-parameters.ensures.levels
+
+pub sides_taken-requires-clause-ys_in : goal.sides_taken-requires-clause-ys_in
+sides_taken-requires-clause-ys_in c = ys_placed c.args.instance.now c.requires.asked.grid c.of_grid-axes.result c.of_grid-axes.ensures
+
+pub sides_taken-requires-clause-xs_in : goal.sides_taken-requires-clause-xs_in
+sides_taken-requires-clause-xs_in c = xs_placed c.args.instance.now c.requires.asked.grid c.of_grid-axes.result c.of_grid-axes.ensures
+
 pub returns-in_default-clause-refused : goal.returns-in_default-clause-refused
 returns-in_default-clause-refused c =
     c.in_ok-parameters.ensures.known

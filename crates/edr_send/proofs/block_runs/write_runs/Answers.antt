@@ -20,6 +20,7 @@ use Rattle.edr_send.proofs.BlockRuns.{InOne, cut_next, run_one, run_rise, run_te
 use Rattle.edr_send.proofs.TextSteps.{all_but_same, all_but_on, all_but_front, all_but_all, writes_fault}
 use Rattle.edr_send.proofs.TileSteps.{length-range}
 use Rattle.edr_send.proofs.RunSteps.{values_next, with_none, with_more}
+use Rattle.edr_send.proofs.WriterSteps.{lent_on, rose_on}
 use Rattle.edr_send.proofs.block_runs.write_runs.Goals as goal
 
 pub loop-at-init : goal.loop-at-init
@@ -86,7 +87,7 @@ loop-at-preserved g c =
           c.args.store.now.numbers c.loop-at.store.numbers c.write_run.new.store.numbers c.loop-at.invariant.reads
           (c.in-Ok.ensures.reads.all ∙ ap (λ (l : List ℕ). c.loop-at.store.numbers ++ l) (run_blocks c.loop-at.store.subject subject series p (slice_range c.items-cells.result.now at next) (slice_range cells at next) c.loop-at.invariant.subject part))
           (run_next collection series c.requires.over.station p c.requires.parameter at next c.requires.over.rise c.loop-at.invariant.cut more);
-      lent = search rules;
+      lent = lent_on c.loop-at.invariant.lent c.write_run.ensures.lent;
     }
 
 pub returns-in-Err-clause-bytes : goal.returns-in-Err-clause-bytes
@@ -148,3 +149,12 @@ returns-clause-reads g c =
     let past : length series.cells ≤ c.loop-at.at = subst (λ (l : List ℕ). length l ≤ c.loop-at.at) listed c.loop-at-test.false in
     adds_all (Ok tt) (ascending_once n (map (block_at series c.args.parameter) (take c.loop-at.at series.cells))) (ascending_once n (map (block_at series c.args.parameter) series.cells))
     c.args.store.now.numbers c.loop-at.store.numbers (ap (λ (l : List ℕ). ascending_once n (map (block_at series c.args.parameter) l)) (take_all c.loop-at.at series.cells past)) c.loop-at.invariant.reads
+
+pub returns-in-Err-clause-lent : goal.returns-in-Err-clause-lent
+returns-in-Err-clause-lent g c = lent_on c.loop-at.invariant.lent c.write_run.ensures.lent
+
+pub returns-in-Err-clause-cause : goal.returns-in-Err-clause-cause
+returns-in-Err-clause-cause g c = λ is. rose_on (g.K.Faults.faults c.write_run.new.sink) c.loop-at.invariant.lent (c.in-Err.ensures.cause is)
+
+pub returns-clause-lent : goal.returns-clause-lent
+returns-clause-lent g c = c.loop-at.invariant.lent

@@ -11,6 +11,7 @@ use Rattle.edr_select.specs.Gaps.{GappedSeriesValue, gapped_range}
 use Rattle.edr_send.specs.SeriesTexts.{collection_of}
 use Rattle.edr_send.specs.GapTexts.{station_of}
 use Rattle.edr_send.proofs.TextSteps.{writes_third, writes_two}
+use Rattle.edr_send.proofs.WriterSteps.{lent_on, rose_on}
 use Rattle.edr_send.proofs.gapped_streams.write_coverage.Goals as goal
 
 pub returns-in-Ok-clause-bytes : goal.returns-in-Ok-clause-bytes
@@ -40,3 +41,21 @@ returns-in-Err-clause-bytes g c =
     let front : Front (comma_if w.begun ++ coverage_begin c.series.inside.head) (written c.args.sink.now) (written c.coverage.new.sink) = c.coverage.ensures.bytes.front in
     writes_two (Unit {0}) c.in-Err.fault (written c.args.sink.now) (written c.coverage.new.sink) (comma_if w.begun) (coverage_begin h) (ranges_from (head_of h) 0 ranges)
     (subst (λ (x : Coverage). Front (comma_if w.begun ++ coverage_begin x) (written c.args.sink.now) (written c.coverage.new.sink)) same front)
+
+pub returns-in-Ok-clause-lent : goal.returns-in-Ok-clause-lent
+returns-in-Ok-clause-lent g c = lent_on c.coverage.ensures.lent c.write_ranges.ensures.lent
+
+pub returns-in-Ok-clause-cause : goal.returns-in-Ok-clause-cause
+returns-in-Ok-clause-cause g c = λ is. rose_on (g.K.Faults.faults c.write_ranges.new.sink) c.coverage.ensures.lent (c.write_ranges.ensures.cause is)
+
+pub returns-in-Err-clause-lent : goal.returns-in-Err-clause-lent
+returns-in-Err-clause-lent g c = c.coverage.ensures.lent
+
+pub returns-in-Err-clause-cause : goal.returns-in-Err-clause-cause
+returns-in-Err-clause-cause g c = c.in-Err.ensures.cause
+
+pub write_ranges-requires-clause-within : goal.write_ranges-requires-clause-within
+write_ranges-requires-clause-within g c = ap (λ (s : WriterValue). s.stage) c.in-Ok.ensures.writer
+
+pub write_ranges-requires-clause-none : goal.write_ranges-requires-clause-none
+write_ranges-requires-clause-none g c = ap (λ (s : WriterValue). s.ranges) c.in-Ok.ensures.writer

@@ -19,6 +19,7 @@ use Rattle.edr_send.proofs.Cuts.{later_next}
 use Rattle.edr_send.proofs.TextSteps.{all_but_same, all_but_on, all_but_front, all_but_all, writes_fault}
 use Rattle.edr_send.proofs.SeriesSteps.{item_next, item_whole, coverages_next}
 use Rattle.edr_send.proofs.GapSteps.{coverage_blocks_told, coverage_written, coverage_told}
+use Rattle.edr_send.proofs.WriterSteps.{lent_on, rose_on}
 use Rattle.edr_send.proofs.gapped_streams.write_coverages.Goals as goal
 
 pub loop-series-init : goal.loop-series-init
@@ -72,7 +73,7 @@ loop-series-preserved g c =
           c.args.store.now.numbers c.loop-series.store.numbers c.write_coverage.new.store.numbers c.loop-series.invariant.reads
           (opened ∙ ap (λ (l : List ℕ). c.loop-series.store.numbers ++ l) read)
           (item_next n b all i series inside (stations_parted collection ps c.requires.over.asked all c.requires.over.each c.gapped_reply_stands.ensures.rise i series));
-      lent = search rules;
+      lent = lent_on c.loop-series.invariant.lent c.write_coverage.ensures.lent;
     }
 
 pub returns-in-Err-clause-bytes : goal.returns-in-Err-clause-bytes
@@ -128,3 +129,12 @@ returns-clause-reads g c =
     let past : length all ≤ c.loop-series.series-index = search rules in
     adds_all (Ok tt) (ascending_once n (flat_map b (take c.loop-series.series-index all))) (ascending_once n (flat_map b all)) c.args.store.now.numbers c.loop-series.store.numbers
     (ap (λ (l : List GappedSeriesValue). ascending_once n (flat_map b l)) (take_all c.loop-series.series-index all past)) c.loop-series.invariant.reads
+
+pub returns-in-Err-clause-lent : goal.returns-in-Err-clause-lent
+returns-in-Err-clause-lent g c = lent_on c.loop-series.invariant.lent c.write_coverage.ensures.lent
+
+pub returns-in-Err-clause-cause : goal.returns-in-Err-clause-cause
+returns-in-Err-clause-cause g c = λ is. rose_on (g.K.Faults.faults c.write_coverage.new.sink) c.loop-series.invariant.lent (c.in-Err.ensures.cause is)
+
+pub returns-clause-lent : goal.returns-clause-lent
+returns-clause-lent g c = c.loop-series.invariant.lent

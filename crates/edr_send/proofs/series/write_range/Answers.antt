@@ -5,6 +5,7 @@ use Rattle.covjson_write.specs.Pieces.{values_from, range_begin, range_end}
 use Rattle.covjson_write.specs.Writers.{WriterValue}
 use Rattle.edr_select.specs.Series.{StationSeriesValue, series_range}
 use Rattle.edr_send.specs.SeriesTexts.{collection_of, station_of}
+use Rattle.edr_send.proofs.WriterSteps.{lent_on, rose_on}
 use Rattle.edr_send.proofs.series.write_range.Goals as goal
 
 pub returns-in-Ok-clause-bytes : goal.returns-in-Ok-clause-bytes
@@ -17,3 +18,15 @@ returns-in-Ok-clause-bytes g c =
     writes_on c.write_filled.result (written c.args.sink.now) (written c.range_begin.new.sink) (written c.write_filled.new.sink) (range_begin w.head n) (text ++ range_end w.head n) c.in-Ok.ensures.bytes.whole
     (subst (λ (k : ℕ). Writes c.write_filled.result (text ++ range_end w.head k) (written c.range_begin.new.sink) (written c.write_filled.new.sink)) (sym c.requires.next)
     (subst (λ (s : WriterValue). Writes c.write_filled.result (text ++ range_end s.head s.ranges) (written c.range_begin.new.sink) (written c.write_filled.new.sink)) c.in-Ok.ensures.writer c.write_filled.ensures.bytes))
+
+pub returns-in-Ok-clause-lent : goal.returns-in-Ok-clause-lent
+returns-in-Ok-clause-lent g c = lent_on c.range_begin.ensures.lent c.write_filled.ensures.lent
+
+pub returns-in-Ok-clause-cause : goal.returns-in-Ok-clause-cause
+returns-in-Ok-clause-cause g c = λ is. rose_on (g.K.Faults.faults c.write_filled.new.sink) c.range_begin.ensures.lent (c.write_filled.ensures.cause is)
+
+pub returns-in-Err-clause-lent : goal.returns-in-Err-clause-lent
+returns-in-Err-clause-lent g c = c.range_begin.ensures.lent
+
+pub returns-in-Err-clause-cause : goal.returns-in-Err-clause-cause
+returns-in-Err-clause-cause g c = c.in-Err.ensures.cause

@@ -21,6 +21,7 @@ use Rattle.edr_send.proofs.Cuts.{stage_within, stage_ready}
 use Rattle.edr_send.proofs.TextSteps.{all_but_same, all_but_on, all_but_front, all_but_all, writes_fault}
 use Rattle.edr_send.proofs.RunSteps.{ranges_next}
 use Rattle.edr_send.proofs.SeriesSteps.{item_next, item_whole, range_told, blocks_told}
+use Rattle.edr_send.proofs.WriterSteps.{lent_on, rose_on}
 use Rattle.edr_send.proofs.series.write_ranges.Goals as goal
 
 pub loop-number-init : goal.loop-number-init
@@ -79,7 +80,7 @@ loop-number-preserved g c =
       reads = added_on (ascending_once n (flat_map b (take i ps))) (ascending_once n (b (get_or ps i 0))) (ascending_once n (flat_map b (take (i + 1) ps)))
           c.args.store.now.numbers c.loop-number.store.numbers c.write_range.new.store.numbers c.loop-number.invariant.reads read
           (item_next n b ps i 0 inside (parameters_parted collection series c.requires.over.station ps i c.requires.rise c.requires.asked));
-      lent = search rules;
+      lent = lent_on c.loop-number.invariant.lent c.write_range.ensures.lent;
     }
 
 pub returns-in-Err-clause-bytes : goal.returns-in-Err-clause-bytes
@@ -129,3 +130,12 @@ returns-clause-reads g c =
     let b : ℕ → List ℕ = blocks_of_range c.args.series.now in
     adds_all (Ok tt) (ascending_once n (flat_map b (take c.loop-number.number ps))) (ascending_once n (flat_map b ps)) c.args.store.now.numbers c.loop-number.store.numbers
     (ap (λ (l : List ℕ). ascending_once n (flat_map b l)) (take_all c.loop-number.number ps c.loop-number-test.false)) c.loop-number.invariant.reads
+
+pub returns-in-Err-clause-lent : goal.returns-in-Err-clause-lent
+returns-in-Err-clause-lent g c = lent_on c.loop-number.invariant.lent c.write_range.ensures.lent
+
+pub returns-in-Err-clause-cause : goal.returns-in-Err-clause-cause
+returns-in-Err-clause-cause g c = λ is. rose_on (g.K.Faults.faults c.write_range.new.sink) c.loop-number.invariant.lent (c.in-Err.ensures.cause is)
+
+pub returns-clause-lent : goal.returns-clause-lent
+returns-clause-lent g c = c.loop-number.invariant.lent

@@ -1,114 +1,42 @@
-use Rattle.std.proofs.Common.{rules, ◌≡◌, ◌++◌, ◌+◌, ◌<◌, ℕ, List, length, take, drop, get_or, subst, ap, sym, ◌∙◌, refl, arith, append-nil}
+use Rattle.std.proofs.Common.{◌≡◌, ◌<◌, ℕ, List, All, length, subst, sym, ap, ◌∙◌}
 use Rattle.std.specs.Prelude.{map}
 use Rattle.std.specs.List.{flat_map}
-use Rattle.std.specs.Io.KnownBytes.{append_known}
-use Rattle.edr_base.specs.Calls.{Front}
-use Rattle.covjson_value.specs.declared.coverages.NdArray.{NdArray}
-use Rattle.covjson_write.specs.declared.range_heads.RangeHead.{RangeHead}
-use Rattle.covjson_write.specs.Pieces.{range_piece, ranges_from}
-use Rattle.covjson_write.specs.Writers.{WriterValue}
-use Rattle.edr_chunk.specs.Grids as chunk
-use Rattle.edr_chunk.specs.Tiles.{tile_shape, tiles}
-use Rattle.edr_edition.specs.Stores.{Subject}
-use Rattle.edr_select.specs.declared.plans.GridNode.{GridNode}
+use Rattle.edr_base.specs.Calls.{Writes}
+use Rattle.covjson_write.specs.Pieces.{ranges_from}
+use Rattle.edr_chunk.specs.Tiles.{tiles}
 use Rattle.edr_select.specs.Samples.{ascending_once}
-use Rattle.edr_select.specs.Listings.{tiles_of_range}
-use Rattle.edr_send.specs.Filling.{grid_of}
-use Rattle.edr_select.specs.Stacks.{StackValue, stack_cells, stacked_range}
+use Rattle.edr_select.specs.Listings.{tiles_of_range, NumbersRise}
 use Rattle.edr_select.specs.Framings.{taken}
-use Rattle.edr_send.proofs.Additions.{adds_fault, added_on}
-use Rattle.edr_send.proofs.Ascending.{once_none}
-use Rattle.edr_send.proofs.Cuts.{stage_within, stage_ready}
-use Rattle.edr_send.proofs.TextSteps.{all_but_same, all_but_on, all_but_front, all_but_all, writes_fault}
-use Rattle.edr_send.proofs.StackTiles.{taken_within}
-use Rattle.edr_send.proofs.RunSteps.{parameter_step, parameter_begun, ranges_next}
+use Rattle.edr_select.specs.Stacks.{stack_cells, stacked_range, StackingValue}
+use Rattle.edr_send.specs.Filling.{grid_of, Adds}
 use Rattle.edr_send.proofs.stack_streams.write_ranges.Goals as goal
 
-pub loop-number-init : goal.loop-number-init
-loop-number-init g c = record {
-  many = refl;
-  begun = refl;
-  head = refl;
-  ranges = c.requires.none;
-  within = λ more. c.requires.within;
-  ready = λ all. absurd (omega (arith, c.requires.some, all));
-  subject = refl;
-  text = all_but_all (ranges_from c.args.writer.now.head 0 (map (stacked_range (grid_of c.args.store.now.subject.held) c.args.stacking.now.stack) c.args.stacking.now.parameters)) (g.K.Sink.written c.args.sink.now);
-  reads = sym (ap (λ (l : List ℕ). c.args.store.now.numbers ++ l) (once_none (tiles c.args.stacking.now.shape)) ∙ append-nil c.args.store.now.numbers);
-  lent = search rules;
-}
+pub write_parameters-requires-clause-parameters : goal.write_parameters-requires-clause-parameters
+write_parameters-requires-clause-parameters g c =
+    let listed : c.items-parameters.result.now ≡ c.args.stacking.now.parameters = c.items-parameters.ensures ∙ ap (λ (v : StackingValue). v.parameters) c.stacking.view_is in
+    subst (λ (ps : List ℕ). All (λ p. p < c.args.stacking.now.shape.parameters) ps) (sym listed) c.stacking_stands.ensures.is.parameters
 
-pub loop-number-preserved : goal.loop-number-preserved
-loop-number-preserved g c =
-    let head : RangeHead = c.args.writer.now.head in
-    let shape = c.args.stacking.now.shape in
-    let ps : List ℕ = c.args.stacking.now.parameters in
-    let stack : StackValue = c.args.stacking.now.stack in
-    let cells : List GridNode = taken (stack_cells stack) in
-    let grid : chunk.Values = grid_of c.args.store.now.subject.held in
-    let f : ℕ → NdArray = stacked_range grid stack in
-    let within = taken_within shape stack c.stacking_stands.ensures.is.stack (c.tiles_are_numbered.ensures shape) 0 (let some = c.stacking_stands.ensures.is.shape.parameters in omega (arith, some)) in
-    let i : ℕ = c.loop-number.number in
-    let inside : i < length ps = search rules in
-    let written = g.K.Sink.written in
-    let whole = ranges_from head 0 (map f ps) in
-    let piece = range_piece head i (f (get_or ps i 0)).values in
-    let rest = ranges_from head (i + 1) (map f (drop (i + 1) ps)) in
-    let wrote : written c.write_range.new.sink ≡ append_known (written c.loop-number.sink) piece =
-    subst (λ (h : RangeHead). written c.write_range.new.sink ≡ append_known (written c.loop-number.sink) (range_piece h i (f (get_or ps i 0)).values)) c.loop-number.invariant.head
-    (subst (λ (s : Subject). written c.write_range.new.sink ≡ append_known (written c.loop-number.sink) (range_piece c.loop-number.writer.head i (stacked_range (grid_of s.held) stack (get_or ps i 0)).values)) c.loop-number.invariant.subject c.in-Ok.ensures.bytes.whole) in
-    let keys : length c.loop-number.writer.head.keys ≡ length ps = ap (λ (h : RangeHead). length h.keys) c.loop-number.invariant.head ∙ c.requires.each in
-    record {
-      many = ap (λ (w : WriterValue). w.many) c.in-Ok.ensures.writer ∙ c.loop-number.invariant.many;
-      begun = ap (λ (w : WriterValue). w.begun) c.in-Ok.ensures.writer ∙ c.loop-number.invariant.begun;
-      head = ap (λ (w : WriterValue). w.head) c.in-Ok.ensures.writer ∙ c.loop-number.invariant.head;
-      ranges = ap (λ (w : WriterValue). w.ranges) c.in-Ok.ensures.writer ∙ ap (λ (k : ℕ). k + 1) c.loop-number.invariant.ranges;
-      within = λ more. ap (λ (w : WriterValue). w.stage) c.in-Ok.ensures.writer ∙ stage_within (c.loop-number.writer.ranges + 1) (length c.loop-number.writer.head.keys) (omega (arith, keys, c.loop-number.invariant.ranges, more));
-      ready = λ all. ap (λ (w : WriterValue). w.stage) c.in-Ok.ensures.writer ∙ stage_ready (c.loop-number.writer.ranges + 1) (length c.loop-number.writer.head.keys) (omega (arith, keys, c.loop-number.invariant.ranges, all));
-      subject = c.write_range.ensures.subject ∙ c.loop-number.invariant.subject;
-      text = all_but_on piece rest whole (written c.args.sink.now) (written c.loop-number.sink) (written c.write_range.new.sink)
-          (all_but_same (ranges_from head i (map f (drop i ps))) (piece ++ rest) whole (written c.args.sink.now) (written c.loop-number.sink) (ranges_next head f ps i inside) c.loop-number.invariant.text)
-          wrote;
-      reads = added_on (ascending_once (tiles shape) (flat_map (tiles_of_range shape cells) (take i ps))) (ascending_once (tiles shape) (tiles_of_range shape cells (get_or ps i 0)))
-          (ascending_once (tiles shape) (flat_map (tiles_of_range shape cells) (take (i + 1) ps))) c.args.store.now.numbers c.loop-number.store.numbers c.write_range.new.store.numbers
-          c.loop-number.invariant.reads c.in-Ok.ensures.reads.all
-          (parameter_step shape (c.tiles_are_numbered.ensures shape) (c.numbers_tell_places.ensures (tile_shape shape)) ps i cells c.stacking_stands.ensures.is.parameters within c.stacking_stands.ensures.is.parameters_rise inside);
-      lent = search rules;
-    }
+pub write_parameters-requires-clause-rise : goal.write_parameters-requires-clause-rise
+write_parameters-requires-clause-rise g c =
+    let listed : c.items-parameters.result.now ≡ c.args.stacking.now.parameters = c.items-parameters.ensures ∙ ap (λ (v : StackingValue). v.parameters) c.stacking.view_is in
+    subst (λ (ps : List ℕ). NumbersRise ps) (sym listed) c.stacking_stands.ensures.is.parameters_rise
 
-pub returns-in-Err-clause-bytes : goal.returns-in-Err-clause-bytes
-returns-in-Err-clause-bytes g c =
-    let head : RangeHead = c.args.writer.now.head in
-    let ps : List ℕ = c.args.stacking.now.parameters in
-    let stack : StackValue = c.args.stacking.now.stack in
-    let cells : List GridNode = taken (stack_cells stack) in
-    let grid : chunk.Values = grid_of c.args.store.now.subject.held in
-    let f : ℕ → NdArray = stacked_range grid stack in
-    let i : ℕ = c.loop-number.number in
-    let inside : i < length ps = search rules in
-    let written = g.K.Sink.written in
-    let whole = ranges_from head 0 (map f ps) in
-    let piece = range_piece head i (f (get_or ps i 0)).values in
-    let rest = ranges_from head (i + 1) (map f (drop (i + 1) ps)) in
-    let front : Front piece (written c.loop-number.sink) (written c.write_range.new.sink) =
-    subst (λ (h : RangeHead). Front (range_piece h i (f (get_or ps i 0)).values) (written c.loop-number.sink) (written c.write_range.new.sink)) c.loop-number.invariant.head
-    (subst (λ (s : Subject). Front (range_piece c.loop-number.writer.head i (stacked_range (grid_of s.held) stack (get_or ps i 0)).values) (written c.loop-number.sink) (written c.write_range.new.sink)) c.loop-number.invariant.subject c.write_range.ensures.bytes.front) in
-    writes_fault (Unit {0}) c.in-Err.fault whole (written c.args.sink.now) (written c.write_range.new.sink)
-    (all_but_front piece rest whole (written c.args.sink.now) (written c.loop-number.sink) (written c.write_range.new.sink)
-    (all_but_same (ranges_from head i (map f (drop i ps))) (piece ++ rest) whole (written c.args.sink.now) (written c.loop-number.sink) (ranges_next head f ps i inside) c.loop-number.invariant.text)
-    front)
+pub write_parameters-requires-clause-some : goal.write_parameters-requires-clause-some
+write_parameters-requires-clause-some g c =
+    let listed : c.items-parameters.result.now ≡ c.args.stacking.now.parameters = c.items-parameters.ensures ∙ ap (λ (v : StackingValue). v.parameters) c.stacking.view_is in
+    subst (λ (ps : List ℕ). 0 < length ps) (sym listed) c.requires.some
 
-pub returns-in-Err-clause-reads : goal.returns-in-Err-clause-reads
-returns-in-Err-clause-reads g c =
-    let shape = c.args.stacking.now.shape in
-    let ps : List ℕ = c.args.stacking.now.parameters in
-    let stack : StackValue = c.args.stacking.now.stack in
-    let cells : List GridNode = taken (stack_cells stack) in
-    let within = taken_within shape stack c.stacking_stands.ensures.is.stack (c.tiles_are_numbered.ensures shape) 0 (let some = c.stacking_stands.ensures.is.shape.parameters in omega (arith, some)) in
-    let i : ℕ = c.loop-number.number in
-    let inside : i < length ps = search rules in
-    adds_fault (Unit {0}) c.in-Err.fault (ascending_once (tiles shape) (flat_map (tiles_of_range shape cells) (take i ps))) (ascending_once (tiles shape) (tiles_of_range shape cells (get_or ps i 0)))
-    (ascending_once (tiles shape) (flat_map (tiles_of_range shape cells) (drop (i + 1) ps))) (ascending_once (tiles shape) (flat_map (tiles_of_range shape cells) ps))
-    c.args.store.now.numbers c.loop-number.store.numbers c.write_range.new.store.numbers c.loop-number.invariant.reads
-    (parameter_begun shape (c.tiles_are_numbered.ensures shape) (c.numbers_tell_places.ensures (tile_shape shape)) ps i cells c.stacking_stands.ensures.is.parameters within c.stacking_stands.ensures.is.parameters_rise inside)
-    c.write_range.ensures.reads.begun
+pub write_parameters-requires-clause-each : goal.write_parameters-requires-clause-each
+write_parameters-requires-clause-each g c =
+    let listed : c.items-parameters.result.now ≡ c.args.stacking.now.parameters = c.items-parameters.ensures ∙ ap (λ (v : StackingValue). v.parameters) c.stacking.view_is in
+    subst (λ (ps : List ℕ). length c.args.writer.now.head.keys ≡ length ps) (sym listed) c.requires.each
+
+pub returns-clause-bytes : goal.returns-clause-bytes
+returns-clause-bytes g c =
+    let listed : c.items-parameters.result.now ≡ c.args.stacking.now.parameters = c.items-parameters.ensures ∙ ap (λ (v : StackingValue). v.parameters) c.stacking.view_is in
+    subst (λ (ps : List ℕ). Writes c.write_parameters.result (ranges_from c.args.writer.now.head 0 (map (stacked_range (grid_of c.args.store.now.subject.held) c.args.stacking.now.stack) ps)) (g.K.Sink.written c.args.sink.now) (g.K.Sink.written c.write_parameters.new.sink)) listed c.write_parameters.ensures.bytes
+
+pub returns-clause-reads : goal.returns-clause-reads
+returns-clause-reads g c =
+    let listed : c.items-parameters.result.now ≡ c.args.stacking.now.parameters = c.items-parameters.ensures ∙ ap (λ (v : StackingValue). v.parameters) c.stacking.view_is in
+    subst (λ (ps : List ℕ). Adds c.write_parameters.result (ascending_once (tiles c.args.stacking.now.shape) (flat_map (tiles_of_range c.args.stacking.now.shape (taken (stack_cells c.args.stacking.now.stack))) ps)) c.args.store.now.numbers c.write_parameters.new.store.numbers) listed c.write_parameters.ensures.reads

@@ -10,6 +10,9 @@ use Rattle.edr_send.proofs.FrameSteps.{text_from, once_in}
 use Rattle.edr_send.proofs.StackTiles.{few, plane_is_frame, plane_tiles}
 use Rattle.edr_send.proofs.stack_streams.write_stacked.Goals as goal
 
+at_most_itself : (a : ℕ) → a ≤ a
+at_most_itself a = omega arith
+
 pub plane_of-requires-clause-times : goal.plane_of-requires-clause-times
 plane_of-requires-clause-times g c =
     let stacking = c.args.stacking.now in
@@ -56,3 +59,12 @@ returns-in-Err-clause-bytes g c =
     let written = g.K.Sink.written in
     let text = text_from c.args.writer.now.values c.args.store.now.subject c.args.parameter (cells_of_plane c.args.stacking.now.stack c.args.i c.args.j) in
     writes_fault (Unit {0}) _ text (written c.args.sink.now) (written c.args.sink.now) (front_none (written c.args.sink.now) (written c.args.sink.now) text refl)
+
+pub returns-in-Ok-clause-lent : goal.returns-in-Ok-clause-lent
+returns-in-Ok-clause-lent g c = c.write_strips.ensures.lent
+
+pub returns-in-Ok-clause-cause : goal.returns-in-Ok-clause-cause
+returns-in-Ok-clause-cause g c = c.write_strips.ensures.cause
+
+pub returns-in-Err-clause-lent : goal.returns-in-Err-clause-lent
+returns-in-Err-clause-lent g c = record { same = refl; later = at_most_itself (g.K.Faults.faults c.args.sink.now) }

@@ -1,4 +1,4 @@
-use Rattle.std.proofs.Common.{rules, ◌+◌, ◌-◌, ◌<◌, ◌≤◌, ℕ, [], length, ◌∙◌, refl, arith}
+use Rattle.std.proofs.Common.{rules, ◌+◌, ◌-◌, ◌<◌, ◌≤◌, ℕ, [], length, ◌∙◌, refl, arith, ap, sym}
 use Rattle.std.specs.List.{flat_map, range_with_len}
 use Rattle.edr_chunk.specs.declared.shapes.GridShape.{GridShape}
 use Rattle.edr_edition.specs.Stores.{Subject}
@@ -6,6 +6,8 @@ use Rattle.edr_select.specs.Stacks.{StackValue, cells_of_time}
 use Rattle.edr_send.proofs.TextSteps.{writes_fault}
 use Rattle.edr_send.proofs.FrameSteps.{Cells, text_from, sent_none, sent_room, sent_more, sent_front, sent_begun, sent_text, sent_writer, sent_reads}
 use Rattle.edr_send.proofs.StackTiles.{range_rest, range_done, range_none, range_all, times_apart}
+use Rattle.edr_send.proofs.WriterSteps.{lent_on, rose_on}
+use Rattle.edr_send.specs.Filling.{grid_of}
 use Rattle.edr_send.proofs.stack_streams.write_times.Goals as goal
 
 pub loop-i-init : goal.loop-i-init
@@ -60,7 +62,7 @@ loop-i-preserved g c =
       sent = sent_more shape subject p whole c.args.writer.now (g.K.Sink.written c.args.sink.now) c.args.store.now.numbers done next rest piece later c.loop-i.writer c.write_levels.new.writer (g.K.Sink.written c.loop-i.sink) (g.K.Sink.written c.write_levels.new.sink) c.loop-i.store.numbers c.write_levels.new.store.numbers c.loop-i.store.subject
           c.loop-i.invariant.sent (range_rest cells_of k n inside) (range_done cells_of k) (times_apart shape stack c.stacking_stands.ensures.is.stack (c.tiles_are_numbered.ensures shape) p c.requires.parameter k (omega (arith, inside))) c.loop-i.invariant.subject c.in-Ok.ensures.bytes.whole c.in-Ok.ensures.writer c.in-Ok.ensures.reads.all;
       subject = c.write_levels.ensures.subject ∙ c.loop-i.invariant.subject;
-      lent = search rules;
+      lent = lent_on c.loop-i.invariant.lent c.write_levels.ensures.lent;
     }
 
 pub returns-in-Err-clause-bytes : goal.returns-in-Err-clause-bytes
@@ -144,3 +146,15 @@ returns-clause-reads g c =
     let rest : Cells = flat_map cells_of (range_with_len k (n - k)) in
     let past : n ≤ k = search rules in
     sent_reads shape subject p whole c.args.writer.now (g.K.Sink.written c.args.sink.now) c.args.store.now.numbers _ done rest c.loop-i.writer (g.K.Sink.written c.loop-i.sink) c.loop-i.store.numbers c.loop-i.invariant.sent (range_none cells_of k n past)
+
+pub returns-in-Err-clause-lent : goal.returns-in-Err-clause-lent
+returns-in-Err-clause-lent g c = lent_on c.loop-i.invariant.lent c.write_levels.ensures.lent
+
+pub returns-in-Err-clause-cause : goal.returns-in-Err-clause-cause
+returns-in-Err-clause-cause g c = λ is. rose_on (g.K.Faults.faults c.write_levels.new.sink) c.loop-i.invariant.lent (c.in-Err.ensures.cause is)
+
+pub returns-clause-lent : goal.returns-clause-lent
+returns-clause-lent g c = c.loop-i.invariant.lent
+
+pub write_levels-requires-clause-grid : goal.write_levels-requires-clause-grid
+write_levels-requires-clause-grid g c = c.requires.grid ∙ ap (λ (s : Subject). (grid_of s.held).shape) (sym c.loop-i.invariant.subject)

@@ -1,106 +1,109 @@
-use Rattle.std.proofs.Common.{rules, ◌≡◌, ◌++◌, ◌+◌, ◌<◌, ℕ, List, length, take, drop, get_or, subst, ap, sym, ◌∙◌, refl, arith, append-nil}
+use Rattle.std.proofs.Common.{◌≡◌, ◌<◌, ◌^◌, ℕ, List, All, length, subst, sym, ap, ◌∙◌}
 use Rattle.std.specs.Prelude.{map}
 use Rattle.std.specs.List.{flat_map}
-use Rattle.std.specs.Io.KnownBytes.{append_known}
-use Rattle.edr_base.specs.Calls.{Front}
-use Rattle.covjson_value.specs.declared.coverages.NdArray.{NdArray}
-use Rattle.covjson_write.specs.declared.range_heads.RangeHead.{RangeHead}
-use Rattle.covjson_write.specs.Pieces.{range_piece, ranges_from}
-use Rattle.covjson_write.specs.Writers.{WriterValue}
-use Rattle.edr_chunk.specs.Grids as chunk
-use Rattle.edr_chunk.specs.Tiles.{tile_shape, tiles}
-use Rattle.edr_edition.specs.Stores.{Subject}
+use Rattle.edr_base.specs.Calls.{Writes}
+use Rattle.covjson_write.specs.Pieces.{ranges_from}
+use Rattle.edr_chunk.specs.declared.shapes.GridShape.{GridShape}
+use Rattle.edr_chunk.specs.Places.{Within, IsShape, count}
+use Rattle.edr_chunk.specs.Tiles.{tiles}
 use Rattle.edr_select.specs.declared.plans.GridNode.{GridNode}
 use Rattle.edr_select.specs.Samples.{ascending_once}
-use Rattle.edr_select.specs.Listings.{range_over, tiles_of_range}
-use Rattle.edr_send.specs.Filling.{grid_of}
-use Rattle.edr_send.proofs.Additions.{adds_fault, added_on}
-use Rattle.edr_send.proofs.Ascending.{once_none}
-use Rattle.edr_send.proofs.Cuts.{stage_within, stage_ready}
-use Rattle.edr_send.proofs.TextSteps.{all_but_same, all_but_on, all_but_front, all_but_all, writes_fault}
-use Rattle.edr_send.proofs.RunSteps.{parameter_step, parameter_begun, ranges_next}
+use Rattle.edr_select.specs.Listings.{place_at, range_over, tiles_of_range, NumbersRise, ListingValue, PlannedValue}
+use Rattle.edr_send.specs.Filling.{grid_of, Adds}
+use Rattle.edr_send.specs.Bands.{BandsRise}
 use Rattle.edr_send.proofs.streaming.write_ranges.Goals as goal
 
-pub loop-number-init : goal.loop-number-init
-loop-number-init g c = record {
-  many = refl;
-  begun = refl;
-  head = refl;
-  ranges = c.requires.none;
-  within = λ more. c.requires.within;
-  ready = λ all. absurd (omega (arith, c.requires.some, all));
-  subject = refl;
-  text = all_but_all (ranges_from c.args.writer.now.head 0 (map (range_over (grid_of c.args.store.now.subject.held) c.args.planned.now.cells) c.args.listing.now.parameters)) (g.K.Sink.written c.args.sink.now);
-  reads = sym (ap (λ (l : List ℕ). c.args.store.now.numbers ++ l) (once_none (tiles c.args.listing.now.shape)) ∙ append-nil c.args.store.now.numbers);
-  lent = search rules;
-}
+-- what holds of a plan's parts holds of what equals them
+moved : (P : GridShape → List ℕ → List GridNode → Type 0) {s t : GridShape} {ps qs : List ℕ} {cs ds : List GridNode} → s ≡ t → ps ≡ qs → cs ≡ ds → P t qs ds → P s ps cs
+moved P {s = s} {t = t} {ps = ps} {qs = qs} {cs = cs} {ds = ds} e f h p =
+    subst (λ (x : GridShape). P x ps cs) (sym e) (subst (λ (y : List ℕ). P t y cs) (sym f) (subst (λ (z : List GridNode). P t qs z) (sym h) p))
 
-pub loop-number-preserved : goal.loop-number-preserved
-loop-number-preserved g c =
-    let head : RangeHead = c.args.writer.now.head in
-    let shape = c.args.listing.now.shape in
-    let ps : List ℕ = c.args.listing.now.parameters in
-    let cells : List GridNode = c.args.planned.now.cells in
-    let grid : chunk.Values = grid_of c.args.store.now.subject.held in
-    let f : ℕ → NdArray = range_over grid cells in
-    let i : ℕ = c.loop-number.number in
-    let inside : i < length ps = search rules in
-    let written = g.K.Sink.written in
-    let whole = ranges_from head 0 (map f ps) in
-    let piece = range_piece head i (f (get_or ps i 0)).values in
-    let rest = ranges_from head (i + 1) (map f (drop (i + 1) ps)) in
-    let wrote : written c.write_range.new.sink ≡ append_known (written c.loop-number.sink) piece =
-    subst (λ (h : RangeHead). written c.write_range.new.sink ≡ append_known (written c.loop-number.sink) (range_piece h i (f (get_or ps i 0)).values)) c.loop-number.invariant.head
-    (subst (λ (s : Subject). written c.write_range.new.sink ≡ append_known (written c.loop-number.sink) (range_piece c.loop-number.writer.head i (range_over (grid_of s.held) cells (get_or ps i 0)).values)) c.loop-number.invariant.subject c.in-Ok.ensures.bytes.whole) in
-    let keys : length c.loop-number.writer.head.keys ≡ length ps = ap (λ (h : RangeHead). length h.keys) c.loop-number.invariant.head ∙ c.requires.each in
-    record {
-      many = ap (λ (w : WriterValue). w.many) c.in-Ok.ensures.writer ∙ c.loop-number.invariant.many;
-      begun = ap (λ (w : WriterValue). w.begun) c.in-Ok.ensures.writer ∙ c.loop-number.invariant.begun;
-      head = ap (λ (w : WriterValue). w.head) c.in-Ok.ensures.writer ∙ c.loop-number.invariant.head;
-      ranges = ap (λ (w : WriterValue). w.ranges) c.in-Ok.ensures.writer ∙ ap (λ (k : ℕ). k + 1) c.loop-number.invariant.ranges;
-      within = λ more. ap (λ (w : WriterValue). w.stage) c.in-Ok.ensures.writer ∙ stage_within (c.loop-number.writer.ranges + 1) (length c.loop-number.writer.head.keys) (omega (arith, keys, c.loop-number.invariant.ranges, more));
-      ready = λ all. ap (λ (w : WriterValue). w.stage) c.in-Ok.ensures.writer ∙ stage_ready (c.loop-number.writer.ranges + 1) (length c.loop-number.writer.head.keys) (omega (arith, keys, c.loop-number.invariant.ranges, all));
-      subject = c.write_range.ensures.subject ∙ c.loop-number.invariant.subject;
-      text = all_but_on piece rest whole (written c.args.sink.now) (written c.loop-number.sink) (written c.write_range.new.sink)
-          (all_but_same (ranges_from head i (map f (drop i ps))) (piece ++ rest) whole (written c.args.sink.now) (written c.loop-number.sink) (ranges_next head f ps i inside) c.loop-number.invariant.text)
-          wrote;
-      reads = added_on (ascending_once (tiles shape) (flat_map (tiles_of_range shape cells) (take i ps))) (ascending_once (tiles shape) (tiles_of_range shape cells (get_or ps i 0)))
-          (ascending_once (tiles shape) (flat_map (tiles_of_range shape cells) (take (i + 1) ps))) c.args.store.now.numbers c.loop-number.store.numbers c.write_range.new.store.numbers
-          c.loop-number.invariant.reads c.in-Ok.ensures.reads.all
-          (parameter_step shape (c.tiles_are_numbered.ensures shape) (c.numbers_tell_places.ensures (tile_shape shape)) ps i cells c.listing_stands.ensures.is.parameters c.requires.planned.cells c.requires.parameters inside);
-      lent = search rules;
-    }
+pub write_parameters-requires-clause-shape : goal.write_parameters-requires-clause-shape
+write_parameters-requires-clause-shape g c =
+    let shaped : c.listing.inside.shape ≡ c.args.listing.now.shape = ap (λ (v : ListingValue). v.shape) c.listing.view_is in
+    let listed : c.items-parameters.result.now ≡ c.args.listing.now.parameters = c.items-parameters.ensures ∙ ap (λ (v : ListingValue). v.parameters) c.listing.view_is in
+    let placed : c.items-cells.result.now ≡ c.args.planned.now.cells = c.items-cells.ensures ∙ ap (λ (v : PlannedValue). v.cells) c.planned.view_is in
+    moved (λ (s : GridShape) (ps : List ℕ) (cs : List GridNode). IsShape s) shaped listed placed c.listing_stands.ensures.is.shape
 
-pub returns-in-Err-clause-bytes : goal.returns-in-Err-clause-bytes
-returns-in-Err-clause-bytes g c =
-    let head : RangeHead = c.args.writer.now.head in
-    let ps : List ℕ = c.args.listing.now.parameters in
-    let cells : List GridNode = c.args.planned.now.cells in
-    let grid : chunk.Values = grid_of c.args.store.now.subject.held in
-    let f : ℕ → NdArray = range_over grid cells in
-    let i : ℕ = c.loop-number.number in
-    let inside : i < length ps = search rules in
-    let written = g.K.Sink.written in
-    let whole = ranges_from head 0 (map f ps) in
-    let piece = range_piece head i (f (get_or ps i 0)).values in
-    let rest = ranges_from head (i + 1) (map f (drop (i + 1) ps)) in
-    let front : Front piece (written c.loop-number.sink) (written c.write_range.new.sink) =
-    subst (λ (h : RangeHead). Front (range_piece h i (f (get_or ps i 0)).values) (written c.loop-number.sink) (written c.write_range.new.sink)) c.loop-number.invariant.head
-    (subst (λ (s : Subject). Front (range_piece c.loop-number.writer.head i (range_over (grid_of s.held) cells (get_or ps i 0)).values) (written c.loop-number.sink) (written c.write_range.new.sink)) c.loop-number.invariant.subject c.write_range.ensures.bytes.front) in
-    writes_fault (Unit {0}) c.in-Err.fault whole (written c.args.sink.now) (written c.write_range.new.sink)
-    (all_but_front piece rest whole (written c.args.sink.now) (written c.loop-number.sink) (written c.write_range.new.sink)
-    (all_but_same (ranges_from head i (map f (drop i ps))) (piece ++ rest) whole (written c.args.sink.now) (written c.loop-number.sink) (ranges_next head f ps i inside) c.loop-number.invariant.text)
-    front)
+pub write_parameters-requires-clause-fits : goal.write_parameters-requires-clause-fits
+write_parameters-requires-clause-fits g c =
+    let shaped : c.listing.inside.shape ≡ c.args.listing.now.shape = ap (λ (v : ListingValue). v.shape) c.listing.view_is in
+    let listed : c.items-parameters.result.now ≡ c.args.listing.now.parameters = c.items-parameters.ensures ∙ ap (λ (v : ListingValue). v.parameters) c.listing.view_is in
+    let placed : c.items-cells.result.now ≡ c.args.planned.now.cells = c.items-cells.ensures ∙ ap (λ (v : PlannedValue). v.cells) c.planned.view_is in
+    moved (λ (s : GridShape) (ps : List ℕ) (cs : List GridNode). count s < 2 ^ 64) shaped listed placed c.listing_stands.ensures.fits
 
-pub returns-in-Err-clause-reads : goal.returns-in-Err-clause-reads
-returns-in-Err-clause-reads g c =
-    let shape = c.args.listing.now.shape in
-    let ps : List ℕ = c.args.listing.now.parameters in
-    let cells : List GridNode = c.args.planned.now.cells in
-    let i : ℕ = c.loop-number.number in
-    let inside : i < length ps = search rules in
-    adds_fault (Unit {0}) c.in-Err.fault (ascending_once (tiles shape) (flat_map (tiles_of_range shape cells) (take i ps))) (ascending_once (tiles shape) (tiles_of_range shape cells (get_or ps i 0)))
-    (ascending_once (tiles shape) (flat_map (tiles_of_range shape cells) (drop (i + 1) ps))) (ascending_once (tiles shape) (flat_map (tiles_of_range shape cells) ps))
-    c.args.store.now.numbers c.loop-number.store.numbers c.write_range.new.store.numbers c.loop-number.invariant.reads
-    (parameter_begun shape (c.tiles_are_numbered.ensures shape) (c.numbers_tell_places.ensures (tile_shape shape)) ps i cells c.listing_stands.ensures.is.parameters c.requires.planned.cells c.requires.parameters inside)
-    c.write_range.ensures.reads.begun
+pub write_parameters-requires-clause-grid : goal.write_parameters-requires-clause-grid
+write_parameters-requires-clause-grid g c =
+    let shaped : c.listing.inside.shape ≡ c.args.listing.now.shape = ap (λ (v : ListingValue). v.shape) c.listing.view_is in
+    let listed : c.items-parameters.result.now ≡ c.args.listing.now.parameters = c.items-parameters.ensures ∙ ap (λ (v : ListingValue). v.parameters) c.listing.view_is in
+    let placed : c.items-cells.result.now ≡ c.args.planned.now.cells = c.items-cells.ensures ∙ ap (λ (v : PlannedValue). v.cells) c.planned.view_is in
+    moved (λ (s : GridShape) (ps : List ℕ) (cs : List GridNode). s ≡ (grid_of c.args.store.now.subject.held).shape) shaped listed placed c.requires.grid
+
+pub write_parameters-requires-clause-parameters : goal.write_parameters-requires-clause-parameters
+write_parameters-requires-clause-parameters g c =
+    let shaped : c.listing.inside.shape ≡ c.args.listing.now.shape = ap (λ (v : ListingValue). v.shape) c.listing.view_is in
+    let listed : c.items-parameters.result.now ≡ c.args.listing.now.parameters = c.items-parameters.ensures ∙ ap (λ (v : ListingValue). v.parameters) c.listing.view_is in
+    let placed : c.items-cells.result.now ≡ c.args.planned.now.cells = c.items-cells.ensures ∙ ap (λ (v : PlannedValue). v.cells) c.planned.view_is in
+    moved (λ (s : GridShape) (ps : List ℕ) (cs : List GridNode). All (λ p. p < s.parameters) ps) shaped listed placed c.listing_stands.ensures.is.parameters
+
+pub write_parameters-requires-clause-numbers : goal.write_parameters-requires-clause-numbers
+write_parameters-requires-clause-numbers g c =
+    let shaped : c.listing.inside.shape ≡ c.args.listing.now.shape = ap (λ (v : ListingValue). v.shape) c.listing.view_is in
+    let listed : c.items-parameters.result.now ≡ c.args.listing.now.parameters = c.items-parameters.ensures ∙ ap (λ (v : ListingValue). v.parameters) c.listing.view_is in
+    let placed : c.items-cells.result.now ≡ c.args.planned.now.cells = c.items-cells.ensures ∙ ap (λ (v : PlannedValue). v.cells) c.planned.view_is in
+    moved (λ (s : GridShape) (ps : List ℕ) (cs : List GridNode). NumbersRise ps) shaped listed placed c.requires.parameters
+
+pub write_parameters-requires-clause-cells : goal.write_parameters-requires-clause-cells
+write_parameters-requires-clause-cells g c =
+    let shaped : c.listing.inside.shape ≡ c.args.listing.now.shape = ap (λ (v : ListingValue). v.shape) c.listing.view_is in
+    let listed : c.items-parameters.result.now ≡ c.args.listing.now.parameters = c.items-parameters.ensures ∙ ap (λ (v : ListingValue). v.parameters) c.listing.view_is in
+    let placed : c.items-cells.result.now ≡ c.args.planned.now.cells = c.items-cells.ensures ∙ ap (λ (v : PlannedValue). v.cells) c.planned.view_is in
+    moved (λ (s : GridShape) (ps : List ℕ) (cs : List GridNode). All (λ cell. Within s (place_at 0 cell)) cs) shaped listed placed c.requires.planned.cells
+
+pub write_parameters-requires-clause-rise : goal.write_parameters-requires-clause-rise
+write_parameters-requires-clause-rise g c =
+    let shaped : c.listing.inside.shape ≡ c.args.listing.now.shape = ap (λ (v : ListingValue). v.shape) c.listing.view_is in
+    let listed : c.items-parameters.result.now ≡ c.args.listing.now.parameters = c.items-parameters.ensures ∙ ap (λ (v : ListingValue). v.parameters) c.listing.view_is in
+    let placed : c.items-cells.result.now ≡ c.args.planned.now.cells = c.items-cells.ensures ∙ ap (λ (v : PlannedValue). v.cells) c.planned.view_is in
+    moved (λ (s : GridShape) (ps : List ℕ) (cs : List GridNode). BandsRise s cs) shaped listed placed c.requires.rise
+
+pub write_parameters-requires-clause-some : goal.write_parameters-requires-clause-some
+write_parameters-requires-clause-some g c =
+    let shaped : c.listing.inside.shape ≡ c.args.listing.now.shape = ap (λ (v : ListingValue). v.shape) c.listing.view_is in
+    let listed : c.items-parameters.result.now ≡ c.args.listing.now.parameters = c.items-parameters.ensures ∙ ap (λ (v : ListingValue). v.parameters) c.listing.view_is in
+    let placed : c.items-cells.result.now ≡ c.args.planned.now.cells = c.items-cells.ensures ∙ ap (λ (v : PlannedValue). v.cells) c.planned.view_is in
+    moved (λ (s : GridShape) (ps : List ℕ) (cs : List GridNode). 0 < length ps) shaped listed placed c.requires.some
+
+pub write_parameters-requires-clause-each : goal.write_parameters-requires-clause-each
+write_parameters-requires-clause-each g c =
+    let shaped : c.listing.inside.shape ≡ c.args.listing.now.shape = ap (λ (v : ListingValue). v.shape) c.listing.view_is in
+    let listed : c.items-parameters.result.now ≡ c.args.listing.now.parameters = c.items-parameters.ensures ∙ ap (λ (v : ListingValue). v.parameters) c.listing.view_is in
+    let placed : c.items-cells.result.now ≡ c.args.planned.now.cells = c.items-cells.ensures ∙ ap (λ (v : PlannedValue). v.cells) c.planned.view_is in
+    moved (λ (s : GridShape) (ps : List ℕ) (cs : List GridNode). length c.args.writer.now.head.keys ≡ length ps) shaped listed placed c.requires.each
+
+pub write_parameters-requires-clause-whole : goal.write_parameters-requires-clause-whole
+write_parameters-requires-clause-whole g c =
+    let shaped : c.listing.inside.shape ≡ c.args.listing.now.shape = ap (λ (v : ListingValue). v.shape) c.listing.view_is in
+    let listed : c.items-parameters.result.now ≡ c.args.listing.now.parameters = c.items-parameters.ensures ∙ ap (λ (v : ListingValue). v.parameters) c.listing.view_is in
+    let placed : c.items-cells.result.now ≡ c.args.planned.now.cells = c.items-cells.ensures ∙ ap (λ (v : PlannedValue). v.cells) c.planned.view_is in
+    moved (λ (s : GridShape) (ps : List ℕ) (cs : List GridNode). length cs ≡ c.args.writer.now.head.count) shaped listed placed c.requires.whole
+
+pub returns-clause-bytes : goal.returns-clause-bytes
+returns-clause-bytes g c =
+    let shaped : c.listing.inside.shape ≡ c.args.listing.now.shape = ap (λ (v : ListingValue). v.shape) c.listing.view_is in
+    let listed : c.items-parameters.result.now ≡ c.args.listing.now.parameters = c.items-parameters.ensures ∙ ap (λ (v : ListingValue). v.parameters) c.listing.view_is in
+    let placed : c.items-cells.result.now ≡ c.args.planned.now.cells = c.items-cells.ensures ∙ ap (λ (v : PlannedValue). v.cells) c.planned.view_is in
+    moved (λ (s : GridShape) (ps : List ℕ) (cs : List GridNode). Writes c.write_parameters.result (ranges_from c.args.writer.now.head 0 (map (range_over (grid_of c.args.store.now.subject.held) cs) ps)) (g.K.Sink.written c.args.sink.now) (g.K.Sink.written c.write_parameters.new.sink)) (sym shaped) (sym listed) (sym placed) c.write_parameters.ensures.bytes
+
+pub returns-clause-reads : goal.returns-clause-reads
+returns-clause-reads g c =
+    let shaped : c.listing.inside.shape ≡ c.args.listing.now.shape = ap (λ (v : ListingValue). v.shape) c.listing.view_is in
+    let listed : c.items-parameters.result.now ≡ c.args.listing.now.parameters = c.items-parameters.ensures ∙ ap (λ (v : ListingValue). v.parameters) c.listing.view_is in
+    let placed : c.items-cells.result.now ≡ c.args.planned.now.cells = c.items-cells.ensures ∙ ap (λ (v : PlannedValue). v.cells) c.planned.view_is in
+    moved (λ (s : GridShape) (ps : List ℕ) (cs : List GridNode). Adds c.write_parameters.result (ascending_once (tiles s) (flat_map (tiles_of_range s cs) ps)) c.args.store.now.numbers c.write_parameters.new.store.numbers) (sym shaped) (sym listed) (sym placed) c.write_parameters.ensures.reads
+
+pub returns-clause-lent : goal.returns-clause-lent
+returns-clause-lent g c = c.write_parameters.ensures.lent
+
+pub returns-clause-cause : goal.returns-clause-cause
+returns-clause-cause g c = c.write_parameters.ensures.cause

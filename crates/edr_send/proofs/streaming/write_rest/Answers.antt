@@ -13,6 +13,7 @@ use Rattle.edr_send.specs.Filling.{grid_of}
 use Rattle.edr_send.proofs.Additions.{adds_all, adds_first}
 use Rattle.edr_send.proofs.PlansOfOne.{one_text, one_tiles, one_planned}
 use Rattle.edr_send.proofs.TextSteps.{writes_next}
+use Rattle.edr_send.proofs.WriterSteps.{lent_on, rose_on}
 use Rattle.edr_send.proofs.streaming.write_rest.Goals as goal
 
 pub write_coverage-requires-clause-planned : goal.write_coverage-requires-clause-planned
@@ -57,3 +58,21 @@ returns-in-Err-clause-reads g c =
     let plan : ListingValue = c.args.listing.now in
     adds_first (Unit {0}) c.in-Err.fault (ascending_once (tiles plan.shape) (tiles_of_coverage plan.shape plan.parameters c.args.planned.now)) (ascending_once (tiles plan.shape) (listing_tiles plan))
     c.args.store.now.numbers c.write_coverage.new.store.numbers (ap (ascending_once (tiles plan.shape)) (one_tiles plan c.args.planned.now c.requires.rises.alone)) c.write_coverage.ensures.reads.begun
+
+pub returns-in-Ok-clause-lent : goal.returns-in-Ok-clause-lent
+returns-in-Ok-clause-lent g c = lent_on c.write_coverage.ensures.lent c.finish.ensures.lent
+
+pub returns-in-Ok-clause-cause : goal.returns-in-Ok-clause-cause
+returns-in-Ok-clause-cause g c = λ is. rose_on (g.K.Faults.faults c.finish.new.sink) c.write_coverage.ensures.lent (c.finish.ensures.cause is)
+
+pub returns-in-Err-clause-lent : goal.returns-in-Err-clause-lent
+returns-in-Err-clause-lent g c = c.write_coverage.ensures.lent
+
+pub returns-in-Err-clause-cause : goal.returns-in-Err-clause-cause
+returns-in-Err-clause-cause g c = c.in-Err.ensures.cause
+
+pub finish-requires-clause-ready : goal.finish-requires-clause-ready
+finish-requires-clause-ready g c = c.in-Ok.ensures.stage
+
+pub finish-requires-clause-one : goal.finish-requires-clause-one
+finish-requires-clause-one g c = λ no. c.in-Ok.ensures.begun

@@ -1,4 +1,4 @@
-use Rattle.std.proofs.Common.{rules, ◌≡◌, ◌++◌, ◌+◌, ◌<◌, ◌≤◌, ℕ, List, length, take, drop, subst, ap, sym, ◌∙◌, refl, arith, append-nil, zero-add, ℤ, Option}
+use Rattle.std.proofs.Common.{rules, ◌≡◌, ◌++◌, ◌+◌, ◌<◌, ◌≤◌, ℕ, List, length, take, drop, subst, ap, sym, ◌∙◌, refl, arith, append-nil, zero-add, ℤ, Option, [], ◌-◌}
 use Rattle.std.specs.List.{slice_range}
 use Rattle.std.specs.Io.KnownBytes.{append_known}
 use Rattle.edr_base.specs.Calls.{Front}
@@ -12,15 +12,27 @@ use Rattle.edr_select.specs.declared.plans.GridNode.{GridNode}
 use Rattle.edr_select.specs.Samples.{ascending_once}
 use Rattle.edr_select.specs.Listings.{place_at, range_over, tiles_of_range}
 use Rattle.edr_send.specs.Filling.{grid_of}
-use Rattle.edr_send.proofs.Additions.{adds_fault, added_on}
+use Rattle.edr_send.proofs.Additions.{adds_fault, added_on, adds_all}
 use Rattle.edr_send.proofs.Ascending.{once_none}
-use Rattle.edr_send.proofs.TextSteps.{all_but_same, all_but_on, all_but_front, all_but_all, writes_fault}
+use Rattle.edr_send.proofs.TextSteps.{all_but_same, all_but_on, all_but_front, all_but_all, writes_fault, all_but_none}
 use Rattle.edr_send.proofs.TileSteps.{length-range}
 use Rattle.edr_send.proofs.RunSteps.{cut_next, run_step, run_begun, values_next, with_none, with_more}
+use Rattle.edr_send.proofs.WriterSteps.{lent_on, rose_on, all_met}
+use Rattle.std.specs.Prelude.{Ok}
+use Rattle.std.proofs.lemmas.List.{take_all, drop_all}
 use Rattle.edr_send.proofs.value_runs.write_runs.Goals as goal
 
 abbrev no_node : GridNode
 no_node = record { t = 0; z = 0; y = 0; x = 0 }
+
+room_in_range : (values at next n count count' cut : ℕ) → values ≡ at → cut ≡ next - at → at < next → next ≤ n → n ≡ count → count' ≡ count → values + cut ≤ count'
+room_in_range values at next n count count' cut here long more inside whole same = omega arith
+
+at_most : (at next : ℕ) → at < next → at ≤ next
+at_most at next more = omega arith
+
+nearer : (n at next : ℕ) → at < next → next ≤ n → n - next < n - at
+nearer n at next more inside = omega arith
 
 pub loop-at-init : goal.loop-at-init
 loop-at-init g c = record {
@@ -66,7 +78,7 @@ loop-at-preserved g c =
           (ascending_once (tiles shape) (tiles_of_range shape (take next cells) p)) c.args.store.now.numbers c.loop-at.store.numbers c.write_run.new.store.numbers
           c.loop-at.invariant.reads c.in-Ok.ensures.reads.all
           (run_step shape (c.tiles_are_numbered.ensures shape) (c.numbers_tell_places.ensures (tile_shape shape)) p cells at next no_node c.requires.parameter c.requires.cells c.requires.rise c.loop-at.invariant.cut more inside);
-      lent = search rules;
+      lent = lent_on c.loop-at.invariant.lent c.write_run.ensures.lent;
     }
 
 pub returns-in-Err-clause-bytes : goal.returns-in-Err-clause-bytes
@@ -106,3 +118,54 @@ returns-in-Err-clause-reads g c =
     (run_begun shape (c.tiles_are_numbered.ensures shape) (c.numbers_tell_places.ensures (tile_shape shape)) p cells at next no_node c.requires.parameter c.requires.cells c.requires.rise c.loop-at.invariant.cut
     (cut_next shape cells next c.requires.rise (omega (arith, more)) c.run_end-end.ensures.other) more c.run_end-end.ensures.end)
     c.write_run.ensures.reads.begun
+
+pub returns-in-Err-clause-lent : goal.returns-in-Err-clause-lent
+returns-in-Err-clause-lent g c = lent_on c.loop-at.invariant.lent c.write_run.ensures.lent
+
+pub returns-in-Err-clause-cause : goal.returns-in-Err-clause-cause
+returns-in-Err-clause-cause g c = λ is. rose_on (g.K.Faults.faults c.write_run.new.sink) c.loop-at.invariant.lent (c.in-Err.ensures.cause is)
+
+pub returns-clause-lent : goal.returns-clause-lent
+returns-clause-lent g c = c.loop-at.invariant.lent
+
+pub write_run-requires-clause-grid : goal.write_run-requires-clause-grid
+write_run-requires-clause-grid g c = c.requires.grid ∙ ap (λ (s : Subject). (grid_of s.held).shape) (sym c.loop-at.invariant.subject)
+
+pub write_run-requires-clause-open : goal.write_run-requires-clause-open
+write_run-requires-clause-open g c = ap (λ (w : WriterValue). w.stage) c.loop-at.invariant.writer ∙ c.requires.open
+
+pub write_run-requires-clause-room : goal.write_run-requires-clause-room
+write_run-requires-clause-room g c =
+    let cells : List GridNode = c.args.cells.now in
+    let at : ℕ = c.loop-at.at in
+    let next : ℕ = c.run_end-end.result in
+    let count : c.loop-at.writer.values ≡ at = ap (λ (w : WriterValue). w.values) c.loop-at.invariant.writer ∙ ap (λ (n : ℕ). n + at) c.requires.none ∙ zero-add at in
+    room_in_range c.loop-at.writer.values at next (length cells) c.args.writer.now.head.count c.loop-at.writer.head.count (length (slice_range cells at next)) count (length-range cells at next (at_most at next c.run_end-end.ensures.more) c.run_end-end.ensures.end) c.run_end-end.ensures.more c.run_end-end.ensures.end c.requires.whole (ap (λ (w : WriterValue). w.head.count) c.loop-at.invariant.writer)
+
+pub loop-at-smaller : goal.loop-at-smaller
+loop-at-smaller g c = nearer (length c.args.cells.now) c.loop-at.at c.run_end-end.result c.run_end-end.ensures.more c.run_end-end.ensures.end
+
+pub returns-clause-bytes : goal.returns-clause-bytes
+returns-clause-bytes g c =
+    let cells : List GridNode = c.args.cells.now in
+    let at : ℕ = c.loop-at.at in
+    let grid : chunk.Values = grid_of c.args.store.now.subject.held in
+    let p : ℕ = c.args.parameter in
+    let whole = values_from 0 (range_over grid cells p).values in
+    all_but_none (Ok tt) whole (g.K.Sink.written c.args.sink.now) (g.K.Sink.written c.loop-at.sink)
+    (all_but_same (values_from at (range_over grid (drop at cells) p).values) [] whole (g.K.Sink.written c.args.sink.now) (g.K.Sink.written c.loop-at.sink) (ap (λ (xs : List GridNode). values_from at (range_over grid xs p).values) (drop_all at cells c.loop-at-test.false)) c.loop-at.invariant.text)
+
+pub returns-clause-writer : goal.returns-clause-writer
+returns-clause-writer g c =
+    let cells : List GridNode = c.args.cells.now in
+    let at : ℕ = c.loop-at.at in
+    c.loop-at.invariant.writer ∙ ap (with_values c.args.writer.now) (all_met at (length cells) c.loop-at.invariant.high c.loop-at-test.false)
+
+pub returns-clause-reads : goal.returns-clause-reads
+returns-clause-reads g c =
+    let cells : List GridNode = c.args.cells.now in
+    let at : ℕ = c.loop-at.at in
+    let shape = c.args.shape in
+    let p : ℕ = c.args.parameter in
+    adds_all (Ok tt) (ascending_once (tiles shape) (tiles_of_range shape (take at cells) p)) (ascending_once (tiles shape) (tiles_of_range shape cells p)) c.args.store.now.numbers c.loop-at.store.numbers
+    (ap (λ (l : List GridNode). ascending_once (tiles shape) (tiles_of_range shape l p)) (take_all at cells c.loop-at-test.false)) c.loop-at.invariant.reads

@@ -9,6 +9,7 @@ use Rattle.edr_select.specs.Listings.{PlannedValue, IsPlanned}
 use Rattle.edr_send.specs.Gathered.{ranges_cut, coverage_cut, coverages_cut, size_of, AllBut}
 use Rattle.edr_send.proofs.TextSteps.{all_but_same, all_but_on, all_but_front, writes_fault}
 use Rattle.edr_send.proofs.Cuts.{coverages_next, sizes_next, piece_is, later_next, rest_is}
+use Rattle.edr_send.proofs.WriterSteps.{lent_on, rose_on}
 use Rattle.edr_send.proofs.writing.write_coverages.Goals as goal
 
 pub returns-in-Err-clause-bytes : goal.returns-in-Err-clause-bytes
@@ -71,5 +72,14 @@ loop-planned-preserved g c =
           (all_but_on piece rest whole (written c.args.sink.now) (written c.loop-planned.sink) (written c.write_coverage.new.sink)
           (all_but_same (coverages_from i (coverages_cut k (drop i coverages) (drop from values))) (piece ++ rest) whole (written c.args.sink.now) (written c.loop-planned.sink) (coverages_next k coverages values i from planned inside is) c.loop-planned.invariant.text)
           wrote);
-      lent = search rules;
+      lent = lent_on c.loop-planned.invariant.lent c.write_coverage.ensures.lent;
     }
+
+pub returns-in-Err-clause-lent : goal.returns-in-Err-clause-lent
+returns-in-Err-clause-lent g c = lent_on c.loop-planned.invariant.lent c.write_coverage.ensures.lent
+
+pub returns-in-Err-clause-cause : goal.returns-in-Err-clause-cause
+returns-in-Err-clause-cause g c = λ is. rose_on (g.K.Faults.faults c.write_coverage.new.sink) c.loop-planned.invariant.lent (c.in-Err.ensures.cause is)
+
+pub returns-clause-lent : goal.returns-clause-lent
+returns-clause-lent g c = c.loop-planned.invariant.lent

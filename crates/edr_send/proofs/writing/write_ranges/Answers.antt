@@ -1,4 +1,4 @@
-use Rattle.std.proofs.Common.{rules, ◌≡◌, ◌++◌, ◌+◌, ◌-◌, ◌*◌, ℕ, length, subst, ap, ◌∙◌, arith}
+use Rattle.std.proofs.Common.{◌≡◌, ◌++◌, ◌+◌, ◌-◌, ◌*◌, ℕ, length, subst, ap, ◌∙◌, arith}
 use Rattle.std.specs.List.{slice_range}
 use Rattle.std.specs.Io.KnownBytes.{append_known}
 use Rattle.edr_base.specs.Calls.{Front}
@@ -8,6 +8,7 @@ use Rattle.covjson_write.specs.Writers.{WriterValue}
 use Rattle.edr_send.specs.Gathered.{ranges_cut}
 use Rattle.edr_send.proofs.TextSteps.{all_but_same, all_but_on, all_but_front, writes_fault}
 use Rattle.edr_send.proofs.Cuts.{ranges_next, stage_within, stage_ready}
+use Rattle.edr_send.proofs.WriterSteps.{lent_on, rose_on}
 use Rattle.edr_send.proofs.writing.write_ranges.Goals as goal
 
 pub returns-in-Err-clause-bytes : goal.returns-in-Err-clause-bytes
@@ -52,5 +53,14 @@ loop-parameter-preserved g c =
       text = all_but_on piece rest whole (written c.args.sink.now) (written c.loop-parameter.sink) (written c.write_range.new.sink)
           (all_but_same (ranges_from head n (ranges_cut cells values n (count - n))) (piece ++ rest) whole (written c.args.sink.now) (written c.loop-parameter.sink) (ranges_next head cells values n count c.loop-parameter-test.true) c.loop-parameter.invariant.text)
           wrote;
-      lent = search rules;
+      lent = lent_on c.loop-parameter.invariant.lent c.write_range.ensures.lent;
     }
+
+pub returns-in-Err-clause-lent : goal.returns-in-Err-clause-lent
+returns-in-Err-clause-lent g c = lent_on c.loop-parameter.invariant.lent c.write_range.ensures.lent
+
+pub returns-in-Err-clause-cause : goal.returns-in-Err-clause-cause
+returns-in-Err-clause-cause g c = λ is. rose_on (g.K.Faults.faults c.write_range.new.sink) c.loop-parameter.invariant.lent (c.in-Err.ensures.cause is)
+
+pub returns-clause-lent : goal.returns-clause-lent
+returns-clause-lent g c = c.loop-parameter.invariant.lent

@@ -6,10 +6,12 @@ use Rattle.covjson_write.specs.declared.stages.Stage.TheVariants.{Ready, Within}
 use Rattle.covjson_write.specs.Pieces.{ranges_from}
 use Rattle.edr_chunk.specs.Tiles.{tiles}
 use Rattle.edr_select.specs.Samples.{ascending_once}
-use Rattle.edr_select.specs.Listings.{range_over, tiles_of_range}
+use Rattle.edr_select.specs.Listings.{tiles_of_range}
 use Rattle.edr_send.specs.Filling.{grid_of}
+use Rattle.edr_select.specs.Stacks.{stack_cells, stacked_range}
+use Rattle.edr_select.specs.Framings.{taken}
 use Rattle.edr_send.specs.Gathered.{AllBut}
-use Rattle.edr_send.proofs.streaming.write_ranges.Given as goal
+use Rattle.edr_send.proofs.stack_streams.write_parameters.Given as goal
 
 abbrev pub invariant-loop-number : goal.invariant-loop-number
 invariant-loop-number g l = record {
@@ -17,12 +19,12 @@ invariant-loop-number g l = record {
   begun : l.writer.begun ≡ l.fn.writer.begun;
   head : l.writer.head ≡ l.fn.writer.head;
   ranges : l.writer.ranges ≡ l.number;
-  within : l.number < length l.listing.parameters → l.writer.stage ≡ Within;
-  ready : l.number ≡ length l.listing.parameters → l.writer.stage ≡ Ready;
+  within : l.number < length l.parameters → l.writer.stage ≡ Within;
+  ready : l.number ≡ length l.parameters → l.writer.stage ≡ Ready;
   subject : l.store.subject ≡ l.fn.store.subject;
-  text : AllBut (ranges_from l.fn.writer.head l.number (map (range_over (grid_of l.fn.store.subject.held) l.planned.cells) (drop l.number l.listing.parameters)))
-      (ranges_from l.fn.writer.head 0 (map (range_over (grid_of l.fn.store.subject.held) l.planned.cells) l.listing.parameters)) (g.K.Sink.written l.fn.sink) (g.K.Sink.written l.sink);
+  text : AllBut (ranges_from l.fn.writer.head l.number (map (stacked_range (grid_of l.fn.store.subject.held) l.stacking.stack) (drop l.number l.parameters)))
+      (ranges_from l.fn.writer.head 0 (map (stacked_range (grid_of l.fn.store.subject.held) l.stacking.stack) l.parameters)) (g.K.Sink.written l.fn.sink) (g.K.Sink.written l.sink);
   reads : l.store.numbers
-      ≡ l.fn.store.numbers ++ ascending_once (tiles l.listing.shape) (flat_map (tiles_of_range l.listing.shape l.planned.cells) (take l.number l.listing.parameters));
+      ≡ l.fn.store.numbers ++ ascending_once (tiles l.stacking.shape) (flat_map (tiles_of_range l.stacking.shape (taken (stack_cells l.stacking.stack))) (take l.number l.parameters));
   lent : SinkLent (g.K.Sink.beside l.fn.sink) (g.K.Sink.beside l.sink) (g.K.Faults.faults l.fn.sink) (g.K.Faults.faults l.sink);
 }

@@ -10,7 +10,7 @@ use Rattle.edr_select.specs.Listings.{tiles_of_range}
 use Rattle.edr_send.specs.Filling.{grid_of}
 use Rattle.edr_select.specs.Framings.{frame_cells, framed_range, taken}
 use Rattle.edr_send.specs.Gathered.{AllBut}
-use Rattle.edr_send.proofs.frame_streams.write_ranges.Given as goal
+use Rattle.edr_send.proofs.frame_streams.write_parameters.Given as goal
 
 abbrev pub invariant-loop-number : goal.invariant-loop-number
 invariant-loop-number g l = record {
@@ -18,12 +18,12 @@ invariant-loop-number g l = record {
   begun : l.writer.begun ≡ l.fn.writer.begun;
   head : l.writer.head ≡ l.fn.writer.head;
   ranges : l.writer.ranges ≡ l.number;
-  within : l.number < length l.framing.parameters → l.writer.stage ≡ Within;
-  ready : l.number ≡ length l.framing.parameters → l.writer.stage ≡ Ready;
+  within : l.number < length l.parameters → l.writer.stage ≡ Within;
+  ready : l.number ≡ length l.parameters → l.writer.stage ≡ Ready;
   subject : l.store.subject ≡ l.fn.store.subject;
-  text : AllBut (ranges_from l.fn.writer.head l.number (map (framed_range (grid_of l.fn.store.subject.held) l.framing.frame) (drop l.number l.framing.parameters)))
-      (ranges_from l.fn.writer.head 0 (map (framed_range (grid_of l.fn.store.subject.held) l.framing.frame) l.framing.parameters)) (g.K.Sink.written l.fn.sink) (g.K.Sink.written l.sink);
+  text : AllBut (ranges_from l.fn.writer.head l.number (map (framed_range (grid_of l.fn.store.subject.held) l.framing.frame) (drop l.number l.parameters)))
+      (ranges_from l.fn.writer.head 0 (map (framed_range (grid_of l.fn.store.subject.held) l.framing.frame) l.parameters)) (g.K.Sink.written l.fn.sink) (g.K.Sink.written l.sink);
   reads : l.store.numbers
-      ≡ l.fn.store.numbers ++ ascending_once (tiles l.framing.shape) (flat_map (tiles_of_range l.framing.shape (taken (frame_cells l.framing.frame))) (take l.number l.framing.parameters));
+      ≡ l.fn.store.numbers ++ ascending_once (tiles l.framing.shape) (flat_map (tiles_of_range l.framing.shape (taken (frame_cells l.framing.frame))) (take l.number l.parameters));
   lent : SinkLent (g.K.Sink.beside l.fn.sink) (g.K.Sink.beside l.sink) (g.K.Faults.faults l.fn.sink) (g.K.Faults.faults l.sink);
 }
