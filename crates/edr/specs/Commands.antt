@@ -19,6 +19,15 @@ pub record Asked : Type 0 where
 abbrev pub asks : Command → List ℕ → Option Asked
 asks command argument = Some (record { command = command; argument = argument })
 
+-- the command that a word asks for with a number behind it
+abbrev pub numbered : List ℕ → List ℕ → Option Command
+numbered word next =
+    if is_number next then (
+    if bytes_eq word (codes "make") then Some (Make (digits_value 10 next))
+    else if bytes_eq word (codes "work") then Some (Work (digits_value 10 next))
+    else None)
+    else None
+
 -- what the words ask for, and None where they are none of the commands'
 abbrev pub asked_by : List (List ℕ) → Option Asked
 asked_by [] = None
@@ -30,10 +39,8 @@ asked_by (word ∷ next ∷ []) =
     if bytes_eq word (codes "ask") then asks Ask next
     else if bytes_eq word (codes "replay") && is_utf8 next then asks Replay next
     else if bytes_eq word (codes "check") && bytes_eq next (codes "--summary") then asks CheckSummary []
-    else if bytes_eq word (codes "make") && is_number next then asks (Make (digits_value 10 next)) []
-    else if bytes_eq word (codes "work") && is_number next then asks (Work (digits_value 10 next)) []
     else if bytes_eq word (codes "fetch") then asks Fetch next
-    else None
+    else option_map (λ command. record { command = command; argument = [] }) (numbered word next)
 asked_by (word ∷ next ∷ more ∷ []) =
     if bytes_eq word (codes "replay") && is_utf8 next && bytes_eq more (codes "--advance") then asks ReplayAdvance next else None
 asked_by (word ∷ next ∷ more ∷ other ∷ words) = None

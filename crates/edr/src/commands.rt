@@ -1,7 +1,7 @@
 //! The commands, and the words that ask for them.
-ghost use Rattle.std.specs.Prelude.{◌≡◌, true, option_map, IfSome, IsUtf8};
+ghost use Rattle.std.specs.Prelude.{◌≡◌, true, option_map, IfSome, IsUtf8, [], ◌∷◌};
 ghost use Rattle.std.specs.Str.{is_utf8};
-ghost use Rattle.edr.specs.Commands.{Asked, asked_by, IsNamed};
+ghost use Rattle.edr.specs.Commands.{Asked, asked_by, numbered, IsNamed};
 
 use edr_base::{Text, is_utf8};
 use edr_program::number_of;
@@ -37,6 +37,65 @@ fn is_name(word: &[u8]) -> bool
     is_utf8(word)
 }
 
+// What a word alone asks for.
+fn asked_alone(word: &[u8]) -> Option<(Command, &'static [u8])>
+    ensures asked { option_map (λ asked. record { command = asked.0; argument = asked.1.now }) result ≡ asked_by (word.now ∷ []) }
+    ensures named { IfSome result (λ asked. IsNamed asked.0 asked.1.now) }
+{
+    if word == b"check".as_slice() {
+        Some((Command::Check, &[]))
+    } else if word == b"show".as_slice() {
+        Some((Command::Show, &[]))
+    } else {
+        None
+    }
+}
+
+// The command that a word asks for with a number behind it.
+fn numbered(word: &[u8], number: &[u8]) -> Option<Command>
+    ensures { result ≡ numbered word.now number.now }
+{
+    let value = number_of(number)?;
+    if word == b"make".as_slice() {
+        Some(Command::Make(value))
+    } else if word == b"work".as_slice() {
+        Some(Command::Work(value))
+    } else {
+        None
+    }
+}
+
+// What a word asks for with another one behind it, which may be what it goes by.
+fn asked_with<'a>(word: &[u8], next: &'a [u8]) -> Option<(Command, &'a [u8])>
+    ensures asked { option_map (λ asked. record { command = asked.0; argument = asked.1.now }) result ≡ asked_by (word.now ∷ next.now ∷ []) }
+    ensures named { IfSome result (λ asked. IsNamed asked.0 asked.1.now) }
+{
+    if word == b"ask".as_slice() {
+        Some((Command::Ask, next))
+    } else if word == b"replay".as_slice() && is_name(next) {
+        Some((Command::Replay, next))
+    } else if word == b"check".as_slice() && next == b"--summary".as_slice() {
+        Some((Command::CheckSummary, &[]))
+    } else if word == b"fetch".as_slice() {
+        Some((Command::Fetch, next))
+    } else {
+        let command = numbered(word, next)?;
+        Some((command, &[]))
+    }
+}
+
+// What three words ask for.
+fn asked_of_three<'a>(word: &[u8], next: &'a [u8], more: &[u8]) -> Option<(Command, &'a [u8])>
+    ensures asked { option_map (λ asked. record { command = asked.0; argument = asked.1.now }) result ≡ asked_by (word.now ∷ next.now ∷ more.now ∷ []) }
+    ensures named { IfSome result (λ asked. IsNamed asked.0 asked.1.now) }
+{
+    if word == b"replay".as_slice() && is_name(next) && more == b"--advance".as_slice() {
+        Some((Command::ReplayAdvance, next))
+    } else {
+        None
+    }
+}
+
 /// The command that the words ask for, and the word behind it where it goes by one; None where they are none of the
 /// commands'. Whether a word is a URL isn't looked at. It takes no memory.
 pub fn asked_by(words: &[Text]) -> Option<(Command, &[u8])>
@@ -44,37 +103,9 @@ pub fn asked_by(words: &[Text]) -> Option<(Command, &[u8])>
     ensures named { IfSome result (λ asked. IsNamed asked.0 asked.1.now) }
 {
     match words {
-        [word] if word.bytes() == b"check".as_slice() => Some((Command::Check, &[])),
-        [word] if word.bytes() == b"show".as_slice() => Some((Command::Show, &[])),
-        [word, target] if word.bytes() == b"ask".as_slice() => {
-            Some((Command::Ask, target.bytes()))
-        }
-        [word, feed] if word.bytes() == b"replay".as_slice() && is_name(feed.bytes()) => {
-            Some((Command::Replay, feed.bytes()))
-        }
-        [word, feed, next]
-            if word.bytes() == b"replay".as_slice()
-                && is_name(feed.bytes())
-                && next.bytes() == b"--advance".as_slice() => {
-            Some((Command::ReplayAdvance, feed.bytes()))
-        }
-        [word, next]
-            if word.bytes() == b"check".as_slice() && next.bytes() == b"--summary".as_slice() => {
-            Some((Command::CheckSummary, &[]))
-        }
-        [word, number] if word.bytes() == b"make".as_slice() => {
-            match number_of(number.bytes()) {
-                Some(number) => Some((Command::Make(number), &[])),
-                None => None,
-            }
-        }
-        [word, number] if word.bytes() == b"work".as_slice() => {
-            match number_of(number.bytes()) {
-                Some(number) => Some((Command::Work(number), &[])),
-                None => None,
-            }
-        }
-        [word, url] if word.bytes() == b"fetch".as_slice() => Some((Command::Fetch, url.bytes())),
+        [word] => asked_alone(word.bytes()),
+        [word, next] => asked_with(word.bytes(), next.bytes()),
+        [word, next, more] => asked_of_three(word.bytes(), next.bytes(), more.bytes()),
         _ => None,
     }
 }
