@@ -32,6 +32,16 @@ fn place_of(files: &[(Vec<u8>, Vec<u8>)], name: &[u8]) -> Option<usize>
     files.iter().position(|file| file.0.as_slice() == name)
 }
 
+// The bytes of the file at a place, and none where there is no file.
+fn bytes_at(files: &[(Vec<u8>, Vec<u8>)], place: usize) -> &[u8]
+    ensures { result.now ≡ bytes_at files.now place }
+{
+    match files.get(place) {
+        Some(file) => file.1.as_slice(),
+        None => &[],
+    }
+}
+
 impl MemoryFiles {
     ghost use Rattle.edr_base.specs.MemoryParts.{cut_of_files, plan_of_files};
 
@@ -101,10 +111,8 @@ impl Source for MemoryFiles {
             self.plan.count_fault();
             return Err(Failed);
         }
-        let Some(file) = self.files.get(self.place) else {
-            return Ok(0);
-        };
-        Ok(give_from(&file.1, &mut self.at, buf, self.cut))
+        let bytes = bytes_at(&self.files, self.place);
+        Ok(give_from(bytes, &mut self.at, buf, self.cut))
     }
 }
 
