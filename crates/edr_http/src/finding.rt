@@ -6,10 +6,10 @@ use httparse::Status;
 use httparse::spans::{HeaderSpan, RequestSpans, parse_request};
 
 /// A head has at most so many fields.
-pub(crate) const FIELD_LIMIT: usize = 64;
+pub const FIELD_LIMIT: usize = 64;
 
 /// A head has at most so many bytes.
-pub(crate) const HEAD_LIMIT: usize = 16_384;
+pub const HEAD_LIMIT: usize = 16_384;
 
 /// Where the fields of a head stand.
 pub(crate) type Fields = [HeaderSpan; FIELD_LIMIT];

@@ -18,6 +18,7 @@ mod replies;
 
 pub use checks::{Ask, check_head};
 pub use chunked_sink::{ChunkedSink, send_body};
+pub use finding::{FIELD_LIMIT, HEAD_LIMIT};
 pub use heads::{Head, HeadFault, HeadOutcome};
 pub use inbox::Inbox;
 pub use laws::{head_is_one, heads_are_decided, heads_are_decided_early, refusal_is_one};

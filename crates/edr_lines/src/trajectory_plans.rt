@@ -23,12 +23,9 @@ use covjson_value::{Domain, Referencing};
 use edr_base::{Items, OutOfMemory, Position, Refusal};
 use edr_edition::{CollectionData, GridInstance};
 use edr_query::Query;
-use edr_select::{GridNode, Listing, PlanFault, Planned, head_of, value_product};
+use edr_select::{COVERAGE_LIMIT, GridNode, Listing, PlanFault, Planned, head_of, value_product};
 use edr_wkt::Geometry;
 use std::alloc::Global;
-
-// How many coverages a reply has at most.
-const COVERAGE_LIMIT: u64 = 5_000;
 
 // Whether a reply along a route has more values or coverages than one may have.
 fn is_too_large(parameters: &[u64], route: &Route) -> bool
@@ -42,7 +39,7 @@ fn is_too_large(parameters: &[u64], route: &Route) -> bool
     let Some(nodes) = value_product(turns, route.steps.len() as u64) else {
         return true;
     };
-    turns > COVERAGE_LIMIT || value_product(parameters.len() as u64, nodes).is_none()
+    turns > COVERAGE_LIMIT as u64 || value_product(parameters.len() as u64, nodes).is_none()
 }
 
 // The level of a place on the axis of levels, where there is one.

@@ -24,16 +24,10 @@ use edr_corridor::corridors_are_cut;
 use edr_edition::CollectionData;
 use edr_lines::{Axes, sides_taken, stack_with};
 use edr_query::Query;
-use edr_select::{GappedSeries, Stack, StackSides, value_product};
+use edr_select::{COVERAGE_LIMIT, GappedSeries, Stack, StackSides, VALUE_LIMIT, value_product};
 use edr_station::{Station, Stations};
 use std::alloc::Global;
 use std::marker::Model;
-
-// How many values a reply has at most.
-const VALUE_LIMIT: u64 = 2_000_000;
-
-// How many coverages a reply has at most.
-const COVERAGE_LIMIT: usize = 5_000;
 
 // How many values some parameters have at the times and levels of a stack of one row and one column, or None where they are
 // above the limit of a reply.

@@ -16,16 +16,10 @@ use crate::station_heads::head_at;
 use edr_base::{Items, OutOfMemory};
 use edr_edition::CollectionData;
 use edr_query::Query;
-use edr_select::StationSeries;
+use edr_select::{COVERAGE_LIMIT, StationSeries, VALUE_LIMIT};
 use edr_station::Stations;
 use std::alloc::Global;
 use std::marker::Model;
-
-// How many values a reply has at most.
-const VALUE_LIMIT: u64 = 2_000_000;
-
-// How many coverages a reply has at most.
-const COVERAGE_LIMIT: usize = 5_000;
 
 // The coverage of the station at a place but for its values.
 fn planned_at(

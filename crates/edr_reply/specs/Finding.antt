@@ -16,7 +16,7 @@ use Rattle.edr_reply.specs.declared.lines.FoundLine.{FoundLine}
 use Rattle.edr_reply.specs.declared.lines.FoundLine.TheVariants as line
 use Rattle.edr_reply.specs.declared.lines.FoundEnd.{FoundEnd}
 use Rattle.edr_reply.specs.declared.lines.FoundEnd.TheVariants as end
-use Rattle.edr_reply.specs.Messages.{BeginsWithHead, fields_of, HasNumber, IsEdition, IsFraming, line_limit}
+use Rattle.edr_reply.specs.Messages.{BeginsWithHead, fields_of, HasNumber, IsEdition, IsFraming, size_line_limit}
 use Rattle.edr_reply.specs.BrokenParts.{LacksHead, BeginsWithLine, LacksLine, LacksEnd}
 
 -- ---- numbers
@@ -54,7 +54,7 @@ TellsHead bytes head.Bad = (more : List ℕ) → LacksHead (bytes ++ more)
 abbrev pub TellsLine : ℕ → List ℕ → FoundLine → Type 0
 TellsLine room bytes (line.Got found) =
     (l : ChunkLine) × (rest : List ℕ) × BeginsWithLine bytes l rest × (found.len ≡ length (print_chunk_line l)) × (found.size ≡ chunk_size l) × (found.size ≤ room)
-TellsLine room bytes line.NeedMore = LacksLine room bytes × (length bytes < line_limit)
+TellsLine room bytes line.NeedMore = LacksLine room bytes × (length bytes < size_line_limit)
 TellsLine room bytes line.Bad = (more : List ℕ) → LacksLine room (bytes ++ more)
 
 abbrev pub TellsEnd : List ℕ → FoundEnd → Type 0

@@ -20,8 +20,8 @@ abbrev pub body_limit : ℕ
 body_limit = 67_108_864
 
 -- the bytes of the line that stands before a chunk, with its end
-abbrev pub line_limit : ℕ
-line_limit = 16_384
+abbrev pub size_line_limit : ℕ
+size_line_limit = 16_384
 
 -- ---- the head (RFC 9112, sections 2 to 5)
 
@@ -77,7 +77,7 @@ IsFraming fields ToEnd = ¬ (IsInChunks fields) × ((size : ℕ) → ¬ (HasNumb
 -- the line that stands before a chunk and gives its size, perhaps with an extension
 pub record IsSizeLine (line : ChunkLine) : Type 0 where
   pub reads : IsChunkLine line
-  pub short : length (print_chunk_line line) ≤ line_limit
+  pub short : length (print_chunk_line line) ≤ size_line_limit
 
 -- a chunk: its line, and its bytes
 pub record Chunk : Type 0 where
@@ -160,4 +160,4 @@ most_beyond = (body_limit + 1) + buffer_size
 -- what is read at most: a head, a body of which each byte is a chunk with the longest line, and once more a line, a body and
 -- what was read with it
 abbrev pub most_read : ℕ
-most_read = (head_limit + (head_limit + body_limit * (line_limit + 3)) + (line_limit + body_limit + 2)) + buffer_size
+most_read = (head_limit + (head_limit + body_limit * (size_line_limit + 3)) + (size_line_limit + body_limit + 2)) + buffer_size

@@ -6,14 +6,9 @@ ghost use Rattle.edr_reply.specs.Finding.{Opens, TellsHead};
 
 use crate::fields::{edition_of, framing_of};
 use crate::framing::Framing;
+use edr_http::{FIELD_LIMIT, HEAD_LIMIT};
 use httparse::Status;
 use httparse::spans::{EMPTY_HEADER_SPAN, HeaderSpan, ResponseSpans, parse_response};
-
-// A head has at most so many fields.
-const FIELD_LIMIT: usize = 64;
-
-/// A head has at most so many bytes.
-pub(crate) const HEAD_LIMIT: usize = 16_384;
 
 /// What a head says, and how many bytes it has.
 #[derive(Clone, Copy)]

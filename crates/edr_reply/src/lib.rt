@@ -15,4 +15,4 @@ mod pieces;
 
 pub use framing::Framing;
 pub use laws::{break_is_one, broken_is_none, message_is_one, written_replies_are_read};
-pub use messages::{Message, MessageFault, read_message};
+pub use messages::{BODY_LIMIT, Message, MessageFault, read_message};

@@ -6,7 +6,7 @@ use edr_base::without_front;
 use httparse::{Status, parse_chunk_size};
 
 /// A line has at most so many bytes, with its end.
-pub(crate) const LINE_LIMIT: usize = 16_384;
+pub(crate) const SIZE_LINE_LIMIT: usize = 16_384;
 
 /// A line that gives the size of a chunk: how many bytes it has, and the size.
 #[derive(Clone, Copy)]
@@ -41,7 +41,7 @@ pub(crate) fn find_line(bytes: &[u8], room: u64) -> FoundLine
             }
         }
         Ok(Status::Partial) => {
-            if bytes.len() < LINE_LIMIT {
+            if bytes.len() < SIZE_LINE_LIMIT {
                 FoundLine::NeedMore
             } else {
                 FoundLine::Bad

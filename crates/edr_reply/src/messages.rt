@@ -17,7 +17,7 @@ use edr_base::{Source, Text};
 use std::alloc::Global;
 
 /// A body has at most so many bytes.
-pub(crate) const BODY_LIMIT: usize = 67_108_864;
+pub const BODY_LIMIT: usize = 67_108_864;
 
 /// What a reply says (RFC 9112, sections 4 to 7).
 #[derive(Debug, Drop)]

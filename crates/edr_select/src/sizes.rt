@@ -6,12 +6,7 @@ ghost use Rattle.edr_select.specs.Steps as steps;
 
 use crate::choices::Choice;
 use crate::forms::Form;
-
-// How many values the ranges of a reply have at most.
-const VALUE_LIMIT: u64 = 2_000_000;
-
-// How many coverages a reply has at most.
-const COVERAGE_LIMIT: usize = 5_000;
+use crate::limits::{COVERAGE_LIMIT, VALUE_LIMIT};
 
 /// The product of two counts, or None where it is above the limit of values.
 pub fn value_product(count: u64, other: u64) -> Option<u64>

@@ -1,14 +1,16 @@
 //! The reply to one head.
-ghost use Rattle.std.specs.Prelude.{◌≡◌, ◌≢◌, ◌-◌, ◌≤◌, [], ◌∷◌, None, Some, Ok, Err, is_some, IfOk, OnOk, OnErr, IsErrOf};
+ghost use Rattle.std.specs.Prelude.{◌≡◌, ◌≢◌, ◌+◌, ◌-◌, ◌≤◌, [], ◌∷◌, None, Some, Ok, Err, is_some, IfOk, OnOk, OnErr, IsErrOf};
 ghost use Rattle.edr_base.specs.Outside.{Rose};
 ghost use Rattle.edr_base.specs.Calls.{SinkLent, Writes, IsFlushed};
 ghost use Rattle.edr_http.specs.Replies.{reply_text, refusal_body};
 ghost use Rattle.edr_serve.specs.Requests as requests;
+ghost use Rattle.edr_serve.specs.Requests.{request_limit};
 ghost use Rattle.edr_serve.specs.Replies.{body_from, chunks_from};
 ghost use Rattle.edr_serve.specs.Sessions.{state, IsReplied, BrokeOff};
 ghost use Rattle.edr_serve.specs.Serving.{HeadReplied, HeadBroken};
 
 use crate::ends::End;
+use crate::limits::REQUEST_LIMIT;
 use crate::replying::reply_page;
 use crate::reports::OneReport;
 use edr_base::{Refusal, SendFault, Sink, settle};
@@ -20,14 +22,14 @@ use std::alloc::Global;
 
 // The end with a request, by whether the peer closes and by its turn.
 fn end_by_turns(turn: u32, close: bool) -> Option<End>
-    requires { turn ≤ 1000 }
-    ensures is { result ≡ requests.end_by_turns (1001 - turn) close }
+    requires { turn ≤ request_limit }
+    ensures is { result ≡ requests.end_by_turns (request_limit + 1 - turn) close }
     ensures going { result ≢ Some End.EndOfInput }
 {
     if close {
         return Some(End::ClosedByPeer);
     }
-    if turn == 1000 {
+    if turn == REQUEST_LIMIT {
         return Some(End::RequestLimit);
     }
     None
@@ -35,8 +37,8 @@ fn end_by_turns(turn: u32, close: bool) -> Option<End>
 
 // The end with a request that is refused.
 fn end_refused(turn: u32, close: bool, refusal: Refusal) -> Option<End>
-    requires { turn ≤ 1000 }
-    ensures is { result ≡ requests.end_of (1001 - turn) close (Err refusal) }
+    requires { turn ≤ request_limit }
+    ensures is { result ≡ requests.end_of (request_limit + 1 - turn) close (Err refusal) }
     ensures going { result ≢ Some End.EndOfInput }
 {
     let number = refusal.number();
@@ -138,10 +140,10 @@ pub(crate) fn answer_head<K: Sink, E: Editions>(
     head: &Head,
     turn: u32,
 ) -> Result<OneReport, SendFault>
-    requires { turn ≤ 1000 }
-    ensures done { IfOk result (λ report. HeadReplied (1001 - turn) head.now
+    requires { turn ≤ request_limit }
+    ensures done { IfOk result (λ report. HeadReplied (request_limit + 1 - turn) head.now
         (state (K.written sink.old) (E.seen shelf.old) (E.taken shelf.old)) (state (K.written sink.new) (E.seen shelf.new) (E.taken shelf.new)) report) }
-    ensures broke { OnErr result (HeadBroken (1001 - turn) head.now
+    ensures broke { OnErr result (HeadBroken (request_limit + 1 - turn) head.now
         (state (K.written sink.old) (E.seen shelf.old) (E.taken shelf.old)) (state (K.written sink.new) (E.seen shelf.new) (E.taken shelf.new))) }
     ensures stock { E.stock shelf.new ≡ E.stock shelf.old }
     ensures going { IfOk result (λ report. report.end ≢ Some End.EndOfInput) }

@@ -6,6 +6,7 @@ mod connections;
 mod ends;
 mod heads;
 mod laws;
+mod limits;
 mod replying;
 mod reports;
 mod session_laws;
@@ -16,6 +17,7 @@ pub use answering::{AnswerFault, answer};
 pub use connections::{Connection, Served, serve_connection};
 pub use ends::End;
 pub use laws::{answer_is_one, pages_have_answers, refusal_is_the_first};
+pub use limits::REQUEST_LIMIT;
 pub use reports::{OneReport, SessionFault, SessionReport};
 pub use session_laws::{
     begun_are_first, output_begins, output_goes_on, requests_are_one, requests_exist,

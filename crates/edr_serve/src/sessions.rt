@@ -1,13 +1,15 @@
 //! Sessions: the requests of a connection, one after another (RFC 9112, section 9.3).
-ghost use Rattle.std.specs.Prelude.{◌≡◌, ◌≢◌, ◌⊎◌, ◌-◌, ◌≤◌, max, ◌++◌, [], ◌∷◌, None, Some, ℕ, length, option_map, option_to_list, IfOk, OnOk, OnErr, IsErrOf, IsTrue};
+ghost use Rattle.std.specs.Prelude.{◌≡◌, ◌≢◌, ◌⊎◌, ◌+◌, ◌-◌, ◌≤◌, max, ◌++◌, [], ◌∷◌, None, Some, ℕ, length, option_map, option_to_list, IfOk, OnOk, OnErr, IsErrOf, IsTrue};
 ghost use Rattle.std.specs.Io.KnownBytes.{prepend_known};
 ghost use Rattle.edr_base.specs.Outside.{Rose};
 ghost use Rattle.edr_base.specs.Calls.{SourceLent, SinkLent, ReadsAtMost, IsFlushed};
 ghost use Rattle.edr_http.specs.Heads.{Told, HasHead, HasNoHead, IsBehind, most_held};
+ghost use Rattle.edr_serve.specs.Requests.{request_limit};
 ghost use Rattle.edr_serve.specs.Sessions.{state, chunks_in, most_behind, Served, TakesHead, BrokenAtOne, Session, Broken, Waits};
 
 use crate::ends::End;
 use crate::heads::{answer_head, refuse};
+use crate::limits::REQUEST_LIMIT;
 use crate::reports::{OneReport, SessionFault, SessionReport};
 use edr_base::{Items, SendFault, Sink, Source};
 use edr_chunk::Reads;
@@ -27,7 +29,7 @@ fn of_sending(fault: SendFault) -> SessionFault
 }
 
 /// Serves one request of a connection: reads its head, and writes the reply and flushes it. `turn` is its number in the
-/// session, from 1; a reply to the 1,000th closes the connection.
+/// session, from 1 to `REQUEST_LIMIT`; a reply to the last closes the connection.
 ///
 /// A request for a page is answered from the newest edition of the shelf, which it takes once, and any other request from
 /// none. Where the input is at its end, nothing is written or taken. It puts no edition on the shelf. Nothing is read where
@@ -47,11 +49,11 @@ pub fn serve_one<S: Source, K: Sink, E: Editions>(
     inbox: &mut Inbox,
     turn: u32,
 ) -> Result<OneReport, SessionFault>
-    requires { (1 ≤ turn) × (turn ≤ 1000) }
-    ensures done { IfOk result (λ report. Served (1001 - turn)
+    requires { (1 ≤ turn) × (turn ≤ request_limit) }
+    ensures done { IfOk result (λ report. Served (request_limit + 1 - turn)
         (prepend_known inbox.old (S.left source.old)) (prepend_known inbox.new (S.left source.new))
         (state (K.written sink.old) (E.seen shelf.old) (E.taken shelf.old)) (state (K.written sink.new) (E.seen shelf.new) (E.taken shelf.new)) report) }
-    ensures fault { OnErr result (BrokenAtOne (1001 - turn) (prepend_known inbox.old (S.left source.old))
+    ensures fault { OnErr result (BrokenAtOne (request_limit + 1 - turn) (prepend_known inbox.old (S.left source.old))
         (state (K.written sink.old) (E.seen shelf.old) (E.taken shelf.old)) (state (K.written sink.new) (E.seen shelf.new) (E.taken shelf.new))) }
     ensures stock { E.stock shelf.new ≡ E.stock shelf.old }
     ensures behind { IsBehind (prepend_known inbox.old (S.left source.old)) (prepend_known inbox.new (S.left source.new)) }
@@ -159,7 +161,7 @@ pub fn serve_session<S: Source, K: Sink, E: Editions>(
     let mut editions = Vec::new(alloc);
     let mut reads = Vec::new(alloc);
     let mut turn: u32 = 1;
-    'requests: while turn <= 1000 {
+    'requests: while turn <= REQUEST_LIMIT {
         match serve_one(alloc, source, sink, shelf, &mut inbox, turn) {
             Ok(report) => {
                 let OneReport {
