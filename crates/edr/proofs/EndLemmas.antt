@@ -19,7 +19,8 @@ use Rattle.edr.specs.Replays.{IsReplayOf, IsReplayBegun, AreReplies, AreBegun}
 use Rattle.edr.specs.Asking.{AnswerCause}
 use Rattle.edr.specs.Making.{MakeCause}
 use Rattle.edr.specs.Causes.{Counts, FileFailed}
-use Rattle.edr.specs.Ends.{OutputEnds, IsReadByEnd, AtReadFault, Settles}
+use Rattle.edr.specs.Ends.{OutputEnds, IsReadByEnd, AtReadFault}
+use Rattle.edr.specs.Settling.{Settles}
 use Rattle.edr.specs.Replaying.{ServeCause, ReplayCause, IsBefore, session_ends}
 use Rattle.edr.proofs.ReplayLemmas.{stands_opened}
 

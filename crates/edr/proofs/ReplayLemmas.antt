@@ -1,10 +1,11 @@
 -- Editions that requests read, and what is written of them.
-use Rattle.std.proofs.Common.{◌≡◌, ℕ, suc, ◌+◌, ◌-◌, inl, inr, ◌⊎◌, min, slice_index_or, Bool, false, List, [], ◌∷◌, ◌++◌, length, Result, Ok, Err, Some, None, IfSome, sym, ap, subst, ◌∙◌, refl, flat_map, length-append, append-nil, arith}
+use Rattle.std.proofs.Common.{◌≡◌, ℕ, suc, ◌+◌, ◌-◌, inl, inr, ◌⊎◌, min, slice_index_or, Bool, true, false, List, [], ◌∷◌, ◌++◌, length, Result, Ok, Err, Some, None, IfSome, sym, ap, subst, ◌∙◌, refl, flat_map, length-append, append-nil, arith}
 use Rattle.std.specs.declared.option.Option.{Option}
 use Rattle.std.specs.Prelude.{⊤}
 use Rattle.std.specs.Io.KnownBytes.{append_known, IsAtEnd}
 use mathlib.Core.List.{append_assoc}
-use Rattle.edr_base.specs.Calls.{Begins, Front, IsFlushed, WrittenWhole, WrittenInPart}
+use Rattle.edr_base.specs.Limits.{feed_limit}
+use Rattle.edr_base.specs.Calls.{Begins, Front, IsFlushed, ReadsAtMost, WrittenWhole, WrittenInPart, buffer_size}
 use Rattle.edr_base.specs.KnownBytes.{append_nothing, prepend_nothing, grew_on, front_on, front_whole}
 use Rattle.edr_base.specs.declared.refusals.Refusal.{Refusal}
 use Rattle.edr_edition.specs.Values.{EditionValue}
@@ -22,6 +23,7 @@ use Rattle.edr_serve.specs.Sessions.{State, IfTold, Uses, Answered, Session, Bro
 use Rattle.edr_serve.specs.Sessions as sessions
 use Rattle.edr_serve.specs.SessionLaws.{OutputGoesOn}
 use Rattle.edr_serve.specs.AheadLaws.{ahead_more, most_behind_held}
+use Rattle.edr.specs.Reading.{IsFileRead}
 use Rattle.edr.specs.Replays.{edition_at, if_page, editions_read, replayed, AreReplies, AreBegun, IsServed, IsReadFor, ReplayReads, Waits, ReplayWaits}
 
 -- ---- a shelf that stays as it is
@@ -308,3 +310,17 @@ pub waits_feed : (advances : Bool) (editions : List EditionValue) (content left 
     → Waits advances editions input after old new flushed → ReplayWaits advances content input after old new flushed
 waits_feed advances editions content left input after old new flushed h x waits =
     inr (record { editions = editions; published = stands_opened content left (Ok editions) h x; waits = waits })
+
+-- ---- the file
+
+-- no more was read of a file that is open
+pub file_read : (closed : Bool) (content left now : Option (List ℕ)) → closed ≡ false → IfSome content (λ told. left ≡ Some told)
+    → ReadsAtMost (feed_limit + buffer_size) left now → IsFileRead closed content now
+file_read true content left now e h r = absurd cc
+file_read false None left now e h r = tt
+file_read false (Some told) left now e h r = subst (λ (list : Option (List ℕ)). ReadsAtMost (feed_limit + buffer_size) list now) h r
+
+-- nothing is left where none is open
+pub file_closed : (closed : Bool) (content left : Option (List ℕ)) → closed ≡ true → IsAtEnd left → IsFileRead closed content left
+file_closed true content left e h = h
+file_closed false content left e h = absurd cc

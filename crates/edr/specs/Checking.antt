@@ -8,7 +8,7 @@ use Rattle.edr_feed.specs.declared.faults.FeedFault.{FeedFault}
 use Rattle.edr_feed.specs.declared.faults.FeedFault.TheVariants as faults
 use Rattle.edr_feed.specs.declared.refusals.FeedRefusal.TheVariants as refusals
 use Rattle.edr.specs.declared.endings.Ending.{Ending}
-use Rattle.edr.specs.declared.endings.Ending.TheVariants.{Done, Usage, NotFeed, ReadFault, WriteFault, OutOfMemory, Refused, NoDocument, ConnectFault, OpenFault}
+use Rattle.edr.specs.declared.endings.Ending.TheVariants.{Done, NotFeed, ReadFault, WriteFault, OutOfMemory}
 use Rattle.edr.specs.Outputs.{count_line, summary_lines}
 
 -- what is told of the editions: how many there are, or what each has
@@ -31,12 +31,8 @@ fault_ends faults.OutOfMemory = OutOfMemory
 -- the cause of an ending: the input is no feed, or a count rose
 abbrev pub CheckCause : Ending → Option (List ℕ) → ℕ → ℕ → ℕ → ℕ → Type 0
 CheckCause Done input read_before read_after written_before written_after = ⊤
-CheckCause Usage input read_before read_after written_before written_after = ⊥
 CheckCause (NotFeed refusal) input read_before read_after written_before written_after = FeedStandsIn input (Err refusal)
 CheckCause ReadFault input read_before read_after written_before written_after = Rose read_before read_after
 CheckCause WriteFault input read_before read_after written_before written_after = Rose written_before written_after
 CheckCause OutOfMemory input read_before read_after written_before written_after = ⊤
-CheckCause (Refused refusal) input read_before read_after written_before written_after = ⊥
-CheckCause (NoDocument refusal) input read_before read_after written_before written_after = ⊥
-CheckCause ConnectFault input read_before read_after written_before written_after = ⊥
-CheckCause OpenFault input read_before read_after written_before written_after = ⊥
+CheckCause ending input read_before read_after written_before written_after = ⊥

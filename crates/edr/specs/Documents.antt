@@ -33,8 +33,7 @@ IsTableIn input text = OfInput (λ bytes. IsTableOf bytes text) input
 abbrev pub IsNoDocumentBy : DocumentRefusal → List ℕ → Type 0
 IsNoDocumentBy TooLong bytes = body_limit < length bytes
 IsNoDocumentBy Cov bytes = (length bytes ≤ body_limit) × ((document : Document) → ¬ (StandsForDocument bytes document))
-IsNoDocumentBy BadReply bytes = ⊥
-IsNoDocumentBy (NotData status) bytes = ⊥
+IsNoDocumentBy refusal bytes = ⊥
 
 abbrev pub IsNoDocumentIn : Option (List ℕ) → DocumentRefusal → Type 0
 IsNoDocumentIn input refusal = OfInput (IsNoDocumentBy refusal) input

@@ -1,11 +1,11 @@
 -- How a run ends: its status, and what it leaves on each object. Each table goes by the ending, and by the command where it
--- differs from command to command.
+-- differs from command to command; its last row is that of all which have none of their own.
 use Rattle.std.specs.Prelude.{◌≡◌, ◌⊎◌, ℕ, ◌+◌, Bool, true, false, ◌++◌, ⊤, codes, List, [], IsNone, None, Some, option_map, IfSome}
 use Rattle.std.specs.declared.option.Option.{Option}
 use Rattle.std.specs.Fmt.{decimal}
 use Rattle.edr_base.specs.RefusalTable.{body_of}
 use Rattle.edr_base.specs.Outside.{Aside, Asked as AskedOf, Rose}
-use Rattle.edr_base.specs.Calls.{WrittenWhole, WrittenInPart, IsFlushed, ReadsAtMost}
+use Rattle.edr_base.specs.Calls.{WrittenWhole, WrittenInPart, ReadsAtMost}
 use Rattle.edr_http.specs.Heads.{Told}
 use Rattle.edr_reply.specs.declared.messages.Message.{Message}
 use Rattle.edr_reply.specs.Messages.{TakesMessage, BreaksOff, most_beyond}
@@ -14,7 +14,7 @@ use Rattle.edr_fetch.specs.Requests.{request_of, request_text}
 use Rattle.edr_fetch.specs.Exchanges.{LinkMoment, IsUnconnected, IsUnsent, IsSent, Halted}
 use Rattle.edr_program.specs.Lines.{feed_said, Tells}
 use Rattle.edr.specs.declared.commands.Command.{Command}
-use Rattle.edr.specs.declared.commands.Command.TheVariants.{Ask, Replay, ReplayAdvance, Check, CheckSummary, Make, Work, Show, Fetch}
+use Rattle.edr.specs.declared.commands.Command.TheVariants.{Fetch}
 use Rattle.edr.specs.declared.endings.Ending.{Ending}
 use Rattle.edr.specs.declared.endings.Ending.TheVariants.{Done, Usage, NotFeed, ReadFault, WriteFault, OutOfMemory, Refused, NoDocument, ConnectFault, OpenFault}
 use Rattle.edr.specs.declared.endings.DocumentRefusal.{DocumentRefusal}
@@ -59,15 +59,7 @@ said_of OpenFault = codes "open fault"
 -- the line of an ending: none where all was done
 abbrev pub line_of : Ending → List ℕ
 line_of Done = []
-line_of Usage = said_of Usage ++ codes "\n"
-line_of (NotFeed refusal) = said_of (NotFeed refusal) ++ codes "\n"
-line_of ReadFault = said_of ReadFault ++ codes "\n"
-line_of WriteFault = said_of WriteFault ++ codes "\n"
-line_of OutOfMemory = said_of OutOfMemory ++ codes "\n"
-line_of (Refused refusal) = said_of (Refused refusal) ++ codes "\n"
-line_of (NoDocument refusal) = said_of (NoDocument refusal) ++ codes "\n"
-line_of ConnectFault = said_of ConnectFault ++ codes "\n"
-line_of OpenFault = said_of OpenFault ++ codes "\n"
+line_of ending = said_of ending ++ codes "\n"
 
 -- what stands on the output where a read failed: nothing, or a beginning where a command writes before it has read all
 abbrev pub ReadFaultLeaves : Bool → (List ℕ → Type 0) → Option (List ℕ) → Option (List ℕ) → Type 0
@@ -77,15 +69,10 @@ ReadFaultLeaves true Begun old new = (new ≡ old) ⊎ WrittenInPart Begun old n
 -- what stands on the output: a text for which Whole holds, whole and flushed; a beginning of one for which Begun holds; or nothing
 abbrev pub OutputEnds : Ending → Bool → (List ℕ → Type 0) → (List ℕ → Type 0) → Option (List ℕ) → Option (List ℕ) → Option ℕ → Type 0
 OutputEnds Done early Whole Begun old new flushed = WrittenWhole Whole old new flushed
-OutputEnds Usage early Whole Begun old new flushed = new ≡ old
-OutputEnds (NotFeed refusal) early Whole Begun old new flushed = new ≡ old
 OutputEnds ReadFault early Whole Begun old new flushed = ReadFaultLeaves early Begun old new
 OutputEnds WriteFault early Whole Begun old new flushed = WrittenInPart Begun old new
 OutputEnds OutOfMemory early Whole Begun old new flushed = (new ≡ old) ⊎ WrittenInPart Begun old new
-OutputEnds (Refused refusal) early Whole Begun old new flushed = new ≡ old
-OutputEnds (NoDocument refusal) early Whole Begun old new flushed = new ≡ old
-OutputEnds ConnectFault early Whole Begun old new flushed = new ≡ old
-OutputEnds OpenFault early Whole Begun old new flushed = new ≡ old
+OutputEnds ending early Whole Begun old new flushed = new ≡ old
 
 -- the words ask for nothing only where the run ends with the usage line
 abbrev pub EndsByWords : Ending → Option Asked → Type 0
@@ -98,28 +85,12 @@ EndsByArgument ending asked = AskForNothing asked → (ending ≡ Usage) ⊎ (en
 -- where all was done, the input was read so far
 abbrev pub IsReadByEnd : Ending → Type 0 → Type 0
 IsReadByEnd Done Far = Far
-IsReadByEnd Usage Far = ⊤
-IsReadByEnd (NotFeed refusal) Far = ⊤
-IsReadByEnd ReadFault Far = ⊤
-IsReadByEnd WriteFault Far = ⊤
-IsReadByEnd OutOfMemory Far = ⊤
-IsReadByEnd (Refused refusal) Far = ⊤
-IsReadByEnd (NoDocument refusal) Far = ⊤
-IsReadByEnd ConnectFault Far = ⊤
-IsReadByEnd OpenFault Far = ⊤
+IsReadByEnd ending Far = ⊤
 
 -- what is so where a read failed
 abbrev pub AtReadFault : Ending → Type 0 → Type 0
-AtReadFault Done So = ⊤
-AtReadFault Usage So = ⊤
-AtReadFault (NotFeed refusal) So = ⊤
 AtReadFault ReadFault So = So
-AtReadFault WriteFault So = ⊤
-AtReadFault OutOfMemory So = ⊤
-AtReadFault (Refused refusal) So = ⊤
-AtReadFault (NoDocument refusal) So = ⊤
-AtReadFault ConnectFault So = ⊤
-AtReadFault OpenFault So = ⊤
+AtReadFault ending So = ⊤
 
 -- just this more was asked; with want of memory, whose status is 5, that or nothing
 abbrev pub Asks : List AskedOf → ℕ → Option (List AskedOf) → Option (List AskedOf) → Type 0
@@ -143,34 +114,23 @@ IsBroken incoming left = IfSome incoming (λ bytes. (place : ℕ) × IsFirstBrea
 -- how far the exchange with the peer came; a write failed either on the output, behind it, or to the peer, before its end
 abbrev pub LinkEnds : Ending → List ℕ → Option (List ℕ) → ℕ → ℕ → LinkMoment → LinkMoment → Type 0
 LinkEnds Done text incoming output output' before after = IsSent text incoming before after × IsTaken incoming after.left
-LinkEnds Usage text incoming output output' before after = ⊥
-LinkEnds (NotFeed refusal) text incoming output output' before after = ⊥
 LinkEnds ReadFault text incoming output output' before after =
     IsSent text incoming before after × Rose before.faults after.faults × IfSome incoming (λ bytes. BreaksOff (Some bytes) after.left)
 LinkEnds WriteFault text incoming output output' before after =
     (IsSent text incoming before after × IsTaken incoming after.left × Rose output output')
     ⊎ (IsUnsent text incoming before after × Rose before.faults after.faults)
 LinkEnds OutOfMemory text incoming output output' before after = Halted text incoming before after
-LinkEnds (Refused refusal) text incoming output output' before after = ⊥
-LinkEnds (NoDocument TooLong) text incoming output output' before after = ⊥
 LinkEnds (NoDocument Cov) text incoming output output' before after = IsSent text incoming before after × IsTaken incoming after.left
 LinkEnds (NoDocument BadReply) text incoming output output' before after = IsSent text incoming before after × IsBroken incoming after.left
 LinkEnds (NoDocument (NotData status)) text incoming output output' before after = IsSent text incoming before after × IsTaken incoming after.left
 LinkEnds ConnectFault text incoming output output' before after = IsUnconnected before after × Rose before.faults after.faults
-LinkEnds OpenFault text incoming output output' before after = ⊥
+LinkEnds ending text incoming output output' before after = ⊥
 
 -- by the command: only a URL is fetched over the link
 abbrev pub LinkOf : Command → List ℕ → Ending → Option (List ℕ) → ℕ → ℕ → LinkMoment → LinkMoment → Type 0
-LinkOf Ask target ending incoming output output' before after = ⊤
-LinkOf Replay feed ending incoming output output' before after = ⊤
-LinkOf ReplayAdvance feed ending incoming output output' before after = ⊤
-LinkOf Check argument ending incoming output output' before after = ⊤
-LinkOf CheckSummary argument ending incoming output output' before after = ⊤
-LinkOf (Make number) argument ending incoming output output' before after = ⊤
-LinkOf (Work number) argument ending incoming output output' before after = ⊤
-LinkOf Show argument ending incoming output output' before after = ⊤
 LinkOf Fetch url ending incoming output output' before after =
     IfSome (request_of url) (λ request. LinkEnds ending (request_text request) incoming output output' before after)
+LinkOf command argument ending incoming output output' before after = ⊤
 
 abbrev pub LinkBy : Option Asked → Ending → Option (List ℕ) → ℕ → ℕ → LinkMoment → LinkMoment → Type 0
 LinkBy None ending incoming output output' before after = ⊤
@@ -201,18 +161,3 @@ pub record Ends (ending : Ending) (asked : Option Asked) (content : Contents) (i
   pub cause : HasCause ending asked (record { input = before.left; content = content; incoming = incoming }) before.counts after.counts
   pub link : LinkBy asked ending incoming before.counts.output after.counts.output before.link after.link
   pub line : Tells (line_of ending) before.told after.told before.errors after.errors
-
--- ---- for private clauses
-
--- how a run ends where all was written, and is flushed
-abbrev pub Settles : Ending → ℕ → ℕ → Option (List ℕ) → Option ℕ → Type 0
-Settles Done before after written flushed = IsFlushed written flushed
-Settles Usage before after written flushed = ⊥
-Settles (NotFeed refusal) before after written flushed = ⊥
-Settles ReadFault before after written flushed = ⊥
-Settles WriteFault before after written flushed = Rose before after
-Settles OutOfMemory before after written flushed = ⊤
-Settles (Refused refusal) before after written flushed = ⊥
-Settles (NoDocument refusal) before after written flushed = ⊥
-Settles ConnectFault before after written flushed = ⊥
-Settles OpenFault before after written flushed = ⊥

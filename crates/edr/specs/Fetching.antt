@@ -25,14 +25,12 @@ fetch_ends fetches.OutOfMemory = OutOfMemory
 abbrev pub FetchCause : Ending → List ℕ → Option (List ℕ) → Counts → Counts → Type 0
 FetchCause Done url incoming before after = ⊤
 FetchCause Usage url incoming before after = IsNone (request_of url)
-FetchCause (NotFeed refusal) url incoming before after = ⊥
 FetchCause ReadFault url incoming before after = LinkFailed before after
 FetchCause WriteFault url incoming before after = Rose before.output after.output ⊎ LinkFailed before after
 FetchCause OutOfMemory url incoming before after = ⊤
-FetchCause (Refused refusal) url incoming before after = ⊥
 FetchCause (NoDocument refusal) url incoming before after = IsNoReplyHeard incoming refusal
 FetchCause ConnectFault url incoming before after = Rose before.link after.link × (after.unconnected ≡ true)
-FetchCause OpenFault url incoming before after = ⊥
+FetchCause ending url incoming before after = ⊥
 
 -- the output wasn't come to
 abbrev pub IsBeforeOutput : Ending → Type 0

@@ -13,3 +13,5 @@ pub mod Working
 pub mod Showing
 pub mod Fetching
 pub mod Saying
+pub mod Naming
+pub mod Settling

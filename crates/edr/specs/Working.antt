@@ -5,7 +5,7 @@ use Rattle.edr_work.specs.Working.{IsMadeNoFeed, IsWorkRefused}
 use Rattle.edr_work.specs.declared.faults.WorkFault.{WorkFault}
 use Rattle.edr_work.specs.declared.faults.WorkFault.TheVariants as faults
 use Rattle.edr.specs.declared.endings.Ending.{Ending}
-use Rattle.edr.specs.declared.endings.Ending.TheVariants.{Done, Usage, NotFeed, ReadFault, WriteFault, OutOfMemory, Refused, NoDocument, ConnectFault, OpenFault}
+use Rattle.edr.specs.declared.endings.Ending.TheVariants.{Done, NotFeed, WriteFault, OutOfMemory, Refused}
 
 -- how a run ends that has no text
 abbrev pub work_ends : WorkFault → Ending
@@ -16,12 +16,8 @@ work_ends faults.OutOfMemory = OutOfMemory
 -- the cause of an ending: the feed that is made is none, its edition refuses a target, or a count rose
 abbrev pub WorkCause : Ending → ℕ → ℕ → ℕ → Type 0
 WorkCause Done number before after = ⊤
-WorkCause Usage number before after = ⊥
 WorkCause (NotFeed refusal) number before after = IsMadeNoFeed number refusal
-WorkCause ReadFault number before after = ⊥
 WorkCause WriteFault number before after = Rose before after
 WorkCause OutOfMemory number before after = ⊤
 WorkCause (Refused refusal) number before after = IsWorkRefused number refusal
-WorkCause (NoDocument refusal) number before after = ⊥
-WorkCause ConnectFault number before after = ⊥
-WorkCause OpenFault number before after = ⊥
+WorkCause ending number before after = ⊥

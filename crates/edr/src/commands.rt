@@ -1,7 +1,8 @@
 //! The commands, and the words that ask for them.
 ghost use Rattle.std.specs.Prelude.{◌≡◌, true, option_map, IfSome, IsUtf8, [], ◌∷◌};
 ghost use Rattle.std.specs.Str.{is_utf8};
-ghost use Rattle.edr.specs.Commands.{Asked, asked_by, numbered, IsNamed};
+ghost use Rattle.edr.specs.Commands.{Asked, asked_by, numbered};
+ghost use Rattle.edr.specs.Naming.{IsNamed};
 
 use edr_base::{Text, is_utf8};
 use edr_program::number_of;

@@ -1,6 +1,7 @@
 //! How a run ends.
 ghost use Rattle.std.specs.Prelude.{◌≡◌, ◌++◌, None};
-ghost use Rattle.edr.specs.Ends.{status_of, said_of, line_of, Settles};
+ghost use Rattle.edr.specs.Ends.{status_of, said_of, line_of};
+ghost use Rattle.edr.specs.Settling.{Settles};
 ghost use Rattle.edr_base.specs.Calls.{SinkLent};
 ghost use Rattle.edr_program.specs.Lines.{place_of, Tells};
 ghost use Rattle.edr.specs.Saying.{status_in};

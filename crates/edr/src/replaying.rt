@@ -5,6 +5,7 @@ ghost use Rattle.edr_edition.specs.Shelves.{IsLog, IsNext};
 ghost use Rattle.edr_http.specs.Heads.{IsBehind};
 ghost use Rattle.edr.specs.Replays.{IsReplayOf, IsReplayBegun, AreReplies, AreBegun, IsServed, IsReadFor, ReplayReads, Waits, ReplayWaits};
 ghost use Rattle.edr.specs.Ends.{OutputEnds, IsReadByEnd, AtReadFault, Asks, status_of};
+ghost use Rattle.edr.specs.Reading.{IsFileRead};
 ghost use Rattle.edr.specs.Replaying.{ServeCause, ReplayCause, IsBefore, session_ends};
 
 use crate::checking::ending_of;
@@ -13,7 +14,7 @@ use edr_base::{Files, OutOfMemory, Sink, Source, Stop};
 use edr_edition::{Edition, LocalShelf};
 use edr_feed::read_feed;
 use edr_http::Inbox;
-use edr_serve::{SessionFault, output_goes_on, serve_one, serve_session};
+use edr_serve::{REQUEST_LIMIT, SessionFault, output_goes_on, serve_one, serve_session};
 use std::alloc::Global;
 
 // How a run ends with a session that broke off.
@@ -103,7 +104,7 @@ fn served_advancing<S: Source, K: Sink>(
     };
     let mut inbox = Inbox::new(alloc);
     let mut turn: u32 = 1;
-    'requests: while turn <= 1000 {
+    'requests: while turn <= REQUEST_LIMIT {
         match serve_one(alloc, input, output, &mut shelf, &mut inbox, turn) {
             Ok(report) => match report.end {
                 Some(_) => return settled(output),
@@ -122,8 +123,9 @@ fn served_advancing<S: Source, K: Sink>(
 /// Opens the file of a name, reads the feed in it, and serves the input as one connection to the output: each request from the
 /// feed's first edition, or where `advances` the first from the first and each further one from the next. However it ends, no more
 /// than 20,479 bytes of the input were read behind the requests that were answered, and with `Done` less than 4,096 behind a last
-/// request that has a head. With `ReadFault` all requests that had come whole were answered, and their replies are flushed.
-#[tactic(auto, using(crate::proofs::ReplayLemmas::replay_none))]
+/// request that has a head. With `ReadFault` all requests that had come whole were answered, and their replies are flushed. Of the file no more
+/// is read than a feed has, and 16,384 bytes.
+#[tactic(auto, using(crate::proofs::ReplayLemmas::replay_none, crate::proofs::ReplayLemmas::file_closed))]
 pub fn replay<S: Source, K: Sink, F: Files>(
     alloc: Global,
     advances: bool,
@@ -143,6 +145,7 @@ pub fn replay<S: Source, K: Sink, F: Files>(
     ensures read { ReplayReads advances ((F.aside files.old).content feed.now) (S.left input.old) (S.left input.new) (K.written output.old) (K.written output.new) }
     ensures waits { AtReadFault result (ReplayWaits advances ((F.aside files.old).content feed.now) (S.left input.old) (S.left input.new)
         (K.written output.old) (K.written output.new) (K.flushed output.new)) }
+    ensures file { IsFileRead (F.aside files.new).idle ((F.aside files.old).content feed.now) (F.left files.new) }
     ensures asked { Asks ((feed.now, 0) ∷ []) (status_of result) (F.aside files.old).asked (F.aside files.new).asked }
     ensures input { SourceLent (S.aside input.old) (S.aside input.new) (S.faults input.old) (S.faults input.new) }
     ensures lent { SinkLent (K.beside output.old) (K.beside output.new) (K.faults output.old) (K.faults output.new) }

@@ -4,7 +4,7 @@ ghost use Rattle.edr_base.specs.Calls.{SourceLent, SinkLent};
 ghost use Rattle.edr_fetch.specs.Exchanges.{LinkKept};
 ghost use Rattle.edr.specs.Commands.{asked_by, is_early, is_input_used, of_files, of_link};
 ghost use Rattle.edr.specs.Outputs.{IsOutput, IsBegun};
-ghost use Rattle.edr.specs.Reading.{IsRead, ReadsBy, IsUnread, WaitsFor};
+ghost use Rattle.edr.specs.Reading.{IsRead, ReadsBy, IsUnread, WaitsFor, FileBy};
 ghost use Rattle.edr.specs.Causes.{HasCause};
 ghost use Rattle.edr.specs.Ends.{Ends, EndsByWords, EndsByArgument, OutputEnds, IsReadByEnd, AtReadFault, AskedBeside, LinkBy, status_of};
 
@@ -50,6 +50,7 @@ fn carry_out<S: Source, K: Sink, F: Files, L: Link>(
     ensures read { ReadsBy (asked_by words.now) (F.aside files.old).content (S.left input.old) (S.left input.new) (K.written output.old) (K.written output.new) }
     ensures input { SourceLent (S.aside input.old) (S.aside input.new) (S.faults input.old) (S.faults input.new) }
     ensures lent { SinkLent (K.beside output.old) (K.beside output.new) (K.faults output.old) (K.faults output.new) }
+    ensures file { FileBy (asked_by words.now) (F.aside files.old).content (F.aside files.new).idle (F.left files.new) }
     ensures files { AskedBeside F.aside (of_files (asked_by words.now)) (status_of result) files.old files.new }
     ensures link { AskedBeside L.aside (of_link (asked_by words.now)) (status_of result) link.old link.new }
     ensures kept { LinkKept (L.aside link.old) (L.aside link.new) (L.faults link.old) (L.faults link.new) }
@@ -112,6 +113,7 @@ pub fn run<S: Source, K: Sink, D: Sink, F: Files, L: Link>(
     ensures input { SourceLent (S.aside input.old) (S.aside input.new) (S.faults input.old) (S.faults input.new) }
     ensures output { SinkLent (K.beside output.old) (K.beside output.new) (K.faults output.old) (K.faults output.new) }
     ensures errors { SinkLent (D.beside errors.old) (D.beside errors.new) (D.faults errors.old) (D.faults errors.new) }
+    ensures file { FileBy (asked_by words.now) (F.aside files.old).content (F.aside files.new).idle (F.left files.new) }
     ensures files { AskedBeside F.aside (of_files (asked_by words.now)) result files.old files.new }
     ensures link { AskedBeside L.aside (of_link (asked_by words.now)) result link.old link.new }
     ensures kept { LinkKept (L.aside link.old) (L.aside link.new) (L.faults link.old) (L.faults link.new) }

@@ -13,10 +13,8 @@ use crate::tabling::tabled;
 use covjson_checks::CovFault;
 use covjson_read::read_document;
 use edr_base::{ReadStop, Sink, Source, read_all};
+use edr_reply::BODY_LIMIT;
 use std::alloc::Global;
-
-// The bytes that a document has at most.
-const DOCUMENT_LIMIT: usize = 67_108_864;
 
 // Whether it is for want of memory that no document was read.
 fn is_out_of_memory(fault: &CovFault) -> bool
@@ -35,7 +33,7 @@ pub fn show<S: Source, K: Sink>(alloc: Global, input: &mut S, output: &mut K) ->
     ensures input { SourceLent (S.aside input.old) (S.aside input.new) (S.faults input.old) (S.faults input.new) }
     ensures lent { SinkLent (K.beside output.old) (K.beside output.new) (K.faults output.old) (K.faults output.new) }
 {
-    let bytes = match read_all(alloc, input, DOCUMENT_LIMIT) {
+    let bytes = match read_all(alloc, input, BODY_LIMIT) {
         Ok(bytes) => bytes,
         Err(ReadStop::ReadFault) => return Ending::ReadFault,
         Err(ReadStop::TooLong) => return Ending::NoDocument(DocumentRefusal::TooLong),

@@ -3,7 +3,7 @@ use Rattle.edr_base.specs.Outside.{Aside}
 use Rattle.edr_edition.specs.Values.{EditionValue}
 use Rattle.edr_feed.specs.Feeds.{FeedStandsIn}
 use Rattle.edr.proofs.EndLemmas.{replay_output, fault_cause, rose_earlier, waits_more, waits_any}
-use Rattle.edr.proofs.ReplayLemmas.{replay_read, waits_feed}
+use Rattle.edr.proofs.ReplayLemmas.{replay_read, waits_feed, file_read}
 use Rattle.edr.proofs.replaying.replay.Goals as goal
 
 pub returns-in-Ok-read_feed-clause-output : goal.returns-in-Ok-read_feed-clause-output
@@ -44,3 +44,15 @@ returns-in-Ok-2-clause-waits g c =
 
 pub returns-in-Err-clause-waits : goal.returns-in-Err-clause-waits
 returns-in-Err-clause-waits g c = waits_any c.ending_of.result _ (inl (refl, refl))
+
+pub returns-in-Ok-read_feed-clause-file : goal.returns-in-Ok-read_feed-clause-file
+returns-in-Ok-read_feed-clause-file g c =
+    file_read _ _ _ _ (ap (λ (aside : Aside). aside.idle) c.in-Ok-read_feed.ensures.lent.same ∙ c.in-Ok.ensures.ready) c.in-Ok.ensures.left c.in-Ok-read_feed.ensures.bounded
+
+pub returns-in-Ok-2-clause-file : goal.returns-in-Ok-2-clause-file
+returns-in-Ok-2-clause-file g c =
+    file_read _ _ _ _ (ap (λ (aside : Aside). aside.idle) c.in-Ok-read_feed.ensures.lent.same ∙ c.in-Ok.ensures.ready) c.in-Ok.ensures.left c.in-Ok-read_feed.ensures.bounded
+
+pub returns-in-Err-clause-file : goal.returns-in-Err-clause-file
+returns-in-Err-clause-file g c =
+    file_read _ _ _ _ (ap (λ (aside : Aside). aside.idle) c.in-Err.ensures.lent.same ∙ c.in-Ok.ensures.ready) c.in-Ok.ensures.left c.in-Err.ensures.bounded

@@ -27,3 +27,13 @@ pub returns-in-Some-Work-default-clause-output : goal.returns-in-Some-Work-defau
 returns-in-Some-Work-default-clause-output g c =
     let asked : asked_by c.args.words.now ≡ Some (record { command = Work c.in-Some-Work-default.number; argument = c.in-Some-Work-default.field-0-1.now }) = search rules in
     rw asked c.work.ensures.output
+
+pub returns-in-Some-Replay-default-clause-file : goal.returns-in-Some-Replay-default-clause-file
+returns-in-Some-Replay-default-clause-file g c =
+    let asked : asked_by c.args.words.now ≡ Some (record { command = Replay; argument = c.in-Some-Replay-default.feed.now }) = search rules in
+    rw asked c.replay.ensures.file
+
+pub returns-in-Some-ReplayAdvance-default-clause-file : goal.returns-in-Some-ReplayAdvance-default-clause-file
+returns-in-Some-ReplayAdvance-default-clause-file g c =
+    let asked : asked_by c.args.words.now ≡ Some (record { command = ReplayAdvance; argument = c.in-Some-ReplayAdvance-default.feed.now }) = search rules in
+    rw asked c.replay-in-Some-ReplayAdvance-default.ensures.file
