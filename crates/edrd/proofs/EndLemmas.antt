@@ -5,7 +5,8 @@ use Rattle.std.specs.Prelude.{Ok, None, Some}
 use Rattle.edr_base.specs.Outside.{Aside}
 use Rattle.edr_edition.specs.Values.{EditionValue}
 use Rattle.edr_feed.specs.Feeds.{FeedStandsIn}
-use Rattle.edrd.specs.Ends.{Moment, GateState, DoorsState, HasCause, EndsBy, ServeCause, AsksFeed}
+use Rattle.edrd.specs.Ends.{Moment, GateState, DoorsState, HasCause, EndsBy, AsksFeed, ReadsFeed}
+use Rattle.edrd.specs.Shelving.{ServeCause}
 use Rattle.edrd.specs.declared.words.Settings.{Settings}
 use Rattle.edrd.specs.declared.endings.Ending.{Ending}
 use Rattle.edrd.specs.declared.endings.Ending.TheVariants.{Done, Usage, NotFeed, ReadFault, OutOfMemory, OpenFault, BindFault, ShelfFault}
@@ -19,6 +20,10 @@ memory_ends (Some settings) before after gate ended = tt
 pub memory_asks : {F : Type 0} (aside : F → Aside) (asked : Option Settings) (files : F) → AsksFeed aside asked 5 files files
 memory_asks aside None files = refl
 memory_asks aside (Some settings) files = inr (refl, refl)
+
+pub memory_reads : {F : Type 0} (aside : F → Aside) (left : F → Option (List ℕ)) (asked : Option Settings) (files : F) → ReadsFeed aside left asked 5 files files
+memory_reads aside left None files = tt
+memory_reads aside left (Some settings) files = inr (refl, refl)
 
 -- ---- serving
 

@@ -7,8 +7,10 @@ use Rattle.std.proofs.lemmas.List.Sums.{sum_by-cons}
 use Rattle.edr_base.specs.Outside.{Rose}
 use Rattle.edr_edition.specs.Values.{EditionValue}
 use Rattle.edr_edition.specs.Shelves.{AreNumberedFrom}
+use Rattle.edrd.specs.Limits.{worker_limit, accept_limit}
 use Rattle.edrd.specs.declared.working.Serving.{Serving}
-use Rattle.edrd.specs.Serving.{HasServed, HasEnded, is_left, acceptor_of, sessions_of, faults_of, has_failed}
+use Rattle.edrd.specs.Serving.{HasEnded, is_left}
+use Rattle.edrd.specs.Jobs.{HasServed, acceptor_of, sessions_of, faults_of, has_failed}
 
 -- ---- one by one
 
@@ -135,14 +137,14 @@ module _ {A : Type 0} (given finished faulted faults : A → ℕ) (over : A → 
       ended olds news (omega (arith, same)) (λ k e m. each (suc k) e (omega (arith, m))) i d (omega (arith, l))
 
   -- no sum is beyond its bound
-  pub few_sessions : (olds news : List (Serving A)) → length news ≡ length olds → length olds ≤ 64 → Each olds news → sum_by sessions_of news ≤ 64_000_000_000_000
+  pub few_sessions : (olds news : List (Serving A)) → length news ≡ length olds → length olds ≤ worker_limit → Each olds news → sum_by sessions_of news ≤ worker_limit * accept_limit
   few_sessions olds news same few each =
-      let bound = few_of sessions_of 1_000_000_000_000 news (λ i d l. let s = each i d (omega (arith, same, l)) in let g : given (slice_index_or news i d).acceptor ≤ 1_000_000_000_000 = s.within in omega (arith, s.given_is, g)) in
+      let bound = few_of sessions_of accept_limit news (λ i d l. let s = each i d (omega (arith, same, l)) in let g : given (slice_index_or news i d).acceptor ≤ accept_limit = s.within in omega (arith, s.given_is, g)) in
       omega (arith, bound, same, few)
 
-  pub few_faults : (olds news : List (Serving A)) → length news ≡ length olds → length olds ≤ 64 → Each olds news → sum_by faults_of news ≤ 64_000_000_000_000
+  pub few_faults : (olds news : List (Serving A)) → length news ≡ length olds → length olds ≤ worker_limit → Each olds news → sum_by faults_of news ≤ worker_limit * accept_limit
   few_faults olds news same few each =
-      let bound = few_of faults_of 1_000_000_000_000 news (λ i d l. let s = each i d (omega (arith, same, l)) in let g : given (slice_index_or news i d).acceptor ≤ 1_000_000_000_000 = s.within in omega (arith, s.given_is, s.few, g)) in
+      let bound = few_of faults_of accept_limit news (λ i d l. let s = each i d (omega (arith, same, l)) in let g : given (slice_index_or news i d).acceptor ≤ accept_limit = s.within in omega (arith, s.given_is, s.few, g)) in
       omega (arith, bound, same, few)
 
   -- the same of the acceptors that the jobs were made of, and of those that came back
@@ -165,5 +167,5 @@ module _ {A : Type 0} (given finished faulted faults : A → ℕ) (over : A → 
       → length news ≡ length olds → Each olds news → total ≡ count_by (is_left over) new
   left_all olds news new total after counted same each = counted ∙ left_over olds news same each ∙ ap (count_by (is_left over)) (sym after)
 
-  pub few_jobs : (olds : List (Serving A)) (old : List A) → map acceptor_of olds ≡ old → length old ≤ 64 → length olds ≤ 64
+  pub few_jobs : (olds : List (Serving A)) (old : List A) → map acceptor_of olds ≡ old → length old ≤ worker_limit → length olds ≤ worker_limit
   few_jobs olds old before few = let long : length olds ≡ length old = sym (length-map olds acceptor_of) ∙ ap length before in omega (arith, few, long)

@@ -1,8 +1,10 @@
 -- What a run rests on: the feed in its file, and doors that are closed one by one.
-use Rattle.std.proofs.Common.{◌≡◌, ◌+◌, ◌<◌, ◌≤◌, ◌⊎◌, ℕ, Bool, true, false, inl, inr, List, ◌∷◌, length, Err, None, Some, IfSome, refl, subst, arith}
+use Rattle.std.proofs.Common.{◌≡◌, ◌+◌, ◌<◌, ◌⊎◌, ℕ, Bool, true, false, inl, inr, List, ◌∷◌, length, Err, None, Some, IfSome, refl, subst, arith}
 use Rattle.std.specs.Prelude.{All, IsSomeAnd, Result, slice_index_or}
 use Rattle.std.specs.declared.option.Option.{Option}
 use Rattle.std.proofs.lemmas.List.Elements.{All-head, All-tail}
+use Rattle.edr_base.specs.Limits.{feed_limit}
+use Rattle.edr_base.specs.Calls.{ReadsAtMost, buffer_size}
 use Rattle.edr_base.specs.Outside.{Rose}
 use Rattle.edr_edition.specs.Values.{EditionValue}
 use Rattle.edr_feed.specs.Feeds.{FeedStandsIn}
@@ -10,9 +12,11 @@ use Rattle.edr_feed.specs.declared.faults.FeedFault.{FeedFault}
 use Rattle.edr_feed.specs.declared.faults.FeedFault.TheVariants as faults
 use Rattle.edr_feed.specs.declared.refusals.FeedRefusal.{FeedRefusal}
 use Rattle.edr_feed.specs.Refusals.{refusal_of}
+use Rattle.edrd.specs.Ends.{IsFileRead}
 use Rattle.edrd.specs.Feeding.{IsCause, ending_of}
 use Rattle.edrd.specs.Doors.{IsNew}
-use Rattle.edrd.specs.Serving.{HasEnded, MayClose}
+use Rattle.edrd.specs.Serving.{HasEnded}
+use Rattle.edrd.specs.Closing.{MayClose}
 use Rattle.edrd.specs.declared.doors.DoorsAsked.{DoorsAsked}
 
 -- ---- the feed
@@ -23,9 +27,6 @@ pub stands_opened : (content left : Option (List ℕ)) (answer : Result (List Ed
 stands_opened None None answer h x = x
 stands_opened None (Some bytes) answer h x = (bytes, x)
 stands_opened (Some told) left answer h x = subst (λ (z : Option (List ℕ)). FeedStandsIn z answer) h x
-
-pub rose_earlier : (a b c : ℕ) → a ≤ b → Rose b c → Rose a c
-rose_earlier a b c l h = omega (arith, l, h)
 
 pub fault_cause : (fault : FeedFault) (content left : Option (List ℕ)) (before after : ℕ) (idle : Bool) → IfSome content (λ told. left ≡ Some told)
     → IfSome (refusal_of fault) (λ refusal. FeedStandsIn left (Err refusal)) → (fault ≡ faults.ReadFault → Rose before after × (idle ≡ false))
@@ -39,6 +40,13 @@ fault_cause (faults.Cov line fault) content left before after idle h x read = st
 fault_cause (faults.Change line fault) content left before after idle h x read = stands_opened content left _ h x
 fault_cause faults.NothingPublished content left before after idle h x read = stands_opened content left _ h x
 fault_cause faults.OutOfMemory content left before after idle h x read = tt
+
+-- no more was read of a file that is open
+pub file_read : (idle : Bool) (content left now : Option (List ℕ)) → idle ≡ false → IfSome content (λ told. left ≡ Some told)
+    → ReadsAtMost (feed_limit + buffer_size) left now → IsFileRead idle content now
+file_read true content left now e h r = absurd cc
+file_read false None left now e h r = tt
+file_read false (Some told) left now e h r = subst (λ (list : Option (List ℕ)). ReadsAtMost (feed_limit + buffer_size) list now) h r
 
 -- ---- the doors
 

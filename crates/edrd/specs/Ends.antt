@@ -1,8 +1,11 @@
 -- How a run ends: its status, what it says, and what became of the feed's files, of the doors, of the shelf's places and of the
--- gate. Each table goes by the ending.
-use Rattle.std.specs.Prelude.{◌≡◌, ◌⊎◌, ℕ, ◌+◌, ◌-◌, ◌^◌, min, Bool, true, false, ◌++◌, ⊤, codes, List, [], ◌∷◌, length, Ok, Err, IsSome, IsSomeAnd, None, Some, option_map}
+-- gate. Each table goes by the ending; a last row of any `ending` is that of all which have none of their own.
+use Rattle.std.specs.Prelude.{◌≡◌, ◌⊎◌, ℕ, ◌+◌, ◌-◌, ◌^◌, min, Bool, true, false, ◌++◌, ⊤, codes, List, [], ◌∷◌, length, Ok, Err, IsSome, IsSomeAnd, IfSome, None, Some, option_map}
 use Rattle.std.specs.declared.option.Option.{Option}
+use Rattle.std.specs.Io.KnownBytes.{IsAtEnd}
+use Rattle.edr_base.specs.Limits.{feed_limit}
 use Rattle.edr_base.specs.Outside.{Aside, Rose}
+use Rattle.edr_base.specs.Calls.{ReadsAtMost, buffer_size}
 use Rattle.edr_edition.specs.Values.{EditionValue}
 use Rattle.edr_feed.specs.Feeds.{FeedStandsIn}
 use Rattle.edr_program.specs.Lines.{feed_said, Tells}
@@ -35,13 +38,7 @@ said_of ShelfFault = codes "shelf fault"
 -- the line of an ending: none where all was done
 abbrev pub line_of : Ending → List ℕ
 line_of Done = []
-line_of Usage = said_of Usage ++ codes "\n"
-line_of (NotFeed refusal) = said_of (NotFeed refusal) ++ codes "\n"
-line_of ReadFault = said_of ReadFault ++ codes "\n"
-line_of OutOfMemory = said_of OutOfMemory ++ codes "\n"
-line_of OpenFault = said_of OpenFault ++ codes "\n"
-line_of BindFault = said_of BindFault ++ codes "\n"
-line_of ShelfFault = said_of ShelfFault ++ codes "\n"
+line_of ending = said_of ending ++ codes "\n"
 
 -- ---- the objects at a moment
 
@@ -112,13 +109,9 @@ LeavesDoors status = LeavesPlaces status ⊎ (status ≡ 11)
 -- the gate comes back but for want of memory: as it was, or with the pause that is asked for and nothing granted
 abbrev pub GateComesBack : Ending → Option Settings → GateState → Option GateState → Type 0
 GateComesBack Done asked gate ended = IsSome ended
-GateComesBack Usage asked gate ended = ended ≡ Some gate
-GateComesBack (NotFeed refusal) asked gate ended = ended ≡ Some gate
-GateComesBack ReadFault asked gate ended = ended ≡ Some gate
 GateComesBack OutOfMemory asked gate ended = ⊤
-GateComesBack OpenFault asked gate ended = ended ≡ Some gate
 GateComesBack BindFault asked gate ended = ended ≡ option_map (λ settings. record gate { seconds = settings.every }) asked
-GateComesBack ShelfFault asked gate ended = ended ≡ Some gate
+GateComesBack ending asked gate ended = ended ≡ Some gate
 
 -- just the feed's file was asked for; with want of memory, whose status is 5, that or nothing, and where the words ask for
 -- nothing the files are as they were
@@ -128,26 +121,24 @@ AsksFeed aside (Some settings) status old new =
     ((aside new).asked ≡ option_map (λ asked. asked ++ (settings.feed, 0) ∷ []) (aside old).asked)
     ⊎ ((status ≡ 5) × ((aside new).asked ≡ (aside old).asked))
 
--- a whole run
+-- ---- how much is read of the feed's file, however the run ends
+
+-- where it is open no more than so much of what it holds, where that is told; else nothing is left to read
+abbrev pub IsFileRead : Bool → Option (List ℕ) → Option (List ℕ) → Type 0
+IsFileRead true content left = IsAtEnd left
+IsFileRead false content left = IfSome content (λ bytes. ReadsAtMost (feed_limit + buffer_size) (Some bytes) left)
+
+-- the file that the words name, where they name one; with want of memory that, or the files are as they were
+abbrev pub ReadsFeed : {F : Type 0} → (F → Aside) → (F → Option (List ℕ)) → Option Settings → ℕ → F → F → Type 0
+ReadsFeed aside left None status old new = ⊤
+ReadsFeed aside left (Some settings) status old new =
+    IsFileRead (aside new).idle ((aside old).content settings.feed) (left new) ⊎ ((status ≡ 5) × (new ≡ old))
+
+-- ---- a whole run
+
 pub record Ends (ending : Ending) (asked : Option Settings) (status : ℕ) (before after : Moment) (gate : GateState) (ended : Option GateState)
     (told told' : Option (List ℕ)) (faults faults' : ℕ) : Type 0 where
   pub number : status ≡ status_of ending
   pub cause : EndsBy ending asked before after gate ended
   pub back : GateComesBack ending asked gate ended
   pub line : Tells (line_of ending) told told' faults faults'
-
--- ---- for private clauses: a run that came to the shelf, with so many editions behind the first
-
-abbrev pub ServeCause : Ending → Settings → DoorsState → DoorsState → ℕ → ℕ → ℕ → GateState → Option GateState → Type 0
-ServeCause Done settings before after places places' rest gate ended = IsSomeAnd ended (λ ended.
-    (after.last ≡ Some (doors_asked settings)) × (after.opens ≡ min (before.opens + 1) (2 ^ 64 - 1)) × (after.closed ≡ settings.workers)
-    × (ended.seconds ≡ settings.every) × ((ended.granted ≡ gate.granted + rest) ⊎ (ended.shut ≡ true)))
-ServeCause Usage settings before after places places' rest gate ended = ⊥
-ServeCause (NotFeed refusal) settings before after places places' rest gate ended = ⊥
-ServeCause ReadFault settings before after places places' rest gate ended = ⊥
-ServeCause OutOfMemory settings before after places places' rest gate ended = ⊤
-ServeCause OpenFault settings before after places places' rest gate ended = ⊥
-ServeCause BindFault settings before after places places' rest gate ended =
-    Rose before.faults after.faults × (after.tried ≡ Some (doors_asked settings, false)) × (after.opens ≡ before.opens)
-    × (ended ≡ Some (record gate { seconds = settings.every }))
-ServeCause ShelfFault settings before after places places' rest gate ended = Rose places places' × (ended ≡ Some gate)

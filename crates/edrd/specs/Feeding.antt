@@ -7,7 +7,7 @@ use Rattle.edr_feed.specs.declared.faults.FeedFault.{FeedFault}
 use Rattle.edr_feed.specs.declared.faults.FeedFault.TheVariants as faults
 use Rattle.edr_feed.specs.declared.refusals.FeedRefusal.TheVariants as refusals
 use Rattle.edrd.specs.declared.endings.Ending.{Ending}
-use Rattle.edrd.specs.declared.endings.Ending.TheVariants.{Done, Usage, NotFeed, ReadFault, OutOfMemory, OpenFault, BindFault, ShelfFault}
+use Rattle.edrd.specs.declared.endings.Ending.TheVariants.{NotFeed, ReadFault, OutOfMemory, OpenFault}
 
 -- how a run ends where the feed isn't read
 abbrev pub ending_of : FeedFault → Ending
@@ -23,11 +23,8 @@ ending_of faults.OutOfMemory = OutOfMemory
 
 -- the cause of an ending where there are no editions: the file is no feed, or the count of the files rose
 abbrev pub IsCause : Ending → Option (List ℕ) → ℕ → ℕ → Bool → Type 0
-IsCause Done content before after idle = ⊥
-IsCause Usage content before after idle = ⊥
 IsCause (NotFeed refusal) content before after idle = FeedStandsIn content (Err refusal)
 IsCause ReadFault content before after idle = Rose before after × (idle ≡ false)
 IsCause OutOfMemory content before after idle = ⊤
 IsCause OpenFault content before after idle = Rose before after × (idle ≡ true)
-IsCause BindFault content before after idle = ⊥
-IsCause ShelfFault content before after idle = ⊥
+IsCause ending content before after idle = ⊥

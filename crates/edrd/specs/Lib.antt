@@ -1,6 +1,10 @@
+pub mod Limits
 pub mod Doors
 pub mod Serving
+pub mod Jobs
+pub mod Closing
 pub mod Words
 pub mod Ends
+pub mod Shelving
 pub mod Feeding
 pub mod Settled

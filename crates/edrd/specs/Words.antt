@@ -9,6 +9,7 @@ use Rattle.clap.specs.Words.{App, Kinds, Row, Rule, Text, first_of, new_app, new
 use Rattle.clap.specs.Simple.{matches_of}
 use Rattle.clap.specs.Faults.{fault_of}
 use Rattle.edr_program.specs.Numbers.{is_number}
+use Rattle.edrd.specs.Limits.{port_limit, worker_limit, default_workers, pause_limit, default_pause, connection_limit, endless}
 use Rattle.edrd.specs.declared.words.Settings.{Settings}
 
 -- ---- the command: one positional argument, the feed, and four options of one value each
@@ -51,10 +52,10 @@ settings_of feed port workers every connections =
     option_and_then (λ w.
     option_and_then (λ e.
     option_map (λ c. record { feed = f; port = p; workers = w; every = e; connections = c })
-    (number_or 0 0 1_000_000 connections))
-    (number_or 60 0 86_400 every))
-    (number_or 2 1 64 workers))
-    (option_and_then (number_within 0 65_535) port))
+    (number_or endless 0 connection_limit connections))
+    (number_or default_pause 0 pause_limit every))
+    (number_or default_workers 1 worker_limit workers))
+    (option_and_then (number_within 0 port_limit) port))
     feed
 
 abbrev pub settings_in : List Row → Option Settings

@@ -2,6 +2,7 @@
 ghost use Rattle.std.specs.Prelude.{◌≡◌, ◌≤◌, ◌<◌, ◌+◌, ℕ, Bool, true, false, cond, is_err, OnErr, MatchResult, MatchOption};
 ghost use Rattle.edr_base.specs.Outside.{Rose};
 ghost use Rattle.edr_serve.specs.Connections.{outcome_of};
+ghost use Rattle.edrd.specs.Limits.{accept_limit};
 
 use edr_base::{Failed, Faults, Sink, Source};
 use edr_serve::{Connection, Served};
@@ -47,5 +48,5 @@ pub trait Accept: Faults {
         ensures faulted { faulted self.new ≡ faulted self.old + cond (is_err (outcome_of served)) 1 0 }
         ensures kept { (given self.new ≡ given self.old) × (over self.new ≡ over self.old) × (Self.faults self.new ≡ Self.faults self.old) };
 
-    ghost within: { (s : Self) → (faulted s ≤ finished s) × (finished s ≤ given s) × (given s ≤ 1000000000000) };
+    ghost within: { (s : Self) → (faulted s ≤ finished s) × (finished s ≤ given s) × (given s ≤ accept_limit) };
 }

@@ -2,6 +2,7 @@
 ghost use Rattle.std.specs.Prelude.{◌≡◌, ◌⊎◌, ◌++◌, ◌∷◌, [], IfErr, IfOk, IsUtf8, Ok, Err, option_map};
 ghost use Rattle.edr_edition.specs.Shelves.{IsLog};
 ghost use Rattle.edr_feed.specs.Feeds.{FeedStandsIn};
+ghost use Rattle.edrd.specs.Ends.{IsFileRead};
 ghost use Rattle.edrd.specs.Feeding.{IsCause, ending_of};
 
 use crate::endings::Ending;
@@ -23,7 +24,8 @@ fn ending_of(fault: &FeedFault) -> Ending
     }
 }
 
-/// The editions of the feed in the file of this name, or how the run ends without them.
+/// The editions of the feed in the file of this name, or how the run ends without them. However it ends, no more is read of the file
+/// than a feed has, and 16,384 bytes.
 pub fn editions_in<F: Files>(
     alloc: Global,
     name: &[u8],
@@ -34,6 +36,7 @@ pub fn editions_in<F: Files>(
     ensures log { IfOk result (λ editions. IsLog editions.items) }
     ensures cause { IfErr result (λ ending. IsCause ending ((F.aside files.old).content name.now)
         (F.faults files.old) (F.faults files.new) (F.aside files.new).idle) }
+    ensures file { IsFileRead (F.aside files.new).idle ((F.aside files.old).content name.now) (F.left files.new) }
     ensures asked { ((F.aside files.new).asked ≡ option_map (λ asked. asked ++ (name.now, 0) ∷ []) (F.aside files.old).asked)
         ⊎ ((result ≡ Err Ending.OutOfMemory) × ((F.aside files.new).asked ≡ (F.aside files.old).asked)) }
 {

@@ -1,5 +1,6 @@
 //! What says when the next edition is to be published.
 ghost use Rattle.std.specs.Prelude.{◌≡◌, ◌≤◌, ◌+◌, ℕ, Bool, true, false, cond, not};
+ghost use Rattle.edrd.specs.Limits.{grant_limit};
 
 /// What says when the next edition is to be published.
 pub trait Gate {
@@ -24,5 +25,5 @@ pub trait Gate {
         ensures shut { shut self.new ≡ not result }
         ensures kept { seconds self.new ≡ seconds self.old };
 
-    ghost within: { (s : Self) → granted s ≤ 1000000000000 };
+    ghost within: { (s : Self) → granted s ≤ grant_limit };
 }

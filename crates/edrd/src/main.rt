@@ -7,6 +7,7 @@ mod doors;
 mod endings;
 mod feeding;
 mod gate;
+mod limits;
 mod publishing;
 mod real_door;
 mod real_doors;

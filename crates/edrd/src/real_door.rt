@@ -1,6 +1,7 @@
 //! A door over a socket that listens.
 ghost use Rattle.std.specs.Prelude.{◌≡◌, ◌≤◌, ◌<◌, ◌+◌, true, false, cond, is_err};
 ghost use Rattle.edr_serve.specs.Connections.{outcome_of};
+ghost use Rattle.edrd.specs.Limits.{accept_limit};
 
 use crate::accept::Accept;
 use edr_base::{Failed, Faults, RealSink, RealSource};
@@ -11,9 +12,6 @@ use std::net::{TcpListener, TcpStream};
 use std::rt::HostRuntime;
 use std::time::Duration;
 use std::{io, thread};
-
-/// How many connections a door takes where no end was asked for.
-pub const NO_END: u64 = 1_000_000_000_000;
 
 // How long a read or a write of a connection waits for its peer, in seconds.
 const PATIENCE: u64 = 30;
@@ -42,7 +40,7 @@ pub struct RealDoor {
     faulted: u64,
     over: bool,
     faults: u64,
-    ghost bound: { (given ≤ most) × (most ≤ 1000000000000) × (faulted ≤ finished) × (finished ≤ given) × (given ≤ 1000000000000) },
+    ghost bound: { (given ≤ most) × (most ≤ accept_limit) × (faulted ≤ finished) × (finished ≤ given) × (given ≤ accept_limit) },
     ghost fits: { faults ≤ 18446744073709551615 },
 }
 
@@ -85,7 +83,7 @@ fn ends_of(alloc: Global, stream: TcpStream) -> io::Result<(Input, Output)> {
 impl RealDoor {
     /// A door through which nothing came yet.
     pub fn of(rt: HostRuntime, alloc: Global, listener: TcpListener, most: u64) -> RealDoor
-        requires { most ≤ 1000000000000 }
+        requires { most ≤ accept_limit }
         ensures open_ { ⟦<RealDoor as Accept>⟧.over result ≡ false }
         ensures counts { (⟦<RealDoor as Accept>⟧.given result ≡ 0) × (⟦<RealDoor as Accept>⟧.finished result ≡ 0)
             × (⟦<RealDoor as Accept>⟧.faulted result ≡ 0) × (⟦<RealDoor as Faults>⟧.faults result ≡ 0) }

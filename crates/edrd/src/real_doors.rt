@@ -5,7 +5,8 @@ ghost use Rattle.edrd.specs.Doors.{IsNew};
 
 use crate::accept::Accept;
 use crate::doors::{Doors, DoorsAsked};
-use crate::real_door::{NO_END, RealDoor};
+use crate::limits::{ACCEPT_LIMIT, ENDLESS};
+use crate::real_door::RealDoor;
 use edr_base::{Faults, Stop};
 use std::alloc::Global;
 use std::io;
@@ -47,8 +48,8 @@ fn doors_at(rt: HostRuntime, alloc: Global, asked: DoorsAsked) -> io::Result<Vec
         × All (IsNew ⟦<RealDoor as Accept>⟧.over ⟦<RealDoor as Accept>⟧.given ⟦<RealDoor as Accept>⟧.finished
         ⟦<RealDoor as Accept>⟧.faulted ⟦<RealDoor as Faults>⟧.faults) doors.items) }
 {
-    let most = if asked.connections == 0 || asked.connections > NO_END {
-        NO_END
+    let most = if asked.connections == ENDLESS || asked.connections > ACCEPT_LIMIT {
+        ACCEPT_LIMIT
     } else {
         asked.connections
     };

@@ -1,19 +1,21 @@
 //! A gate by the clock.
 ghost use Rattle.std.specs.Prelude.{◌≡◌, ◌≤◌, false};
+ghost use Rattle.edrd.specs.Limits.{grant_limit};
 
 use crate::gate::Gate;
+use crate::limits::GRANT_LIMIT;
 use std::rt::Clock;
 use std::thread;
 use std::time::Duration;
 
-/// Says true after a pause, until it has said so 1,000,000,000,000 times.
+/// Says true after a pause, until it has said so `GRANT_LIMIT` times.
 #[derive(Drop)]
 pub struct RealGate<R: Clock + Drop> {
     rt: R,
     seconds: u32,
     granted: u64,
     shut: bool,
-    ghost bound: { granted ≤ 1000000000000 },
+    ghost bound: { granted ≤ grant_limit },
 }
 
 impl<R: Clock + Drop> RealGate<R> {
@@ -43,7 +45,7 @@ impl<R: Clock + Drop> Gate for RealGate<R> {
     }
 
     fn turn(&mut self) -> bool {
-        if self.granted == 1000000000000 {
+        if self.granted == GRANT_LIMIT {
             self.shut = true;
             return false;
         }

@@ -2,9 +2,11 @@
 ghost use Rattle.std.specs.Prelude.{◌≡◌, ◌⊎◌, ◌≤◌, ◌+◌, ◌-◌, ℕ, false, length, vec_len, All, IsSomeAnd, None, option_map};
 ghost use Rattle.edr_base.specs.Calls.{SinkLent};
 ghost use Rattle.edr_edition.specs.Shelves.{IsLog, AreNumberedFrom};
+ghost use Rattle.edrd.specs.Limits.{worker_limit};
 ghost use Rattle.edrd.specs.Words as spelled;
-ghost use Rattle.edrd.specs.Serving.{MayClose};
-ghost use Rattle.edrd.specs.Ends.{Ends, EndsBy, GateComesBack, ServeCause, LeavesDoors, LeavesPlaces, AsksFeed, status_of};
+ghost use Rattle.edrd.specs.Closing.{MayClose};
+ghost use Rattle.edrd.specs.Ends.{Ends, EndsBy, GateComesBack, LeavesDoors, LeavesPlaces, AsksFeed, ReadsFeed, status_of};
+ghost use Rattle.edrd.specs.Shelving.{ServeCause};
 
 use crate::accept::Accept;
 use crate::doors::Doors;
@@ -45,7 +47,7 @@ fn serve_through<R: Threads + Wait + Sync, B: Doors, G: Gate + Send + Drop>(
     doors: &mut B,
     gate: G,
 ) -> (Ending, Option<G>)
-    requires few { (1 ≤ settings.now.workers) × (settings.now.workers ≤ 64) }
+    requires few { (1 ≤ settings.now.workers) × (settings.now.workers ≤ worker_limit) }
     requires shelves { vec_len shelves ≡ settings.now.workers }
     requires own { All (λ shelf. shelf.origin ≡ publisher.origin) shelves.items }
     requires numbers { AreNumberedFrom (length publisher.log + 1) rest.items }
@@ -98,7 +100,7 @@ fn serve<R: Threads + Wait + Sync, B: Doors, G: Gate + Send + Drop>(
     places: &mut Places,
     gate: G,
 ) -> (Ending, Option<G>)
-    requires few { (1 ≤ settings.now.workers) × (settings.now.workers ≤ 64) }
+    requires few { (1 ≤ settings.now.workers) × (settings.now.workers ≤ worker_limit) }
     requires log { IsLog editions.items }
     requires gate { G.shut gate ≡ false }
     ensures cause { ServeCause result.0 settings.now
@@ -154,6 +156,7 @@ fn carry_out<R: Threads + Wait + Sync, F: Files, B: Doors, G: Gate + Send + Drop
         (record { seconds = G.seconds gate; granted = G.granted gate; shut = G.shut gate })
         (option_map (λ (g : G). record { seconds = G.seconds g; granted = G.granted g; shut = G.shut g }) result.1) }
     ensures files { AsksFeed F.aside (spelled.asked_by words.now) (status_of result.0) files.old files.new }
+    ensures file { ReadsFeed F.aside F.left (spelled.asked_by words.now) (status_of result.0) files.old files.new }
     ensures doors { LeavesDoors (status_of result.0) → doors.new ≡ doors.old }
     ensures places { LeavesPlaces (status_of result.0) → places.new ≡ places.old }
     ensures none { result.1 ≡ None → result.0 ≡ Ending.OutOfMemory }
@@ -175,7 +178,7 @@ fn carry_out<R: Threads + Wait + Sync, F: Files, B: Doors, G: Gate + Send + Drop
 /// words ask for, and serves all connections that come through them, each from the newest edition that is published when its
 /// requests come; beside that it publishes the other editions, one at each turn of the gate. It ends when no more connections
 /// come, with all doors closed. The answer is the status of the program, and the gate, which is given up only with want of
-/// memory; with each status but 0 one line says why on `errors`.
+/// memory; with each status but 0 one line says why on `errors`. Of the feed's file no more is read than a feed has, and 16,384 bytes.
 pub fn edrd_run<R: Threads + Wait + Sync, F: Files, B: Doors, G: Gate + Send + Drop, D: Sink>(
     rt: &R,
     alloc: Global,
@@ -204,6 +207,7 @@ pub fn edrd_run<R: Threads + Wait + Sync, F: Files, B: Doors, G: Gate + Send + D
         (option_map (λ (g : G). record { seconds = G.seconds g; granted = G.granted g; shut = G.shut g }) result.1)
         (D.written errors.old) (D.written errors.new) (D.faults errors.old) (D.faults errors.new) }
     ensures files { AsksFeed F.aside (spelled.asked_by words.now) result.0 files.old files.new }
+    ensures file { ReadsFeed F.aside F.left (spelled.asked_by words.now) result.0 files.old files.new }
     ensures doors { LeavesDoors result.0 → doors.new ≡ doors.old }
     ensures places { LeavesPlaces result.0 → places.new ≡ places.old }
     ensures none { result.1 ≡ None → result.0 ≡ 5 }

@@ -2,7 +2,9 @@
 ghost use Rattle.std.specs.Prelude.{◌≡◌, ◌⊎◌, ◌≤◌, ◌<◌, ◌+◌, ◌*◌, ◌++◌, ℕ, map, sum_by, count_by, take, length, vec_len, slice_index_or, true, false, All, IfOk};
 ghost use Rattle.std.specs.Vec.Iter.{into_iter_items, into_iter_len};
 ghost use Rattle.edr_edition.specs.Shelves.{AreNumberedFrom};
-ghost use Rattle.edrd.specs.Serving.{HasServed, HasEnded, is_left, acceptor_of, sessions_of, faults_of, has_failed};
+ghost use Rattle.edrd.specs.Limits.{worker_limit, accept_limit};
+ghost use Rattle.edrd.specs.Serving.{HasEnded, is_left};
+ghost use Rattle.edrd.specs.Jobs.{HasServed, acceptor_of, sessions_of, faults_of, has_failed};
 ghost use Rattle.edrd.specs.declared.working.Serving.{Serving};
 
 use crate::accept::Accept;
@@ -74,9 +76,9 @@ fn gather<A: Accept + Drop>(
     alloc: Global,
     jobs: Vec<Serving<A>>,
 ) -> Result<Gathered<A>, OutOfMemory>
-    requires few { vec_len jobs ≤ 64 }
-    requires sessions { sum_by sessions_of jobs.items ≤ 64000000000000 }
-    requires faults { sum_by faults_of jobs.items ≤ 64000000000000 }
+    requires few { vec_len jobs ≤ worker_limit }
+    requires sessions { sum_by sessions_of jobs.items ≤ worker_limit * accept_limit }
+    requires faults { sum_by faults_of jobs.items ≤ worker_limit * accept_limit }
     ensures acceptors { IfOk result (λ all. all.acceptors.items ≡ map acceptor_of jobs.items) }
     ensures sessions { IfOk result (λ all. all.sessions ≡ sum_by sessions_of jobs.items) }
     ensures faults { IfOk result (λ all. all.session_faults ≡ sum_by faults_of jobs.items) }
@@ -173,7 +175,7 @@ pub fn serve_connections<R: Threads + Wait + Sync, A: Accept + Send + Drop, G: G
     acceptors: Vec<A>,
     gate: G,
 ) -> Result<ServeReport<A, G>, OutOfMemory>
-    requires few { (1 ≤ vec_len acceptors) × (vec_len acceptors ≤ 64) }
+    requires few { (1 ≤ vec_len acceptors) × (vec_len acceptors ≤ worker_limit) }
     requires shelves { vec_len shelves ≡ vec_len acceptors }
     requires own { All (λ shelf. shelf.origin ≡ publisher.origin) shelves.items }
     requires open_ { All (λ acceptor. A.over acceptor ≡ false) acceptors.items }

@@ -3,10 +3,12 @@ ghost use Rattle.std.specs.Prelude.{◌≡◌, ◌≤◌, ◌<◌, ◌+◌, ◌-
 ghost use Rattle.edr_base.specs.Calls.{Cause};
 ghost use Rattle.edr_base.specs.Outside.{Rose};
 ghost use Rattle.edr_serve.specs.Connections.{outcome_of};
+ghost use Rattle.edrd.specs.Limits.{accept_limit};
 ghost use Rattle.edrd.specs.Doors.{IsNew};
 
 use crate::accept::Accept;
 use crate::doors::{Doors, DoorsAsked};
+use crate::limits::ENDLESS;
 use crate::test_sink::HoldingSink;
 use edr_base::{Failed, Faults, MemorySource, OutOfMemory, Stop};
 use edr_serve::{Connection, Served};
@@ -33,14 +35,14 @@ pub(crate) struct MemoryDoor {
     faulted: u64,
     over: bool,
     faults: u64,
-    ghost bound: { (given ≤ most) × (most ≤ 1000000000000) × (faulted ≤ finished) × (finished ≤ given) × (given ≤ 1000000000000) },
+    ghost bound: { (given ≤ most) × (most ≤ accept_limit) × (faulted ≤ finished) × (finished ≤ given) × (given ≤ accept_limit) },
     ghost fits: { faults ≤ 18446744073709551615 },
 }
 
 impl MemoryDoor {
     /// A door that hands out these connections, at most so many; an accept fails at each `None`.
     pub(crate) fn of(alloc: Global, coming: Vec<Option<Coming>>, most: u64) -> MemoryDoor
-        requires { most ≤ 1000000000000 }
+        requires { most ≤ accept_limit }
         ensures open_ { ⟦<MemoryDoor as Accept>⟧.over result ≡ false }
         ensures counts { (⟦<MemoryDoor as Accept>⟧.given result ≡ 0) × (⟦<MemoryDoor as Accept>⟧.finished result ≡ 0)
             × (⟦<MemoryDoor as Accept>⟧.faulted result ≡ 0) × (⟦<MemoryDoor as Faults>⟧.faults result ≡ 0) }
@@ -179,7 +181,7 @@ fn doors_with(
     count: usize,
     most: u64,
 ) -> Result<Vec<MemoryDoor>, OutOfMemory>
-    requires { most ≤ 1000000000000 }
+    requires { most ≤ accept_limit }
     ensures { IfOk result (λ doors. (vec_len doors ≡ count)
         × All (IsNew ⟦<MemoryDoor as Accept>⟧.over ⟦<MemoryDoor as Accept>⟧.given
         ⟦<MemoryDoor as Accept>⟧.finished ⟦<MemoryDoor as Accept>⟧.faulted ⟦<MemoryDoor as Faults>⟧.faults) doors.items) }
@@ -220,7 +222,7 @@ impl Doors for MemoryDoors {
             self.faults = self.faults.saturating_add(1);
             return Err(Stop::Failed);
         }
-        let most = if connections == 0 {
+        let most = if connections == ENDLESS {
             MOST
         } else {
             connections.min(MOST)

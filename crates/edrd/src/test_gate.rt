@@ -1,5 +1,6 @@
 //! A gate in memory.
 ghost use Rattle.std.specs.Prelude.{◌≡◌, ◌≤◌, false};
+ghost use Rattle.edrd.specs.Limits.{grant_limit};
 
 use crate::gate::Gate;
 
@@ -10,7 +11,7 @@ pub(crate) struct TurnsGate {
     granted: u32,
     seconds: u32,
     shut: bool,
-    ghost bound: { granted ≤ 1000000000000 },
+    ghost bound: { granted ≤ grant_limit },
 }
 
 impl TurnsGate {

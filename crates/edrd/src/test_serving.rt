@@ -1,6 +1,7 @@
 //! Serving from the editions of a feed.
 ghost use Rattle.std.specs.Prelude.{◌≡◌, ◌≤◌, vec_len, All, IfOk, false};
 ghost use Rattle.edr_edition.specs.Shelves.{IsLog};
+ghost use Rattle.edrd.specs.Limits.{worker_limit};
 
 use crate::accept::Accept;
 use crate::gate::Gate;
@@ -43,7 +44,7 @@ pub(crate) fn serve_feed<R: Threads + Wait + Sync, A: Accept + Send + Drop, G: G
     acceptors: Vec<A>,
     gate: G,
 ) -> Result<Outcome<A>, OutOfMemory>
-    requires few { (1 ≤ vec_len acceptors) × (vec_len acceptors ≤ 64) }
+    requires few { (1 ≤ vec_len acceptors) × (vec_len acceptors ≤ worker_limit) }
     requires open_ { All (λ acceptor. A.over acceptor ≡ false) acceptors.items }
     requires gate { G.shut gate ≡ false }
 {

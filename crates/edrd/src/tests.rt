@@ -1,6 +1,7 @@
 //! What serving through doors comes to.
 
 use crate::doors::Doors;
+use crate::limits::{ENDLESS, WORKER_LIMIT};
 use crate::test_coming::{CONFORMANCE, Wanted, doors_of, replies};
 use crate::test_doors::MemoryDoors;
 use crate::test_gate::TurnsGate;
@@ -47,11 +48,11 @@ fn served_as<R: Threads + Wait + Sync>(
     let (row, turns) = row.rsplit_once(' ').unwrap_or((row, "0"));
     let coming = doors_of(alloc, CONFORMANCE, row)?;
     let count = coming.len();
-    if count == 0 || count > 64 {
+    if count == 0 || count > WORKER_LIMIT as usize {
         return Err(OutOfMemory);
     }
     let mut doors = MemoryDoors::of(alloc, coming, false);
-    let Ok(open) = doors.open(alloc, 0, count, 0) else {
+    let Ok(open) = doors.open(alloc, 0, count, ENDLESS) else {
         return Err(OutOfMemory);
     };
     let gate = TurnsGate::of(turns.parse().unwrap_or(0));

@@ -1,5 +1,6 @@
 //! A publish while a reply is held.
 ghost use Rattle.std.specs.Prelude.{◌≡◌, ◌≤◌, false};
+ghost use Rattle.edrd.specs.Limits.{grant_limit};
 
 use crate::gate::Gate;
 use crate::test_coming::connection;
@@ -26,7 +27,7 @@ struct WatchingGate {
     seconds: u32,
     granted: u32,
     shut: bool,
-    ghost bound: { granted ≤ 1000000000000 },
+    ghost bound: { granted ≤ grant_limit },
 }
 
 impl WatchingGate {

@@ -7,6 +7,10 @@ ghost use Rattle.edrd.specs.Words as spelled;
 ghost use Rattle.edrd.specs.Words.{all_words, asked_of};
 ghost use Rattle.edrd.specs.Settled.{IsWithin};
 
+use crate::limits::{
+    CONNECTION_LIMIT, DEFAULT_PAUSE, DEFAULT_WORKERS, ENDLESS, PAUSE_LIMIT, PORT_LIMIT,
+    WORKER_LIMIT,
+};
 use clap::error::ErrorKind;
 use clap::{Arg, ArgMatches, Command, Error};
 use edr_base::{OutOfMemory, Text};
@@ -93,16 +97,16 @@ fn settings_of(
     let (Some(feed), Some(port)) = (feed, port) else {
         return Ok(None);
     };
-    let Some(port) = number_within(0, 65_535, port) else {
+    let Some(port) = number_within(0, PORT_LIMIT, port) else {
         return Ok(None);
     };
-    let Some(workers) = number_or(2, 1, 64, workers) else {
+    let Some(workers) = number_or(DEFAULT_WORKERS, 1, WORKER_LIMIT, workers) else {
         return Ok(None);
     };
-    let Some(every) = number_or(60, 0, 86_400, every) else {
+    let Some(every) = number_or(DEFAULT_PAUSE, 0, PAUSE_LIMIT, every) else {
         return Ok(None);
     };
-    let Some(connections) = number_or(0, 0, 1_000_000, connections) else {
+    let Some(connections) = number_or(ENDLESS, 0, CONNECTION_LIMIT, connections) else {
         return Ok(None);
     };
     Ok(Some(Settings {

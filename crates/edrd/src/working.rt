@@ -1,6 +1,6 @@
 //! The jobs that serve.
 ghost use Rattle.std.specs.Prelude.{◌<◌, ℕ, length, slice_index_or};
-ghost use Rattle.edrd.specs.Serving.{HasServed};
+ghost use Rattle.edrd.specs.Jobs.{HasServed};
 ghost use Rattle.edrd.specs.declared.working.Serving.{Serving};
 
 use crate::accept::Accept;

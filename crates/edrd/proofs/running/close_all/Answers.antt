@@ -2,7 +2,7 @@ use Rattle.std.proofs.Common.{◌≡◌, ◌<◌, ◌∙◌, suc, length, arith,
 use Rattle.std.specs.Prelude.{IsSomeAnd, vec_len}
 use Rattle.std.specs.declared.option.Option.{Option}
 use Rattle.std.specs.Vec.Iter.{into_iter_items}
-use Rattle.edrd.specs.Serving.{MayClose}
+use Rattle.edrd.specs.Closing.{MayClose}
 use Rattle.edrd.specs.declared.doors.DoorsAsked.{DoorsAsked}
 use Rattle.edrd.proofs.JobLemmas.{counted_on}
 use Rattle.edrd.proofs.RunLemmas.{room_for, door_first, door_others}

@@ -1,7 +1,7 @@
 use Rattle.std.proofs.Common.{◌≡◌, ◌+◌, length, vec_len}
 use Rattle.std.specs.Prelude.{All}
 use Rattle.std.specs.Vec.Iter.{into_iter_items, into_iter_len}
-use Rattle.edrd.specs.Serving.{MayClose}
+use Rattle.edrd.specs.Closing.{MayClose}
 use Rattle.edrd.proofs.running.close_all.Given as goal
 
 abbrev pub invariant-doors : goal.invariant-doors

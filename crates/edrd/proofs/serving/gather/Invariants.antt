@@ -1,7 +1,8 @@
 use Rattle.std.proofs.Common.{◌≡◌, ◌≤◌, ◌+◌, ◌++◌, length, map}
 use Rattle.std.specs.Prelude.{sum_by, count_by}
 use Rattle.std.specs.Vec.Iter.{into_iter_items, into_iter_len}
-use Rattle.edrd.specs.Serving.{acceptor_of, sessions_of, faults_of, has_failed}
+use Rattle.edrd.specs.Limits.{worker_limit}
+use Rattle.edrd.specs.Jobs.{acceptor_of, sessions_of, faults_of, has_failed}
 use Rattle.edrd.proofs.serving.gather.Given as goal
 
 abbrev pub invariant-jobs : goal.invariant-jobs
@@ -11,7 +12,7 @@ invariant-jobs g l =
       sessions : l.sessions + sum_by sessions_of (into_iter_items l.jobs) ≡ sum_by sessions_of l.fn.jobs.items;
       faults : l.session_faults + sum_by faults_of (into_iter_items l.jobs) ≡ sum_by faults_of l.fn.jobs.items;
       failed : l.accept_faults + count_by has_failed (into_iter_items l.jobs) ≡ count_by has_failed l.fn.jobs.items;
-      few : l.accept_faults + length (into_iter_items l.jobs) ≤ 64;
+      few : l.accept_faults + length (into_iter_items l.jobs) ≤ worker_limit;
       counted : into_iter_len l.jobs ≡ length (into_iter_items l.jobs);
     }
 

@@ -1,6 +1,6 @@
 use Rattle.std.proofs.Common.{◌≡◌, ◌++◌, length, map}
 use Rattle.std.specs.Vec.Iter.{into_iter_items, into_iter_len}
-use Rattle.edrd.specs.Serving.{acceptor_of}
+use Rattle.edrd.specs.Jobs.{acceptor_of}
 use Rattle.edrd.proofs.serving.jobs_of.Given as goal
 
 abbrev pub invariant-acceptors : goal.invariant-acceptors

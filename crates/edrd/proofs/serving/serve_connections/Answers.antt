@@ -1,11 +1,12 @@
 use Rattle.std.proofs.Common.{◌≤◌, ◌<◌, length, rules}
-use Rattle.edrd.specs.Serving.{sessions_of, faults_of}
+use Rattle.edrd.specs.Limits.{worker_limit}
+use Rattle.edrd.specs.Jobs.{sessions_of, faults_of}
 use Rattle.edrd.proofs.JobLemmas.{few_jobs, few_sessions, few_faults, ended_all, sums_all, left_all}
 use Rattle.edrd.proofs.serving.serve_connections.Goals as goal
 
 pub gather-requires-clause-sessions : goal.gather-requires-clause-sessions
 gather-requires-clause-sessions g c κs within =
-    let few : length c.args.acceptors.items ≤ 64 = search rules in
+    let few : length c.args.acceptors.items ≤ worker_limit = search rules in
     few_sessions g.A.Accept.given g.A.Accept.finished g.A.Accept.faulted g.A.Faults.faults g.A.Accept.over c.in-Ok.jobs.items c.served-jobs.result.items
     c.served-jobs.ensures.count.1
     (few_jobs g.A.Accept.given g.A.Accept.finished g.A.Accept.faulted g.A.Faults.faults g.A.Accept.over c.in-Ok.jobs.items _ c.in-Ok.ensures few)
@@ -13,7 +14,7 @@ gather-requires-clause-sessions g c κs within =
 
 pub gather-requires-clause-faults : goal.gather-requires-clause-faults
 gather-requires-clause-faults g c κs within =
-    let few : length c.args.acceptors.items ≤ 64 = search rules in
+    let few : length c.args.acceptors.items ≤ worker_limit = search rules in
     few_faults g.A.Accept.given g.A.Accept.finished g.A.Accept.faulted g.A.Faults.faults g.A.Accept.over c.in-Ok.jobs.items c.served-jobs.result.items
     c.served-jobs.ensures.count.1
     (few_jobs g.A.Accept.given g.A.Accept.finished g.A.Accept.faulted g.A.Faults.faults g.A.Accept.over c.in-Ok.jobs.items _ c.in-Ok.ensures few)

@@ -1,4 +1,5 @@
 use Rattle.std.proofs.Common.{◌≡◌, ◌≤◌, ◌+◌, false}
+use Rattle.edrd.specs.Limits.{accept_limit}
 use Rattle.edrd.proofs.working.work.Given as goal
 
 abbrev pub invariant-connections : goal.invariant-connections
@@ -10,6 +11,6 @@ invariant-connections g l =
       few : l.session_faults ≤ l.sessions;
       going : l.failed ≡ false;
       later : g.A.Faults.faults l.fn.job.acceptor ≤ g.A.Faults.faults l.job.acceptor;
-      within : g.A.Accept.given l.job.acceptor ≤ 1000000000000;
+      within : g.A.Accept.given l.job.acceptor ≤ accept_limit;
       order : g.A.Accept.finished l.fn.job.acceptor ≤ g.A.Accept.given l.fn.job.acceptor;
     }
