@@ -135,33 +135,36 @@ fn sources_give_cut_pieces(rt: HostRuntime) -> Result<(), Fail> {
     Ok(())
 }
 
-// Whether a source is read whole up to a limit, and is this; it is too long where nothing is wanted.
-fn is_read_whole(
-    source: &mut MemorySource,
-    limit: u16,
-    wanted: Option<&[u8]>,
-    alloc: Global,
-) -> bool {
+// Whether this is what is read of a source up to a limit; `>` stands where more came, `!` where a read failed.
+fn is_read_whole(alloc: Global, source: &mut MemorySource, limit: u16, answer: &str) -> bool {
     match read_all(alloc, source, limit as usize) {
-        Ok(bytes) => wanted == Some(bytes.as_slice()),
-        Err(stop) => wanted.is_none() && matches!(stop, ReadStop::TooLong),
+        Ok(bytes) => bytes.as_slice() == answer.as_bytes(),
+        Err(ReadStop::TooLong) => answer == ">",
+        Err(ReadStop::ReadFault) => answer == "!",
+        Err(ReadStop::OutOfMemory) => answer == "?",
     }
 }
 
+// Reads ten digits, three a read, up to a limit, and then what is left of them.
+fn are_digits_read(
+    alloc: Global,
+    limit: u16,
+    fails: &[u64],
+    answer: &str,
+    left: &str,
+) -> Result<bool, AllocError> {
+    let digits = bytes_of(alloc, b"0123456789")?;
+    let mut source = MemorySource::of(digits, 3, numbers_of(alloc, fails)?);
+    Ok(is_read_whole(alloc, &mut source, limit, answer) && are_read(&mut source, left))
+}
+
+// Of the last source the second call fails: that is answered, and nothing is read behind it.
 #[test]
 fn a_source_is_read_up_to_the_limit(rt: HostRuntime) -> Result<(), Fail> {
-    let mut source = MemorySource::of(
-        bytes_of(rt.alloc(), b"0123456789")?,
-        3,
-        Vec::new(rt.alloc()),
-    );
-    assert!(rt; is_read_whole(&mut source, 10, Some(b"0123456789"), rt.alloc()));
-    let mut source = MemorySource::of(
-        bytes_of(rt.alloc(), b"0123456789")?,
-        3,
-        Vec::new(rt.alloc()),
-    );
-    assert!(rt; is_read_whole(&mut source, 9, None, rt.alloc()));
+    let alloc = rt.alloc();
+    assert!(rt; are_digits_read(alloc, 10, &[], "0123456789", "read=")?);
+    assert!(rt; are_digits_read(alloc, 9, &[], ">", "read=")?);
+    assert!(rt; are_digits_read(alloc, 10, &[2], "!", "read=345 read=678 read=9 read=")?);
     Ok(())
 }
 
