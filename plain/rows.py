@@ -1,10 +1,10 @@
 """Runs the plain program, or the built ones, on worked rows of `ask`, `check`, `replay` and `make`, and of what feeds are.
 
-    python3 plain/rows.py ROWS [--request N] [--show] [--edr PROGRAM] [--answers PROGRAM]
+    python3 plain/rows.py ROWS [--stage N] [--show] [--edr PROGRAM] [--answers PROGRAM]
 
 Each line of ROWS is an object with `words`, `input`, `files` by their names, and `answers`, a list of [first, last, status, output,
 errors]: what is answered from one stage of the product to another. The word `feed` is no command of the program: its output is what
-the reader of feeds answers, as in `edr_answers`. Without `--request`, all queries and stations are switched on and the last
+the reader of feeds answers, as in `edr_answers`. Without `--stage`, all queries and stations are switched on and the last
 answers are wanted; with it, the switches stay as they are, and the answers are those at that stage. `--edr` runs the commands on the
 program, and `--answers` the rows of `feed` on `edr_answers`; what neither of them runs is left out then. The last line is
 `N agree, M differ`.
@@ -21,9 +21,9 @@ from inputs.asks import Ask
 from programs import endings, reader_answers
 
 
-def wanted(row: dict, request: int | None) -> Ending | None:
-    """How the row's run should end, or None where it says nothing of the request."""
-    answers = row["answers"] if request is None else [each for each in row["answers"] if each[0] <= request <= each[1]]
+def wanted(row: dict, stage: int | None) -> Ending | None:
+    """How the row's run should end, or None where it says nothing of the stage."""
+    answers = row["answers"] if stage is None else [each for each in row["answers"] if each[0] <= stage <= each[1]]
     if not answers:
         return None
     _, _, status, output, errors = answers[-1]
@@ -49,18 +49,18 @@ def ending(row: dict, edr: str | None, answers: str | None) -> Ending | None:
 def main() -> int:
     parser = argparse.ArgumentParser(description=__doc__, formatter_class=argparse.RawDescriptionHelpFormatter)
     parser.add_argument("rows")
-    parser.add_argument("--request", type=int)
+    parser.add_argument("--stage", type=int)
     parser.add_argument("--show", action="store_true", help="print what differs")
     parser.add_argument("--edr", help="the program edr")
     parser.add_argument("--answers", help="the program edr_answers")
     given = parser.parse_args()
-    if given.request is None:
+    if given.stage is None:
         built.build("whole")
     agree = differ = 0
     with open(given.rows, encoding="utf-8") as rows:
         for number, line in enumerate(rows, 1):
             row = json.loads(line)
-            want = wanted(row, given.request)
+            want = wanted(row, given.stage)
             got = want and ending(row, given.edr, given.answers)
             if got is None:
                 continue
