@@ -7,7 +7,8 @@ use Rattle.edr_axes.specs.Axes.{value_at}
 use Rattle.edr_axes.specs.InstantComputed.{InstantsAreRead}
 use Rattle.covjson_value.specs.declared.domains.CoordinateName.{CoordinateName}
 use Rattle.covjson_value.specs.declared.domains.CoordinateName.TheVariants.{T, Z, Y, X}
-use Rattle.covjson_value.specs.Coverages.{IsCoordinate, IsAxisValue}
+use Rattle.edr_base.specs.Limits.{IsCoordinate}
+use Rattle.covjson_value.specs.Coverages.{IsAxisValue}
 use Rattle.covjson_domains.specs.declared.axes.ReadAxis.{ReadAxis}
 use Rattle.covjson_checks.specs.declared.faults.Member.{Member}
 use Rattle.covjson_checks.specs.declared.faults.Member.TheVariants.{Z as LevelAxis, Y as RowAxis, X as ColumnAxis}

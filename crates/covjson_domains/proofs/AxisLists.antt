@@ -4,9 +4,8 @@ use Rattle.std.proofs.lemmas.List.Elements.{All-nil, All-cons}
 use Rattle.serde_json.specs.Data.{Data, array, Items, no_items, item}
 use Rattle.serde_json.specs.Find.{get, as_number}
 use Rattle.edr_axes.specs.Instants.{IsTime}
-use Rattle.edr_base.specs.Limits.{coordinate_limit}
+use Rattle.edr_base.specs.Limits.{coordinate_limit, IsCoordinate}
 use Rattle.covjson_value.specs.declared.domains.CoordinateName.TheVariants.{T, X}
-use Rattle.covjson_value.specs.Coverages.{IsCoordinate}
 use Rattle.covjson_checks.specs.declared.faults.Member.{Member}
 use Rattle.covjson_checks.specs.declared.faults.Member.TheVariants.{T as TimeAxis}
 use Rattle.covjson_checks.specs.declared.faults.CovFault.TheVariants.{WrongType, NotWhole, BadTime}

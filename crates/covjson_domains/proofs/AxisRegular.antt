@@ -9,7 +9,7 @@ use Rattle.std.proofs.Math.IntN.{*ℤ_comm}
 use Rattle.std.proofs.Math.Nat.{eq_of_mul-eq-mul_right}
 use borrow.Author.Differences.{up, down, same_in}
 use Rattle.edr_axes.specs.Axes.{value_at}
-use Rattle.covjson_value.specs.Coverages.{IsCoordinate}
+use Rattle.edr_base.specs.Limits.{IsCoordinate}
 use Rattle.covjson_domains.specs.Axes.{IsRegular}
 use Rattle.covjson_domains.specs.AxisAnswers.{has_whole_steps, stepped, regular}
 use Rattle.covjson_domains.proofs.SpanLemmas.{within_ends}

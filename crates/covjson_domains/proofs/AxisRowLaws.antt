@@ -8,14 +8,13 @@ use Rattle.std.proofs.lemmas.List.Elements.{All-nil, All-cons, All-head, All-tai
 use Rattle.serde_json.specs.Data.{Data, null, boolean, number, string, array, object, Items, no_items, item, Members, Num}
 use Rattle.serde_json.specs.Find.{get, as_object, as_array, as_number, as_str, as_integer}
 use Rattle.edr_base.specs.FirstThatApplies.{Check, Find, Gives, and_then, or_fault, check}
-use Rattle.edr_base.specs.Limits.{coordinate_limit, node_limit}
+use Rattle.edr_base.specs.Limits.{coordinate_limit, node_limit, IsCoordinate}
 use Rattle.edr_axes.specs.InstantComputed.{instant_of, InstantsAreRead}
 use Rattle.edr_json.specs.Trees.{count_items, EachStands, StandsForWhole, whole_of}
 use Rattle.edr_json.specs.AnswerLaws.{and_then_ok, or_fault_ok, and_then_given, or_fault_given}
 use Rattle.edr_json.specs.TreeLaws.{as_object_some}
 use Rattle.covjson_value.specs.declared.domains.CoordinateName.{CoordinateName}
 use Rattle.covjson_value.specs.declared.domains.CoordinateName.TheVariants.{T, Z, Y, X}
-use Rattle.covjson_value.specs.Coverages.{IsCoordinate}
 use Rattle.covjson_checks.specs.declared.faults.Member.{Member}
 use Rattle.covjson_checks.specs.declared.faults.Member.TheVariants.{T as TimeAxis}
 use Rattle.covjson_checks.specs.declared.faults.CovFault.{CovFault}

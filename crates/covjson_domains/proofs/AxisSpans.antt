@@ -6,8 +6,7 @@ use Rattle.std.proofs.lemmas.Int.{ints}
 use Rattle.std.proofs.lemmas.List.Elements.{All-get_or}
 use Rattle.serde_json.specs.Data.{Data, Num}
 use Rattle.serde_json.specs.Find.{get, as_number, as_integer}
-use Rattle.edr_base.specs.Limits.{coordinate_limit, node_limit}
-use Rattle.covjson_value.specs.Coverages.{IsCoordinate}
+use Rattle.edr_base.specs.Limits.{coordinate_limit, node_limit, IsCoordinate}
 use Rattle.covjson_checks.specs.declared.faults.Member.{Member}
 use Rattle.covjson_checks.specs.declared.faults.CovFault.TheVariants.{NotWhole, OutOfRange}
 use Rattle.covjson_checks.specs.Answers.{Answer}

@@ -5,8 +5,7 @@ use Rattle.std.proofs.lemmas.Bool.{eqb-true, eqb-false, eq-eqb, ne_eqb, leb-true
 use Rattle.std.proofs.lemmas.Int.{ints, quot-rem, unsigned_abs-mul}
 use Rattle.std.proofs.Math.Nat.{mul-le-mul_left}
 use mir.Syntax.{w128}
-use Rattle.edr_base.specs.Limits.{coordinate_limit, node_limit}
-use Rattle.covjson_value.specs.Coverages.{IsCoordinate}
+use Rattle.edr_base.specs.Limits.{coordinate_limit, node_limit, IsCoordinate}
 use Rattle.covjson_checks.specs.Members.{is_within}
 use Rattle.covjson_domains.specs.AxisRows.{IsSpan}
 use Rattle.covjson_domains.specs.AxisAnswers.{has_whole_steps, is_span_within, stepped, regular}

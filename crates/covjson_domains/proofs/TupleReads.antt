@@ -5,10 +5,10 @@ use Rattle.std.proofs.lemmas.Bool.{leb-true, le-leb}
 use Rattle.serde_json.specs.Data.{Data}
 use Rattle.serde_json.specs.Find.{as_str}
 use Rattle.edr_axes.specs.InstantComputed.{InstantsAreRead}
-use Rattle.edr_base.specs.Limits.{coordinate_limit}
+use Rattle.edr_base.specs.Limits.{coordinate_limit, IsCoordinate}
 use Rattle.covjson_value.specs.declared.domains.CoordinateName.{CoordinateName}
 use Rattle.covjson_value.specs.declared.domains.CoordinateName.TheVariants.{T, Z, Y, X}
-use Rattle.covjson_value.specs.Coverages.{IsCoordinate, IsAxisValue}
+use Rattle.covjson_value.specs.Coverages.{IsAxisValue}
 use Rattle.covjson_domains.specs.declared.tuples.Test.{Test}
 use Rattle.covjson_domains.specs.declared.tuples.Test.TheVariants.{Form, Whole, Within}
 use Rattle.covjson_checks.specs.declared.faults.Member.TheVariants.{Composite}

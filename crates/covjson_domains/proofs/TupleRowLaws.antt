@@ -14,7 +14,8 @@ use Rattle.edr_json.specs.TreeLaws.{as_array_some}
 use Rattle.covjson_value.specs.declared.domains.CoordinateName.{CoordinateName}
 use Rattle.covjson_value.specs.declared.domains.CoordinateName.TheVariants.{T, Z, Y, X}
 use Rattle.covjson_value.specs.Domains.{coordinate, is_among}
-use Rattle.covjson_value.specs.Coverages.{IsCoordinate, NeverFall}
+use Rattle.edr_base.specs.Limits.{IsCoordinate}
+use Rattle.covjson_value.specs.Coverages.{NeverFall}
 use Rattle.covjson_value.specs.Trees.{keys_data}
 use Rattle.covjson_checks.specs.declared.faults.Member.TheVariants.{Composite}
 use Rattle.covjson_checks.specs.declared.faults.CovFault.TheVariants.{WrongType, NotWhole, OutOfRange, BadTime, NotMonotonic}

@@ -3,12 +3,11 @@ use Rattle.std.specs.Prelude.{◌≡◌, ◌⊎◌, ℕ, ◌<◌, ℤ, pos, ◌-
 use Rattle.serde_json.specs.Data.{Data, number, string, array, Items, Num}
 use Rattle.serde_json.specs.Find.{get}
 use Rattle.edr_base.specs.FirstThatApplies.{Check, Find, Then, Gives}
-use Rattle.edr_base.specs.Limits.{node_limit}
+use Rattle.edr_base.specs.Limits.{node_limit, IsCoordinate}
 use Rattle.edr_axes.specs.Axes.{IsAscending}
 use Rattle.edr_json.specs.Trees.{count_items, EachStands, StandsForWhole}
 use Rattle.covjson_value.specs.declared.domains.CoordinateName.{CoordinateName}
 use Rattle.covjson_value.specs.declared.domains.CoordinateName.TheVariants.{T, Z, Y, X}
-use Rattle.covjson_value.specs.Coverages.{IsCoordinate}
 use Rattle.covjson_checks.specs.declared.faults.Member.{Member}
 use Rattle.covjson_checks.specs.declared.faults.Member.TheVariants.{T as TimeAxis}
 use Rattle.covjson_checks.specs.declared.faults.CovFault.{CovFault}

@@ -7,7 +7,8 @@ use Rattle.edr_json.specs.Trees.{EachStands, StandsForWhole}
 use Rattle.covjson_value.specs.declared.domains.CoordinateName.{CoordinateName}
 use Rattle.covjson_value.specs.declared.domains.CoordinateName.TheVariants.{T, Z, Y, X}
 use Rattle.covjson_value.specs.Domains.{coordinate}
-use Rattle.covjson_value.specs.Coverages.{IsCoordinate, NeverFall}
+use Rattle.edr_base.specs.Limits.{IsCoordinate}
+use Rattle.covjson_value.specs.Coverages.{NeverFall}
 use Rattle.covjson_value.specs.Trees.{keys_data}
 use Rattle.covjson_checks.specs.declared.faults.Member.TheVariants.{Composite}
 use Rattle.covjson_checks.specs.declared.faults.CovFault.{CovFault}

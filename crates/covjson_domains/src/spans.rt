@@ -1,8 +1,7 @@
 //! Axes of numbers by their first value, their last, and how many there are (OGC 21-069r2, regularly spaced axes).
 ghost use Rattle.std.specs.Prelude.{◌≡◌, ◌≤◌, ◌<◌, ◌^◌, ◌+ℤ◌, ◌-ℤ◌, ◌*◌, ◌*ℤ◌, IfOk, pos, unsigned_abs, true};
 ghost use Rattle.serde_json.specs.View.{view, number_view};
-ghost use Rattle.edr_base.specs.Limits.{coordinate_limit, node_limit};
-ghost use Rattle.covjson_value.specs.Coverages.{IsCoordinate};
+ghost use Rattle.edr_base.specs.Limits.{coordinate_limit, node_limit, IsCoordinate};
 ghost use Rattle.covjson_checks.specs.Answers.{Gives, GivesUnlessMemory};
 ghost use Rattle.covjson_checks.specs.Members as members;
 ghost use Rattle.covjson_domains.specs.AxisAnswers as axes;

@@ -9,7 +9,8 @@ use Rattle.edr_json.specs.TreeLaws.{as_object_some, member_of_object, text_is}
 use Rattle.covjson_value.specs.declared.domains.Domain.{Domain}
 use Rattle.covjson_value.specs.declared.coverages.NdArray.{NdArray}
 use Rattle.covjson_value.specs.declared.axis_names.AxisName.{AxisName}
-use Rattle.covjson_value.specs.Coverages.{IsSample, IsRange}
+use Rattle.edr_base.specs.Limits.{IsSample}
+use Rattle.covjson_value.specs.Coverages.{IsRange}
 use Rattle.covjson_value.specs.Domains.{count_of}
 use Rattle.covjson_checks.specs.declared.faults.CovFault.{CovFault}
 use Rattle.covjson_checks.specs.declared.faults.CovFault.TheVariants.{Missing, WrongType, UnsupportedRange, OutOfMemory}

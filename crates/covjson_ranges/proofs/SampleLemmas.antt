@@ -6,11 +6,10 @@ use Rattle.std.proofs.lemmas.List.Elements.{All-cons, All-nil, All-head, All-tai
 use Rattle.serde_json.specs.Data.{Data, null, boolean, number, string, array, object, Items, no_items, item, Num}
 use Rattle.serde_json.specs.Find.{get, as_null, as_number, as_array}
 use Rattle.edr_base.specs.FirstThatApplies.{Check, Find, Gives, and_then, check}
-use Rattle.edr_base.specs.Limits.{sample_limit}
+use Rattle.edr_base.specs.Limits.{sample_limit, IsSample}
 use Rattle.edr_json.specs.Trees.{whole_of, count_items, EachStands}
 use Rattle.edr_json.specs.AnswerLaws.{and_then_ok}
 use Rattle.edr_json.specs.TreeLaws.{as_array_some}
-use Rattle.covjson_value.specs.Coverages.{IsSample}
 use Rattle.covjson_checks.specs.declared.faults.Member.{Member}
 use Rattle.covjson_checks.specs.declared.faults.Member.TheVariants.{Values}
 use Rattle.covjson_checks.specs.declared.faults.CovFault.TheVariants.{Missing, WrongType, NotWhole, OutOfRange, WrongCount}

@@ -5,7 +5,7 @@ use Rattle.std.proofs.lemmas.Bool.{cases_lt}
 use Rattle.std.proofs.lemmas.List.{get_or_default, get_or_past}
 use Rattle.covjson_value.specs.declared.domains.Domain.{Domain}
 use Rattle.covjson_value.specs.Domains.{count_of}
-use Rattle.covjson_value.specs.Coverages.{IsSample}
+use Rattle.edr_base.specs.Limits.{IsSample}
 use Rattle.covjson_ranges.specs.Ranges.{number_of, tree_number, AreSamples, AreInOrder}
 use Rattle.covjson_ranges.specs.Orders.{places_at}
 use Rattle.covjson_ranges.specs.Laws.{RangesAreValid}

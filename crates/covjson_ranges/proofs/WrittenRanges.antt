@@ -8,7 +8,8 @@ use Rattle.serde_json.specs.View.{items_of}
 use Rattle.covjson_value.specs.declared.domains.Domain.{Domain}
 use Rattle.covjson_value.specs.declared.coverages.NdArray.{NdArray}
 use Rattle.covjson_value.specs.Domains.{AxisLength, range_axes}
-use Rattle.covjson_value.specs.Coverages.{IsRange, IsSample}
+use Rattle.edr_base.specs.Limits.{IsSample}
+use Rattle.covjson_value.specs.Coverages.{IsRange}
 use Rattle.covjson_value.specs.Trees.{member_if, array_of, array_if_some, sample_data, name_data, length_data, range_data, members_in_order}
 use Rattle.covjson_value.specs.declared.axis_names.AxisName.{AxisName}
 use Rattle.covjson_ranges.specs.Ranges.{StandsForSample, StandsForName, StandsForLength, length_of, AreRangeAxes, IsOnePlace, NamesStand, ShapeStands, StandsForRange}

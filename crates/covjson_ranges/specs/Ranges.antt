@@ -11,7 +11,7 @@ use Rattle.covjson_value.specs.declared.coverages.NdArray.{NdArray}
 use Rattle.covjson_value.specs.declared.axis_names.AxisName.{AxisName}
 use Rattle.covjson_value.specs.declared.axis_names.AxisName.TheVariants.{T, Z, Y, X, Composite}
 use Rattle.covjson_value.specs.AxisNames.{axis_key}
-use Rattle.covjson_value.specs.Coverages.{IsSample}
+use Rattle.edr_base.specs.Limits.{IsSample}
 use Rattle.covjson_value.specs.Domains.{axis_of, tuples_of, has_axis, axis_length, count_of}
 use Rattle.covjson_checks.specs.declared.turned.Turned.{Turned}
 use Rattle.covjson_ranges.specs.declared.places.Places.{Places}

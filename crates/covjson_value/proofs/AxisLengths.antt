@@ -3,14 +3,14 @@ use Rattle.std.proofs.Common.{◌≡◌, ℕ, zero, suc, ◌+◌, ◌-◌, ◌<�
 use Rattle.std.proofs.lemmas.Int.{ints}
 use Rattle.std.proofs.lemmas.List.Elements.{All-nil, All-cons}
 use Rattle.json.proofs.Printed.Utf8.{are_ascii}
-use Rattle.edr_base.specs.Limits.{coordinate_limit, earliest_time, latest_time}
+use Rattle.edr_base.specs.Limits.{coordinate_limit, earliest_time, latest_time, IsCoordinate}
 use Rattle.edr_base.specs.declared.places.Position.{Position}
 use Rattle.edr_axes.specs.Axes.{value_at, IsAscending, IsAxis}
 use Rattle.covjson_value.specs.declared.domains.CoordinateName.{CoordinateName}
 use Rattle.covjson_value.specs.declared.domains.CoordinateName.TheVariants.{T, Z, Y, X}
 use Rattle.covjson_value.specs.declared.domains.Domain.{Domain}
 use Rattle.covjson_value.specs.Domains.{AxisLength, coordinate_key, axis_of, tuples_of, coordinates_of, axis_before, composite_alone, is_grid, long_axis, range_axes, range_axis_of, range_tuples_of}
-use Rattle.covjson_value.specs.Coverages.{IsCoordinate, IsNamedAxis, HasAxes, AreTuples, HasTuples}
+use Rattle.covjson_value.specs.Coverages.{IsNamedAxis, HasAxes, AreTuples, HasTuples}
 
 rises : (values : List ℤ) → IsAscending values → (place : ℕ) → place < length values → (value_at values 0 +ℤ pos place) ≤ℤ value_at values place
 rises values ascends zero inside = omega (arith, ints)

@@ -12,7 +12,8 @@ use Rattle.covjson_value.specs.declared.coverages.Coverage.{Coverage}
 use Rattle.covjson_value.specs.declared.coverages.Document.{Document}
 use Rattle.covjson_value.specs.declared.coverages.Document.TheVariants.{One, Many}
 use Rattle.covjson_value.specs.Domains.{AxisLength, range_axes}
-use Rattle.covjson_value.specs.Coverages.{IsSample, HasAxes, HasTuples, IsParameter, ids_of, AscendById, IsRange, IsValid, IsValidDocument}
+use Rattle.edr_base.specs.Limits.{IsSample}
+use Rattle.covjson_value.specs.Coverages.{HasAxes, HasTuples, IsParameter, ids_of, AscendById, IsRange, IsValid, IsValidDocument}
 use Rattle.covjson_value.specs.Trees
 use Rattle.covjson_value.proofs.InOrder.{Pair}
 use Rattle.covjson_value.proofs.Within.{IsWithin, within_more, text_within, word_within, integer_within, count_within, array_of_within, array_if_some_within, object_within, no_members_within, named_within, member_if_within, alone_within, zip_within}

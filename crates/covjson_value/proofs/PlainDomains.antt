@@ -11,7 +11,8 @@ use Rattle.covjson_value.specs.declared.domains.Domain.{Domain}
 use Rattle.covjson_value.specs.declared.domains.Domain.TheVariants.{Grid, Point, PointSeries, VerticalProfile, MultiPoint, Trajectory}
 use Rattle.covjson_value.specs.declared.coverages.Referencing.{Referencing}
 use Rattle.covjson_value.specs.Domains.{coordinate_key, axis_of, tuples_of, coordinates_of, coordinate, has_coordinate}
-use Rattle.covjson_value.specs.Coverages.{IsCoordinate, IsAxisValue, IsNamedAxis, HasAxes, IsTuple, AreTuples, HasTuples, IsReferencing}
+use Rattle.edr_base.specs.Limits.{IsCoordinate}
+use Rattle.covjson_value.specs.Coverages.{IsAxisValue, IsNamedAxis, HasAxes, IsTuple, AreTuples, HasTuples, IsReferencing}
 use Rattle.covjson_value.specs.Trees
 use Rattle.covjson_value.specs.RegularLaws.{AreRegular, regular_tells, IsSpanned, spanned_tells}
 use Rattle.json.proofs.Printed.Utf8.{are_ascii, IsUtf8-are_ascii}

@@ -14,11 +14,11 @@ use Rattle.std.proofs.Math.IntN.{*ℤ_comm}
 use Rattle.std.proofs.Math.Nat.{eq_of_mul-eq-mul_right}
 use borrow.Author.Differences.{up, down, same_in}
 use Rattle.serde_json.specs.Data.{Data}
-use Rattle.edr_base.specs.Limits.{node_limit}
+use Rattle.edr_base.specs.Limits.{node_limit, IsCoordinate}
 use Rattle.edr_axes.specs.Axes.{value_at}
 use Rattle.covjson_value.specs.declared.domains.CoordinateName.{CoordinateName}
 use Rattle.covjson_value.specs.declared.domains.CoordinateName.TheVariants.{T, Z, Y, X}
-use Rattle.covjson_value.specs.Coverages.{IsCoordinate, IsAxisValue}
+use Rattle.covjson_value.specs.Coverages.{IsAxisValue}
 use Rattle.covjson_value.specs.Trees.{gap, gaps, are_equal, is_regular, is_spanned, list_data, span_data, axis_data}
 
 -- three values or more, and no more than may be read from a span, all neighbours as far apart as the first two

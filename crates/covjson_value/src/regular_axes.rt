@@ -2,7 +2,7 @@
 ghost use Rattle.std.specs.Prelude.{◌≡◌, ◌<◌, ◌≤◌, ◌-◌, ◌-ℤ◌, IfOk, All, length};
 ghost use Rattle.serde_json.specs.View.{view};
 ghost use Rattle.edr_axes.specs.Axes.{value_at};
-ghost use Rattle.covjson_value.specs.Coverages.{IsCoordinate};
+ghost use Rattle.edr_base.specs.Limits.{IsCoordinate};
 ghost use Rattle.covjson_value.specs.Trees.{is_regular, span_data};
 
 use edr_base::{NODE_LIMIT, OutOfMemory};

@@ -5,7 +5,8 @@ ghost use Rattle.std.specs.declared.cmp.Ordering.TheVariants.{Less};
 ghost use Rattle.std.specs.Cmp.Lexicographic.{slice_cmp};
 ghost use Rattle.covjson_value.specs.declared.domains.CoordinateName.TheVariants.{T, Z};
 ghost use Rattle.covjson_value.specs.Domains.{axis_of, tuples_of, coordinates_of, coordinate, is_among, has_coordinate};
-ghost use Rattle.covjson_value.specs.Coverages.{IsSample, IsAxisValue, IsNamedAxis, HasAxes, IsTupleValue, IsTuple, NeverFall, AreTuples, HasTuples, IsParameter, IsReferencing, AscendById, IsRange, IsValid, IsValidDocument};
+ghost use Rattle.edr_base.specs.Limits.{IsSample};
+ghost use Rattle.covjson_value.specs.Coverages.{IsAxisValue, IsNamedAxis, HasAxes, IsTupleValue, IsTuple, NeverFall, AreTuples, HasTuples, IsParameter, IsReferencing, AscendById, IsRange, IsValid, IsValidDocument};
 
 use crate::coverages::{Coverage, Document, NdArray, Parameter, Referencing};
 use crate::domains::{CoordinateName, Domain};

@@ -1,13 +1,14 @@
 -- Calls that write nothing.
-use Rattle.std.proofs.Common.{ℕ, List, ◌++◌, take, Option, Result, Ok, Err, refl, append_assoc}
+use Rattle.std.proofs.Common.{ℕ, List, ◌++◌, take, Option, Result, Ok, IsErr, refl, append_assoc}
+use Rattle.std.proofs.lemmas.Result.{IfOk-from_err}
 use Rattle.json.specs.Filled.{Placed}
 use Rattle.json.proofs.Printed.Places.{Placed-then}
 use Rattle.edr_base.specs.Calls.{Writes}
 use Rattle.edr_base.specs.KnownBytes.{front_none}
 
 -- a call that ended before it wrote
-pub writes_nothing : (T : Type 0) {E : Type 0} (e : E) (w : Option (List ℕ)) (text : List ℕ) → Writes {T = T} (Err e) text w w
-writes_nothing T e w text = record { whole = tt; front = front_none w w text refl }
+pub writes_nothing : {T E : Type 0} (r : Result T E) (w : Option (List ℕ)) (text : List ℕ) → IsErr r → Writes r text w w
+writes_nothing r w text fails = record { whole = IfOk-from_err r _ fails; front = front_none w w text refl }
 
 -- what was written whole is so whatever is answered
 pub writes_done : {T E : Type 0} (x : T) (U : Type 0) (y : U) (text : List ℕ) (old new : Option (List ℕ)) → Writes {E = E} (Ok x) text old new → Writes {T = U} {E = E} (Ok y) text old new

@@ -84,9 +84,7 @@ fn send_head<K: Sink>(
     ensures lent { SinkLent (K.beside sink.old) (K.beside sink.new) (K.faults sink.old) (K.faults sink.new) }
     ensures cause { IsErrOf result SendFault.WriteFault → Rose (K.faults sink.old) (K.faults sink.new) }
 {
-    let Ok(text) = coverage_text(alloc, later, head) else {
-        return Err(SendFault::OutOfMemory);
-    };
+    let text = coverage_text(alloc, later, head)?;
     send(sink, &text)
 }
 
@@ -105,13 +103,9 @@ pub fn send_coverage<K: Sink>(
     ensures lent { SinkLent (K.beside sink.old) (K.beside sink.new) (K.faults sink.old) (K.faults sink.new) }
     ensures cause { IsErrOf result SendFault.WriteFault → Rose (K.faults sink.old) (K.faults sink.new) }
 {
-    let Ok(kept) = range_head(alloc, head) else {
-        return Err(SendFault::OutOfMemory);
-    };
-    match send_head(alloc, sink, later, head) {
-        Ok(()) => Ok(kept),
-        Err(fault) => Err(fault),
-    }
+    let kept = range_head(alloc, head)?;
+    send_head(alloc, sink, later, head)?;
+    Ok(kept)
 }
 
 // A range's key and its opening that are shorter are put together without taking memory.
@@ -155,9 +149,7 @@ pub fn send_range<K: Sink>(
     if name.len() < SHORT_RANGE && begin.len() < SHORT_RANGE - name.len() {
         return send_short_range(sink, later, name, begin);
     }
-    let Ok(text) = range_text(alloc, later, key, opening) else {
-        return Err(SendFault::OutOfMemory);
-    };
+    let text = range_text(alloc, later, key, opening)?;
     send(sink, &text)
 }
 

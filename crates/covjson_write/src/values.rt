@@ -35,10 +35,8 @@ fn make_room<K: Sink>(sink: &mut K, piece: &[u8], used: usize) -> Result<usize, 
     if piece.len() - used >= LEAST_ROOM {
         return Ok(used);
     }
-    match send(sink, &piece[..used]) {
-        Ok(()) => Ok(0),
-        Err(fault) => Err(fault),
-    }
+    send(sink, &piece[..used])?;
+    Ok(0)
 }
 
 // How many of some values surely fit behind what is gathered.
@@ -69,10 +67,7 @@ fn send_behind<K: Sink>(
     let mut used = gathered;
     let mut done = 0;
     while done < samples.len() {
-        let left = match make_room(sink, piece, used) {
-            Ok(left) => left,
-            Err(fault) => return Err(fault),
-        };
+        let left = make_room(sink, piece, used)?;
         let count = fitting(piece.len() - left, samples.len() - done);
         used = place_values(piece, left, &samples[done..done + count]);
         done += count;

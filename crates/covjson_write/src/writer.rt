@@ -65,17 +65,15 @@ impl Writer {
         ensures lent { SinkLent (K.beside sink.old) (K.beside sink.new) (K.faults sink.old) (K.faults sink.new) }
         ensures cause { IsErrOf result SendFault.WriteFault → Rose (K.faults sink.old) (K.faults sink.new) }
     {
-        match send_begin(sink, many) {
-            Ok(()) => Ok(Writer {
-                many,
-                begun: false,
-                stage: Stage::Ready,
-                head: no_head(alloc),
-                ranges: 0,
-                values: 0,
-            }),
-            Err(fault) => Err(fault),
-        }
+        send_begin(sink, many)?;
+        Ok(Writer {
+            many,
+            begun: false,
+            stage: Stage::Ready,
+            head: no_head(alloc),
+            ranges: 0,
+            values: 0,
+        })
     }
 
     /// Whether the document is a collection.

@@ -23,7 +23,7 @@ use Rattle.edr_serve.specs.Sessions.{State, IfTold, Uses, Answered, Session, Bro
 use Rattle.edr_serve.specs.Sessions as sessions
 use Rattle.edr_serve.specs.SessionLaws.{OutputGoesOn}
 use Rattle.edr_serve.specs.AheadLaws.{ahead_more, most_behind_held}
-use Rattle.edr.specs.Reading.{IsFileRead}
+use Rattle.edr_program.specs.FileReads.{IsFileRead}
 use Rattle.edr.specs.Replays.{edition_at, if_page, editions_read, replayed, AreReplies, AreBegun, IsServed, IsReadFor, ReplayReads, Waits, ReplayWaits}
 
 -- ---- a shelf that stays as it is

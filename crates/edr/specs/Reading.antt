@@ -1,11 +1,12 @@
 -- What each command takes from the input, and of the file that it opens. In each table the last row is that of all commands which have
 -- none of their own.
-use Rattle.std.specs.Prelude.{◌≡◌, ◌⊎◌, ℕ, ◌+◌, true, false, List, ⊤, None, Some, Bool, IfSome}
+use Rattle.std.specs.Prelude.{◌≡◌, ◌⊎◌, ℕ, ◌+◌, true, false, List, ⊤, None, Some, Bool}
 use Rattle.std.specs.declared.option.Option.{Option}
 use Rattle.std.specs.Io.KnownBytes.{IsAtEnd}
 use Rattle.edr_base.specs.Limits.{feed_limit}
 use Rattle.edr_base.specs.Calls.{ReadsAtMost, buffer_size}
 use Rattle.edr_reply.specs.Messages.{body_limit}
+use Rattle.edr_program.specs.FileReads.{IsFileRead}
 use Rattle.edr.specs.Replays.{ReplayReads, ReplayWaits, IsServed}
 use Rattle.edr.specs.declared.commands.Command.{Command}
 use Rattle.edr.specs.declared.commands.Command.TheVariants.{Replay, ReplayAdvance, Make, Work, Show, Fetch}
@@ -68,11 +69,7 @@ abbrev pub IsUnread : Option Asked → ℕ → Type 0
 IsUnread None status = ⊤
 IsUnread (Some asked) status = LeavesInput asked.command status
 
--- ---- the file, however it ends: where it is open no more than so much was read of what it holds; else nothing is left to read
-
-abbrev pub IsFileRead : Bool → Option (List ℕ) → Option (List ℕ) → Type 0
-IsFileRead true content left = IsAtEnd left
-IsFileRead false content left = IfSome content (λ bytes. ReadsAtMost (feed_limit + buffer_size) (Some bytes) left)
+-- ---- the file, however it ends: no more is read of it than a feed may have, and a read beside
 
 abbrev pub FileOf : Command → List ℕ → Contents → Bool → Option (List ℕ) → Type 0
 FileOf Replay feed content closed left = IsFileRead closed (content feed) left

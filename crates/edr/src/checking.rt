@@ -65,10 +65,8 @@ pub fn put<K: Sink>(output: &mut K, text: &[u8]) -> Result<(), SendFault>
     ensures lent { SinkLent (K.beside output.old) (K.beside output.new) (K.faults output.old) (K.faults output.new) }
     ensures cause { IsErrOf result SendFault.WriteFault → Rose (K.faults output.old) (K.faults output.new) }
 {
-    match send(output, text) {
-        Ok(()) => settle(output),
-        Err(fault) => Err(fault),
-    }
+    send(output, text)?;
+    settle(output)
 }
 
 /// Reads the feed on the input, and writes how many editions it has, or what each of them has.

@@ -3,9 +3,9 @@ ghost use Rattle.std.specs.Prelude.{◌≡◌, ◌<◌, ◌++◌, [], ◌∷◌,
 ghost use Rattle.edr_base.specs.Calls.{SourceLent, SinkLent};
 ghost use Rattle.edr_edition.specs.Shelves.{IsLog, IsNext};
 ghost use Rattle.edr_http.specs.Heads.{IsBehind};
+ghost use Rattle.edr_program.specs.FileReads.{IsFileRead};
 ghost use Rattle.edr.specs.Replays.{IsReplayOf, IsReplayBegun, AreReplies, AreBegun, IsServed, IsReadFor, ReplayReads, Waits, ReplayWaits};
 ghost use Rattle.edr.specs.Ends.{OutputEnds, IsReadByEnd, AtReadFault, Asks, status_of};
-ghost use Rattle.edr.specs.Reading.{IsFileRead};
 ghost use Rattle.edr.specs.Replaying.{ServeCause, ReplayCause, IsBefore, session_ends};
 
 use crate::checking::ending_of;

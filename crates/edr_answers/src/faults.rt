@@ -1,5 +1,5 @@
 //! Why the cases of an input aren't answered.
-use edr_base::OutOfMemory;
+use edr_base::{OutOfMemory, ReadStop};
 use std::alloc::AllocError;
 use std::fmt;
 
@@ -10,6 +10,15 @@ pub enum AnswerFault {
     Input,
     /// Memory was wanting.
     OutOfMemory,
+}
+
+impl From<ReadStop> for AnswerFault {
+    fn from(stop: ReadStop) -> AnswerFault {
+        match stop {
+            ReadStop::ReadFault | ReadStop::TooLong => AnswerFault::Input,
+            ReadStop::OutOfMemory => AnswerFault::OutOfMemory,
+        }
+    }
 }
 
 impl From<OutOfMemory> for AnswerFault {

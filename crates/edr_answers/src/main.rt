@@ -13,7 +13,7 @@ mod notation;
 mod targets;
 
 use answering::answers_of;
-use edr_base::{ReadStop, RealSource, Source, read_all};
+use edr_base::{RealSource, Source, read_all};
 use faults::AnswerFault;
 use notation::Notation;
 use std::alloc::Global;
@@ -24,11 +24,8 @@ use std::rt::HostRuntime;
 const MOST_INPUT: usize = 67_108_864;
 
 fn answered<S: Source>(alloc: Global, input: &mut S) -> Result<Notation, AnswerFault> {
-    match read_all(alloc, input, MOST_INPUT) {
-        Ok(text) => answers_of(alloc, &text),
-        Err(ReadStop::OutOfMemory) => Err(AnswerFault::OutOfMemory),
-        Err(ReadStop::ReadFault | ReadStop::TooLong) => Err(AnswerFault::Input),
-    }
+    let text = read_all(alloc, input, MOST_INPUT)?;
+    answers_of(alloc, &text)
 }
 
 fn main(rt: HostRuntime) -> ExitCode {

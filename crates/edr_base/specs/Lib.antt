@@ -1,5 +1,6 @@
 pub mod Outside
 pub mod Calls
+pub mod Sending
 pub mod Memory
 pub mod MemoryParts
 pub mod LinkTies

@@ -1,9 +1,13 @@
 -- The limits of the product, each by its name.
-use Rattle.std.specs.Prelude.{ℕ, ℤ, pos, neg_ℤ}
+use Rattle.std.specs.Prelude.{ℕ, ◌≤◌, ℤ, pos, neg_ℤ, unsigned_abs}
 
 -- the size of a coordinate or a level, in metres
 abbrev pub coordinate_limit : ℕ
 coordinate_limit = 100_000_000
+
+-- a coordinate or a level, in metres
+abbrev pub IsCoordinate : ℤ → Type 0
+IsCoordinate value = unsigned_abs value ≤ coordinate_limit
 
 -- a distance, a width or a height, in metres
 abbrev pub distance_limit : ℕ
@@ -19,6 +23,10 @@ latest_time = pos 253_402_300_799
 -- the size of a sample, which is exact in a double
 abbrev pub sample_limit : ℕ
 sample_limit = 9_007_199_254_740_991
+
+-- a value that a range may have
+abbrev pub IsSample : ℤ → Type 0
+IsSample value = unsigned_abs value ≤ sample_limit
 
 -- the bytes of a name
 abbrev pub name_limit : ℕ

@@ -1,5 +1,8 @@
 -- Names and blanks.
 use Rattle.std.specs.Prelude.{◌≢◌, ℕ, ◌≤◌, ◌==◌, ◌||◌, Bool, List, length, All, IsUtf8}
+use Rattle.std.specs.declared.cmp.Ordering.{Ordering}
+use Rattle.std.specs.Ordering.{nat_cmp}
+use Rattle.std.specs.Cmp.Lexicographic.{slice_cmp}
 use Rattle.edr_base.specs.Limits.{name_limit}
 
 -- a space, a tab, a line feed or a carriage return
@@ -16,3 +19,7 @@ pub record IsName (text : List ℕ) : Type 0 where
   pub length_in : (1 ≤ length text) × (length text ≤ name_limit)
   pub bytes : All IsNameByte text
   pub utf8 : IsUtf8 text
+
+-- texts are compared byte by byte, and then by their lengths
+abbrev pub order : List ℕ → List ℕ → Ordering
+order = slice_cmp nat_cmp

@@ -3,6 +3,7 @@
 
 mod adapters;
 mod cuts;
+mod digits;
 mod fault_plan;
 mod lent;
 mod limits;
@@ -25,6 +26,7 @@ mod texts;
 
 pub use adapters::{RealSink, RealSource};
 pub use cuts::{cut_at, without_front};
+pub use digits::{are_digits, value_of_digits};
 pub use fault_plan::FaultPlan;
 pub use lent::Lent;
 pub use limits::{

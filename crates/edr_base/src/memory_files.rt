@@ -140,12 +140,8 @@ impl Files for MemoryFiles {
     {
         self.ready = false;
         let fails = self.plan.strikes();
-        let Ok(kept) = Vec::from_slice(self.alloc, name) else {
-            return Err(Stop::OutOfMemory);
-        };
-        if self.asked.push(kept).is_err() {
-            return Err(Stop::OutOfMemory);
-        }
+        let kept = Vec::from_slice(self.alloc, name)?;
+        self.asked.push(kept)?;
         let found = place_of(&self.files, name);
         match found {
             Some(place) if !fails => {

@@ -149,10 +149,8 @@ impl Sink for MemoryLink {
             return Err(Stop::Failed);
         }
         let count = piece.len().min(self.cut);
-        match self.written.extend_from_slice(&piece[..count]) {
-            Ok(()) => Ok(count),
-            Err(_) => Err(Stop::OutOfMemory),
-        }
+        self.written.extend_from_slice(&piece[..count])?;
+        Ok(count)
     }
 
     fn flush(&mut self) -> Result<(), Stop>
@@ -213,12 +211,8 @@ impl Link for MemoryLink {
     {
         self.ready = false;
         let fails = self.plan.strikes();
-        let Ok(kept) = Vec::from_slice(self.alloc, host) else {
-            return Err(Stop::OutOfMemory);
-        };
-        if self.asked.push((kept, port)).is_err() {
-            return Err(Stop::OutOfMemory);
-        }
+        let kept = Vec::from_slice(self.alloc, host)?;
+        self.asked.push((kept, port))?;
         if fails {
             self.plan.count_fault();
             return Err(Stop::Failed);

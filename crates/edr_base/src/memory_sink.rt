@@ -93,10 +93,8 @@ impl Sink for MemorySink {
             return Err(Stop::Failed);
         }
         let count = piece.len().min(self.cut);
-        match self.bytes.extend_from_slice(&piece[..count]) {
-            Ok(()) => Ok(count),
-            Err(_) => Err(Stop::OutOfMemory),
-        }
+        self.bytes.extend_from_slice(&piece[..count])?;
+        Ok(count)
     }
 
     fn flush(&mut self) -> Result<(), Stop>

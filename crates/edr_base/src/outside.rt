@@ -17,8 +17,11 @@
 //! - **held** of a layer over lent sinks: which references they are and what they tell beside, from the uppermost down;
 //!   none of a sink that is over none.
 ghost use Rattle.std.specs.Prelude.{◌≡◌, ◌≤◌, ◌<◌, ℕ, List, [], Bool, true, length, IfOk, OnErr, IsErrOf, IsOk, is_err, Some, Option, Ok, Err, IsUtf8};
+ghost use Rattle.edr_base.specs.declared.outside.Stop.TheVariants.{OutOfMemory as WantsMemory};
 ghost use Rattle.edr_base.specs.Outside.{Aside, Beside, Rose, Ties, TellsBottom, KeptByOpen};
 ghost use Rattle.edr_base.specs.Calls.{SourceLent, SinkLent, Reads, Appended, Flushed, Opened, asked_after, Cause};
+
+use std::alloc::{AllocError, AllocFailed};
 
 /// A fault of the outside.
 #[derive(Clone, Copy, Debug, PartialEq, Eq)]
@@ -31,6 +34,22 @@ pub enum Stop {
     Failed,
     /// Memory was wanting.
     OutOfMemory,
+}
+
+impl From<AllocError> for Stop {
+    ghost from_gives = { λ _ stop. stop ≡ WantsMemory };
+
+    fn from(_: AllocError) -> Stop {
+        Stop::OutOfMemory
+    }
+}
+
+impl<T: Drop> From<AllocFailed<T>> for Stop {
+    ghost from_gives = { λ _ stop. stop ≡ WantsMemory };
+
+    fn from(_: AllocFailed<T>) -> Stop {
+        Stop::OutOfMemory
+    }
 }
 
 /// What counts its faults.

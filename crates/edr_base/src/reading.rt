@@ -1,10 +1,11 @@
 //! All that a source gives.
-ghost use Rattle.std.specs.Prelude.{◌<◌, ◌+◌, ◌^◌, IfOk, IsErrOf};
+ghost use Rattle.std.specs.Prelude.{◌≡◌, ◌<◌, ◌+◌, ◌^◌, IfOk, IsErrOf};
+ghost use Rattle.edr_base.specs.declared.reading.ReadStop.TheVariants.{ReadFault, OutOfMemory};
 ghost use Rattle.edr_base.specs.Outside.{Rose};
 ghost use Rattle.edr_base.specs.Calls.{SourceLent, ReadsAll, ReadsMore, ReadsAtMost, buffer_size};
 
 use crate::outside::{Failed, Source};
-use std::alloc::Global;
+use std::alloc::{AllocError, Global};
 
 /// Why a source wasn't read whole.
 #[derive(Clone, Copy, Debug, PartialEq, Eq)]
@@ -15,6 +16,22 @@ pub enum ReadStop {
     TooLong,
     /// Memory was wanting.
     OutOfMemory,
+}
+
+impl From<Failed> for ReadStop {
+    ghost from_gives = { λ _ stop. stop ≡ ReadFault };
+
+    fn from(_: Failed) -> ReadStop {
+        ReadStop::ReadFault
+    }
+}
+
+impl From<AllocError> for ReadStop {
+    ghost from_gives = { λ _ stop. stop ≡ OutOfMemory };
+
+    fn from(_: AllocError) -> ReadStop {
+        ReadStop::OutOfMemory
+    }
 }
 
 /// All that is left of a source, where that is at most `limit` bytes. Reading stops as soon as more has come.
@@ -32,15 +49,11 @@ pub fn read_all<S: Source>(alloc: Global, source: &mut S, limit: usize) -> Resul
     let mut bytes = Vec::new(alloc);
     let mut buffer = [0u8; 16384];
     while bytes.len() <= limit {
-        match source.read(&mut buffer) {
-            Ok(0) => return Ok(bytes),
-            Ok(count) => {
-                if bytes.extend_from_slice(&buffer[..count]).is_err() {
-                    return Err(ReadStop::OutOfMemory);
-                }
-            }
-            Err(Failed) => return Err(ReadStop::ReadFault),
+        let count = source.read(&mut buffer)?;
+        if count == 0 {
+            return Ok(bytes);
         }
+        bytes.extend_from_slice(&buffer[..count])?;
     }
     Err(ReadStop::TooLong)
 }

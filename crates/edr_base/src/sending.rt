@@ -1,9 +1,13 @@
 //! Whole pieces to a sink.
 ghost use Rattle.std.specs.Prelude.{◌≡◌, OnOk, OnErr, IsErrOf};
+ghost use Rattle.edr_base.specs.declared.sending.SendFault.TheVariants.{OutOfMemory as SendWantsMemory};
+ghost use Rattle.edr_base.specs.Sending.{fault_of};
 ghost use Rattle.edr_base.specs.Outside.{Rose};
 ghost use Rattle.edr_base.specs.Calls.{SinkLent, Writes, IsFlushed};
 
 use crate::outside::{Sink, Stop};
+use crate::texts::OutOfMemory;
+use std::alloc::{AllocError, AllocFailed};
 
 /// Why a piece wasn't written whole.
 #[derive(Clone, Copy, Debug, PartialEq, Eq)]
@@ -12,6 +16,41 @@ pub enum SendFault {
     WriteFault,
     /// Memory was wanting.
     OutOfMemory,
+}
+
+impl From<Stop> for SendFault {
+    ghost from_gives = { λ stop fault. fault ≡ fault_of stop };
+
+    fn from(stop: Stop) -> SendFault {
+        match stop {
+            Stop::Failed => SendFault::WriteFault,
+            Stop::OutOfMemory => SendFault::OutOfMemory,
+        }
+    }
+}
+
+impl From<OutOfMemory> for SendFault {
+    ghost from_gives = { λ _ fault. fault ≡ SendWantsMemory };
+
+    fn from(_: OutOfMemory) -> SendFault {
+        SendFault::OutOfMemory
+    }
+}
+
+impl From<AllocError> for SendFault {
+    ghost from_gives = { λ _ fault. fault ≡ SendWantsMemory };
+
+    fn from(_: AllocError) -> SendFault {
+        SendFault::OutOfMemory
+    }
+}
+
+impl<T: Drop> From<AllocFailed<T>> for SendFault {
+    ghost from_gives = { λ _ fault. fault ≡ SendWantsMemory };
+
+    fn from(_: AllocFailed<T>) -> SendFault {
+        SendFault::OutOfMemory
+    }
 }
 
 /// Writes a whole piece, by as many writes as the sink wants. After a fault a beginning of it was written.
@@ -24,11 +63,7 @@ pub fn send<K: Sink>(sink: &mut K, piece: &[u8]) -> Result<(), SendFault>
 {
     let mut sent = 0;
     while sent < piece.len() {
-        match sink.write(&piece[sent..]) {
-            Ok(count) => sent += count,
-            Err(Stop::Failed) => return Err(SendFault::WriteFault),
-            Err(Stop::OutOfMemory) => return Err(SendFault::OutOfMemory),
-        }
+        sent += sink.write(&piece[sent..])?;
     }
     Ok(())
 }
@@ -41,9 +76,5 @@ pub fn settle<K: Sink>(sink: &mut K) -> Result<(), SendFault>
     ensures lent { SinkLent (K.beside sink.old) (K.beside sink.new) (K.faults sink.old) (K.faults sink.new) }
     ensures cause { IsErrOf result SendFault.WriteFault → Rose (K.faults sink.old) (K.faults sink.new) }
 {
-    match sink.flush() {
-        Ok(()) => Ok(()),
-        Err(Stop::Failed) => Err(SendFault::WriteFault),
-        Err(Stop::OutOfMemory) => Err(SendFault::OutOfMemory),
-    }
+    Ok(sink.flush()?)
 }

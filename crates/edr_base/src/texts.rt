@@ -55,6 +55,16 @@ impl Text {
         Text { bytes }
     }
 
+    /// A copy of a text where there is one, or want of memory.
+    pub fn copied(alloc: Global, text: &Option<Text>) -> Result<Option<Text>, OutOfMemory>
+        ensures { IfOk result (λ copy. copy ≡ text.now) }
+    {
+        match text {
+            Some(text) => Ok(Some(Text::of(alloc, text.bytes())?)),
+            None => Ok(None),
+        }
+    }
+
     /// Its bytes.
     pub fn bytes(&self) -> &[u8]
         ensures { result.now ≡ self.now }

@@ -1,5 +1,8 @@
 //! What the commands print.
-use edr_base::OutOfMemory;
+use covjson_checks::CovFault;
+use edr_base::{OutOfMemory, ReadStop};
+use edr_feed::FeedFault;
+use edr_serve::AnswerFault;
 use edr_wkt::WktFault;
 use std::alloc::AllocError;
 use std::fmt;
@@ -24,6 +27,42 @@ pub enum BenchFault {
     NotValid,
     /// Memory was wanting.
     OutOfMemory,
+}
+
+impl From<ReadStop> for BenchFault {
+    fn from(stop: ReadStop) -> BenchFault {
+        match stop {
+            ReadStop::ReadFault | ReadStop::TooLong => BenchFault::Input,
+            ReadStop::OutOfMemory => BenchFault::OutOfMemory,
+        }
+    }
+}
+
+impl From<CovFault> for BenchFault {
+    fn from(fault: CovFault) -> BenchFault {
+        match fault {
+            CovFault::OutOfMemory => BenchFault::OutOfMemory,
+            _ => BenchFault::NotValid,
+        }
+    }
+}
+
+impl From<FeedFault> for BenchFault {
+    fn from(fault: FeedFault) -> BenchFault {
+        match fault {
+            FeedFault::OutOfMemory => BenchFault::OutOfMemory,
+            _ => BenchFault::Input,
+        }
+    }
+}
+
+impl From<AnswerFault> for BenchFault {
+    fn from(fault: AnswerFault) -> BenchFault {
+        match fault {
+            AnswerFault::OutOfMemory => BenchFault::OutOfMemory,
+            AnswerFault::Refused(_) | AnswerFault::WriteFault => BenchFault::NotValid,
+        }
+    }
 }
 
 impl From<OutOfMemory> for BenchFault {

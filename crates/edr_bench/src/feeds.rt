@@ -2,18 +2,15 @@
 use crate::answers::BenchFault;
 use edr_base::{MemorySink, Source};
 use edr_edition::Edition;
-use edr_feed::{FeedFault, read_feed};
-use edr_serve::{AnswerFault, answer};
+use edr_feed::read_feed;
+use edr_serve::answer;
 use std::alloc::Global;
 
 // Answers a target once, and tells how many bytes the answer has.
 fn answer_once(alloc: Global, target: &[u8], edition: &Edition) -> Result<usize, BenchFault> {
     let mut sink = MemorySink::of(alloc, 65_536, Vec::new(alloc));
-    match answer(alloc, target, edition, &mut sink) {
-        Ok(()) => Ok(sink.written().len()),
-        Err(AnswerFault::OutOfMemory) => Err(BenchFault::OutOfMemory),
-        Err(_) => Err(BenchFault::NotValid),
-    }
+    answer(alloc, target, edition, &mut sink)?;
+    Ok(sink.written().len())
 }
 
 // Answers a target so many times.
@@ -37,11 +34,7 @@ pub fn answer_from_feed<S: Source>(
     target: &[u8],
     rounds: u32,
 ) -> Result<usize, BenchFault> {
-    let feed = match read_feed(alloc, input) {
-        Ok(feed) => feed,
-        Err(FeedFault::OutOfMemory) => return Err(BenchFault::OutOfMemory),
-        Err(_) => return Err(BenchFault::Input),
-    };
+    let feed = read_feed(alloc, input)?;
     match feed.editions.items().last() {
         Some(edition) => answer_rounds(alloc, target, edition, rounds),
         None => Err(BenchFault::Input),

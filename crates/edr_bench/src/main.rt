@@ -24,9 +24,9 @@ mod running;
 mod targets;
 mod tiles;
 
-use answers::BenchFault;
+use answers::{Answer, BenchFault};
 use commands::command_of;
-use edr_base::RealSource;
+use edr_base::{RealSource, Source};
 use running::carry_out;
 use std::process::ExitCode;
 use std::rt::HostRuntime;
@@ -41,16 +41,16 @@ fn words_of(rt: &HostRuntime) -> io::Result<Vec<String>> {
     Ok(words)
 }
 
+// Does what the words ask for.
+fn done<S: Source>(rt: &HostRuntime, input: &mut S) -> Result<Answer, BenchFault> {
+    let words = words_of(rt).map_err(|_| BenchFault::OutOfMemory)?;
+    let command = command_of(&words).ok_or(BenchFault::Usage)?;
+    carry_out(rt.alloc(), &words, command, input)
+}
+
 fn main(rt: HostRuntime) -> ExitCode {
     let mut input = RealSource::of(rt.stdin());
-    let done = match words_of(&rt) {
-        Ok(words) => match command_of(&words) {
-            Some(command) => carry_out(rt.alloc(), &words, command, &mut input),
-            None => Err(BenchFault::Usage),
-        },
-        Err(_) => Err(BenchFault::OutOfMemory),
-    };
-    match done {
+    match done(&rt, &mut input) {
         Ok(answer) => match println!(rt; "{answer}") {
             Ok(()) => ExitCode::SUCCESS,
             Err(_) => ExitCode::FAILURE,

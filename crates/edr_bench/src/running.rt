@@ -7,11 +7,10 @@ use crate::feeds::answer_from_feed;
 use crate::grids::{Rows, grid_of};
 use crate::targets::{decode_pairs, read_targets};
 use crate::tiles::open_tiles;
-use covjson_checks::CovFault;
 use covjson_read::read_document;
 use covjson_value::{Document, document_tree};
 use covjson_write::write_whole;
-use edr_base::{Items, OutOfMemory, Position, ReadStop, Source, read_all};
+use edr_base::{Items, OutOfMemory, Position, Source, read_all};
 use edr_wkt::{Geometry, Polygon, WktFault, read_wkt};
 use serde_json::Value;
 use std::alloc::Global;
@@ -45,11 +44,7 @@ fn count_positions(geometry: &Geometry) -> usize {
 
 // The input, whole.
 fn text_of<S: Source>(alloc: Global, input: &mut S) -> Result<Vec<u8>, BenchFault> {
-    match read_all(alloc, input, MOST_INPUT) {
-        Ok(text) => Ok(text),
-        Err(ReadStop::OutOfMemory) => Err(BenchFault::OutOfMemory),
-        Err(ReadStop::ReadFault | ReadStop::TooLong) => Err(BenchFault::Input),
-    }
+    Ok(read_all(alloc, input, MOST_INPUT)?)
 }
 
 fn read_geometry<S: Source>(alloc: Global, input: &mut S) -> Result<Answer, BenchFault> {
@@ -118,11 +113,7 @@ fn write_tree(alloc: Global, rows: Rows, rounds: u32) -> Result<Answer, BenchFau
 fn read_rounds(alloc: Global, text: &[u8], rounds: u32) -> Result<usize, BenchFault> {
     let mut count = 0;
     for _ in 0..rounds {
-        match read_document(alloc, text) {
-            Ok(document) => count = count_samples(&document),
-            Err(CovFault::OutOfMemory) => return Err(BenchFault::OutOfMemory),
-            Err(_) => return Err(BenchFault::NotValid),
-        }
+        count = count_samples(&read_document(alloc, text)?);
     }
     Ok(count)
 }
@@ -131,12 +122,10 @@ fn read_rounds(alloc: Global, text: &[u8], rounds: u32) -> Result<usize, BenchFa
 fn parse_rounds(alloc: Global, text: &[u8], rounds: u32) -> Result<usize, BenchFault> {
     let mut count = 0;
     for _ in 0..rounds {
-        match Value::from_slice(alloc, text) {
-            Ok(tree) => match tree.as_object() {
-                Some(members) => count = members.len(),
-                None => count = 0,
-            },
-            Err(_) => return Err(BenchFault::NotValid),
+        let tree = Value::from_slice(alloc, text).map_err(|_| BenchFault::NotValid)?;
+        match tree.as_object() {
+            Some(members) => count = members.len(),
+            None => count = 0,
         }
     }
     Ok(count)

@@ -1,6 +1,7 @@
 //! Packed grids whose tiles are opened.
 ghost use Rattle.std.specs.Prelude.{◌≡◌, length, IfOk};
-ghost use Rattle.edr_chunk.specs.Samples.{AreSamples, IsSample};
+ghost use Rattle.edr_base.specs.Limits.{IsSample};
+ghost use Rattle.edr_chunk.specs.Samples.{AreSamples};
 
 use crate::answers::BenchFault;
 use edr_base::OutOfMemory;

@@ -6,7 +6,7 @@ use Rattle.edr_chunk.specs.declared.shapes.GridPlace.{GridPlace}
 use Rattle.edr_chunk.specs.Places.{Within, count, number, IsShape}
 use Rattle.edr_chunk.specs.AllPlaces.{at}
 use Rattle.edr_chunk.specs.Samples.{HasSample}
-use Rattle.edr_chunk.specs.Tiles.{with_parameters, tile_place, tiles, tile_of, tile_height, tile_width}
+use Rattle.edr_chunk.specs.Tiles.{tile_side, with_parameters, tile_place, tiles, tile_of, tile_height, tile_width}
 
 -- one parameter of a shape, and a shape with one more
 abbrev pub one_of : GridShape → GridShape
@@ -22,7 +22,7 @@ row_value shape values place column =
 
 -- the first place of a row of a tile
 abbrev pub row_start : GridPlace → ℕ → GridPlace
-row_start tile row = at tile.parameter tile.t tile.z (tile.y * 64 + row) (tile.x * 64)
+row_start tile row = at tile.parameter tile.t tile.z (tile.y * tile_side + row) (tile.x * tile_side)
 
 -- the values of a tile, row by row
 abbrev pub cut_values : GridShape → List (Option ℤ) → GridPlace → List (Option ℤ)
@@ -32,7 +32,7 @@ cut_values shape values tile =
 
 -- where a place's value stands in its tile, and what kept tiles have at a place
 abbrev pub inner : GridShape → GridPlace → ℕ
-inner shape place = (place.y % 64) * (min (shape.columns - place.x / 64 * 64) 64) + place.x % 64
+inner shape place = (place.y % tile_side) * (min (shape.columns - place.x / tile_side * tile_side) tile_side) + place.x % tile_side
 
 abbrev pub stored : GridShape → List (List (Option ℤ)) → GridPlace → Option ℤ
 stored shape kept place = slice_index_or (slice_index_or kept (tile_of shape place) []) (inner shape place) None

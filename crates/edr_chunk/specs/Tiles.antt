@@ -16,9 +16,13 @@ with_parameters shape parameters = record {
   columns = shape.columns;
 }
 
+-- how many rows and how many columns of nodes a tile has at most
+abbrev pub tile_side : ℕ
+tile_side = 64
+
 -- how many tiles stand along an axis of so many nodes
 abbrev pub tiles_along : ℕ → ℕ
-tiles_along nodes = (nodes + 63) / 64
+tiles_along nodes = (nodes + (tile_side - 1)) / tile_side
 
 -- how many parameters, times, levels, rows of tiles and columns of tiles there are
 abbrev pub tile_shape : GridShape → GridShape
@@ -32,7 +36,7 @@ tile_shape shape = record {
 
 -- where the tile of a place stands among them
 abbrev pub tile_place : GridPlace → GridPlace
-tile_place place = record { parameter = place.parameter; t = place.t; z = place.z; y = place.y / 64; x = place.x / 64 }
+tile_place place = record { parameter = place.parameter; t = place.t; z = place.z; y = place.y / tile_side; x = place.x / tile_side }
 
 -- how many tiles there are, and the number of a place's tile: in the order parameter, t, z, row and column of tiles
 abbrev pub tiles : GridShape → ℕ
@@ -41,17 +45,17 @@ tiles shape = count (tile_shape shape)
 abbrev pub tile_of : GridShape → GridPlace → ℕ
 tile_of shape place = number (tile_shape shape) (tile_place place)
 
--- how many rows and columns of the grid the tile at a place among the tiles has: 64, or what is left at the last row and
+-- how many rows and columns of the grid the tile at a place among the tiles has: a side, or what is left at the last row and
 -- the last column of tiles
 abbrev pub tile_height : GridShape → GridPlace → ℕ
-tile_height shape corner = min (shape.rows - corner.y * 64) 64
+tile_height shape corner = min (shape.rows - corner.y * tile_side) tile_side
 
 abbrev pub tile_width : GridShape → GridPlace → ℕ
-tile_width shape corner = min (shape.columns - corner.x * 64) 64
+tile_width shape corner = min (shape.columns - corner.x * tile_side) tile_side
 
 -- the place of a node of that tile, so many rows and columns behind the tile's first node
 abbrev pub node_at : GridPlace → ℕ → ℕ → GridPlace
-node_at corner down right = record { parameter = corner.parameter; t = corner.t; z = corner.z; y = corner.y * 64 + down; x = corner.x * 64 + right }
+node_at corner down right = record { parameter = corner.parameter; t = corner.t; z = corner.z; y = corner.y * tile_side + down; x = corner.x * tile_side + right }
 
 -- an opened tile: the grid's row and column of its first value, how many columns it has, and its values row by row
 pub record TileValue : Type 0 where
@@ -77,8 +81,8 @@ pub record IsTile (grid : Values) (tile : ℕ) (opened : TileValue) : Type 0 whe
   pub corner : GridPlace
   pub within : Within (tile_shape grid.shape) corner
   pub numbered : number (tile_shape grid.shape) corner ≡ tile
-  pub row : opened.row ≡ corner.y * 64
-  pub column : opened.column ≡ corner.x * 64
+  pub row : opened.row ≡ corner.y * tile_side
+  pub column : opened.column ≡ corner.x * tile_side
   pub width : opened.width ≡ tile_width grid.shape corner
   pub long : length opened.values ≡ tile_height grid.shape corner * opened.width
   pub each : (down right : ℕ) → down < tile_height grid.shape corner → right < tile_width grid.shape corner

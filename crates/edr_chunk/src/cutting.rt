@@ -5,7 +5,7 @@ ghost use Rattle.edr_chunk.specs.Places.{count, Within, IsShape};
 ghost use Rattle.edr_chunk.specs.Tiles.{tile_shape};
 ghost use Rattle.edr_chunk.specs.KeptTiles.{cut_values, row_value};
 
-use crate::{GridPlace, GridShape};
+use crate::{GridPlace, GridShape, TILE_SIDE};
 use edr_base::OutOfMemory;
 use std::alloc::Global;
 
@@ -39,10 +39,10 @@ pub fn cut(
     requires whole { length values.now ≡ count shape }
     ensures { IfOk result (λ v. v.items ≡ cut_values shape values.now tile) }
 {
-    let row = tile.y * 64;
-    let column = tile.x * 64;
-    let height = (shape.rows - row).min(64);
-    let width = (shape.columns - column).min(64);
+    let row = tile.y * TILE_SIDE;
+    let column = tile.x * TILE_SIDE;
+    let height = (shape.rows - row).min(TILE_SIDE);
+    let width = (shape.columns - column).min(TILE_SIDE);
     let mut cut = Vec::new(alloc);
     for r in 0..height {
         let start = GridPlace {

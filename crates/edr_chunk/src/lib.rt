@@ -24,5 +24,5 @@ pub use packed_grid::PackedGrid;
 pub use packers::GridPacker;
 pub use reads::{Reads, open_packed};
 pub use shapes::{GridPlace, GridShape, numbers_tell_places, row_major_tells_places};
-pub use tile_numbers::place_of;
+pub use tile_numbers::{TILE_SIDE, place_of};
 pub use tiles::Tile;

@@ -7,11 +7,14 @@ ghost use Rattle.edr_chunk.specs.KeptTiles.{one_of};
 
 use crate::{GridPlace, GridShape};
 
+/// A tile has at most so many rows and so many columns of nodes.
+pub const TILE_SIDE: u32 = 64;
+
 // How many tiles stand along an axis of so many nodes.
 fn along(nodes: u32) -> u32
     ensures { result ≡ tiles_along nodes }
 {
-    ((nodes as u64 + 63) / 64) as u32
+    nodes.div_ceil(TILE_SIDE)
 }
 
 // A number as the number of a row and a place in the row.
@@ -93,8 +96,8 @@ pub fn tile_number(shape: GridShape, place: GridPlace) -> u64
         parameter: place.parameter,
         t: place.t,
         z: place.z,
-        y: place.y / 64,
-        x: place.x / 64,
+        y: place.y / TILE_SIDE,
+        x: place.x / TILE_SIDE,
     };
     tile_shape_of(shape).number(tile)
 }

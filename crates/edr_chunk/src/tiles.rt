@@ -2,13 +2,13 @@
 ghost use Rattle.std.specs.Prelude.{◌≡◌, ◌*◌, ◌+◌, ◌<◌, ℕ, None, length};
 ghost use Rattle.std.specs.List.{slice_index_or};
 ghost use Rattle.edr_chunk.specs.Places.{Within};
-ghost use Rattle.edr_chunk.specs.Tiles.{tile_shape, tile_width, value_in, LiesIn};
+ghost use Rattle.edr_chunk.specs.Tiles.{tile_side, tile_shape, tile_width, value_in, LiesIn};
 
 use crate::shared::SharedPacked;
-use crate::{GridPlace, GridShape};
+use crate::{GridPlace, GridShape, TILE_SIDE};
 use std::marker::Model;
 
-/// The samples of one tile: up to 64 rows and 64 columns of a grid, of one parameter, time and level. They stay packed, and are
+/// The samples of one tile: up to [`TILE_SIDE`](crate::TILE_SIDE) rows and columns of a grid, of one parameter, time and level. They stay packed, and are
 /// shared with the grid, so a tile takes no memory of its own.
 #[derive(Drop)]
 pub struct Tile {
@@ -54,13 +54,13 @@ impl Tile {
 /// The tile at a place among the tiles of a shape. It takes no memory.
 pub fn tile_from(shape: GridShape, corner: GridPlace, samples: SharedPacked) -> Tile
     requires { Within (tile_shape shape) corner }
-    ensures { result ≡ record { row = corner.y * 64; column = corner.x * 64; width = tile_width shape corner; values = samples } }
+    ensures { result ≡ record { row = corner.y * tile_side; column = corner.x * tile_side; width = tile_width shape corner; values = samples } }
 {
-    let column = corner.x * 64;
+    let column = corner.x * TILE_SIDE;
     Tile {
-        row: corner.y * 64,
+        row: corner.y * TILE_SIDE,
         column,
-        width: (shape.columns - column).min(64),
+        width: (shape.columns - column).min(TILE_SIDE),
         samples,
     }
 }

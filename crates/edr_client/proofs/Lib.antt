@@ -1,2 +1,3 @@
 pub mod ReplyLaws
+pub mod FaultLemmas
 pub mod RefusalBodies

@@ -7,6 +7,8 @@ use Rattle.covjson_checks.specs.declared.faults.CovFault.TheVariants as cov
 use Rattle.covjson_read.specs.Standing.{StandsForDocument}
 use Rattle.covjson_read.specs.Rows.{DocumentRows}
 use Rattle.edr_reply.specs.declared.messages.Message.{Message}
+use Rattle.edr_reply.specs.declared.messages.MessageFault.{MessageFault}
+use Rattle.edr_reply.specs.declared.messages.MessageFault.TheVariants as messages
 use Rattle.edr_client.specs.declared.replies.Reply.{Reply}
 use Rattle.edr_client.specs.declared.replies.ReplyFault.{ReplyFault}
 use Rattle.edr_client.specs.declared.replies.ReplyFault.TheVariants.{ReadFault, BadReply, NotData, Cov, OutOfMemory}
@@ -19,6 +21,12 @@ TellsNotData message (BadReply place) = ⊥
 TellsNotData message (NotData status code) = (status ≡ message.status) × IsCode message.body code
 TellsNotData message (Cov fault) = ⊥
 TellsNotData message OutOfMemory = ⊤
+
+-- why no message was read, as a fault of a reply
+abbrev pub fault_of : MessageFault → ReplyFault
+fault_of messages.ReadFault = ReadFault
+fault_of (messages.Broken place) = BadReply place
+fault_of messages.OutOfMemory = OutOfMemory
 
 -- want of memory, or the fault
 abbrev pub TellsCov : CovFault → ReplyFault → Type 0

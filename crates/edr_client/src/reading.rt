@@ -10,14 +10,13 @@ ghost use Rattle.covjson_read.specs.Rows.{DocumentRows};
 ghost use Rattle.edr_reply.specs.Messages.{HasNoMessage, BreaksOff, most_beyond, most_read};
 ghost use Rattle.edr_reply.specs.BrokenParts.{IsFirstBreak};
 ghost use Rattle.edr_client.specs.Replies.{IsCode, IsReply, IsNotData, IsNoDocument, IsLeft};
-ghost use Rattle.edr_client.specs.Answering.{TellsNotData, TellsCov, Answers};
+ghost use Rattle.edr_client.specs.Answering.{TellsNotData, Answers};
 
 use crate::replies::{Reply, ReplyFault};
-use covjson_checks::CovFault;
 use covjson_read::read_document;
 use edr_base::{OutOfMemory, Source, Text};
 use edr_json::{JsonFault, read_tree, text_or_empty};
-use edr_reply::{Message, MessageFault, read_message};
+use edr_reply::{Message, read_message};
 use std::alloc::Global;
 
 // The code that a body gives.
@@ -41,16 +40,6 @@ fn not_data(alloc: Global, message: &Message) -> ReplyFault
     }
 }
 
-// Why a body that stands for no document is none.
-fn no_document(fault: CovFault) -> ReplyFault
-    ensures { TellsCov fault result }
-{
-    match fault {
-        CovFault::OutOfMemory => ReplyFault::OutOfMemory,
-        other => ReplyFault::Cov(other),
-    }
-}
-
 // The reply that a message is.
 fn reply_of(alloc: Global, message: &Message) -> Result<Reply, ReplyFault>
     ensures answers { Answers message.now result }
@@ -59,13 +48,11 @@ fn reply_of(alloc: Global, message: &Message) -> Result<Reply, ReplyFault>
     if message.status != 200 {
         return Err(not_data(alloc, message));
     }
-    match read_document(alloc, message.body.bytes()) {
-        Ok(document) => Ok(Reply {
-            edition: message.edition,
-            document,
-        }),
-        Err(fault) => Err(no_document(fault)),
-    }
+    let document = read_document(alloc, message.body.bytes())?;
+    Ok(Reply {
+        edition: message.edition,
+        document,
+    })
 }
 
 /// Reads a reply of data: HTTP/1.1 (RFC 9112) of status 200 whose body is CoverageJSON (OGC 21-069r2). It is what the bytes
@@ -89,10 +76,6 @@ pub fn read_reply<S: Source>(alloc: Global, source: &mut S) -> Result<Reply, Rep
     ensures cause { IsErrOf result ReplyFault.ReadFault → Rose (S.faults source.old) (S.faults source.new) }
     ensures unfinished { IsErrOf result ReplyFault.ReadFault → BreaksOff (S.left source.old) (S.left source.new) }
 {
-    match read_message(alloc, source) {
-        Ok(message) => reply_of(alloc, &message),
-        Err(MessageFault::ReadFault) => Err(ReplyFault::ReadFault),
-        Err(MessageFault::Broken(place)) => Err(ReplyFault::BadReply(place)),
-        Err(MessageFault::OutOfMemory) => Err(ReplyFault::OutOfMemory),
-    }
+    let message = read_message(alloc, source)?;
+    reply_of(alloc, &message)
 }

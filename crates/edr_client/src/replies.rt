@@ -1,7 +1,11 @@
 //! Replies, and why there is none.
+ghost use Rattle.std.specs.Prelude.{◌≡◌};
+ghost use Rattle.edr_client.specs.Answering.{TellsCov, fault_of};
+
 use covjson_checks::CovFault;
 use covjson_value::Document;
 use edr_base::Text;
+use edr_reply::MessageFault;
 
 /// A reply of data.
 #[derive(Debug, Drop)]
@@ -26,4 +30,27 @@ pub enum ReplyFault {
     Cov(CovFault),
     /// Memory was wanting.
     OutOfMemory,
+}
+
+impl From<MessageFault> for ReplyFault {
+    ghost from_gives = { λ given fault. fault ≡ fault_of given };
+
+    fn from(given: MessageFault) -> ReplyFault {
+        match given {
+            MessageFault::ReadFault => ReplyFault::ReadFault,
+            MessageFault::Broken(place) => ReplyFault::BadReply(place),
+            MessageFault::OutOfMemory => ReplyFault::OutOfMemory,
+        }
+    }
+}
+
+impl From<CovFault> for ReplyFault {
+    ghost from_gives = { λ given fault. TellsCov given fault };
+
+    fn from(given: CovFault) -> ReplyFault {
+        match given {
+            CovFault::OutOfMemory => ReplyFault::OutOfMemory,
+            other => ReplyFault::Cov(other),
+        }
+    }
 }

@@ -8,7 +8,8 @@ use Rattle.std.proofs.lemmas.Int.{ints, by_lt_z}
 use Rattle.jiff_core.proofs.SignedLemmas.{signed_arith, one_part, back_small}
 use Rattle.edr_axes.specs.Axes.{value_at, SplitsValues}
 use Rattle.edr_geometry.specs.Planar.{between, is_among}
-use Rattle.edr_geometry.specs.Limits.{IsCoordinate, IsDistance}
+use Rattle.edr_base.specs.Limits.{IsCoordinate}
+use Rattle.edr_geometry.specs.Limits.{IsDistance}
 use Rattle.edr_corridor.specs.declared.bands.Band.{Band}
 use Rattle.edr_corridor.specs.declared.segment.Segment.{Segment}
 use Rattle.edr_corridor.specs.Segments.{within_half, takes_height}

@@ -9,7 +9,8 @@ use Rattle.jiff_core.proofs.SignedLemmas.{signed_arith}
 use Rattle.edr_axes.specs.Axes.{value_at, IsAxis, IsFirstFall}
 use Rattle.edr_geometry.specs.Planar.{spot_of, near_segment}
 use Rattle.edr_geometry.specs.Masks.{spot_at, row_of}
-use Rattle.edr_geometry.specs.Limits.{IsCoordinate, IsDistance}
+use Rattle.edr_base.specs.Limits.{IsCoordinate}
+use Rattle.edr_geometry.specs.Limits.{IsDistance}
 use Rattle.edr_corridor.specs.declared.bands.Band.{Band}
 use Rattle.edr_corridor.specs.declared.segment.Segment.{Segment}
 use Rattle.edr_corridor.specs.Segments.{within_half}

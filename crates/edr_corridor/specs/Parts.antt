@@ -4,7 +4,8 @@ use Rattle.std.specs.List.{All}
 use Rattle.edr_base.specs.declared.places.Position.{Position}
 use Rattle.edr_wkt.specs.Faults.{IsInRange}
 use Rattle.edr_axes.specs.Axes.{value_at}
-use Rattle.edr_geometry.specs.Limits.{IsCoordinate, IsDistance, IsSpot}
+use Rattle.edr_base.specs.Limits.{IsCoordinate}
+use Rattle.edr_geometry.specs.Limits.{IsDistance, IsSpot}
 use Rattle.edr_geometry.specs.Masks.{spot_at}
 use Rattle.edr_geometry.specs.Planar.{spot_of, near_segment}
 use Rattle.edr_corridor.specs.declared.bands.Band.{Band}

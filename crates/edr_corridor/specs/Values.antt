@@ -3,7 +3,8 @@ use Rattle.std.specs.Prelude.{◌≡◌, ◌≤◌, ℤ, Bool, true, ◌||◌, L
 use Rattle.std.specs.List.{All}
 use Rattle.edr_base.specs.declared.places.Position.{Position}
 use Rattle.edr_wkt.specs.Faults.{IsInRange}
-use Rattle.edr_geometry.specs.Limits.{IsCoordinate, IsDistance}
+use Rattle.edr_base.specs.Limits.{IsCoordinate}
+use Rattle.edr_geometry.specs.Limits.{IsDistance}
 
 -- a line, and what a corridor asks of each of its segments
 pub record SegmentsValue : Type 0 where

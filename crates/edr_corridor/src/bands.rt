@@ -2,7 +2,8 @@
 ghost use Rattle.std.specs.Prelude.{◌≡◌, ◌≤◌, ◌<◌, ℕ, ℤ, pos, ◌-ℤ◌, ◌+ℤ◌, ◌*ℤ◌, int_le, length};
 ghost use Rattle.std.specs.Int.RustNames.{unsigned_abs};
 ghost use Rattle.edr_axes.specs.Axes.{value_at};
-ghost use Rattle.edr_geometry.specs.Limits.{IsCoordinate, IsDistance};
+ghost use Rattle.edr_base.specs.Limits.{IsCoordinate};
+ghost use Rattle.edr_geometry.specs.Limits.{IsDistance};
 ghost use Rattle.edr_geometry.specs.Planar.{between};
 ghost use Rattle.edr_corridor.specs.Boxes.{lies_in};
 ghost use Rattle.edr_corridor.specs.Parts.{IsBand, IsAbout, band_has};

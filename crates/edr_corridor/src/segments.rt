@@ -2,7 +2,8 @@
 ghost use Rattle.std.specs.Prelude.{◌≡◌, ◌+◌, ◌<◌, ◌≤◌, ◌&&◌, nat_lt, None, true, length, option_map, IfOk, IfSome, IsSome};
 ghost use Rattle.std.specs.List.{All};
 ghost use Rattle.edr_wkt.specs.Faults.{IsInRange};
-ghost use Rattle.edr_geometry.specs.Limits.{IsCoordinate, IsDistance};
+ghost use Rattle.edr_base.specs.Limits.{IsCoordinate};
+ghost use Rattle.edr_geometry.specs.Limits.{IsDistance};
 ghost use Rattle.edr_geometry.specs.Masks.{spot_at};
 ghost use Rattle.edr_corridor.specs.Values.{needs_level};
 ghost use Rattle.edr_corridor.specs.Segments as segments;

@@ -2,7 +2,7 @@
 ghost use Rattle.std.specs.Prelude.{◌≡◌, ◌<◌, ◌≤◌, ◌-◌, length, map, take, drop, true, IfOk};
 ghost use Rattle.std.specs.List.{All};
 ghost use Rattle.edr_axes.specs.Axes.{IsAxis};
-ghost use Rattle.edr_geometry.specs.Limits.{IsCoordinate};
+ghost use Rattle.edr_base.specs.Limits.{IsCoordinate};
 ghost use Rattle.edr_corridor.specs.Parts.{IsSegment, HasSpots, IsStrip, has_spot};
 
 use crate::segment::{Segment, spot_of};

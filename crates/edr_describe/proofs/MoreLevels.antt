@@ -6,7 +6,8 @@ use Rattle.std.proofs.lemmas.List.Elements.{All-nil, All-cons, All-head, All-tai
 use Rattle.std.proofs.lemmas.List.{append-nil}
 use Rattle.std.proofs.lemmas.List.Concat.{flat_map-append}
 use Rattle.covjson_value.specs.Samples.{values_or_none}
-use Rattle.edr_station.specs.Stations.{StationValue, IsAxisWithin, IsCoordinate, IsPlaced}
+use Rattle.edr_base.specs.Limits.{IsCoordinate}
+use Rattle.edr_station.specs.Stations.{StationValue, IsAxisWithin, IsPlaced}
 use Rattle.edr_describe.specs.declared.reaches.Span.{Span}
 use Rattle.edr_describe.specs.Extents.{lower, higher, least, greatest, levels_of_stations}
 use Rattle.edr_describe.specs.Reaches.{span_of, span_with, span_with_given}

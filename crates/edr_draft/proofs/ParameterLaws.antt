@@ -8,7 +8,8 @@ use Rattle.std.proofs.lemmas.Slice.Eq.{bytes_eq-Decides}
 use Rattle.std.specs.Ordering.{is_lt}
 use Rattle.covjson_value.specs.declared.coverages.Parameter.{Parameter}
 use Rattle.covjson_value.specs.Coverages.{AscendById}
-use Rattle.edr_ids.specs.Ids.{order, has_id}
+use Rattle.edr_base.specs.Names.{order}
+use Rattle.edr_ids.specs.Ids.{has_id}
 use Rattle.edr_ids.specs.ListLaws.{order_same, order_less_flips, order_greater_flips, has_id_is, first_below, tail_ascends, item_of-none}
 use Rattle.edr_edition.specs.Values.{parameter_id}
 use Rattle.edr_draft.specs.Parameters.{parameter_in, DifferFirstAt}

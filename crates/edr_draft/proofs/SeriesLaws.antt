@@ -4,7 +4,7 @@ use denote.Ref.{Bor}
 use Rattle.std.proofs.lemmas.Bool.{and_parts, eqb-true}
 use Rattle.std.proofs.lemmas.List.{length-map}
 use Rattle.std.proofs.lemmas.List.Elements.{All-nil, All-cons, All-map, All-weaker}
-use Rattle.edr_base.specs.Limits.{node_limit}
+use Rattle.edr_base.specs.Limits.{node_limit, IsCoordinate}
 use Rattle.edr_base.specs.Names.{IsName}
 use Rattle.edr_axes.specs.Instants.{IsTime}
 use Rattle.covjson_value.specs.declared.domains.CoordinateName.{CoordinateName}
@@ -15,7 +15,7 @@ use Rattle.covjson_value.specs.declared.coverages.NdArray.{NdArray}
 use Rattle.covjson_value.specs.declared.coverages.Coverage.{Coverage}
 use Rattle.covjson_value.specs.Domains.{axis_of, has_axis, tuples_of, axis_length, count_of}
 use Rattle.covjson_value.specs.Samples.{values_or_none}
-use Rattle.covjson_value.specs.Coverages.{IsCoordinate, IsAxisValue, IsNamedAxis, IsRange, IsValid}
+use Rattle.covjson_value.specs.Coverages.{IsAxisValue, IsNamedAxis, IsRange, IsValid}
 use Rattle.covjson_value.specs.CountLaws.{count_is}
 use Rattle.edr_chunk.specs.Samples.{AreSamples}
 use Rattle.edr_ids.specs.Ids.{without_id}
@@ -94,7 +94,7 @@ module _ (id label : List ℕ) (coverage : Coverage) (series : IsTimedSeries cov
   times_within None ts there is = cc
   times_within (Some values) ts there is = record { axis = is.ascending; within = is.within }
 
-  levels_within : (axis : Option (List ℤ)) → IfSome axis (IsNamedAxis Z) → IfSome axis (IsAxisWithin station.IsCoordinate)
+  levels_within : (axis : Option (List ℤ)) → IfSome axis (IsNamedAxis Z) → IfSome axis (IsAxisWithin IsCoordinate)
   levels_within None is = tt
   levels_within (Some values) is = record { axis = is.ascending; within = is.within }
 

@@ -2,7 +2,8 @@
 use Rattle.std.specs.Prelude.{◌≡◌, ◌≢◌, ℕ, List, Option}
 use Rattle.std.specs.declared.cmp.Ordering.TheVariants.{Less}
 use Rattle.covjson_value.specs.declared.coverages.Parameter.{Parameter}
-use Rattle.edr_ids.specs.Ids.{order, item_of}
+use Rattle.edr_base.specs.Names.{order}
+use Rattle.edr_ids.specs.Ids.{item_of}
 use Rattle.edr_edition.specs.Values.{parameter_id}
 
 -- the parameter of an id, where there is one

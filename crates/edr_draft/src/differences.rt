@@ -2,7 +2,7 @@
 ghost use Rattle.std.specs.Prelude.{◌≡◌, ◌↔◌, if◌then◌else◌, IsTrue, MatchOption};
 ghost use Rattle.std.specs.Ordering.{is_lt};
 ghost use Rattle.covjson_value.specs.Coverages.{AscendById};
-ghost use Rattle.edr_ids.specs.Ids.{order};
+ghost use Rattle.edr_base.specs.Names.{order};
 ghost use Rattle.edr_draft.specs.Parameters.{DifferFirstAt};
 
 use covjson_value::Parameter;

@@ -3,7 +3,8 @@ use Rattle.std.proofs.Common.{◌≡◌, ◌⊎◌, inl, inr, ℕ, ◌+◌, if�
 use Rattle.std.specs.declared.cmp.Ordering.TheVariants.{Less}
 use Rattle.std.specs.Ordering.{is_lt}
 use Rattle.std.proofs.lemmas.List.Elements.{All-nil, All-cons, All-head, All-tail, All-contains_itself}
-use Rattle.edr_ids.specs.Ids.{order, AscendBy}
+use Rattle.edr_base.specs.Names.{order}
+use Rattle.edr_ids.specs.Ids.{AscendBy}
 use Rattle.edr_ids.specs.ListLaws.{first_below, order_less_flips, tail_ascends}
 use Rattle.edr_edition.specs.Values.{InstanceValue, instance_id}
 use Rattle.edr_edition.specs.Editions.{IsNewest}

@@ -10,8 +10,8 @@ use Rattle.covjson_value.specs.declared.coverages.Parameter.{Parameter}
 use Rattle.covjson_value.specs.declared.coverages.Referencing.{Referencing}
 use Rattle.covjson_value.specs.Coverages.{IsParameter, IsReferencing}
 use Rattle.edr_base.specs.Limits.{node_limit}
-use Rattle.edr_base.specs.Names.{IsName}
-use Rattle.edr_ids.specs.Ids.{order, has_id, is_below, is_above, with_item, without_id}
+use Rattle.edr_base.specs.Names.{IsName, order}
+use Rattle.edr_ids.specs.Ids.{has_id, is_below, is_above, with_item, without_id}
 use Rattle.edr_ids.specs.ListLaws.{AscendBy-nil, AscendBy-with_item, AscendBy-without_id}
 use Rattle.edr_station.specs.Stations.{StationValue, IsStation, station_id, values_along}
 use Rattle.edr_edition.specs.declared.kinds.Kind.{Kind}

@@ -3,7 +3,8 @@ use Rattle.std.specs.Prelude.{◌≡◌, ℕ, ℤ, ◌<◌, if◌then◌else◌,
 use Rattle.std.specs.Ordering.{is_lt}
 use Rattle.covjson_value.specs.declared.coverages.Parameter.{Parameter}
 use Rattle.edr_chunk.specs.Tiles.{tiles, TileValue, IsTile}
-use Rattle.edr_ids.specs.Ids.{order, item_of, AscendBy}
+use Rattle.edr_base.specs.Names.{order}
+use Rattle.edr_ids.specs.Ids.{item_of, AscendBy}
 use Rattle.edr_edition.specs.declared.kinds.Kind.{Kind}
 use Rattle.edr_edition.specs.declared.kinds.Kind.TheVariants.{Grid, Station}
 use Rattle.edr_station.specs.Stations.{StationValue, StationsValue}

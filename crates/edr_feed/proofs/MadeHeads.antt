@@ -23,7 +23,8 @@ use Rattle.covjson_value.specs.declared.domains.CoordinateName.TheVariants.{T, Z
 use Rattle.covjson_value.specs.declared.domains.Domain.{Domain}
 use Rattle.covjson_value.specs.declared.coverages.NdArray.{NdArray}
 use Rattle.covjson_value.specs.Domains.{count_of}
-use Rattle.covjson_value.specs.Coverages.{IsSample, IsAxisValue, IsNamedAxis, HasAxes, HasTuples, IsParameter, IsRange, IsValid}
+use Rattle.edr_base.specs.Limits.{IsSample}
+use Rattle.covjson_value.specs.Coverages.{IsAxisValue, IsNamedAxis, HasAxes, HasTuples, IsParameter, IsRange, IsValid}
 use Rattle.covjson_write.specs.Writers.{IsHead}
 use Rattle.covjson_read.specs.NameLaws.{name_tells}
 use Rattle.edr_feed.specs.Made.{spaced, first_time, coverage_over, node_value, row_values, grid_values, grid_domain, grid_coverage, station_value, series_values, series_domain, series_coverage}

@@ -1,9 +1,10 @@
 -- The texts of the made feed, piece by piece.
 use Rattle.std.proofs.Common.{◌≡◌, ℕ, ◌+◌, ◌-◌, ◌*◌, ◌<◌, ◌≤◌, List, [], ◌∷◌, ◌++◌, codes, sym, subst, ap, ◌∙◌, append_assoc, append-nil, arith}
 use Rattle.std.specs.declared.option.Option.{Option}
-use Rattle.std.specs.Prelude.{ℤ, Result, Err}
+use Rattle.std.specs.Prelude.{ℤ, Result, IsErr}
 use Rattle.std.specs.List.{flat_map, range_with_len}
 use Rattle.std.specs.Io.KnownBytes.{append_known}
+use Rattle.std.proofs.lemmas.Result.{IfOk-from_err}
 use Rattle.std.proofs.Math.Nat.{zero-mul, one-mul, add-mul, mul-le-mul_right}
 use Rattle.edr_base.specs.Calls.{Front, Writes}
 use Rattle.edr_base.specs.KnownBytes.{grew_on, front_on, front_more, writes_on}
@@ -21,13 +22,17 @@ use Rattle.edr_feed.proofs.MadeHeads.{row_long, grid_is_valid, series_is_valid}
 
 -- ---- pieces in a row
 
+-- of the first piece a beginning was written, and the call ended by a fault
+pub stops : {T E : Type 0} (r : Result T E) (a b : Option (List ℕ)) (xs ys : List ℕ) → IsErr r → Front xs a b → Writes r (xs ++ ys) a b
+stops r a b xs ys fails f = record { whole = IfOk-from_err r _ fails; front = front_more a b xs ys f }
+
 -- the first pieces were written, and a beginning of the next one
-pub stopped : {T E : Type 0} (e : E) (a b c : Option (List ℕ)) (xs ys zs : List ℕ) → b ≡ append_known a xs → Front ys b c → Writes {T = T} (Err e) ((xs ++ ys) ++ zs) a c
-stopped e a b c xs ys zs p f = record { whole = tt; front = front_more a c (xs ++ ys) zs (front_on a b c xs ys p f) }
+pub stopped : {T E : Type 0} (r : Result T E) (a b c : Option (List ℕ)) (xs ys zs : List ℕ) → IsErr r → b ≡ append_known a xs → Front ys b c → Writes r ((xs ++ ys) ++ zs) a c
+stopped r a b c xs ys zs fails p f = stops r a c (xs ++ ys) zs fails (front_on a b c xs ys p f)
 
 -- of the first piece a beginning
-pub stopped_first : {T E : Type 0} (e : E) (a b : Option (List ℕ)) (xs ys zs : List ℕ) → Front xs a b → Writes {T = T} (Err e) ((xs ++ ys) ++ zs) a b
-stopped_first e a b xs ys zs f = record { whole = tt; front = front_more a b (xs ++ ys) zs (front_more a b xs ys f) }
+pub stopped_first : {T E : Type 0} (r : Result T E) (a b : Option (List ℕ)) (xs ys zs : List ℕ) → IsErr r → Front xs a b → Writes r ((xs ++ ys) ++ zs) a b
+stopped_first r a b xs ys zs fails f = stops r a b (xs ++ ys) zs fails (front_more a b xs ys f)
 
 -- two pieces were written, and the third one is
 pub wrote_third : {T E : Type 0} (r : Result T E) (a b c d : Option (List ℕ)) (xs ys zs : List ℕ) → b ≡ append_known a xs → c ≡ append_known b ys → Writes r zs c d

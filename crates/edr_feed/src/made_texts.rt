@@ -28,10 +28,7 @@ fn open_range<K: Sink>(
     ensures lent { SinkLent (K.beside sink.old) (K.beside sink.new) (K.faults sink.old) (K.faults sink.new) }
     ensures cause { IsErrOf result SendFault.WriteFault → Rose (K.faults sink.old) (K.faults sink.new) }
 {
-    match writer.coverage(alloc, sink, head) {
-        Ok(()) => {}
-        Err(fault) => return Err(fault),
-    }
+    writer.coverage(alloc, sink, head)?;
     writer.range_begin(alloc, sink, 0)
 }
 
@@ -47,14 +44,9 @@ fn begin_coverage<K: Sink>(
     ensures lent { SinkLent (K.beside sink.old) (K.beside sink.new) (K.faults sink.old) (K.faults sink.new) }
     ensures cause { IsErrOf result SendFault.WriteFault → Rose (K.faults sink.old) (K.faults sink.new) }
 {
-    let mut writer = match Writer::begin(alloc, sink, false) {
-        Ok(writer) => writer,
-        Err(fault) => return Err(fault),
-    };
-    match open_range(alloc, &mut writer, sink, head) {
-        Ok(()) => Ok(writer),
-        Err(fault) => Err(fault),
-    }
+    let mut writer = Writer::begin(alloc, sink, false)?;
+    open_range(alloc, &mut writer, sink, head)?;
+    Ok(writer)
 }
 
 // Writes what stands behind the values of the one range.
@@ -70,10 +62,7 @@ fn end_coverage<K: Sink>(writer: Writer, sink: &mut K) -> Result<(), SendFault>
     ensures cause { IsErrOf result SendFault.WriteFault → Rose (K.faults sink.old) (K.faults sink.new) }
 {
     let mut writer = writer;
-    match writer.range_end(sink) {
-        Ok(()) => {}
-        Err(fault) => return Err(fault),
-    }
+    writer.range_end(sink)?;
     writer.finish(sink)
 }
 
@@ -91,14 +80,9 @@ pub fn write_coverage<K: Sink>(
     ensures lent { SinkLent (K.beside sink.old) (K.beside sink.new) (K.faults sink.old) (K.faults sink.new) }
     ensures cause { IsErrOf result SendFault.WriteFault → Rose (K.faults sink.old) (K.faults sink.new) }
 {
-    let mut writer = match begin_coverage(alloc, sink, head) {
-        Ok(writer) => writer,
-        Err(fault) => return Err(fault),
-    };
-    match writer.values(sink, values) {
-        Ok(()) => end_coverage(writer, sink),
-        Err(fault) => Err(fault),
-    }
+    let mut writer = begin_coverage(alloc, sink, head)?;
+    writer.values(sink, values)?;
+    end_coverage(writer, sink)
 }
 
 /// Writes a coverage with the values of the grid.
@@ -117,12 +101,7 @@ pub fn write_grid_coverage<K: Sink>(
     ensures lent { SinkLent (K.beside sink.old) (K.beside sink.new) (K.faults sink.old) (K.faults sink.new) }
     ensures cause { IsErrOf result SendFault.WriteFault → Rose (K.faults sink.old) (K.faults sink.new) }
 {
-    let mut writer = match begin_coverage(alloc, sink, head) {
-        Ok(writer) => writer,
-        Err(fault) => return Err(fault),
-    };
-    match write_rows(alloc, &mut writer, sink, number, rows, columns) {
-        Ok(()) => end_coverage(writer, sink),
-        Err(fault) => Err(fault),
-    }
+    let mut writer = begin_coverage(alloc, sink, head)?;
+    write_rows(alloc, &mut writer, sink, number, rows, columns)?;
+    end_coverage(writer, sink)
 }

@@ -79,10 +79,8 @@ fn write_row<K: Sink>(
     ensures lent { SinkLent (K.beside sink.old) (K.beside sink.new) (K.faults sink.old) (K.faults sink.new) }
     ensures cause { IsErrOf result SendFault.WriteFault → Rose (K.faults sink.old) (K.faults sink.new) }
 {
-    match fill_row(values, number, columns, row) {
-        Ok(()) => writer.values(sink, values),
-        Err(_) => Err(SendFault::OutOfMemory),
-    }
+    fill_row(values, number, columns, row)?;
+    writer.values(sink, values)
 }
 
 /// Writes the values of the grid, row by row, as those of the open range. Each row takes the memory of the one before.
@@ -104,10 +102,7 @@ pub fn write_rows<K: Sink>(
 {
     let mut values = Vec::new(alloc);
     for row in 0..rows {
-        match write_row(writer, sink, number, columns, row, &mut values) {
-            Ok(()) => {}
-            Err(fault) => return Err(fault),
-        }
+        write_row(writer, sink, number, columns, row, &mut values)?;
     }
     Ok(())
 }

@@ -40,9 +40,7 @@ fn write_grid<K: Sink>(
     ensures lent { SinkLent (K.beside sink.old) (K.beside sink.new) (K.faults sink.old) (K.faults sink.new) }
     ensures cause { IsErrOf result SendFault.WriteFault → Rose (K.faults sink.old) (K.faults sink.new) }
 {
-    let Ok(head) = grid_head(alloc, rows, columns) else {
-        return Err(SendFault::OutOfMemory);
-    };
+    let head = grid_head(alloc, rows, columns)?;
     write_grid_coverage(alloc, sink, &head, number, rows, columns)
 }
 
@@ -60,14 +58,8 @@ fn write_grid_line<K: Sink>(
     ensures lent { SinkLent (K.beside sink.old) (K.beside sink.new) (K.faults sink.old) (K.faults sink.new) }
     ensures cause { IsErrOf result SendFault.WriteFault → Rose (K.faults sink.old) (K.faults sink.new) }
 {
-    match send(sink, b"{\"grid\":{\"collection\":\"grid\",\"coverage\":") {
-        Ok(()) => {}
-        Err(fault) => return Err(fault),
-    }
-    match write_grid(alloc, number, rows, columns, sink) {
-        Ok(()) => {}
-        Err(fault) => return Err(fault),
-    }
+    send(sink, b"{\"grid\":{\"collection\":\"grid\",\"coverage\":")?;
+    write_grid(alloc, number, rows, columns, sink)?;
     send(sink, b",\"instance\":\"1\"}}\n")
 }
 
@@ -85,12 +77,8 @@ fn write_series<K: Sink>(
     ensures lent { SinkLent (K.beside sink.old) (K.beside sink.new) (K.faults sink.old) (K.faults sink.new) }
     ensures cause { IsErrOf result SendFault.WriteFault → Rose (K.faults sink.old) (K.faults sink.new) }
 {
-    let Ok(values) = series_of(alloc, number, times, station) else {
-        return Err(SendFault::OutOfMemory);
-    };
-    let Ok(head) = series_head(alloc, times, station) else {
-        return Err(SendFault::OutOfMemory);
-    };
+    let values = series_of(alloc, number, times, station)?;
+    let head = series_head(alloc, times, station)?;
     write_coverage(alloc, sink, &head, &values)
 }
 
@@ -127,20 +115,12 @@ fn write_station<K: Sink>(
     ensures lent { SinkLent (K.beside sink.old) (K.beside sink.new) (K.faults sink.old) (K.faults sink.new) }
     ensures cause { IsErrOf result SendFault.WriteFault → Rose (K.faults sink.old) (K.faults sink.new) }
 {
-    let Ok(end) = station_end(alloc, station) else {
-        return Err(SendFault::OutOfMemory);
-    };
-    match send(
+    let end = station_end(alloc, station)?;
+    send(
         sink,
         b"{\"station\":{\"collection\":\"sites\",\"coverage\":",
-    ) {
-        Ok(()) => {}
-        Err(fault) => return Err(fault),
-    }
-    match write_series(alloc, number, times, station, sink) {
-        Ok(()) => {}
-        Err(fault) => return Err(fault),
-    }
+    )?;
+    write_series(alloc, number, times, station, sink)?;
     send(sink, &end)
 }
 
@@ -159,10 +139,7 @@ fn write_stations<K: Sink>(
     ensures cause { IsErrOf result SendFault.WriteFault → Rose (K.faults sink.old) (K.faults sink.new) }
 {
     for station in 0..stations {
-        match write_station(alloc, number, times, station, sink) {
-            Ok(()) => {}
-            Err(fault) => return Err(fault),
-        }
+        write_station(alloc, number, times, station, sink)?;
     }
     Ok(())
 }
@@ -177,21 +154,9 @@ pub fn make_feed<K: Sink>(alloc: Global, number: u64, sink: &mut K) -> Result<()
     ensures lent { SinkLent (K.beside sink.old) (K.beside sink.new) (K.faults sink.old) (K.faults sink.new) }
     ensures cause { IsErrOf result SendFault.WriteFault → Rose (K.faults sink.old) (K.faults sink.new) }
 {
-    match send(sink, GRIDS) {
-        Ok(()) => {}
-        Err(fault) => return Err(fault),
-    }
-    match write_grid_line(alloc, number, ROWS, COLUMNS, sink) {
-        Ok(()) => {}
-        Err(fault) => return Err(fault),
-    }
-    match send(sink, SITES) {
-        Ok(()) => {}
-        Err(fault) => return Err(fault),
-    }
-    match write_stations(alloc, number, TIMES, STATIONS, sink) {
-        Ok(()) => {}
-        Err(fault) => return Err(fault),
-    }
+    send(sink, GRIDS)?;
+    write_grid_line(alloc, number, ROWS, COLUMNS, sink)?;
+    send(sink, SITES)?;
+    write_stations(alloc, number, TIMES, STATIONS, sink)?;
     send(sink, PUBLISH)
 }

@@ -1,3 +1,4 @@
 pub mod RequestLemmas
 pub mod HeadLemmas
 pub mod HeardLemmas
+pub mod ExchangeLemmas

@@ -1,8 +1,14 @@
--- For private clauses: why no reply was read, as a fault of an exchange.
+-- For private clauses: why a request wasn't written, and why no reply was read, as faults of an exchange.
+use Rattle.edr_base.specs.declared.sending.SendFault.{SendFault}
+use Rattle.edr_base.specs.declared.sending.SendFault.TheVariants as sending
 use Rattle.edr_client.specs.declared.replies.ReplyFault.{ReplyFault}
 use Rattle.edr_client.specs.declared.replies.ReplyFault.TheVariants as replies
 use Rattle.edr_fetch.specs.declared.fetching.FetchFault.{FetchFault}
-use Rattle.edr_fetch.specs.declared.fetching.FetchFault.TheVariants.{ReadFault, BadReply, NotData, Cov, OutOfMemory}
+use Rattle.edr_fetch.specs.declared.fetching.FetchFault.TheVariants.{WriteFault, ReadFault, BadReply, NotData, Cov, OutOfMemory}
+
+abbrev pub fault_of_sending : SendFault → FetchFault
+fault_of_sending sending.WriteFault = WriteFault
+fault_of_sending sending.OutOfMemory = OutOfMemory
 
 abbrev pub fault_of : ReplyFault → FetchFault
 fault_of replies.ReadFault = ReadFault

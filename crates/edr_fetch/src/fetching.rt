@@ -5,11 +5,12 @@ ghost use Rattle.edr_base.specs.Calls.{Writes, IsFlushed, SinkLent};
 ghost use Rattle.covjson_value.specs.Coverages.{IsValidDocument};
 ghost use Rattle.edr_fetch.specs.Requests.{request_text};
 ghost use Rattle.edr_fetch.specs.Exchanges.{Exchanged, Heard, AsksOnce, LinkKept};
-ghost use Rattle.edr_fetch.specs.Outcomes.{fault_of};
+ghost use Rattle.edr_fetch.specs.declared.fetching.FetchFault.TheVariants.{OutOfMemory as FetchWantsMemory};
+ghost use Rattle.edr_fetch.specs.Outcomes.{fault_of, fault_of_sending};
 
 use crate::requests::{Request, text_of};
 use covjson_checks::CovFault;
-use edr_base::{Link, SendFault, Sink, Stop, Text, send, settle};
+use edr_base::{Link, OutOfMemory, SendFault, Sink, Stop, Text, send, settle};
 use edr_client::{Reply, ReplyFault, read_reply};
 use std::alloc::Global;
 
@@ -32,16 +33,36 @@ pub enum FetchFault {
     OutOfMemory,
 }
 
-// Why no reply was read, as a fault of an exchange.
-fn fault_of(fault: ReplyFault) -> FetchFault
-    ensures { result ≡ fault_of fault }
-{
-    match fault {
-        ReplyFault::ReadFault => FetchFault::ReadFault,
-        ReplyFault::BadReply(place) => FetchFault::BadReply(place),
-        ReplyFault::NotData(status, code) => FetchFault::NotData(status, code),
-        ReplyFault::Cov(fault) => FetchFault::Cov(fault),
-        ReplyFault::OutOfMemory => FetchFault::OutOfMemory,
+impl From<OutOfMemory> for FetchFault {
+    ghost from_gives = { λ _ fault. fault ≡ FetchWantsMemory };
+
+    fn from(_: OutOfMemory) -> FetchFault {
+        FetchFault::OutOfMemory
+    }
+}
+
+impl From<SendFault> for FetchFault {
+    ghost from_gives = { λ given fault. fault ≡ fault_of_sending given };
+
+    fn from(given: SendFault) -> FetchFault {
+        match given {
+            SendFault::WriteFault => FetchFault::WriteFault,
+            SendFault::OutOfMemory => FetchFault::OutOfMemory,
+        }
+    }
+}
+
+impl From<ReplyFault> for FetchFault {
+    ghost from_gives = { λ given fault. fault ≡ fault_of given };
+
+    fn from(given: ReplyFault) -> FetchFault {
+        match given {
+            ReplyFault::ReadFault => FetchFault::ReadFault,
+            ReplyFault::BadReply(place) => FetchFault::BadReply(place),
+            ReplyFault::NotData(status, code) => FetchFault::NotData(status, code),
+            ReplyFault::Cov(fault) => FetchFault::Cov(fault),
+            ReplyFault::OutOfMemory => FetchFault::OutOfMemory,
+        }
     }
 }
 
@@ -53,10 +74,8 @@ fn put<K: Sink>(sink: &mut K, text: &[u8]) -> Result<(), SendFault>
     ensures lent { SinkLent (K.beside sink.old) (K.beside sink.new) (K.faults sink.old) (K.faults sink.new) }
     ensures cause { IsErrOf result SendFault.WriteFault → Rose (K.faults sink.old) (K.faults sink.new) }
 {
-    match send(sink, text) {
-        Ok(()) => settle(sink),
-        Err(fault) => Err(fault),
-    }
+    send(sink, text)?;
+    settle(sink)
 }
 
 /// Connects to the server that a request names, writes the request, flushes it, and only then reads the reply: one of data, that
@@ -71,21 +90,12 @@ pub fn fetch<L: Link>(alloc: Global, request: &Request, link: &mut L) -> Result<
     ensures asked { AsksOnce result (request.now.host, request.now.port) (L.aside link.old).asked (L.aside link.new).asked }
     ensures kept { LinkKept (L.aside link.old) (L.aside link.new) (L.faults link.old) (L.faults link.new) }
 {
-    let Ok(text) = text_of(alloc, request) else {
-        return Err(FetchFault::OutOfMemory);
-    };
+    let text = text_of(alloc, request)?;
     match link.connect(request.host.bytes(), request.port) {
         Ok(()) => {}
         Err(Stop::Failed) => return Err(FetchFault::ConnectFault),
         Err(Stop::OutOfMemory) => return Err(FetchFault::OutOfMemory),
     }
-    match put(link, text.bytes()) {
-        Ok(()) => {}
-        Err(SendFault::WriteFault) => return Err(FetchFault::WriteFault),
-        Err(SendFault::OutOfMemory) => return Err(FetchFault::OutOfMemory),
-    }
-    match read_reply(alloc, link) {
-        Ok(reply) => Ok(reply),
-        Err(fault) => Err(fault_of(fault)),
-    }
+    put(link, text.bytes())?;
+    Ok(read_reply(alloc, link)?)
 }

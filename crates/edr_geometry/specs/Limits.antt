@@ -1,18 +1,13 @@
 -- The limits of the numbers in the plane.
-use Rattle.std.specs.Prelude.{◌≤◌, ℤ, pos, ◌≤ℤ◌, Bool, List}
-use Rattle.std.specs.Int.RustNames.{unsigned_abs}
+use Rattle.std.specs.Prelude.{ℤ, pos, ◌≤ℤ◌, Bool, List}
 use Rattle.std.specs.List.{All}
-use Rattle.edr_base.specs.Limits.{coordinate_limit, distance_limit}
+use Rattle.edr_base.specs.Limits.{distance_limit, IsCoordinate}
 use Rattle.edr_base.specs.declared.places.Position.{Position}
 use Rattle.edr_base.specs.declared.places.Spot.{Spot}
 use Rattle.edr_wkt.specs.Faults.{IsGeometry}
 use Rattle.edr_wkt.specs.declared.geometry.Polygon.{Polygon}
 use Rattle.edr_wkt.specs.declared.geometry.Geometry.TheVariants.{Polygons}
 use Rattle.edr_geometry.specs.Planar.{spot_of}
-
--- a coordinate, in metres
-abbrev pub IsCoordinate : ℤ → Type 0
-IsCoordinate c = unsigned_abs c ≤ coordinate_limit
 
 -- a place
 pub record IsSpot (s : Spot) : Type 0 where

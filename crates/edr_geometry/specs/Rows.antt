@@ -4,7 +4,7 @@ use Rattle.std.specs.List.{All, list_any, slice_index_or}
 use Rattle.std.specs.Ordering.{int_eq}
 use Rattle.edr_base.specs.declared.places.Spot.{Spot}
 use Rattle.edr_axes.specs.Axes.{value_at, IsAscending}
-use Rattle.edr_geometry.specs.Limits.{IsCoordinate}
+use Rattle.edr_base.specs.Limits.{IsCoordinate}
 use Rattle.edr_geometry.specs.Planar.{Edge, is_odd, cross, crosses, rises, is_among, on_segment, in_polygon}
 use Rattle.edr_wkt.specs.declared.geometry.Polygon.{Polygon}
 use Rattle.edr_geometry.specs.Masks.{spot_at}

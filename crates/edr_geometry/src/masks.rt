@@ -1,7 +1,8 @@
 //! Masks: which places of a row lie in polygons, in a disc, near a segment.
 ghost use Rattle.std.specs.Prelude.{◌≡◌, IfOk, OnOk, ℕ, ◌+◌, ◌<◌, length, ◌||◌, false, MatchOption, slice_index_or};
 ghost use Rattle.std.specs.List.{All, flat_map};
-ghost use Rattle.edr_geometry.specs.Limits.{IsSpot, IsDistance, IsPlacedPolygon, IsPlacedRing, IsCoordinate};
+ghost use Rattle.edr_base.specs.Limits.{IsCoordinate};
+ghost use Rattle.edr_geometry.specs.Limits.{IsSpot, IsDistance, IsPlacedPolygon, IsPlacedRing};
 ghost use Rattle.edr_geometry.specs.Planar as plane;
 ghost use Rattle.edr_geometry.specs.Rows.{IsRow, Joins, in_polygon_at, is_set_in, odd_behind, odd_crossed, on_edges};
 ghost use Rattle.edr_geometry.specs.Masks.{row_of, IsSet, NoneSet};

@@ -2,7 +2,8 @@
 ghost use Rattle.std.specs.Prelude.{◌≡◌, true, IfSome, IsSome};
 ghost use Rattle.std.specs.List.{All};
 ghost use Rattle.edr_wkt.specs.Faults.{IsGeometry};
-ghost use Rattle.edr_geometry.specs.Limits.{IsCoordinate, IsDistance};
+ghost use Rattle.edr_base.specs.Limits.{IsCoordinate};
+ghost use Rattle.edr_geometry.specs.Limits.{IsDistance};
 ghost use Rattle.edr_corridor.specs.Values.{needs_level};
 
 use crate::words::{axis_of, coordinate, distance, is_marked};

@@ -2,7 +2,8 @@
 ghost use Rattle.std.specs.Prelude.{◌≡◌, IfSome, length, ◌+◌, ◌<◌};
 ghost use Rattle.std.specs.List.{All};
 ghost use Rattle.edr_wkt.specs.Faults.{IsGeometry};
-ghost use Rattle.edr_geometry.specs.Limits.{IsCoordinate, IsSpot, IsDistance, IsPlacedPolygon};
+ghost use Rattle.edr_base.specs.Limits.{IsCoordinate};
+ghost use Rattle.edr_geometry.specs.Limits.{IsSpot, IsDistance, IsPlacedPolygon};
 
 use crate::words::{axis_of, coordinate, coordinates, distance, is_marked};
 use edr_axes::Axis;

@@ -1,7 +1,8 @@
 //! Numbers, axes and pictures that are words, for tests.
 ghost use Rattle.std.specs.Prelude.{IfSome};
 ghost use Rattle.std.specs.List.{All};
-ghost use Rattle.edr_geometry.specs.Limits.{IsCoordinate, IsDistance};
+ghost use Rattle.edr_base.specs.Limits.{IsCoordinate};
+ghost use Rattle.edr_geometry.specs.Limits.{IsDistance};
 
 use edr_axes::Axis;
 use edr_base::COORDINATE_LIMIT;

@@ -8,7 +8,8 @@ use Rattle.httparse.specs.Grammar.{is_ows, skip_ows, trim_ows}
 use Rattle.edr_base.specs.declared.refusals.Refusal.{Refusal}
 use Rattle.edr_base.specs.declared.refusals.Refusal.TheVariants.{BadHead, BodyNotAllowed, BadHost, VersionNotOffered, MethodNotOffered, NoSuchPage, UnknownParameter, RepeatedParameter, BadFormat, MissingParameter, BadCoords, WrongGeometry, BadBbox, BadDatetime, BadLevel, BadDistance, Conflict, UnknownCollection, UnknownInstance, UnknownLocation, QueryNotOffered, UnknownParameterName, BadCrs, NoLevels, NoSamples, TooLarge}
 use Rattle.edr_http.specs.declared.heads.Head.{Head}
-use Rattle.edr_http.specs.Checks.{Applies, RefusalIsOne, rank}
+use Rattle.edr_base.specs.RefusalTable.{rank}
+use Rattle.edr_http.specs.Checks.{Applies, RefusalIsOne}
 
 -- of the refusals that apply to heads, the one of a number
 abbrev refusal_at : ℕ → Refusal

@@ -1,5 +1,5 @@
 -- Bytes that are held in the middle of a memory.
-use Rattle.std.proofs.Common.{◌≡◌, ℕ, ◌+◌, ◌-◌, ◌≤◌, ◌<◌, length, length-append, length-drop, List, ◌++◌, take, drop, sym, ap, subst, ◌∙◌, arith}
+use Rattle.std.proofs.Common.{◌≡◌, ℕ, ◌+◌, ◌-◌, ◌≤◌, ◌<◌, length, length-drop, List, ◌++◌, take, drop, sym, ap, subst, ◌∙◌, arith}
 use Rattle.std.specs.Prelude.{Result, Ok, Err, IfOk}
 use Rattle.std.specs.declared.option.Option.{Option}
 use Rattle.std.specs.Io.KnownBytes.{prepend_known}
@@ -47,25 +47,3 @@ pub held_same : (old memory read memory' : List ℕ) (size n : ℕ) (left left' 
 held_same old memory read memory' size n left left' written whole same =
     let none : size + n - 0 ≡ size + n = omega arith in
     ap (λ k. prepend_known (take k memory') left') none ∙ (ap (λ w. prepend_known (take (size + n) w) left') written ∙ (whole ∙ ap (λ w. prepend_known w left) same))
-
--- what was held stands at the front of the memory, where that is kept
-pub front_same : (old memory read memory' : List ℕ) (size : ℕ) → memory' ≡ read → take size read ≡ take size memory → take size memory ≡ old → take (size - 0) (drop 0 memory') ≡ old
-front_same old memory read memory' size written kept same =
-    let none : size - 0 ≡ size = omega arith in
-    ap (λ k. take k memory') none ∙ (ap (take size) written ∙ (kept ∙ same))
-
--- and grows by what was read behind it
-pub front_grew : (old memory read memory' : List ℕ) (size n : ℕ) (left : Option (List ℕ)) → memory' ≡ read → Grew (take size memory) (take (size + n) read) n left
-    → take size memory ≡ old → Grew old (take (size + n - 0) (drop 0 memory')) n left
-front_grew old memory read memory' size n left written g same =
-    let none : size + n - 0 ≡ size + n = omega arith in
-    record {
-      block = g.block;
-      grew = ap (λ k. take k memory') none ∙ (ap (take (size + n)) written ∙ (g.grew ∙ ap (λ w. w ++ g.block) same));
-      count = g.count;
-      end = g.end;
-    }
-
--- by as many bytes
-pub grew_bounded : (old new : List ℕ) (n most : ℕ) (left : Option (List ℕ)) → Grew old new n left → n ≤ most → length new ≤ length old + most
-grew_bounded old new n most left g few = omega (arith, ap length g.grew, length-append old g.block, g.count, few)

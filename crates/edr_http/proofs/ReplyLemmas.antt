@@ -1,7 +1,7 @@
 -- Replies, text by text.
-use Rattle.std.proofs.Common.{◌≡◌, ℕ, List, ◌++◌, ⊎_elim, subst, ap₂, Err}
+use Rattle.std.proofs.Common.{◌≡◌, ℕ, List, ◌++◌, ⊎_elim, subst, ap₂, Ok, Err}
 use Rattle.std.specs.declared.option.Option.{Option}
-use Rattle.std.specs.Prelude.{Result}
+use Rattle.std.specs.Prelude.{Result, IsErr}
 use Rattle.std.specs.Io.KnownBytes.{append_known}
 use Rattle.edr_base.specs.Calls.{Front, Writes}
 use Rattle.edr_base.specs.KnownBytes.{writes_on, writes_stop}
@@ -12,8 +12,12 @@ pub written_on : {T E : Type 0} (r : Result T E) (a b c : Option (List ℕ)) (xs
 written_on r a b c xs ys first second e f g w = subst (λ (t : List ℕ). Writes r t a c) (ap₂ (λ x y. x ++ y) e f) (writes_on r a b c xs ys g w)
 
 -- the first of them wasn't written whole
-pub written_stop : (T : Type 0) {E : Type 0} (e : E) (a b : Option (List ℕ)) (xs first second : List ℕ) → xs ≡ first → Front xs a b → Writes {T = T} (Err e) (first ++ second) a b
-written_stop T e a b xs first second s f = writes_stop T e a b first second (subst (λ (t : List ℕ). Front t a b) s f)
+pub stopped_first : {T E : Type 0} (r : Result T E) (a b : Option (List ℕ)) (xs ys : List ℕ) → IsErr r → Front xs a b → Writes r (xs ++ ys) a b
+stopped_first (Ok x) a b xs ys stopped f = absurd (cc stopped)
+stopped_first {T} (Err e) a b xs ys stopped f = writes_stop T e a b xs ys f
+
+pub written_stop : {T E : Type 0} (r : Result T E) (a b : Option (List ℕ)) (xs first second : List ℕ) → IsErr r → xs ≡ first → Front xs a b → Writes r (first ++ second) a b
+written_stop r a b xs first second stopped s f = stopped_first r a b first second stopped (subst (λ (t : List ℕ). Front t a b) s f)
 
 -- of the statuses the last is 505
 pub last_status : (s : ℕ) → IsStatus s → ¬ (s ≡ 200) → ¬ (s ≡ 400) → ¬ (s ≡ 404) → ¬ (s ≡ 405) → ¬ (s ≡ 413) → s ≡ 505

@@ -12,7 +12,7 @@ use Rattle.httparse.specs.Grammar.{RequestHead, print_request, ReadsRequest}
 use Rattle.edr_base.specs.KnownBytes.{prepend_more, prepend_nothing}
 use Rattle.edr_http.specs.declared.heads.Head.{Head}
 use Rattle.edr_http.specs.Heads.{BeginsWith, HeadOf, HasHead, HasNoHead, Told, IsBehind, head_of}
-use Rattle.edr_http.specs.Finding.{HasTree, HasNoTree, NeverHasTree, Grew, NoHeadIn, LastBlock}
+use Rattle.edr_http.specs.Finding.{HasTree, HasNoTree, NeverHasTree, NoHeadIn, LastBlock}
 use Rattle.edr_http.proofs.HeadLemmas.{reads_window, no_head, some_head}
 
 pub rest_grew : (old new block : List ℕ) (left left' : Option (List ℕ)) → new ≡ old ++ block → left ≡ prepend_known block left' → prepend_known new left' ≡ prepend_known old left
@@ -77,16 +77,6 @@ fewer old held after n e d = omega (arith, ap length e, ap length d, length-drop
 pub held_bound : (old held new : ℕ) → held < 16384 → new ≤ held + 4096 → new ≤ max old ((16384 - 1) + 4096)
 held_bound old held new few grew = let r = le-max_right old 20479 in omega (arith, few, grew, r)
 
-pub grew_none : (old new : List ℕ) (n : ℕ) (left : Option (List ℕ)) → Grew old new n left → n ≡ 0 → HasNoTree old → NoHeadIn new left
-grew_none old new n left g z none =
-    let b : g.block ≡ [] = empty g.block (g.count ∙ z) in
-    let same : new ≡ old = g.grew ∙ (ap (λ w. old ++ w) b ∙ append-nil old) in
-    no_head_end new left (subst HasNoTree (sym same) none) (g.end z)
-  where
-    empty : (xs : List ℕ) → length xs ≡ 0 → xs ≡ []
-    empty [] e = refl
-    empty (x ∷ xs) e = absurd (omega (arith, e))
-
 -- ---- what was found is so of the rest
 
 -- the head is taken from the front of the rest
@@ -104,12 +94,6 @@ finds_got old held after left (Some bytes) n a h rest e b i p d =
   where
     drop_front : (n : ℕ) (xs ys : List ℕ) → length xs ≡ n → drop n (xs ++ ys) ≡ ys
     drop_front n xs ys e = subst (λ (k : ℕ). drop k (xs ++ ys) ≡ ys) e (grind (arith, common_steps))
-
-pub finds_end : (old held : List ℕ) (left left' : Option (List ℕ)) → prepend_known held left' ≡ prepend_known old left → held ≡ [] → IsAtEnd left' → Told (λ b c. (b ≡ []) × (c ≡ [])) (prepend_known old left) (prepend_known held left')
-finds_end old held left None e h at = subst (λ (z : Option (List ℕ)). Told (λ b c. (b ≡ []) × (c ≡ [])) z None) e tt
-finds_end old held left (Some bytes) e h at =
-    let none : held ++ bytes ≡ [] = ap (λ w. w ++ bytes) h ∙ at in
-    subst (λ (z : Option (List ℕ)). Told (λ b c. (b ≡ []) × (c ≡ [])) z (Some (held ++ bytes))) e (none, none)
 
 pub finds_bad : (old held : List ℕ) (left left' : Option (List ℕ)) → prepend_known held left' ≡ prepend_known old left → held ≢ [] → NoHeadIn held left' → Told (λ b c. (b ≢ []) × HasNoHead b × (c ≡ b)) (prepend_known old left) (prepend_known held left')
 finds_bad old held left None e h none = subst (λ (z : Option (List ℕ)). Told (λ b c. (b ≢ []) × HasNoHead b × (c ≡ b)) z None) e tt

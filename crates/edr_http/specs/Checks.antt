@@ -5,7 +5,7 @@ use Rattle.std.specs.List.{list_any, list_all, slice_split}
 use Rattle.std.specs.Char.{to_ascii_lowercase}
 use Rattle.httparse.specs.Grammar.{trim_ows}
 use Rattle.edr_base.specs.FirstThatApplies.{IsLeast, NoneApplies}
-use Rattle.edr_base.specs.RefusalTable.{line_of}
+use Rattle.edr_base.specs.RefusalTable.{rank}
 use Rattle.edr_base.specs.declared.refusals.Refusal.{Refusal}
 use Rattle.edr_base.specs.declared.refusals.Refusal.TheVariants.{BodyNotAllowed, BadHost, VersionNotOffered, MethodNotOffered}
 use Rattle.edr_http.specs.declared.heads.Head.{Head}
@@ -53,10 +53,6 @@ Applies head BadHost = length (filter (is_named (codes "host")) head.fields) ≢
 Applies head VersionNotOffered = head.minor ≢ 1
 Applies head MethodNotOffered = (head.method ≢ codes "GET") × (head.method ≢ codes "HEAD")
 Applies head other = ⊥
-
--- the order of refusals: by their numbers
-abbrev pub rank : Refusal → ℕ
-rank refusal = (line_of refusal).number
 
 -- the least refusal that applies to a head, or none where none does
 abbrev pub Refuses : Head → Option Refusal → Type 0

@@ -6,7 +6,7 @@ use Rattle.std.specs.Prelude.{◌≡◌, ℕ, zero, suc, ◌+◌, ◌-◌, ◌*�
 use Rattle.std.specs.declared.option.Option.{Option}
 use Rattle.std.specs.Prelude.{None, Some}
 use Rattle.edr_base.specs.Outside.{TellsBottom}
-use Rattle.edr_http.specs.Chunks.{chunk, first_chunks}
+use Rattle.edr_http.specs.Chunks.{chunk, chunk_length, first_chunks}
 
 -- the array that a piece is gathered in is its chunk already, as one of a full piece, with the end of a body behind it
 pub record IsFrame (frame : List ℕ) : Type 0 where
@@ -17,9 +17,13 @@ pub record IsFrame (frame : List ℕ) : Type 0 where
 abbrev pub piece_in : List ℕ → ℕ → List ℕ
 piece_in frame used = take used (drop 6 frame)
 
+-- how many bytes the chunk of a full piece has: the line before it, the piece and a line end
+abbrev pub full_chunk_length : ℕ
+full_chunk_length = chunk_length + 8
+
 -- how many bytes came from here
 abbrev pub size_of : ℕ → ℕ → ℕ
-size_of n b = 4104 * n + b
+size_of n b = full_chunk_length * n + b
 
 -- what stands before them
 abbrev pub bottom_of : ℕ → ℕ → List ℕ → List ℕ
@@ -31,7 +35,7 @@ sent_of n b bytes = drop (length bytes - size_of n b) bytes
 -- the n pieces, taken from their chunks
 abbrev pub payload : ℕ → List ℕ → List ℕ
 payload zero sent = []
-payload (suc n) sent = take 4096 (drop 6 sent) ++ payload n (drop 4104 sent)
+payload (suc n) sent = take chunk_length (drop 6 sent) ++ payload n (drop full_chunk_length sent)
 
 -- what stands before, the chunks of the pieces, and the beginning of the next
 abbrev pub rebuilt : ℕ → ℕ → List ℕ → List ℕ → List ℕ
@@ -63,7 +67,7 @@ both_told n b p (Some bytes) = tt
 
 -- the same bytes with names for their parts: before, the n pieces and the beginning of the next chunk
 pub record Built (n b : ℕ) (p bytes before pieces : List ℕ) : Type 0 where
-  pub full : length pieces ≡ 4096 * n
+  pub full : length pieces ≡ chunk_length * n
   pub part : b ≤ length (chunk p)
   pub text : bytes ≡ before ++ (first_chunks n pieces ++ take b (chunk p))
 

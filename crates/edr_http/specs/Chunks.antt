@@ -1,5 +1,5 @@
 -- Bodies in chunks (RFC 9112 section 7.1).
-use Rattle.std.specs.Prelude.{ℕ, zero, suc, ◌+◌, ◌/◌, false, List, [], ◌∷◌, ◌++◌, length, take, drop, codes}
+use Rattle.std.specs.Prelude.{ℕ, zero, suc, ◌+◌, ◌-◌, ◌/◌, false, List, [], ◌∷◌, ◌++◌, length, take, drop, codes}
 use Rattle.std.specs.Fmt.{digits}
 
 -- the end of a line
@@ -10,14 +10,18 @@ crlf = 13 ∷ 10 ∷ []
 abbrev pub chunk : List ℕ → List ℕ
 chunk piece = digits 16 false (length piece) ++ (crlf ++ (piece ++ crlf))
 
+-- how many bytes a chunk holds at most
+abbrev pub chunk_length : ℕ
+chunk_length = 4_096
+
 -- the chunks of the first n pieces of a body
 abbrev pub first_chunks : ℕ → List ℕ → List ℕ
 first_chunks zero body = []
-first_chunks (suc n) body = chunk (take 4_096 body) ++ first_chunks n (drop 4_096 body)
+first_chunks (suc n) body = chunk (take chunk_length body) ++ first_chunks n (drop chunk_length body)
 
--- the chunks of a body, each of 4,096 bytes but for the last, which may hold fewer
+-- the chunks of a body, each of that many bytes but for the last, which may hold fewer
 abbrev pub chunks : List ℕ → List ℕ
-chunks body = first_chunks ((length body + 4_095) / 4_096) body
+chunks body = first_chunks ((length body + (chunk_length - 1)) / chunk_length) body
 
 -- the chunk of no bytes that stands behind all others
 abbrev pub last_chunk : List ℕ

@@ -3,11 +3,11 @@ ghost use Rattle.std.specs.Prelude.{◌≡◌, ◌≤◌, ◌<◌, ◌+◌, ◌-
 ghost use Rattle.std.specs.Io.KnownBytes.{append_known};
 ghost use Rattle.edr_base.specs.Outside.{Rose};
 ghost use Rattle.edr_base.specs.Calls.{Appended, Flushed, SinkLent, Writes};
-ghost use Rattle.edr_http.specs.Chunks.{chunked};
-ghost use Rattle.edr_http.specs.ChunkedSinkParts.{IsFrame, piece_in, has_room, rebuilt_known, body_known, bottom_known, both_told};
+ghost use Rattle.edr_http.specs.Chunks.{chunk_length, chunked};
+ghost use Rattle.edr_http.specs.ChunkedSinkParts.{IsFrame, full_chunk_length, piece_in, has_room, rebuilt_known, body_known, bottom_known, both_told};
 ghost use Rattle.std.proofs.Props.{props};
 
-use crate::chunks::{fill, last_text, new_frame, size_line};
+use crate::chunks::{CHUNK_LENGTH, FULL_CHUNK_LENGTH, fill, last_text, new_frame, size_line};
 use edr_base::{Faults, Lent, SendFault, Sink, Stop, send};
 
 /// Sends what is written to it in chunks of 4,096 bytes to the sink inside, however the writes are cut (RFC 9112 section
@@ -23,8 +23,8 @@ pub struct ChunkedSink<K: Sink> {
     pieces: u64,
     sent: usize,
     ended: bool,
-    ghost within: { (used ≤ 4096) × (sent ≤ 4104) },
-    ghost whole: { 0 < sent → used ≡ 4096 },
+    ghost within: { (used ≤ chunk_length) × (sent ≤ full_chunk_length) },
+    ghost whole: { 0 < sent → used ≡ chunk_length },
     ghost framed: { ended ≡ false → IsFrame frame },
     ghost room: { has_room ended pieces sent (K.written sink) ≡ true },
     ghost kept: { K.written sink ≡ rebuilt_known ended pieces sent (piece_in frame used) (K.written sink) } by { Prim.hlevel props },
@@ -133,18 +133,18 @@ impl<K: Sink> ChunkedSink<K> {
             ≡ body_known self.old.pieces self.old.sent (piece_in self.old.frame self.old.used) (K.written self.old.sink) }
         ensures bottom { bottom_known self.new.pieces self.new.sent (K.written self.new.sink)
             ≡ bottom_known self.old.pieces self.old.sent (K.written self.old.sink) }
-        ensures room { OnOk result (self.new.used < 4096) }
+        ensures room { OnOk result (self.new.used < chunk_length) }
         ensures going { self.new.ended ≡ false }
         ensures flushed { K.flushed self.new.sink ≡ K.flushed self.old.sink }
         ensures lent { SinkLent (K.beside self.old.sink) (K.beside self.new.sink)
             (K.faults self.old.sink) (K.faults self.new.sink) }
         ensures cause { IsErrOf result Stop.Failed → Rose (K.faults self.old.sink) (K.faults self.new.sink) }
     {
-        if self.used < 4096 {
+        if self.used < CHUNK_LENGTH {
             return Ok(());
         }
         let mut sent = self.sent;
-        let outcome = send_rest(&mut self.sink, &self.frame[..4104], &mut sent);
+        let outcome = send_rest(&mut self.sink, &self.frame[..FULL_CHUNK_LENGTH], &mut sent);
         if outcome.is_ok() {
             self.pieces += 1;
             self.used = 0;
@@ -157,14 +157,14 @@ impl<K: Sink> ChunkedSink<K> {
 
     // Takes bytes into the present piece, and says how many.
     fn take_in(&mut self, piece: &[u8]) -> usize
-        requires room { self.old.used < 4096 }
+        requires room { self.old.used < chunk_length }
         requires going { self.old.ended ≡ false }
         ensures bound { (result ≤ length piece.now) × (0 < length piece.now → 0 < result) }
         ensures body { body_known self.new.pieces self.new.sent (piece_in self.new.frame self.new.used) (K.written self.new.sink)
             ≡ append_known (body_known self.old.pieces self.old.sent (piece_in self.old.frame self.old.used) (K.written self.old.sink)) (take result piece.now) }
         ensures same { (self.new.sink ≡ self.old.sink) × (self.new.pieces ≡ self.old.pieces) × (self.new.sent ≡ self.old.sent) × (self.new.ended ≡ self.old.ended) }
     {
-        let count = piece.len().min(4096 - self.used);
+        let count = piece.len().min(CHUNK_LENGTH - self.used);
         fill(&mut self.frame, self.used, &piece[..count]);
         self.used += count;
         count
@@ -205,11 +205,7 @@ impl<K: Sink> ChunkedSink<K> {
     {
         let mut sent = 0;
         while sent < text.len() {
-            match self.write(&text[sent..]) {
-                Ok(count) => sent += count,
-                Err(Stop::Failed) => return Err(SendFault::WriteFault),
-                Err(Stop::OutOfMemory) => return Err(SendFault::OutOfMemory),
-            }
+            sent += self.write(&text[sent..])?;
         }
         Ok(())
     }
@@ -264,10 +260,8 @@ impl<K: Sink> ChunkedSink<K> {
         ensures cause { IsOk outcome → IsErrOf result SendFault.WriteFault
             → Rose (K.faults (sink_inside self.old)) (K.faults (sink_inside self.new)) }
     {
-        match outcome {
-            Ok(()) => self.end(),
-            Err(fault) => Err(fault),
-        }
+        outcome?;
+        self.end()
     }
 
     /// Ends the body, and hands the sink back, after a fault too.
@@ -302,25 +296,21 @@ fn send_two<K: Sink>(sink: &mut K, first: &[u8], second: &[u8]) -> Result<(), Se
     ensures lent { SinkLent (K.beside sink.old) (K.beside sink.new) (K.faults sink.old) (K.faults sink.new) }
     ensures cause { IsErrOf result SendFault.WriteFault → Rose (K.faults sink.old) (K.faults sink.new) }
 {
-    match send(sink, first) {
-        Ok(()) => send(sink, second),
-        Err(fault) => Err(fault),
-    }
+    send(sink, first)?;
+    send(sink, second)
 }
 
 // Sends a text as a body of one chunk, without gathering it.
 fn send_chunk<K: Sink>(sink: &mut K, text: &[u8]) -> Result<(), SendFault>
-    requires { (0 < length text.now) × (length text.now ≤ 4096) }
+    requires { (0 < length text.now) × (length text.now ≤ chunk_length) }
     ensures bytes { Writes result (chunked text.now) (K.written sink.old) (K.written sink.new) }
     ensures flushed { K.flushed sink.new ≡ K.flushed sink.old }
     ensures lent { SinkLent (K.beside sink.old) (K.beside sink.new) (K.faults sink.old) (K.faults sink.new) }
     ensures cause { IsErrOf result SendFault.WriteFault → Rose (K.faults sink.old) (K.faults sink.new) }
 {
     let (line, start) = size_line(text.len());
-    match send(sink, &line[start..]) {
-        Ok(()) => send_two(sink, text, b"\r\n0\r\n\r\n"),
-        Err(fault) => Err(fault),
-    }
+    send(sink, &line[start..])?;
+    send_two(sink, text, b"\r\n0\r\n\r\n")
 }
 
 // Sends a text as a body in chunks, each of which is gathered.
@@ -344,7 +334,7 @@ pub fn send_body<K: Sink>(sink: &mut K, text: &[u8]) -> Result<(), SendFault>
     ensures lent { SinkLent (K.beside sink.old) (K.beside sink.new) (K.faults sink.old) (K.faults sink.new) }
     ensures cause { IsErrOf result SendFault.WriteFault → Rose (K.faults sink.old) (K.faults sink.new) }
 {
-    if text.is_empty() || text.len() > 4096 {
+    if text.is_empty() || text.len() > CHUNK_LENGTH {
         send_gathered(sink, text)
     } else {
         send_chunk(sink, text)

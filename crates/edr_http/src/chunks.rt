@@ -1,8 +1,14 @@
 //! The chunk of a piece of a body, and what ends a body (RFC 9112 section 7.1), in the array that the piece is gathered in.
 ghost use Rattle.std.specs.Prelude.{◌≡◌, ◌≤◌, ◌<◌, ◌+◌, ◌-◌, ◌++◌, false, length, take, drop, codes};
 ghost use Rattle.std.specs.Fmt.{digits, digit_glyph};
-ghost use Rattle.edr_http.specs.Chunks.{crlf, chunk, chunked};
-ghost use Rattle.edr_http.specs.ChunkedSinkParts.{IsFrame, piece_in};
+ghost use Rattle.edr_http.specs.Chunks.{crlf, chunk, chunked, chunk_length};
+ghost use Rattle.edr_http.specs.ChunkedSinkParts.{IsFrame, full_chunk_length, piece_in};
+
+/// A chunk holds at most so many bytes.
+pub(crate) const CHUNK_LENGTH: usize = 4096;
+
+/// The chunk of a full piece has so many bytes: the line before it, the piece and a line end.
+pub(crate) const FULL_CHUNK_LENGTH: usize = CHUNK_LENGTH + 8;
 
 // Puts bytes into a text at a place.
 fn put(text: &mut [u8], at: usize, bytes: &[u8])
@@ -36,7 +42,7 @@ fn digit(number: usize) -> u8
 
 // Takes bytes into the piece, behind those that it has.
 pub(crate) fn fill(frame: &mut [u8; 4109], used: usize, bytes: &[u8])
-    requires room { used + length bytes.now ≤ 4096 }
+    requires room { used + length bytes.now ≤ chunk_length }
     requires framed { IsFrame frame.old }
     ensures framed { IsFrame frame.new }
     ensures piece { piece_in frame.new (used + length bytes.now) ≡ piece_in frame.old used ++ bytes.now }
@@ -46,7 +52,7 @@ pub(crate) fn fill(frame: &mut [u8; 4109], used: usize, bytes: &[u8])
 
 // Puts the size of a short piece before it, in place of that of a full one, and says where it begins.
 fn put_size(frame: &mut [u8], size: usize) -> usize
-    requires small { size < 4096 }
+    requires small { size < chunk_length }
     requires long { 6 ≤ length frame.old }
     requires full { take 6 frame.old ≡ codes "1000\r\n" }
     ensures place { result + length (digits 16 false size) ≡ 4 }
@@ -68,12 +74,12 @@ fn put_size(frame: &mut [u8], size: usize) -> usize
 
 // The line before a piece, which is its size in hexadecimal: it stands at the end of the array, and this says where it begins.
 pub(crate) fn size_line(size: usize) -> ([u8; 6], usize)
-    requires { size ≤ 4096 }
+    requires { size ≤ chunk_length }
     ensures bound { result.1 ≤ 6 }
     ensures text { drop result.1 result.0 ≡ digits 16 false size ++ crlf }
 {
     let mut line = *b"1000\r\n";
-    if size == 4096 {
+    if size == CHUNK_LENGTH {
         return (line, 0);
     }
     let start = put_size(&mut line, size);
@@ -82,17 +88,17 @@ pub(crate) fn size_line(size: usize) -> ([u8; 6], usize)
 
 // Makes of the piece the end of a body of which `sent` bytes went out, and says from where to where in the array it stands.
 pub(crate) fn last_text(frame: &mut [u8; 4109], used: usize, sent: usize) -> (usize, usize)
-    requires within { (used ≤ 4096) × (sent ≤ 4104) }
-    requires whole { 0 < sent → used ≡ 4096 }
+    requires within { (used ≤ chunk_length) × (sent ≤ full_chunk_length) }
+    requires whole { 0 < sent → used ≡ chunk_length }
     requires framed { IsFrame frame.old }
     ensures bound { (result.0 ≤ result.1) × (result.1 ≤ 4109) }
     ensures text { take (result.1 - result.0) (drop result.0 frame.new) ≡ drop sent (chunked (piece_in frame.old used)) }
 {
-    if used == 4096 {
+    if used == CHUNK_LENGTH {
         return (sent, 4109);
     }
     if used == 0 {
-        return (4104, 4109);
+        return (FULL_CHUNK_LENGTH, 4109);
     }
     put(frame, 6 + used, b"\r\n0\r\n\r\n");
     let start = put_size(frame, used);

@@ -47,16 +47,12 @@ pub(crate) fn fill<S: Source>(
             Found::Bad => return Ok(Front::BadHead),
             Found::NeedMore => {}
         }
-        match read_more(source, held) {
-            Ok(0) => {
-                return Ok(if held.bytes().is_empty() {
-                    Front::EndOfInput
-                } else {
-                    Front::BadHead
-                });
-            }
-            Ok(_) => {}
-            Err(fault) => return Err(fault),
+        if read_more(source, held)? == 0 {
+            return Ok(if held.bytes().is_empty() {
+                Front::EndOfInput
+            } else {
+                Front::BadHead
+            });
         }
     }
     unreachable!()

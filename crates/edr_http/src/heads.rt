@@ -1,5 +1,9 @@
 //! Heads of requests.
-use edr_base::{Items, Refusal, Text};
+ghost use Rattle.std.specs.Prelude.{◌≡◌};
+ghost use Rattle.edr_http.specs.declared.heads.HeadFault.TheVariants.{ReadFault, OutOfMemory as HeadWantsMemory};
+
+use edr_base::{Failed, Items, OutOfMemory, Refusal, Text};
+use std::alloc::AllocError;
 
 /// What the head of a request says (RFC 9112, sections 2 to 5).
 #[derive(Debug, Drop)]
@@ -32,4 +36,28 @@ pub enum HeadFault {
     ReadFault,
     /// Memory was wanting.
     OutOfMemory,
+}
+
+impl From<Failed> for HeadFault {
+    ghost from_gives = { λ _ fault. fault ≡ ReadFault };
+
+    fn from(_: Failed) -> HeadFault {
+        HeadFault::ReadFault
+    }
+}
+
+impl From<OutOfMemory> for HeadFault {
+    ghost from_gives = { λ _ fault. fault ≡ HeadWantsMemory };
+
+    fn from(_: OutOfMemory) -> HeadFault {
+        HeadFault::OutOfMemory
+    }
+}
+
+impl From<AllocError> for HeadFault {
+    ghost from_gives = { λ _ fault. fault ≡ HeadWantsMemory };
+
+    fn from(_: AllocError) -> HeadFault {
+        HeadFault::OutOfMemory
+    }
 }

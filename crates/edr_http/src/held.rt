@@ -11,6 +11,9 @@ use edr_base::{Failed, Source};
 use std::alloc::{AllocError, Global};
 use std::marker::Model;
 
+// The bytes that are read at once.
+const BLOCK_SIZE: usize = 4096;
+
 /// Bytes that were read and not used, seen as a list. Others stand before them and behind them in the same memory, so that
 /// nothing moves where the first are used, and a block is read to its place.
 #[derive(Debug, Drop)]
@@ -74,19 +77,19 @@ fn make_room(memory: &mut Vec<u8>, size: usize) -> Result<(), AllocError>
     requires { size ≤ vec_len memory.old }
     ensures kept { take size memory.new.items ≡ take size memory.old.items }
     ensures len { vec_len memory.old ≤ vec_len memory.new }
-    ensures room { OnOk result (size + 4096 ≤ vec_len memory.new) }
+    ensures room { OnOk result (size + block_size ≤ vec_len memory.new) }
 {
     let room = memory.len() - size;
-    if room < 4096 {
-        memory.try_reserve(4096 - room)?;
-        memory.resize(size + 4096, 0)?;
+    if room < BLOCK_SIZE {
+        memory.try_reserve(BLOCK_SIZE - room)?;
+        memory.resize(size + BLOCK_SIZE, 0)?;
     }
     Ok(())
 }
 
 // Reads one block behind the first bytes.
 fn read_behind<S: Source>(source: &mut S, memory: &mut [u8], size: usize) -> Result<usize, Failed>
-    requires { size + 4096 ≤ length memory.old }
+    requires { size + block_size ≤ length memory.old }
     ensures bound { IfOk result (λ n. n ≤ block_size) }
     ensures grew { IfOk result (λ n. Grew (take size memory.old) (take (size + n) memory.new) n (S.left source.new)) }
     ensures rest { IfOk result (λ n. prepend_known (take (size + n) memory.new) (S.left source.new) ≡ prepend_known (take size memory.old) (S.left source.old)) }
@@ -94,7 +97,7 @@ fn read_behind<S: Source>(source: &mut S, memory: &mut [u8], size: usize) -> Res
     ensures lent { SourceLent (S.aside source.old) (S.aside source.new) (S.faults source.old) (S.faults source.new) }
     ensures cause { OnErr result (Rose (S.faults source.old) (S.faults source.new)) }
 {
-    source.read(&mut memory[size..size + 4096])
+    source.read(&mut memory[size..size + BLOCK_SIZE])
 }
 
 /// Reads one block behind what is held, which moves to the front of its memory before.
@@ -109,14 +112,8 @@ pub(crate) fn read_more<S: Source>(source: &mut S, held: &mut Held) -> Result<us
     move_to_front(&mut held.memory, held.start, held.end);
     held.end -= held.start;
     held.start = 0;
-    if make_room(&mut held.memory, held.end).is_err() {
-        return Err(HeadFault::OutOfMemory);
-    }
-    match read_behind(source, &mut held.memory, held.end) {
-        Ok(n) => {
-            held.end += n;
-            Ok(n)
-        }
-        Err(Failed) => Err(HeadFault::ReadFault),
-    }
+    make_room(&mut held.memory, held.end)?;
+    let n = read_behind(source, &mut held.memory, held.end)?;
+    held.end += n;
+    Ok(n)
 }

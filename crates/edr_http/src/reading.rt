@@ -34,17 +34,14 @@ fn take_head<S: Source>(
     ensures lent { SourceLent (S.aside source.old) (S.aside source.new) (S.faults source.old) (S.faults source.new) }
     ensures cause { IsErrOf result HeadFault.ReadFault → Rose (S.faults source.old) (S.faults source.new) }
 {
-    match fill(source, held, fields) {
-        Ok(Front::Got(spans)) => match copy_head(alloc, window(held.bytes()), fields, spans) {
-            Ok(head) => {
-                held.take(spans.len);
-                Ok(HeadOutcome::Got(head))
-            }
-            Err(_) => Err(HeadFault::OutOfMemory),
-        },
-        Ok(Front::EndOfInput) => Ok(HeadOutcome::EndOfInput),
-        Ok(Front::BadHead) => Ok(HeadOutcome::Refused(Refusal::BadHead)),
-        Err(fault) => Err(fault),
+    match fill(source, held, fields)? {
+        Front::Got(spans) => {
+            let head = copy_head(alloc, window(held.bytes()), fields, spans)?;
+            held.take(spans.len);
+            Ok(HeadOutcome::Got(head))
+        }
+        Front::EndOfInput => Ok(HeadOutcome::EndOfInput),
+        Front::BadHead => Ok(HeadOutcome::Refused(Refusal::BadHead)),
     }
 }
 

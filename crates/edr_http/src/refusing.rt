@@ -25,14 +25,9 @@ pub fn write_refusal<K: Sink>(
     ensures lent { SinkLent (K.beside sink.old) (K.beside sink.new) (K.faults sink.old) (K.faults sink.new) }
     ensures cause { IsErrOf result SendFault.WriteFault → Rose (K.faults sink.old) (K.faults sink.new) }
 {
-    match write_head(sink, refusal.status(), true, edition, close) {
-        Ok(()) => {
-            if is_head {
-                Ok(())
-            } else {
-                send_body(sink, refusal.body())
-            }
-        }
-        Err(fault) => Err(fault),
+    write_head(sink, refusal.status(), true, edition, close)?;
+    if is_head {
+        return Ok(());
     }
+    send_body(sink, refusal.body())
 }

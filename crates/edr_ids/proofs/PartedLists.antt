@@ -5,7 +5,8 @@ use Rattle.std.proofs.lemmas.List.{append-nil}
 use Rattle.std.proofs.lemmas.List.Elements.{All-nil, All-cons, All-head, All-tail, filter-append}
 use Rattle.std.specs.List.{filter, slice_index_or}
 use Rattle.std.specs.Ordering.{is_lt, is_eq, is_gt}
-use Rattle.edr_ids.specs.Ids.{order, AscendBy, has_id, is_below, is_above, item_of, with_item, without_id}
+use Rattle.edr_base.specs.Names.{order}
+use Rattle.edr_ids.specs.Ids.{AscendBy, has_id, is_below, is_above, item_of, with_item, without_id}
 use Rattle.edr_ids.specs.ListLaws.{order_itself, order_same, order_less_flips, order_greater_flips, has_id_is, first_below, tail_ascends, filter_keeps_all, filter_keeps_none, item_of-none, AscendBy-nil, AscendBy-cons}
 
 -- ---- what holds of all holds of each side

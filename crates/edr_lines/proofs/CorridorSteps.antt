@@ -6,7 +6,7 @@ use Rattle.std.proofs.lemmas.Bool.{false≢true}
 use Rattle.edr_axes.specs.declared.levels.Levels.{Levels}
 use Rattle.edr_wkt.specs.declared.geometry.Geometry.{Geometry}
 use Rattle.edr_wkt.specs.Wkt.{has_z_of}
-use Rattle.edr_geometry.specs.Limits.{IsCoordinate}
+use Rattle.edr_base.specs.Limits.{IsCoordinate}
 use Rattle.edr_corridor.specs.Values.{needs_level}
 use Rattle.edr_corridor.specs.Boxes.{GridAxes}
 use Rattle.edr_corridor.specs.BoxLaws.{CorridorsAreCut}

@@ -1,8 +1,7 @@
 -- How many rows and columns a grid has at most, and where they are.
 use Rattle.std.proofs.Common.{ℕ, ◌*◌, ◌≤◌, arith, All}
-use Rattle.edr_base.specs.Limits.{node_limit}
+use Rattle.edr_base.specs.Limits.{node_limit, IsCoordinate}
 use Rattle.edr_chunk.specs.declared.shapes.GridShape.{GridShape}
-use Rattle.edr_geometry.specs.Limits.{IsCoordinate}
 use Rattle.edr_edition.specs.Values.{InstanceValue}
 use Rattle.edr_edition.specs.Instances.{HasGrid}
 use Rattle.edr_lines.specs.Plans.{axes_of, IsFew}

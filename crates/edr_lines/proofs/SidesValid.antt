@@ -7,7 +7,8 @@ use Rattle.std.proofs.lemmas.List.Elements.{All-map}
 use Rattle.covjson_value.specs.declared.domains.Domain.{Domain}
 use Rattle.covjson_value.specs.declared.coverages.Parameter.{Parameter}
 use Rattle.covjson_value.specs.declared.coverages.NdArray.{NdArray}
-use Rattle.covjson_value.specs.Coverages.{IsReferencing, IsRange, IsSample, IsValid}
+use Rattle.edr_base.specs.Limits.{IsSample}
+use Rattle.covjson_value.specs.Coverages.{IsReferencing, IsRange, IsValid}
 use Rattle.covjson_value.specs.Samples.{nodes_of, is_of}
 use Rattle.edr_chunk.specs.Places.{number}
 use Rattle.edr_edition.specs.Values.{InstanceValue}

@@ -1,7 +1,7 @@
 //! How far what a corridor takes spreads along the axes of some nodes.
 ghost use Rattle.std.specs.Prelude.{◌≡◌, ◌<◌, ◌≤◌, true, false, length, IfOk, IsSome};
 ghost use Rattle.std.specs.List.{All};
-ghost use Rattle.edr_geometry.specs.Limits.{IsCoordinate};
+ghost use Rattle.edr_base.specs.Limits.{IsCoordinate};
 ghost use Rattle.edr_corridor.specs.Values.{needs_level};
 ghost use Rattle.edr_corridor.specs.Boxes as boxes;
 ghost use Rattle.edr_corridor.specs.Boxes.{LiesOn};

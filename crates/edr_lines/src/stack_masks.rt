@@ -1,8 +1,7 @@
 //! Which nodes of a stack a corridor takes.
 ghost use Rattle.std.specs.Prelude.{◌≡◌, ℕ, ◌<◌, ◌≤◌, ◌+◌, ◌*◌, nat_lt, true, length, IfOk, IsSome};
 ghost use Rattle.std.specs.List.{All, slice_index_or};
-ghost use Rattle.edr_base.specs.Limits.{node_limit};
-ghost use Rattle.edr_geometry.specs.Limits.{IsCoordinate};
+ghost use Rattle.edr_base.specs.Limits.{node_limit, IsCoordinate};
 ghost use Rattle.edr_corridor.specs.Values.{needs_level};
 ghost use Rattle.edr_corridor.specs.Boxes.{lies_in, box_takes};
 ghost use Rattle.edr_select.specs.Listings.{NumbersRise};

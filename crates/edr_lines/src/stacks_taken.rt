@@ -1,8 +1,7 @@
 //! Stacks of what corridors take.
 ghost use Rattle.std.specs.Prelude.{◌≡◌, ◌<◌, ◌≤◌, ◌+◌, ◌-◌, true, false, length, IfOk, IsSome, MatchOption};
 ghost use Rattle.std.specs.List.{All, filter, range_with_len, slice_index_or};
-ghost use Rattle.edr_base.specs.Limits.{node_limit};
-ghost use Rattle.edr_geometry.specs.Limits.{IsCoordinate};
+ghost use Rattle.edr_base.specs.Limits.{node_limit, IsCoordinate};
 ghost use Rattle.edr_corridor.specs.Values.{needs_level};
 ghost use Rattle.edr_lines.specs.Taken.{counts_of, NoneTaken, AreSidesOf, HasBits};
 ghost use Rattle.edr_lines.specs.Corridors.{LiesAlong, takes};

@@ -10,7 +10,8 @@ use Rattle.covjson_value.specs.declared.domains.CoordinateName.{CoordinateName}
 use Rattle.covjson_value.specs.declared.domains.CoordinateName.TheVariants.{T, Z, Y, X}
 use Rattle.covjson_value.specs.Domains.{axis_length, count_of}
 use Rattle.covjson_value.specs.Coverages.{IsAxisValue, IsNamedAxis, HasAxes}
-use Rattle.edr_station.specs.Stations.{StationValue, IsPlaced, IsAxisWithin, IsCoordinate, levels_along}
+use Rattle.edr_base.specs.Limits.{IsCoordinate}
+use Rattle.edr_station.specs.Stations.{StationValue, IsPlaced, IsAxisWithin, levels_along}
 use Rattle.edr_select.specs.Listings.{NumbersRise}
 use Rattle.edr_select.specs.LevelLaws.{some_length}
 use Rattle.edr_select.specs.DomainLaws.{count_at, has_axes_at, one_value}

@@ -12,7 +12,8 @@ use Rattle.edr_axes.specs.AxisLaws.{ascending_once}
 use Rattle.covjson_value.specs.declared.coverages.Parameter.{Parameter}
 use Rattle.covjson_value.specs.Samples.{same_where_given}
 use Rattle.edr_ids.specs.Ids.{AscendBy}
-use Rattle.edr_station.specs.Stations.{StationValue, IsStation, IsAxisWithin, IsCoordinate, levels_along, station_id, station_at, nowhere}
+use Rattle.edr_base.specs.Limits.{IsCoordinate}
+use Rattle.edr_station.specs.Stations.{StationValue, IsStation, IsAxisWithin, levels_along, station_id, station_at, nowhere}
 use Rattle.edr_edition.specs.Stores.{of_stations, Subject}
 use Rattle.edr_query.specs.Values.{QueryValue}
 use Rattle.edr_select.specs.Samples.{Stored, id_at}

@@ -18,9 +18,11 @@ use Rattle.covjson_value.specs.declared.coverages.Parameter.{Parameter}
 use Rattle.covjson_value.specs.Coverages.{AscendById, ids_of}
 use Rattle.covjson_value.specs.Domains.{axis_length}
 use Rattle.covjson_value.specs.Samples.{Node, node, same_where_given, same_node, is_of}
-use Rattle.edr_ids.specs.Ids.{order, AscendBy}
+use Rattle.edr_base.specs.Names.{order}
+use Rattle.edr_ids.specs.Ids.{AscendBy}
 use Rattle.edr_ids.specs.ListLaws.{order_itself}
-use Rattle.edr_station.specs.Stations.{StationValue, IsStation, IsAxisWithin, IsCoordinate, levels_along, station_id, station_at, nowhere}
+use Rattle.edr_base.specs.Limits.{IsCoordinate}
+use Rattle.edr_station.specs.Stations.{StationValue, IsStation, IsAxisWithin, levels_along, station_id, station_at, nowhere}
 use Rattle.edr_station.specs.Blocks.{blocks_of, first_block, series_at}
 use Rattle.edr_edition.specs.Stores.{of_stations, Subject}
 use Rattle.edr_query.specs.declared.shapes.Shape.{Shape}

@@ -15,7 +15,8 @@ use Rattle.covjson_value.specs.declared.coverages.Coverage.{Coverage}
 use Rattle.covjson_value.specs.Domains.{count_of}
 use Rattle.covjson_value.specs.Coverages.{IsNamedAxis, IsRange, IsValid, HasAxes}
 use Rattle.covjson_write.specs.Writers.{IsHead}
-use Rattle.edr_station.specs.Stations.{StationValue, IsStation, IsAxisWithin, IsCoordinate, station_at, nowhere}
+use Rattle.edr_base.specs.Limits.{IsCoordinate}
+use Rattle.edr_station.specs.Stations.{StationValue, IsStation, IsAxisWithin, station_at, nowhere}
 use Rattle.edr_edition.specs.Values.{CollectionValue}
 use Rattle.edr_edition.specs.Editions.{IsCollection}
 use Rattle.edr_edition.specs.Stores.{stations_of}

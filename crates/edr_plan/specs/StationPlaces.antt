@@ -6,7 +6,7 @@ use Rattle.edr_axes.specs.Axes.{value_at}
 use Rattle.covjson_value.specs.declared.coverages.Parameter.{Parameter}
 use Rattle.covjson_value.specs.Samples.{node}
 use Rattle.edr_station.specs.Stations.{StationValue, StationsValue, station_at}
-use Rattle.edr_station.specs.Blocks.{blocks_of, first_block, series_at, place_in_series}
+use Rattle.edr_station.specs.Blocks.{block_length, blocks_of, first_block, series_at, place_in_series}
 use Rattle.edr_query.specs.declared.shapes.Shape.{Shape}
 use Rattle.edr_query.specs.declared.shapes.Shape.TheVariants as at
 use Rattle.edr_query.specs.Values.{QueryValue}
@@ -34,7 +34,7 @@ stored_of ps s first p t z = record {
     value = slice_index_or (series_at s p) (cell_of s t z) None;
   };
   station = Some s.id;
-  chunk = first + p * blocks_of s + cell_of s t z / 256;
+  chunk = first + p * blocks_of s + cell_of s t z / block_length;
 }
 
 -- the sample at the places of a station, a parameter, a time and a level

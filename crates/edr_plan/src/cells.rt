@@ -7,7 +7,7 @@ ghost use Rattle.edr_station.specs.Blocks as blocks;
 ghost use Rattle.edr_plan.specs.StationPlaces.{cell_of};
 
 use edr_base::OutOfMemory;
-use edr_station::Station;
+use edr_station::{BLOCK_LENGTH, Station};
 use std::alloc::Global;
 
 // How many levels a station has, and 1 where it has no axis of levels.
@@ -26,7 +26,7 @@ pub(crate) fn blocks_of(station: &Station) -> u64
     ensures { result ≡ blocks.blocks_of station.now }
 {
     let values = station.times().len() as u64 * levels_in(station);
-    values.div_ceil(256)
+    values.div_ceil(BLOCK_LENGTH as u64)
 }
 
 // Adds the places of a time, each level in turn.

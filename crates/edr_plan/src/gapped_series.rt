@@ -3,7 +3,7 @@ ghost use Rattle.std.specs.Prelude.{◌≡◌, ◌≢◌, ◌<◌, ◌≤◌, �
 ghost use Rattle.std.specs.List.{flat_map};
 ghost use Rattle.edr_edition.specs.Editions.{IsCollection};
 ghost use Rattle.edr_edition.specs.Stores.{stations_of};
-ghost use Rattle.edr_geometry.specs.Limits.{IsCoordinate};
+ghost use Rattle.edr_base.specs.Limits.{IsCoordinate};
 ghost use Rattle.edr_lines.specs.Plans as line_plans;
 ghost use Rattle.edr_query.specs.Queries.{IsShape};
 ghost use Rattle.edr_select.specs.Choices.{parameter_places};

@@ -40,14 +40,12 @@ fn reply_of_grids(
     ensures refused { IfErr result (IsFaultOf (refused_in collection.now (Ask query.now))) }
 {
     instances_have_grids();
-    match found_grid(query, collection) {
-        Ok(instance) => match &query.shape {
-            Shape::Trajectory(_) | Shape::Corridor { .. } => {
-                reply_along_line(alloc, query, collection, instance)
-            }
-            _ => reply_over_grid(alloc, query, collection, instance),
-        },
-        Err(refusal) => Err(PlanFault::Refused(refusal)),
+    let instance = found_grid(query, collection)?;
+    match &query.shape {
+        Shape::Trajectory(_) | Shape::Corridor { .. } => {
+            reply_along_line(alloc, query, collection, instance)
+        }
+        _ => reply_over_grid(alloc, query, collection, instance),
     }
 }
 
@@ -63,24 +61,22 @@ fn reply_of_stations(
     ensures planned { IfOk result (IsReplyIn collection.now query.now) }
     ensures refused { IfErr result (IsFaultOf (refused_in collection.now (Ask query.now))) }
 {
-    match found_stations(query, collection) {
-        Ok(stations) => match &query.shape {
-            Shape::Corridor {
-                geometry,
-                width,
-                height,
-            } => {
-                let gapped = gapped_of(
-                    alloc, query, collection, stations, geometry, *width, *height,
-                )?;
-                Ok(Reply::Gapped(gapped))
-            }
-            _ => {
-                let series = series_of(alloc, query, collection, stations)?;
-                Ok(Reply::Series(series))
-            }
-        },
-        Err(refusal) => Err(PlanFault::Refused(refusal)),
+    let stations = found_stations(query, collection)?;
+    match &query.shape {
+        Shape::Corridor {
+            geometry,
+            width,
+            height,
+        } => {
+            let gapped = gapped_of(
+                alloc, query, collection, stations, geometry, *width, *height,
+            )?;
+            Ok(Reply::Gapped(gapped))
+        }
+        _ => {
+            let series = series_of(alloc, query, collection, stations)?;
+            Ok(Reply::Series(series))
+        }
     }
 }
 

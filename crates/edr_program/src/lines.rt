@@ -24,16 +24,13 @@ pub fn said_of_feed(refusal: FeedRefusal) -> (&'static [u8], Option<usize>)
 }
 
 // Writes one text and then another.
-#[tactic(auto, using(edr_base::specs::KnownBytes::writes_stop))]
 fn send_both<D: Sink>(sink: &mut D, first: &[u8], second: &[u8]) -> Result<(), SendFault>
     ensures bytes { Writes result (first.now ++ second.now) (D.written sink.old) (D.written sink.new) }
     ensures lent { SinkLent (D.beside sink.old) (D.beside sink.new) (D.faults sink.old) (D.faults sink.new) }
     ensures cause { IsErrOf result SendFault.WriteFault → Rose (D.faults sink.old) (D.faults sink.new) }
 {
-    match send(sink, first) {
-        Ok(()) => send(sink, second),
-        Err(fault) => Err(fault),
-    }
+    send(sink, first)?;
+    send(sink, second)
 }
 
 // Writes the line of the feed that is named, where there is one.
@@ -52,29 +49,23 @@ fn send_place<D: Sink>(sink: &mut D, line: Option<usize>) -> Result<(), SendFaul
 }
 
 // Writes the line of the feed that is named, where there is one, and a line feed.
-#[tactic(auto, using(edr_base::specs::KnownBytes::writes_stop))]
 fn send_end<D: Sink>(sink: &mut D, line: Option<usize>) -> Result<(), SendFault>
     ensures bytes { Writes result (place_of line ++ codes "\n") (D.written sink.old) (D.written sink.new) }
     ensures lent { SinkLent (D.beside sink.old) (D.beside sink.new) (D.faults sink.old) (D.faults sink.new) }
     ensures cause { IsErrOf result SendFault.WriteFault → Rose (D.faults sink.old) (D.faults sink.new) }
 {
-    match send_place(sink, line) {
-        Ok(()) => send(sink, b"\n"),
-        Err(fault) => Err(fault),
-    }
+    send_place(sink, line)?;
+    send(sink, b"\n")
 }
 
 // Writes a text, the line of the feed that is named behind it, and a line feed.
-#[tactic(auto, using(edr_base::specs::KnownBytes::writes_stop))]
 fn send_line<D: Sink>(sink: &mut D, text: &[u8], line: Option<usize>) -> Result<(), SendFault>
     ensures bytes { Writes result (text.now ++ (place_of line ++ codes "\n")) (D.written sink.old) (D.written sink.new) }
     ensures lent { SinkLent (D.beside sink.old) (D.beside sink.new) (D.faults sink.old) (D.faults sink.new) }
     ensures cause { IsErrOf result SendFault.WriteFault → Rose (D.faults sink.old) (D.faults sink.new) }
 {
-    match send(sink, text) {
-        Ok(()) => send_end(sink, line),
-        Err(fault) => Err(fault),
-    }
+    send(sink, text)?;
+    send_end(sink, line)
 }
 
 /// Writes one line on the errors: a text, the line of the feed that is named behind it, and a line feed. A fault of theirs

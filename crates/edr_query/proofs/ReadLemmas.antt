@@ -8,7 +8,8 @@ use Rattle.edr_query.specs.declared.parameters.Parameter.{Parameter}
 use Rattle.edr_query.specs.declared.reading.TargetFault.{TargetFault}
 use Rattle.edr_query.specs.declared.reading.TargetFault.TheVariants.{Refused, OutOfMemory}
 use Rattle.edr_query.specs.Parameters.{Pair, read_pair, name_of, is_taken, IsUnknown, HasUnknown, HasRepeat}
-use Rattle.edr_query.specs.Targets.{Applies, rank}
+use Rattle.edr_base.specs.RefusalTable.{rank}
+use Rattle.edr_query.specs.Targets.{Applies}
 use Rattle.edr_query.specs.Reads.{read_text, with_pair, IsFound, AreRead, Steps}
 use Rattle.edr_query.proofs.PairLemmas.{known_name, found_more}
 use Rattle.edr_query.proofs.RefusalLemmas.{start, more, stopped}

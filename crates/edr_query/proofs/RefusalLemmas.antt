@@ -9,7 +9,8 @@ use Rattle.edr_query.specs.declared.addresses.PageKind.{PageKind}
 use Rattle.edr_query.specs.declared.reading.TargetFault.{TargetFault}
 use Rattle.edr_query.specs.declared.reading.TargetFault.TheVariants.{Refused, OutOfMemory}
 use Rattle.edr_query.specs.Parameters.{Pair}
-use Rattle.edr_query.specs.Targets.{rank, Applies}
+use Rattle.edr_base.specs.RefusalTable.{rank}
+use Rattle.edr_query.specs.Targets.{Applies}
 use Rattle.edr_query.specs.Reads.{Passed, Steps}
 
 -- the refusal of a number

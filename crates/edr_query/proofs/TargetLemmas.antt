@@ -21,7 +21,8 @@ use Rattle.edr_query.specs.PathReads.{HasNoAddress, address_in}
 use Rattle.edr_query.specs.Parameters.{Pair, pairs_in}
 use Rattle.edr_query.specs.Values.{QueryValue}
 use Rattle.edr_query.specs.Queries.{IsPlaced, Says}
-use Rattle.edr_query.specs.Targets.{Names, Refuses, Applies, rank, IsPage, IsAsked, MatchTarget, TargetIsOne}
+use Rattle.edr_base.specs.RefusalTable.{rank}
+use Rattle.edr_query.specs.Targets.{Names, Refuses, Applies, IsPage, IsAsked, MatchTarget, TargetIsOne}
 use Rattle.edr_query.specs.declared.reading.TargetFault.{TargetFault}
 use Rattle.edr_query.specs.declared.reading.TargetFault.TheVariants.{Refused, OutOfMemory}
 use Rattle.edr_query.specs.declared.addresses.PageKind.{PageKind}

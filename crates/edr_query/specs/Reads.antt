@@ -27,7 +27,8 @@ use Rattle.edr_query.specs.Parameters.{Pair, name_of, value_of, MaySay, MaySayBo
 use Rattle.edr_query.specs.declared.shapes.BoundingBox.{BoundingBox}
 use Rattle.edr_query.specs.Distances.{numbers_of, IsDistance, IsBoxText, IsOrdered, IsRange}
 use Rattle.edr_query.specs.Queries.{IsGeometryText, IsSaid}
-use Rattle.edr_query.specs.Targets.{rank, Applies, LacksRequired, IsPage}
+use Rattle.edr_base.specs.RefusalTable.{rank}
+use Rattle.edr_query.specs.Targets.{Applies, LacksRequired, IsPage}
 
 -- the parameter of a name that says where a query selects
 abbrev pub place_in : List ℕ → Option Parameter

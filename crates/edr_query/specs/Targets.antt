@@ -3,7 +3,7 @@ use Rattle.std.specs.Prelude.{◌≡◌, ◌⊎◌, ℕ, true, false, List, Resu
 use Rattle.edr_base.specs.FirstThatApplies.{IsLeast, NoneApplies}
 use Rattle.edr_base.specs.declared.refusals.Refusal.{Refusal}
 use Rattle.edr_base.specs.declared.refusals.Refusal.TheVariants.{NoSuchPage, UnknownParameter, RepeatedParameter, BadFormat, MissingParameter, BadCoords, WrongGeometry, BadBbox, BadDatetime, BadLevel, BadDistance, Conflict}
-use Rattle.edr_base.specs.RefusalTable.{line_of}
+use Rattle.edr_base.specs.RefusalTable.{rank}
 use Rattle.edr_axes.specs.Times.{HasNoTimes}
 use Rattle.edr_axes.specs.Levels.{HasNoLevels}
 use Rattle.edr_wkt.specs.declared.geometry.Geometry.{Geometry}
@@ -108,10 +108,6 @@ Names target address = IsPath (path_in target) address
 abbrev pub Refuses : List ℕ → Refusal → Type 0
 Refuses target NoSuchPage = (address : Address) → ¬ (Names target address)
 Refuses target other = (address : Address) × Names target address × Applies (page_kind address) (pairs_in (query_in target)) other
-
--- the order of refusals: by their numbers
-abbrev pub rank : Refusal → ℕ
-rank refusal = (line_of refusal).number
 
 -- the page of an address and its parameters
 abbrev pub IsPage : Address → List Pair → Page → Type 0

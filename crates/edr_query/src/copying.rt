@@ -9,15 +9,6 @@ use edr_base::{Items, OutOfMemory, Position, Text};
 use edr_wkt::{Geometry, Polygon};
 use std::alloc::Global;
 
-fn copy_text(alloc: Global, text: &Option<Text>) -> Result<Option<Text>, OutOfMemory>
-    ensures { IfOk result (λ copy. copy ≡ text.now) }
-{
-    match text {
-        Some(text) => Ok(Some(Text::of(alloc, text.bytes())?)),
-        None => Ok(None),
-    }
-}
-
 fn copy_texts(alloc: Global, texts: &[Text]) -> Result<Items<Text>, OutOfMemory>
     ensures { IfOk result (λ copy. copy ≡ texts.now) }
 {
@@ -187,7 +178,7 @@ fn copy_ids(
     ensures { IfOk result (λ copies. (copies.0 ≡ collection.now) × (copies.1 ≡ instance.now)) }
 {
     let collection = Text::of(alloc, collection.bytes())?;
-    let instance = copy_text(alloc, instance)?;
+    let instance = Text::copied(alloc, instance)?;
     Ok((collection, instance))
 }
 
@@ -213,7 +204,7 @@ fn copy_filters(
     ensures { IfOk result (λ copies. (copies.0 ≡ names.now) × (copies.1 ≡ crs.now)) }
 {
     let names = copy_names(alloc, names)?;
-    let crs = copy_text(alloc, crs)?;
+    let crs = Text::copied(alloc, crs)?;
     Ok((names, crs))
 }
 

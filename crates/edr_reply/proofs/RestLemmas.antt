@@ -1,6 +1,6 @@
 -- The rest: what is held, and what is left of the source.
 use Rattle.std.proofs.Common.{◌≡◌, ℕ, ◌+◌, ◌≤◌, ◌<◌, length, length-append, List, [], ◌++◌, take, drop, sym, ap, subst, ◌∙◌, Some, None, append-nil, arith}
-use Rattle.std.specs.Prelude.{IfSome}
+use Rattle.std.specs.Prelude.{IfSome, IsErrAnd, Result, Err}
 use Rattle.std.specs.declared.option.Option.{Option}
 use Rattle.std.specs.Io.KnownBytes.{prepend_known, IsAtEnd}
 use Rattle.std.proofs.lemmas.List.{take-append-drop, length-take-le}
@@ -9,6 +9,10 @@ use mathlib.Core.List.{append_assoc}
 use Rattle.edr_base.specs.Calls.{ReadsAtMost}
 use Rattle.edr_base.specs.KnownBytes.{prepend_more, took_on}
 use Rattle.edr_reply.specs.Taking.{TakesSome, TakesOnto}
+
+-- a fault that is handed on is the same
+pub handed_on : {T E : Type 0} (r : Result T E) (found fault : E) → IsErrAnd r (λ e. e ≡ found) → r ≡ Err fault → found ≡ fault
+handed_on r found fault h e = sym (subst (λ z. IsErrAnd z (λ e. e ≡ found)) e h)
 
 -- a text at the front of what is held was taken
 pub front_taken : (held text rest : List ℕ) (n : ℕ) (left : Option (List ℕ)) → held ≡ text ++ rest → n ≡ length text

@@ -82,10 +82,9 @@ pub(crate) fn take_chunks<S: Source>(
 {
     let mut next_place = place;
     loop {
-        match take_chunk(source, held, body, next_place) {
-            Ok(Some(next)) => next_place = next,
-            Ok(None) => return Ok(()),
-            Err(fault) => return Err(fault),
+        match take_chunk(source, held, body, next_place)? {
+            Some(next) => next_place = next,
+            None => return Ok(()),
         }
     }
 }

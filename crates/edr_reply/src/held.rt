@@ -3,8 +3,10 @@ ghost use Rattle.std.specs.Prelude.{◌≡◌, ◌≤◌, ◌<◌, ◌+◌, ◌-
 ghost use Rattle.std.specs.Io.KnownBytes.{prepend_known, IsAtEnd};
 ghost use Rattle.edr_base.specs.Outside.{Rose};
 ghost use Rattle.edr_base.specs.Calls.{SourceLent, Reads};
+ghost use Rattle.edr_reply.specs.declared.held.PartFault.TheVariants.{ReadFault, OutOfMemory as PartWantsMemory};
 
 use edr_base::{Failed, Source};
+use std::alloc::AllocError;
 use std::marker::Model;
 
 /// Why a part of a reply wasn't taken.
@@ -16,6 +18,22 @@ pub(crate) enum PartFault {
     ReadFault,
     /// Memory was wanting.
     OutOfMemory,
+}
+
+impl From<Failed> for PartFault {
+    ghost from_gives = { λ _ fault. fault ≡ ReadFault };
+
+    fn from(_: Failed) -> PartFault {
+        PartFault::ReadFault
+    }
+}
+
+impl From<AllocError> for PartFault {
+    ghost from_gives = { λ _ fault. fault ≡ PartWantsMemory };
+
+    fn from(_: AllocError) -> PartFault {
+        PartFault::OutOfMemory
+    }
 }
 
 /// Bytes that were read and not taken yet, at most 16,384, seen as a list. They stand between others in one memory, so that
@@ -113,12 +131,10 @@ pub(crate) fn read_on<S: Source>(source: &mut S, held: &mut Held) -> Result<(), 
     move_to_front(&mut held.memory, held.start, held.end);
     held.end -= held.start;
     held.start = 0;
-    match read_behind(source, &mut held.memory, held.end) {
-        Ok(0) => Err(PartFault::Lacking),
-        Ok(count) => {
-            held.end += count;
-            Ok(())
-        }
-        Err(Failed) => Err(PartFault::ReadFault),
+    let count = read_behind(source, &mut held.memory, held.end)?;
+    if count == 0 {
+        return Err(PartFault::Lacking);
     }
+    held.end += count;
+    Ok(())
 }

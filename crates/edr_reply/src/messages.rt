@@ -61,10 +61,10 @@ fn take_body<S: Source>(
 {
     let mut body = Vec::new(alloc);
     match framing {
-        Framing::Chunked => match take_chunks(source, held, &mut body, place) {
-            Ok(()) => Ok(body),
-            Err(fault) => Err(fault),
-        },
+        Framing::Chunked => {
+            take_chunks(source, held, &mut body, place)?;
+            Ok(body)
+        }
         Framing::Sized(size) => match take_piece(source, held, &mut body, size as usize) {
             Ok(()) => Ok(body),
             Err(fault) => Err(at_place(fault, place)),
@@ -111,12 +111,10 @@ pub fn read_message<S: Source>(alloc: Global, source: &mut S) -> Result<Message,
         opening.len as u64,
     );
     held.fits();
-    match outcome {
-        Ok(body) => Ok(Message {
-            status: opening.status,
-            edition: opening.edition,
-            body: Text::from_vec(body),
-        }),
-        Err(fault) => Err(fault),
-    }
+    let body = outcome?;
+    Ok(Message {
+        status: opening.status,
+        edition: opening.edition,
+        body: Text::from_vec(body),
+    })
 }

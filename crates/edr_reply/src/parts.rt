@@ -31,10 +31,7 @@ pub(crate) fn take_head<S: Source>(source: &mut S, held: &mut Held) -> Result<Op
             FoundHead::Bad => return Err(PartFault::Lacking),
             FoundHead::NeedMore => {}
         }
-        match read_on(source, held) {
-            Ok(()) => {}
-            Err(fault) => return Err(fault),
-        }
+        read_on(source, held)?;
     }
 }
 
@@ -61,10 +58,7 @@ pub(crate) fn take_line<S: Source>(
             FoundLine::Bad => return Err(PartFault::Lacking),
             FoundLine::NeedMore => {}
         }
-        match read_on(source, held) {
-            Ok(()) => {}
-            Err(fault) => return Err(fault),
-        }
+        read_on(source, held)?;
     }
 }
 
@@ -87,9 +81,6 @@ pub(crate) fn take_end<S: Source>(source: &mut S, held: &mut Held) -> Result<(),
             FoundEnd::Bad => return Err(PartFault::Lacking),
             FoundEnd::NeedMore => {}
         }
-        match read_on(source, held) {
-            Ok(()) => {}
-            Err(fault) => return Err(fault),
-        }
+        read_on(source, held)?;
     }
 }

@@ -17,9 +17,7 @@ fn move_held(held: &mut Held, body: &mut Vec<u8>, most: usize) -> Result<usize, 
     ensures memory { IfErr result (λ fault. fault ≡ PartFault.OutOfMemory) }
 {
     let count = most.min(held.bytes().len());
-    if body.extend_from_slice(&held.bytes()[..count]).is_err() {
-        return Err(PartFault::OutOfMemory);
-    }
+    body.extend_from_slice(&held.bytes()[..count])?;
     held.take(count);
     Ok(count)
 }
@@ -39,20 +37,13 @@ fn take_up_to<S: Source>(
     ensures cause { IsErrOf result PartFault.ReadFault → Rose (S.faults source.old) (S.faults source.new) }
     ensures unfinished { IsErrOf result PartFault.ReadFault → TakesSome (λ bytes. length bytes < most) (prepend_known held.old (S.left source.old)) (S.left source.new) }
 {
-    let mut taken = match move_held(held, body, most) {
-        Ok(count) => count,
-        Err(fault) => return Err(fault),
-    };
+    let mut taken = move_held(held, body, most)?;
     while taken < most {
         match read_on(source, held) {
-            Ok(()) => {}
             Err(PartFault::Lacking) => return Ok(taken),
-            Err(fault) => return Err(fault),
+            outcome => outcome?,
         }
-        match move_held(held, body, most - taken) {
-            Ok(count) => taken += count,
-            Err(fault) => return Err(fault),
-        }
+        taken += move_held(held, body, most - taken)?;
     }
     Ok(taken)
 }
@@ -72,15 +63,11 @@ pub(crate) fn take_piece<S: Source>(
     ensures cause { IsErrOf result PartFault.ReadFault → Rose (S.faults source.old) (S.faults source.new) }
     ensures unfinished { IsErrOf result PartFault.ReadFault → TakesSome (λ bytes. length bytes < size) (prepend_known held.old (S.left source.old)) (S.left source.new) }
 {
-    match take_up_to(source, held, body, size) {
-        Ok(count) => {
-            if count < size {
-                Err(PartFault::Lacking)
-            } else {
-                Ok(())
-            }
-        }
-        Err(fault) => Err(fault),
+    let count = take_up_to(source, held, body, size)?;
+    if count < size {
+        Err(PartFault::Lacking)
+    } else {
+        Ok(())
     }
 }
 
@@ -100,14 +87,10 @@ pub(crate) fn take_to_end<S: Source>(
     ensures lent { SourceLent (S.aside source.old) (S.aside source.new) (S.faults source.old) (S.faults source.new) }
     ensures cause { IsErrOf result PartFault.ReadFault → Rose (S.faults source.old) (S.faults source.new) }
 {
-    match take_up_to(source, held, body, limit + 1) {
-        Ok(count) => {
-            if count > limit {
-                Err(PartFault::Lacking)
-            } else {
-                Ok(())
-            }
-        }
-        Err(fault) => Err(fault),
+    let count = take_up_to(source, held, body, limit + 1)?;
+    if count > limit {
+        Err(PartFault::Lacking)
+    } else {
+        Ok(())
     }
 }

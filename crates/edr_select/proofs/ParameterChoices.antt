@@ -5,7 +5,8 @@ use Rattle.std.specs.List.{slice_index_or, list_any, range_with_len}
 use Rattle.std.proofs.lemmas.Bool.Decides.{nat_tests}
 use Rattle.std.proofs.lemmas.List.Folds.{list_any_more, list_any_at}
 use Rattle.std.proofs.lemmas.Slice.Eq.{bytes_eq-Decides}
-use Rattle.edr_ids.specs.Ids.{order, AscendBy, has_id}
+use Rattle.edr_base.specs.Names.{order}
+use Rattle.edr_ids.specs.Ids.{AscendBy, has_id}
 use Rattle.edr_select.specs.PlacesOfIds.{IsPlaceOf}
 use Rattle.edr_ids.specs.ListLaws.{order_itself, keys_ascend}
 use Rattle.edr_select.proofs.SearchedIds.{none_has_it}

@@ -12,7 +12,8 @@ use Rattle.edr_ids.specs.Ids.{item_of}
 use Rattle.edr_query.specs.declared.pages.Page.{Page}
 use Rattle.edr_query.specs.declared.pages.Page.TheVariants.{Ask}
 use Rattle.edr_query.specs.Values.{QueryValue}
-use Rattle.edr_select.specs.Refusals.{applies, applies_in, applies_if, applies_if_found, applies_to_query, collection_named, in_order, rank, refused, IsRefusedLeast, RefusalIsLeast}
+use Rattle.edr_base.specs.RefusalTable.{rank}
+use Rattle.edr_select.specs.Refusals.{applies, applies_in, applies_if, applies_if_found, applies_to_query, collection_named, in_order, refused, IsRefusedLeast, RefusalIsLeast}
 
 -- ---- refusals that aren't of an edition never apply
 

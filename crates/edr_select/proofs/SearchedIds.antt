@@ -5,7 +5,8 @@ use Rattle.std.proofs.lemmas.Cmp.{nat_list_cmp_total}
 use Rattle.std.proofs.lemmas.List.Sorted.{searchable_from_sorted}
 use Rattle.std.specs.List.Sorted.{IsBinarySearchResult, IsSearchInRange}
 use Rattle.std.specs.Ordering.{is_lt, is_gt}
-use Rattle.edr_ids.specs.Ids.{order, AscendBy, has_id}
+use Rattle.edr_base.specs.Names.{order}
+use Rattle.edr_ids.specs.Ids.{AscendBy, has_id}
 use Rattle.edr_ids.specs.ListLaws.{order_same, order_less_flips, less_from_test, greater_from_test, keys_ascend, has_id_is}
 use Rattle.edr_select.specs.PlacesOfIds.{IsPlaceOf}
 

@@ -8,7 +8,7 @@ use Rattle.covjson_value.specs.declared.coverages.Document.TheVariants.{Many}
 use Rattle.covjson_value.specs.Domains.{count_of}
 use Rattle.covjson_write.specs.Writers.{IsHead, with_ranges}
 use Rattle.edr_station.specs.Stations.{StationValue, StationsValue, values_along, station_at}
-use Rattle.edr_station.specs.Blocks.{blocks_of, first_block}
+use Rattle.edr_station.specs.Blocks.{block_length, blocks_of, first_block}
 use Rattle.edr_select.specs.Listings.{NumbersRise}
 use Rattle.edr_select.specs.Series.{series_value}
 
@@ -50,7 +50,7 @@ abbrev pub cells_taken : List (Option ℕ) → List ℕ
 cells_taken cells = flat_map option_to_list cells
 
 abbrev pub block_at : GappedSeriesValue → ℕ → ℕ → ℕ
-block_at series parameter cell = series.first + parameter * series.blocks + cell / 256
+block_at series parameter cell = series.first + parameter * series.blocks + cell / block_length
 
 abbrev pub blocks_of_range : GappedSeriesValue → ℕ → List ℕ
 blocks_of_range series parameter = map (block_at series parameter) (cells_taken series.cells)

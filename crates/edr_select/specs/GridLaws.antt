@@ -14,7 +14,7 @@ use Rattle.covjson_value.specs.declared.coverages.Parameter.{Parameter}
 use Rattle.covjson_value.specs.Coverages.{AscendById, ids_of}
 use Rattle.covjson_value.specs.Domains.{axis_length}
 use Rattle.covjson_value.specs.Samples.{same_where_given, same_node, is_of}
-use Rattle.edr_ids.specs.Ids.{order}
+use Rattle.edr_base.specs.Names.{order}
 use Rattle.edr_ids.specs.ListLaws.{order_itself}
 use Rattle.std.proofs.lemmas.Map.Keys.{Less-from_sorted}
 use Rattle.edr_chunk.specs.declared.shapes.GridPlace.{GridPlace}

@@ -20,7 +20,8 @@ use Rattle.covjson_value.specs.declared.coverages.NdArray.{NdArray}
 use Rattle.covjson_value.specs.declared.coverages.Referencing.{Referencing}
 use Rattle.covjson_value.specs.declared.coverages.Coverage.{Coverage}
 use Rattle.covjson_value.specs.Domains.{has_coordinate, count_of}
-use Rattle.covjson_value.specs.Coverages.{IsAxisValue, IsNamedAxis, HasAxes, HasTuples, IsParameter, IsReferencing, IsSample, IsRange, AscendById, ids_of}
+use Rattle.edr_base.specs.Limits.{IsSample}
+use Rattle.covjson_value.specs.Coverages.{IsAxisValue, IsNamedAxis, HasAxes, HasTuples, IsParameter, IsReferencing, IsRange, AscendById, ids_of}
 use Rattle.covjson_write.specs.Writers.{IsHead}
 use Rattle.edr_edition.specs.Stores.{Subject}
 use Rattle.edr_select.specs.Selections.{is_asked}

@@ -1,7 +1,8 @@
 -- The instance that a query names is one of its collection's.
 use Rattle.std.proofs.Common.{◌≡◌, Bool, true, false, cond, List, [], ◌∷◌, Option, Some, None, refl, ap, sym, ◌∙◌, subst, Contains, ℕ}
 use Rattle.std.specs.Ordering.{is_lt}
-use Rattle.edr_ids.specs.Ids.{order, has_id, item_of}
+use Rattle.edr_base.specs.Names.{order}
+use Rattle.edr_ids.specs.Ids.{has_id, item_of}
 use Rattle.edr_edition.specs.declared.kinds.Kind.TheVariants.{Grid}
 use Rattle.edr_edition.specs.Values.{InstanceValue, CollectionValue, instance_id}
 use Rattle.edr_edition.specs.Stores.{instance_named, newest, greater, subject_in}

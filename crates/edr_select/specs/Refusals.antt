@@ -2,7 +2,7 @@
 use Rattle.std.specs.Prelude.{◌≡◌, ℕ, nat_lt, Bool, true, false, not, ◌&&◌, ◌||◌, bytes_eq, List, [], ◌∷◌, length, Option, None, Some, is_some, is_none}
 use Rattle.std.specs.List.{find, list_any}
 use Rattle.edr_base.specs.FirstThatApplies.{IsLeast, NoneApplies}
-use Rattle.edr_base.specs.RefusalTable.{line_of}
+use Rattle.edr_base.specs.RefusalTable.{rank}
 use Rattle.edr_base.specs.declared.refusals.Refusal.{Refusal}
 use Rattle.edr_base.specs.declared.refusals.Refusal.TheVariants.{UnknownCollection, UnknownInstance, UnknownLocation, QueryNotOffered, UnknownParameterName, BadCrs, NoLevels, NoSamples, TooLarge}
 use Rattle.covjson_value.specs.Coverages.{ids_of}
@@ -149,9 +149,6 @@ refused edition page = find (applies edition page) in_order
 
 abbrev pub Applies : EditionValue → Page → Refusal → Type 0
 Applies edition page refusal = applies edition page refusal ≡ true
-
-abbrev pub rank : Refusal → ℕ
-rank refusal = (line_of refusal).number
 
 abbrev pub IsRefusedLeast : EditionValue → Page → Option Refusal → Type 0
 IsRefusedLeast edition page None = NoneApplies (Applies edition page)

@@ -11,7 +11,8 @@ use Rattle.covjson_value.specs.declared.coverages.NdArray.{NdArray}
 use Rattle.covjson_value.specs.declared.coverages.Coverage.{Coverage}
 use Rattle.covjson_value.specs.declared.coverages.Document.{Document}
 use Rattle.covjson_value.specs.declared.coverages.Document.TheVariants.{One, Many}
-use Rattle.covjson_value.specs.Coverages.{IsSample, IsRange, IsValid, IsValidDocument}
+use Rattle.edr_base.specs.Limits.{IsSample}
+use Rattle.covjson_value.specs.Coverages.{IsRange, IsValid, IsValidDocument}
 use Rattle.covjson_value.specs.Domains.{count_of}
 use Rattle.covjson_write.specs.Pieces.{is_many, coverages_of}
 use Rattle.edr_chunk.specs.declared.shapes.GridShape.{GridShape}

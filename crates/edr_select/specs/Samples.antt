@@ -10,7 +10,7 @@ use Rattle.edr_chunk.specs.AllPlaces.{places}
 use Rattle.edr_chunk.specs.Grids.{value}
 use Rattle.edr_chunk.specs.Tiles.{tiles, tile_of}
 use Rattle.edr_station.specs.Stations.{StationValue}
-use Rattle.edr_station.specs.Blocks.{blocks_of, blocks}
+use Rattle.edr_station.specs.Blocks.{block_length, blocks_of, blocks}
 use Rattle.edr_edition.specs.Values.{InstanceValue}
 use Rattle.edr_edition.specs.Stores.{Held, of_grid, of_stations, Subject}
 
@@ -53,7 +53,7 @@ abbrev pub series_samples : StationValue → List ℕ → ℕ → ℕ → List N
 series_samples s parameter first place [] values = []
 series_samples s parameter first place (n ∷ nodes) [] = []
 series_samples s parameter first place (n ∷ nodes) (v ∷ values) =
-    record { sample = record { parameter = parameter; at = n; value = v }; station = Some s.id; chunk = first + place / 256 }
+    record { sample = record { parameter = parameter; at = n; value = v }; station = Some s.id; chunk = first + place / block_length }
     ∷ series_samples s parameter first (place + 1) nodes values
 
 abbrev pub samples_of_station : StationValue → ℕ → List Parameter → List (List (Option ℤ)) → List Stored

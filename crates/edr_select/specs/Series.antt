@@ -7,7 +7,7 @@ use Rattle.covjson_value.specs.declared.coverages.Document.{Document}
 use Rattle.covjson_value.specs.Domains.{count_of}
 use Rattle.covjson_write.specs.Writers.{IsHead, with_ranges}
 use Rattle.edr_station.specs.Stations.{StationValue, StationsValue, values_along, station_at}
-use Rattle.edr_station.specs.Blocks.{blocks_of, first_block, series_at}
+use Rattle.edr_station.specs.Blocks.{block_length, blocks_of, first_block, series_at}
 use Rattle.edr_select.specs.Listings.{document_of, NumbersRise}
 
 -- a coverage of the reply: all of it but its ranges, the place of its station, the number of the station's first block and how
@@ -42,7 +42,7 @@ series_document stations reply = document_of reply.many (map (series_coverage st
 -- ---- the blocks of all values, in the order of the text
 
 abbrev pub block_at : StationSeriesValue → ℕ → ℕ → ℕ
-block_at series parameter cell = series.first + parameter * series.blocks + cell / 256
+block_at series parameter cell = series.first + parameter * series.blocks + cell / block_length
 
 abbrev pub blocks_of_range : StationSeriesValue → ℕ → List ℕ
 blocks_of_range series parameter = map (block_at series parameter) series.cells

@@ -21,15 +21,6 @@ pub fn values_at(alloc: Global, axis: &Axis, places: &[u64]) -> Result<Vec<i64>,
     Ok(values)
 }
 
-fn copy_text_where_given(alloc: Global, text: &Option<Text>) -> Result<Option<Text>, OutOfMemory>
-    ensures { IfOk result (λ copy. copy ≡ text.now) }
-{
-    match text {
-        Some(text) => Ok(Some(Text::of(alloc, text.bytes())?)),
-        None => Ok(None),
-    }
-}
-
 fn copy_parameter(alloc: Global, parameter: &Parameter) -> Result<Parameter, OutOfMemory>
     ensures { IfOk result (λ copy. copy ≡ parameter.now) }
 {
@@ -37,7 +28,7 @@ fn copy_parameter(alloc: Global, parameter: &Parameter) -> Result<Parameter, Out
         id: Text::of(alloc, parameter.id.bytes())?,
         lang: Text::of(alloc, parameter.lang.bytes())?,
         label: Text::of(alloc, parameter.label.bytes())?,
-        unit: copy_text_where_given(alloc, &parameter.unit)?,
+        unit: Text::copied(alloc, &parameter.unit)?,
     })
 }
 
@@ -72,7 +63,7 @@ fn referencing_over(
             vertical: None,
         });
     }
-    let vertical = copy_text_where_given(alloc, &referencing.vertical)?;
+    let vertical = Text::copied(alloc, &referencing.vertical)?;
     Ok(Referencing { crs, vertical })
 }
 

@@ -1,9 +1,8 @@
 //! Which nodes of a row a disc, some polygons or a box takes.
 ghost use Rattle.std.specs.Prelude.{◌≡◌, ◌<◌, ◌≤◌, ◌+◌, ◌++◌, length, All, IfOk, OnOk, MatchOption};
 ghost use Rattle.edr_axes.specs.Axes.{value_at};
-ghost use Rattle.edr_base.specs.Limits.{node_limit};
+ghost use Rattle.edr_base.specs.Limits.{node_limit, IsCoordinate};
 ghost use Rattle.edr_edition.specs.Instances.{HasGrid};
-ghost use Rattle.edr_geometry.specs.Limits.{IsCoordinate};
 ghost use Rattle.edr_geometry.specs.Masks.{row_of, spot_at, IsSet, NoneSet};
 ghost use Rattle.edr_geometry.specs.Planar as plane;
 ghost use Rattle.edr_query.specs.Queries.{IsShape};

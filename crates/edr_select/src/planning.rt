@@ -30,6 +30,16 @@ impl From<OutOfMemory> for PlanFault {
     }
 }
 
+impl From<Refusal> for PlanFault {
+    ghost use Rattle.edr_select.specs.declared.planning.PlanFault.TheVariants as variants;
+
+    ghost from_gives = { λ refusal fault. fault ≡ variants.Refused refusal };
+
+    fn from(refusal: Refusal) -> PlanFault {
+        PlanFault::Refused(refusal)
+    }
+}
+
 /// How the values of the reply to a query are read that is asked of an instance of grids, or the first refusal that applies from
 /// that of names on. It opens no chunk. The document that is planned is valid (OGC 21-069r2).
 pub fn reply_over_grid(

@@ -1,6 +1,6 @@
 -- The cells of a frame, written piece by piece: the text, the writer and the tiles that were read.
 use Rattle.std.proofs.Common.{◌≡◌, ℕ, ◌+◌, ◌<◌, ◌≤◌, List, [], ◌++◌, length, All, Option, ℤ, refl, ap, sym, ◌∙◌, subst, arith, append_assoc, append-nil, length-append, add-zero, add_assoc}
-use Rattle.std.specs.Prelude.{Result, Err, min}
+use Rattle.std.specs.Prelude.{Result, IsErr, min}
 use Rattle.std.specs.Io.KnownBytes.{append_known}
 use Rattle.std.specs.Prelude.{map, option_to_list}
 use Rattle.std.proofs.lemmas.Grind.{flat_map-append}
@@ -142,11 +142,11 @@ module _ (shape : GridShape) (subject : Subject) (p : ℕ) (whole : Cells) (w : 
       (text_next n (n + length piece) rest piece later e refl) f.text)
       (subst (λ (k : ℕ). Front (text_from k subject p piece) b c) (count_is v done f.writer) (subst (λ (t : Subject). Front (text_from v.values t p piece) b c) same front))
 
-  pub sent_begun : {E : Type 0} (fault : E) (done next rest piece later : Cells) (v : WriterValue) (b : Option (List ℕ)) (new last : List ℕ) → Sent shape subject p whole done rest w v a b old new
+  pub sent_begun : {T E : Type 0} (r : Result T E) (done next rest piece later : Cells) (v : WriterValue) (b : Option (List ℕ)) (new last : List ℕ) → IsErr r → Sent shape subject p whole done rest w v a b old new
       → rest ≡ piece ++ later → next ≡ done ++ piece → Apart shape p done rest → Apart shape p next later → Added (once_in shape p piece) new last
-      → Adds {T = Unit {0}} (Err fault) (once_in shape p whole) old last
-  sent_begun fault done next rest piece later v b new last f e g apart behind added =
-      adds_fault (Unit {0}) fault (once_in shape p done) (once_in shape p piece) (once_in shape p later) (once_in shape p whole) old new last f.reads
+      → Adds r (once_in shape p whole) old last
+  sent_begun r done next rest piece later v b new last is f e g apart behind added =
+      adds_fault r (once_in shape p done) (once_in shape p piece) (once_in shape p later) (once_in shape p whole) old new last is f.reads
       (ap (once_in shape p) (whole_next done next rest piece later f.parts e g) ∙ once_apart shape p next later behind
       ∙ ap (λ (l : List ℕ). l ++ once_in shape p later) (ap (once_in shape p) g ∙ once_apart shape p done piece (apart_first shape p done rest piece later e apart)))
       added

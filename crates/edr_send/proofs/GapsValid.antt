@@ -3,7 +3,8 @@ use Rattle.std.proofs.Common.{◌≡◌, ℕ, List, length, get_or, All, Option,
 use Rattle.std.specs.Prelude.{map, IfSome}
 use Rattle.std.proofs.lemmas.List.{length-map}
 use Rattle.std.proofs.lemmas.List.Elements.{All-map}
-use Rattle.covjson_value.specs.Coverages.{IsSample, IsRange, IsValid}
+use Rattle.edr_base.specs.Limits.{IsSample}
+use Rattle.covjson_value.specs.Coverages.{IsRange, IsValid}
 use Rattle.covjson_value.specs.Trees.{document_text}
 use Rattle.covjson_write.specs.Laws.{DocumentOfPieces}
 use Rattle.edr_station.specs.Stations.{StationsValue, AreStations, nowhere}

@@ -1,10 +1,10 @@
 -- A text that is written piece by piece.
-use Rattle.std.proofs.Common.{◌≡◌, ℕ, List, [], ◌++◌, refl, ap, sym, ◌∙◌, subst, append_assoc, append-nil}
+use Rattle.std.proofs.Common.{rules, ◌≡◌, ℕ, List, [], ◌++◌, refl, ap, sym, ◌∙◌, subst, append_assoc, append-nil}
 use Rattle.std.specs.declared.option.Option.{Option}
-use Rattle.std.specs.Prelude.{Result, Ok, Err}
+use Rattle.std.specs.Prelude.{Result, Ok, Err, IsErr}
 use Rattle.std.specs.Io.KnownBytes.{append_known}
 use Rattle.edr_base.specs.Calls.{Front, Writes}
-use Rattle.edr_base.specs.KnownBytes.{append_nothing, grew_on, front_whole, front_on, front_more, writes_on, writes_stop}
+use Rattle.edr_base.specs.KnownBytes.{append_nothing, grew_on, front_whole, front_on, front_more, writes_on}
 use Rattle.edr_send.specs.Gathered.{AllBut}
 
 -- nothing of it was written yet, or all of it
@@ -32,8 +32,9 @@ all_but_front xs ys whole a b c f g = subst (λ (l : List ℕ). Front l a c) (sy
 pub all_but_same : (xs ys whole : List ℕ) (a b : Option (List ℕ)) → xs ≡ ys → AllBut xs whole a b → AllBut ys whole a b
 all_but_same xs ys whole a b e f = subst (λ (l : List ℕ). AllBut l whole a b) e f
 
-pub writes_fault : (T : Type 0) {E : Type 0} (e : E) (whole : List ℕ) (a c : Option (List ℕ)) → Front whole a c → Writes {T = T} (Err e) whole a c
-writes_fault T e whole a c f = record { whole = tt; front = f }
+pub writes_fault : {T E : Type 0} (r : Result T E) (whole : List ℕ) (a c : Option (List ℕ)) → IsErr r → Front whole a c → Writes r whole a c
+writes_fault (Ok x) whole a c is f = absurd (search (rules, is))
+writes_fault (Err e) whole a c is f = record { whole = tt; front = f }
 
 -- ---- some pieces in a row
 
@@ -43,5 +44,5 @@ writes_next r a b c xs ys zs p e w = writes_on r a b c xs zs p (subst (λ (l : L
 pub writes_third : {T E : Type 0} (r : Result T E) (a b c : Option (List ℕ)) (xs ys zs ws : List ℕ) → b ≡ append_known a (xs ++ ys) → zs ≡ ws → Writes r zs b c → Writes r (xs ++ (ys ++ ws)) a c
 writes_third r a b c xs ys zs ws p e w = subst (λ (l : List ℕ). Writes r l a c) (append_assoc xs ys ws) (writes_next r a b c (xs ++ ys) zs ws p e w)
 
-pub writes_two : (T : Type 0) {E : Type 0} (e : E) (a b : Option (List ℕ)) (xs ys zs : List ℕ) → Front (xs ++ ys) a b → Writes {T = T} (Err e) (xs ++ (ys ++ zs)) a b
-writes_two T e a b xs ys zs f = subst (λ (l : List ℕ). Writes {T = T} (Err e) l a b) (append_assoc xs ys zs) (writes_stop T e a b (xs ++ ys) zs f)
+pub writes_two : {T E : Type 0} (r : Result T E) (a b : Option (List ℕ)) (xs ys zs : List ℕ) → IsErr r → Front (xs ++ ys) a b → Writes r (xs ++ (ys ++ zs)) a b
+writes_two r a b xs ys zs is f = subst (λ (l : List ℕ). Writes r l a b) (append_assoc xs ys zs) (writes_fault r ((xs ++ ys) ++ zs) a b is (front_more a b (xs ++ ys) zs f))

@@ -8,7 +8,7 @@ use Rattle.edr_chunk.specs.Grids.{value}
 use Rattle.edr_chunk.specs.Tiles.{tile_of, TileValue, value_in}
 use Rattle.edr_edition.specs.Stores.{Held, of_grid, of_stations}
 use Rattle.edr_send.specs.declared.slots.Slot.{Slot}
-use Rattle.edr_send.specs.Sending.{BeginsNumbers}
+use Rattle.edr_base.specs.Calls.{Begins}
 
 -- ---- grids
 
@@ -64,7 +64,7 @@ put_all number value (s ∷ slots) values = put_all number value slots (slice_se
 -- to the numbers a beginning of others was added
 pub record Added (wanted old new : List ℕ) : Type 0 where
   pub front : List ℕ
-  pub begins : BeginsNumbers front wanted
+  pub begins : Begins front wanted
   pub grew : new ≡ old ++ front
 
 -- others were added: all of them with Ok, and else the first of them

@@ -3,6 +3,7 @@ use Rattle.std.specs.Prelude.{◌≡◌, ℕ, ◌/◌, ◌%◌, ◌<◌, ◌≤�
 use Rattle.std.specs.List.{slice_index_or}
 use Rattle.covjson_write.specs.Pieces.{coverages_from, document_begin, document_end}
 use Rattle.edr_station.specs.Stations.{StationValue, StationsValue, station_at}
+use Rattle.edr_station.specs.Blocks.{block_length}
 use Rattle.edr_select.specs.Gaps.{GappedSeriesValue, GappedReplyValue, gapped_coverage, RiseApart, IsOfStation}
 use Rattle.edr_send.specs.SeriesTexts.{blocks_in}
 
@@ -26,7 +27,7 @@ pub record IsReplyOver (collection : StationsValue) (reply : GappedReplyValue) :
 
 -- a cell goes on with a run that begins with another: one of the same block or one that isn't taken, and behind one that isn't, another such
 abbrev pub goes_on : Option ℕ → Option ℕ → Bool
-goes_on (Some first) (Some cell) = cell / 256 == first / 256
+goes_on (Some first) (Some cell) = cell / block_length == first / block_length
 goes_on (Some first) None = true
 goes_on None (Some cell) = false
 goes_on None None = true
@@ -37,12 +38,12 @@ IsRun cells = All (λ cell. goes_on (slice_index_or cells 0 None) cell ≡ true)
 -- a cell that is taken behind a run is of a later block than each in it
 abbrev pub BlocksApart : List (Option ℕ) → ℕ → ℕ → Type 0
 BlocksApart cells from end = (k j one other : ℕ) → from ≤ k → k < end → end ≤ j → j < length cells
-    → slice_index_or cells k None ≡ Some one → slice_index_or cells j None ≡ Some other → one / 256 < other / 256
+    → slice_index_or cells k None ≡ Some one → slice_index_or cells j None ≡ Some other → one / block_length < other / block_length
 
 -- the value of a cell in its block, and none at none
 abbrev pub picked_of : List (Option ℤ) → Option ℕ → Option ℤ
 picked_of block None = None
-picked_of block (Some cell) = slice_index_or block (cell % 256) None
+picked_of block (Some cell) = slice_index_or block (cell % block_length) None
 
 -- ---- text
 

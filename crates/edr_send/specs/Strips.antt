@@ -3,7 +3,7 @@ use Rattle.std.specs.Prelude.{◌≡◌, ℕ, ◌+◌, ◌-◌, ◌*◌, ◌≤�
 use Rattle.std.specs.List.{list_any, range_with_len, slice_index_or}
 use Rattle.edr_chunk.specs.declared.shapes.GridShape.{GridShape}
 use Rattle.edr_chunk.specs.AllPlaces.{at}
-use Rattle.edr_chunk.specs.Tiles.{tile_of}
+use Rattle.edr_chunk.specs.Tiles.{tile_side, tile_of}
 use Rattle.edr_select.specs.Framings.{FrameValue, is_set}
 
 -- the truth values of a frame are those of its rows, and its columns have them
@@ -36,14 +36,14 @@ shown frame from values y x = slice_index_or values ((y - from) * frame.columns 
 
 -- the columns of a frame in a column of tiles
 abbrev pub left_of : FrameValue → ℕ → ℕ
-left_of frame across = max (across * 64) frame.column
+left_of frame across = max (across * tile_side) frame.column
 
 abbrev pub right_of : FrameValue → ℕ → ℕ
-right_of frame across = min (across * 64 + 64) (frame.column + frame.columns)
+right_of frame across = min (across * tile_side + tile_side) (frame.column + frame.columns)
 
 -- the number of the tile of a row in a column of tiles
 abbrev pub tile_across : GridShape → ℕ → ℕ → ℕ → ℕ → ℕ → ℕ
-tile_across shape parameter t z y across = tile_of shape (at parameter t z y (across * 64))
+tile_across shape parameter t z y across = tile_of shape (at parameter t z y (across * tile_side))
 
 -- that tile, where it has a node that is taken
 abbrev pub tile_read : GridShape → FrameValue → ℕ → ℕ → ℕ → ℕ → ℕ → ℕ → List ℕ

@@ -6,6 +6,7 @@ ghost use Rattle.covjson_write.specs.declared.stages.Stage.TheVariants.{Open};
 ghost use Rattle.covjson_write.specs.Pieces.{values_from};
 ghost use Rattle.covjson_write.specs.Writers.{with_values};
 ghost use Rattle.edr_station.specs.Stations.{values_along};
+ghost use Rattle.edr_station.specs.Blocks.{block_length};
 ghost use Rattle.edr_select.specs.Samples.{ascending_once};
 ghost use Rattle.edr_select.specs.Listings.{NumbersRise};
 ghost use Rattle.edr_select.specs.Series.{block_at, blocks_of_range, series_range};
@@ -16,6 +17,7 @@ use covjson_write::Writer;
 use edr_base::{OutOfMemory, SendFault, Sink};
 use edr_edition::Store;
 use edr_select::StationSeries;
+use edr_station::BLOCK_LENGTH;
 use std::alloc::Global;
 
 // The place behind the cells of one block, the first of which stands at a place.
@@ -23,12 +25,12 @@ fn run_end(cells: &[u64], from: usize) -> usize
     requires { from < length cells.now }
     ensures more { from < result }
     ensures end { result ≤ length cells.now }
-    ensures same { (k : ℕ) → from ≤ k → k < result → slice_index cells.now k / 256 ≡ slice_index cells.now from / 256 }
-    ensures other { result < length cells.now → slice_index cells.now result / 256 ≢ slice_index cells.now from / 256 }
+    ensures same { (k : ℕ) → from ≤ k → k < result → slice_index cells.now k / block_length ≡ slice_index cells.now from / block_length }
+    ensures other { result < length cells.now → slice_index cells.now result / block_length ≢ slice_index cells.now from / block_length }
 {
-    let block = cells[from] / 256;
+    let block = cells[from] / BLOCK_LENGTH as u64;
     let mut at = from + 1;
-    while at < cells.len() && cells[at] / 256 == block {
+    while at < cells.len() && cells[at] / BLOCK_LENGTH as u64 == block {
         at += 1;
     }
     at
@@ -39,7 +41,7 @@ fn block_number(series: &StationSeries, parameter: u64, cell: u64) -> u64
     requires { block_at series.now parameter cell < 2 ^ 64 }
     ensures { result ≡ block_at series.now parameter cell }
 {
-    series.first + parameter * series.blocks + cell / 256
+    series.first + parameter * series.blocks + cell / BLOCK_LENGTH as u64
 }
 
 // Whether some cells, which rise, follow one another with none left out.
@@ -58,12 +60,12 @@ fn pick_each(
     cells: &[u64],
     values: &mut Vec<Option<i64>>,
 ) -> Result<(), OutOfMemory>
-    requires { All (λ cell. cell % 256 < length block.now) cells.now }
-    ensures { OnOk result (values.new.items ≡ map (λ cell. slice_index_or block.now (cell % 256) None) cells.now) }
+    requires { All (λ cell. cell % block_length < length block.now) cells.now }
+    ensures { OnOk result (values.new.items ≡ map (λ cell. slice_index_or block.now (cell % block_length) None) cells.now) }
 {
     values.clear();
     for cell in cells {
-        values.push(block[(*cell % 256) as usize])?;
+        values.push(block[*cell as usize % BLOCK_LENGTH])?;
     }
     Ok(())
 }
@@ -76,14 +78,14 @@ fn pick(
 ) -> Result<(), OutOfMemory>
     requires some { 0 < length cells.now }
     requires rise { NumbersRise cells.now }
-    requires one { (k : ℕ) → k < length cells.now → slice_index cells.now k / 256 ≡ slice_index cells.now 0 / 256 }
-    requires inside { All (λ cell. cell % 256 < length block.now) cells.now }
-    ensures { OnOk result (values.new.items ≡ map (λ cell. slice_index_or block.now (cell % 256) None) cells.now) }
+    requires one { (k : ℕ) → k < length cells.now → slice_index cells.now k / block_length ≡ slice_index cells.now 0 / block_length }
+    requires inside { All (λ cell. cell % block_length < length block.now) cells.now }
+    ensures { OnOk result (values.new.items ≡ map (λ cell. slice_index_or block.now (cell % block_length) None) cells.now) }
 {
     if !are_consecutive(cells) {
         return pick_each(block, cells, values);
     }
-    let place = (cells[0] % 256) as usize;
+    let place = cells[0] as usize % BLOCK_LENGTH;
     values.clear();
     values.extend_from_slice(&block[place..place + cells.len()])?;
     Ok(())
@@ -103,7 +105,7 @@ fn read_run(
     requires some { 0 < length cells.now }
     requires cells { All (λ cell. cell < values_along (station_of (collection_of store.old.subject.held) series.now)) cells.now }
     requires rise { NumbersRise cells.now }
-    requires one { (k : ℕ) → k < length cells.now → slice_index cells.now k / 256 ≡ slice_index cells.now 0 / 256 }
+    requires one { (k : ℕ) → k < length cells.now → slice_index cells.now k / block_length ≡ slice_index cells.now 0 / block_length }
     ensures values { OnOk result (values.new.items ≡ (series_range (station_of (collection_of store.old.subject.held) series.now) cells.now parameter).values) }
     ensures reads { Adds result (ascending_once (blocks_in (collection_of store.old.subject.held)) (map (block_at series.now parameter) cells.now)) store.old.numbers store.new.numbers }
     ensures subject { store.new.subject ≡ store.old.subject }
@@ -128,7 +130,7 @@ fn write_run<K: Sink>(
     requires some { 0 < length cells.now }
     requires cells { All (λ cell. cell < values_along (station_of (collection_of store.old.subject.held) series.now)) cells.now }
     requires rise { NumbersRise cells.now }
-    requires one { (k : ℕ) → k < length cells.now → slice_index cells.now k / 256 ≡ slice_index cells.now 0 / 256 }
+    requires one { (k : ℕ) → k < length cells.now → slice_index cells.now k / block_length ≡ slice_index cells.now 0 / block_length }
     requires open { writer.old.stage ≡ Open }
     requires room { writer.old.values + length cells.now ≤ writer.old.head.count }
     ensures bytes { Writes result (values_from writer.old.values (series_range (station_of (collection_of store.old.subject.held) series.now) cells.now parameter).values) (K.written sink.old) (K.written sink.new) }
@@ -138,10 +140,8 @@ fn write_run<K: Sink>(
     ensures lent { SinkLent (K.beside sink.old) (K.beside sink.new) (K.faults sink.old) (K.faults sink.new) }
     ensures cause { IsErrOf result SendFault.WriteFault → Rose (K.faults sink.old) (K.faults sink.new) }
 {
-    match read_run(alloc, store, series, parameter, cells, values) {
-        Ok(()) => writer.values(sink, values),
-        Err(_) => Err(SendFault::OutOfMemory),
-    }
+    read_run(alloc, store, series, parameter, cells, values)?;
+    writer.values(sink, values)
 }
 
 // Writes the values of the open range of a parameter, block by block.
@@ -171,10 +171,7 @@ pub(crate) fn write_runs<K: Sink>(
     while at < cells.len() {
         let end = run_end(cells, at);
         let run = &cells[at..end];
-        match write_run(alloc, store, writer, sink, series, parameter, run, values) {
-            Ok(()) => {}
-            Err(fault) => return Err(fault),
-        }
+        write_run(alloc, store, writer, sink, series, parameter, run, values)?;
         at = end;
     }
     Ok(())

@@ -91,10 +91,7 @@ fn write_levels<K: Sink>(
     let levels = framing.frame.levels.items();
     for place in 0..levels.len() {
         let z = levels[place] as u32;
-        match write_plane(alloc, store, writer, sink, framing, parameter, t, z, values) {
-            Ok(()) => {}
-            Err(fault) => return Err(fault),
-        }
+        write_plane(alloc, store, writer, sink, framing, parameter, t, z, values)?;
     }
     Ok(())
 }
@@ -126,10 +123,7 @@ fn write_times<K: Sink>(
     let times = framing.frame.times.items();
     for place in 0..times.len() {
         let t = times[place] as u32;
-        match write_levels(alloc, store, writer, sink, framing, parameter, t, values) {
-            Ok(()) => {}
-            Err(fault) => return Err(fault),
-        }
+        write_levels(alloc, store, writer, sink, framing, parameter, t, values)?;
     }
     Ok(())
 }
@@ -158,10 +152,8 @@ fn write_filled<K: Sink>(
     ensures lent { SinkLent (K.beside sink.old) (K.beside sink.new) (K.faults sink.old) (K.faults sink.new) }
     ensures cause { IsErrOf result SendFault.WriteFault → Rose (K.faults sink.old) (K.faults sink.new) }
 {
-    match write_times(alloc, store, writer, sink, framing, parameter, values) {
-        Ok(()) => writer.range_end(sink),
-        Err(fault) => Err(fault),
-    }
+    write_times(alloc, store, writer, sink, framing, parameter, values)?;
+    writer.range_end(sink)
 }
 
 // Writes the range of a parameter, which has this number among the ranges.
@@ -189,10 +181,8 @@ fn write_range<K: Sink>(
     ensures lent { SinkLent (K.beside sink.old) (K.beside sink.new) (K.faults sink.old) (K.faults sink.new) }
     ensures cause { IsErrOf result SendFault.WriteFault → Rose (K.faults sink.old) (K.faults sink.new) }
 {
-    match writer.range_begin(alloc, sink, number) {
-        Ok(()) => write_filled(alloc, store, writer, sink, framing, parameter, values),
-        Err(fault) => Err(fault),
-    }
+    writer.range_begin(alloc, sink, number)?;
+    write_filled(alloc, store, writer, sink, framing, parameter, values)
 }
 
 // Writes the ranges of some parameters. Each strip takes the memory of the one before.
@@ -227,7 +217,7 @@ fn write_parameters<K: Sink>(
     let mut values = Vec::new(alloc);
     for number in 0..parameters.len() {
         let parameter = parameters[number];
-        match write_range(
+        write_range(
             alloc,
             store,
             writer,
@@ -236,10 +226,7 @@ fn write_parameters<K: Sink>(
             number,
             parameter,
             &mut values,
-        ) {
-            Ok(()) => {}
-            Err(fault) => return Err(fault),
-        }
+        )?;
     }
     Ok(())
 }
@@ -294,10 +281,8 @@ fn write_coverage<K: Sink>(
     ensures cause { IsErrOf result SendFault.WriteFault → Rose (K.faults sink.old) (K.faults sink.new) }
 {
     framing_stands(framing);
-    match writer.coverage(alloc, sink, &framing.head) {
-        Ok(()) => write_ranges(alloc, store, writer, sink, framing),
-        Err(fault) => Err(fault),
-    }
+    writer.coverage(alloc, sink, &framing.head)?;
+    write_ranges(alloc, store, writer, sink, framing)
 }
 
 // Writes the one coverage of a framing and the end of the document.
@@ -320,10 +305,8 @@ fn write_rest<K: Sink>(
     ensures cause { IsErrOf result SendFault.WriteFault → Rose (K.faults sink.old) (K.faults sink.new) }
 {
     let mut writer = writer;
-    match write_coverage(alloc, store, &mut writer, sink, framing) {
-        Ok(()) => writer.finish(sink),
-        Err(fault) => Err(fault),
-    }
+    write_coverage(alloc, store, &mut writer, sink, framing)?;
+    writer.finish(sink)
 }
 
 // Writes the document of a framing: each strip of values is read and written before the next.
@@ -341,8 +324,6 @@ pub(crate) fn stream_framing<K: Sink>(
     ensures lent { SinkLent (K.beside sink.old) (K.beside sink.new) (K.faults sink.old) (K.faults sink.new) }
     ensures cause { IsErrOf result SendFault.WriteFault → Rose (K.faults sink.old) (K.faults sink.new) }
 {
-    match Writer::begin(alloc, sink, false) {
-        Ok(writer) => write_rest(alloc, store, writer, sink, framing),
-        Err(fault) => Err(fault),
-    }
+    let writer = Writer::begin(alloc, sink, false)?;
+    write_rest(alloc, store, writer, sink, framing)
 }

@@ -8,6 +8,7 @@ ghost use Rattle.covjson_write.specs.declared.stages.Stage.TheVariants.{Open};
 ghost use Rattle.covjson_write.specs.Pieces.{values_from};
 ghost use Rattle.covjson_write.specs.Writers.{with_values};
 ghost use Rattle.edr_station.specs.Stations.{values_along};
+ghost use Rattle.edr_station.specs.Blocks.{block_length};
 ghost use Rattle.edr_select.specs.Samples.{ascending_once};
 ghost use Rattle.edr_select.specs.Gaps.{RiseApart, block_at, blocks_of_range, cells_taken, gapped_range};
 ghost use Rattle.edr_send.specs.Filling.{Adds};
@@ -19,10 +20,11 @@ use covjson_write::Writer;
 use edr_base::{OutOfMemory, SendFault, Sink};
 use edr_edition::Store;
 use edr_select::GappedSeries;
+use edr_station::BLOCK_LENGTH;
 use std::alloc::Global;
 
 // How many cells a run has at most.
-const MOST_CELLS: usize = 256;
+const MOST_CELLS: usize = BLOCK_LENGTH;
 
 // Whether a cell goes on with a run: behind a cell that is taken, one of its block or one that isn't taken; behind one that isn't,
 // another such.
@@ -30,7 +32,7 @@ fn goes_on(first: Option<u64>, cell: Option<u64>) -> bool
     ensures { result ≡ gaps.goes_on first cell }
 {
     match (first, cell) {
-        (Some(first), Some(cell)) => cell / 256 == first / 256,
+        (Some(first), Some(cell)) => cell / BLOCK_LENGTH as u64 == first / BLOCK_LENGTH as u64,
         (Some(_), None) => true,
         (None, Some(_)) => false,
         (None, None) => true,
@@ -60,13 +62,13 @@ fn pick(
     cells: &[Option<u64>],
     values: &mut Vec<Option<i64>>,
 ) -> Result<(), OutOfMemory>
-    requires { All (λ cell. cell % 256 < length block.now) (cells_taken cells.now) }
+    requires { All (λ cell. cell % block_length < length block.now) (cells_taken cells.now) }
     ensures { OnOk result (values.new.items ≡ map (picked_of block.now) cells.now) }
 {
     values.clear();
     for cell in cells {
         match cell {
-            Some(cell) => values.push(block[(*cell % 256) as usize])?,
+            Some(cell) => values.push(block[*cell as usize % BLOCK_LENGTH])?,
             None => values.push(None)?,
         }
     }
@@ -78,7 +80,7 @@ fn block_number(series: &GappedSeries, parameter: u64, cell: u64) -> u64
     requires { block_at series.now parameter cell < 2 ^ 64 }
     ensures { result ≡ block_at series.now parameter cell }
 {
-    series.first + parameter * series.blocks + cell / 256
+    series.first + parameter * series.blocks + cell / BLOCK_LENGTH as u64
 }
 
 // Reads the values of a parameter at some cells, the first of which is taken and the others not or of its block, which it opens.
@@ -165,10 +167,8 @@ fn write_run<K: Sink>(
     ensures lent { SinkLent (K.beside sink.old) (K.beside sink.new) (K.faults sink.old) (K.faults sink.new) }
     ensures cause { IsErrOf result SendFault.WriteFault → Rose (K.faults sink.old) (K.faults sink.new) }
 {
-    match read_run(alloc, store, series, parameter, cells, values) {
-        Ok(()) => writer.values(sink, values),
-        Err(_) => Err(SendFault::OutOfMemory),
-    }
+    read_run(alloc, store, series, parameter, cells, values)?;
+    writer.values(sink, values)
 }
 
 // Writes the values of the open range of a parameter, block by block.
@@ -198,10 +198,7 @@ pub(crate) fn write_runs<K: Sink>(
     while at < cells.len() {
         let end = run_end(cells, at);
         let run = &cells[at..end];
-        match write_run(alloc, store, writer, sink, series, parameter, run, values) {
-            Ok(()) => {}
-            Err(fault) => return Err(fault),
-        }
+        write_run(alloc, store, writer, sink, series, parameter, run, values)?;
         at = end;
     }
     Ok(())

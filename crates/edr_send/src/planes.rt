@@ -6,7 +6,7 @@ ghost use Rattle.covjson_write.specs.declared.stages.Stage.TheVariants.{Open};
 ghost use Rattle.covjson_write.specs.Pieces.{values_from};
 ghost use Rattle.covjson_write.specs.Writers.{with_values};
 ghost use Rattle.edr_chunk.specs.Places.{IsShape, count};
-ghost use Rattle.edr_chunk.specs.Tiles.{tiles};
+ghost use Rattle.edr_chunk.specs.Tiles.{tile_side, tiles};
 ghost use Rattle.edr_select.specs.Samples.{ascending_once};
 ghost use Rattle.edr_select.specs.Listings.{tiles_of_range};
 ghost use Rattle.edr_select.specs.Framings.{IsFrame, strip_cells, plane_cells, taken, cell_value};
@@ -16,7 +16,7 @@ ghost use Rattle.edr_send.specs.Strips.{HasRows};
 use crate::strips::fill_strip;
 use covjson_write::Writer;
 use edr_base::{SendFault, Sink};
-use edr_chunk::{GridShape, sides_are_small, tiles_are_numbered};
+use edr_chunk::{GridShape, TILE_SIDE, sides_are_small, tiles_are_numbered};
 use edr_edition::Store;
 use edr_select::Frame;
 use std::alloc::Global;
@@ -44,7 +44,7 @@ fn write_strip<K: Sink>(
     requires t { t < shape.times }
     requires z { z < shape.levels }
     requires rows { HasRows frame.now from to }
-    requires one { to ≤ from / 64 * 64 + 64 }
+    requires one { to ≤ from / tile_side * tile_side + tile_side }
     requires open { writer.old.stage ≡ Open }
     requires room { writer.old.values + length (strip_cells frame.now t z from (to - from)) ≤ writer.old.head.count }
     ensures bytes { Writes result (values_from writer.old.values (map (cell_value (grid_of store.old.subject.held) parameter) (strip_cells frame.now t z from (to - from)))) (K.written sink.old) (K.written sink.new) }
@@ -54,21 +54,21 @@ fn write_strip<K: Sink>(
     ensures lent { SinkLent (K.beside sink.old) (K.beside sink.new) (K.faults sink.old) (K.faults sink.new) }
     ensures cause { IsErrOf result SendFault.WriteFault → Rose (K.faults sink.old) (K.faults sink.new) }
 {
-    match fill_strip(
+    fill_strip(
         alloc, store, shape, frame, parameter, t, z, from, to, values,
-    ) {
-        Ok(()) => writer.values(sink, values),
-        Err(_) => Err(SendFault::OutOfMemory),
-    }
+    )?;
+    writer.values(sink, values)
 }
 
 // Where the rows of a frame in a row of tiles begin.
 fn strip_edge(frame: &Frame, down: u32) -> u32
     requires down { down < 2 ^ 26 }
     requires rows { frame.now.row + frame.now.rows < 2 ^ 32 }
-    ensures { result ≡ min (max (down * 64) frame.now.row) (frame.now.row + frame.now.rows) }
+    ensures { result ≡ min (max (down * tile_side) frame.now.row) (frame.now.row + frame.now.rows) }
 {
-    (down * 64).max(frame.row).min(frame.row + frame.rows)
+    (down * TILE_SIDE)
+        .max(frame.row)
+        .min(frame.row + frame.rows)
 }
 
 // Writes the values of a frame at a time and a level, strip by strip.
@@ -104,15 +104,12 @@ pub(crate) fn write_strips<K: Sink>(
     tiles_are_numbered();
     let row = frame.row;
     let end = row + frame.rows;
-    for down in row / 64..(end + 63) / 64 {
+    for down in row / TILE_SIDE..end.div_ceil(TILE_SIDE) {
         let from = strip_edge(frame, down);
         let to = strip_edge(frame, down + 1);
-        match write_strip(
+        write_strip(
             alloc, store, writer, sink, shape, frame, parameter, t, z, from, to, values,
-        ) {
-            Ok(()) => {}
-            Err(fault) => return Err(fault),
-        }
+        )?;
     }
     Ok(())
 }

@@ -47,10 +47,8 @@ fn send_gathered<K: Sink>(
     listing_stands(listing);
     store.subject_stands();
     document_of_pieces();
-    match gather(alloc, listing, store) {
-        Ok(values) => write_document(alloc, listing, sink, &values),
-        Err(_) => Err(SendFault::OutOfMemory),
-    }
+    let values = gather(alloc, listing, store)?;
+    write_document(alloc, listing, sink, &values)
 }
 
 // Writes a reply of one coverage, run by run.

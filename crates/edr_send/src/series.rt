@@ -43,10 +43,8 @@ fn write_filled<K: Sink>(
     ensures lent { SinkLent (K.beside sink.old) (K.beside sink.new) (K.faults sink.old) (K.faults sink.new) }
     ensures cause { IsErrOf result SendFault.WriteFault → Rose (K.faults sink.old) (K.faults sink.new) }
 {
-    match write_runs(alloc, store, writer, sink, series, parameter, values) {
-        Ok(()) => writer.range_end(sink),
-        Err(fault) => Err(fault),
-    }
+    write_runs(alloc, store, writer, sink, series, parameter, values)?;
+    writer.range_end(sink)
 }
 
 // Writes the range of a parameter, which has this number among the ranges.
@@ -74,10 +72,8 @@ fn write_range<K: Sink>(
     ensures lent { SinkLent (K.beside sink.old) (K.beside sink.new) (K.faults sink.old) (K.faults sink.new) }
     ensures cause { IsErrOf result SendFault.WriteFault → Rose (K.faults sink.old) (K.faults sink.new) }
 {
-    match writer.range_begin(alloc, sink, number) {
-        Ok(()) => write_filled(alloc, store, writer, sink, series, parameter, values),
-        Err(fault) => Err(fault),
-    }
+    writer.range_begin(alloc, sink, number)?;
+    write_filled(alloc, store, writer, sink, series, parameter, values)
 }
 
 // Writes the ranges of all parameters of a coverage.
@@ -109,12 +105,9 @@ fn write_ranges<K: Sink>(
 {
     for number in 0..parameters.len() {
         let parameter = parameters[number];
-        match write_range(
+        write_range(
             alloc, store, writer, sink, series, number, parameter, values,
-        ) {
-            Ok(()) => {}
-            Err(fault) => return Err(fault),
-        }
+        )?;
     }
     Ok(())
 }
@@ -145,10 +138,8 @@ fn write_coverage<K: Sink>(
     ensures lent { SinkLent (K.beside sink.old) (K.beside sink.new) (K.faults sink.old) (K.faults sink.new) }
     ensures cause { IsErrOf result SendFault.WriteFault → Rose (K.faults sink.old) (K.faults sink.new) }
 {
-    match writer.coverage(alloc, sink, &series.head) {
-        Ok(()) => write_ranges(alloc, store, writer, sink, parameters, series, values),
-        Err(fault) => Err(fault),
-    }
+    writer.coverage(alloc, sink, &series.head)?;
+    write_ranges(alloc, store, writer, sink, parameters, series, values)
 }
 
 // Writes the coverages of a reply, station by station. Each run of values takes the memory of the one before.
@@ -176,10 +167,7 @@ fn write_coverages<K: Sink>(
     let parameters = reply.parameters.items();
     let mut values = Vec::new(alloc);
     for series in reply.series.items() {
-        match write_coverage(alloc, store, writer, sink, parameters, series, &mut values) {
-            Ok(()) => {}
-            Err(fault) => return Err(fault),
-        }
+        write_coverage(alloc, store, writer, sink, parameters, series, &mut values)?;
     }
     Ok(())
 }
@@ -204,10 +192,8 @@ fn write_rest<K: Sink>(
     ensures cause { IsErrOf result SendFault.WriteFault → Rose (K.faults sink.old) (K.faults sink.new) }
 {
     let mut writer = writer;
-    match write_coverages(alloc, store, &mut writer, sink, reply) {
-        Ok(()) => writer.finish(sink),
-        Err(fault) => Err(fault),
-    }
+    write_coverages(alloc, store, &mut writer, sink, reply)?;
+    writer.finish(sink)
 }
 
 // Writes the document of a reply over stations. Each block of the reply is opened once, in ascending order of their numbers.
@@ -225,8 +211,6 @@ pub(crate) fn stream_series<K: Sink>(
     ensures lent { SinkLent (K.beside sink.old) (K.beside sink.new) (K.faults sink.old) (K.faults sink.new) }
     ensures cause { IsErrOf result SendFault.WriteFault → Rose (K.faults sink.old) (K.faults sink.new) }
 {
-    match Writer::begin(alloc, sink, reply.many) {
-        Ok(writer) => write_rest(alloc, store, writer, sink, reply),
-        Err(fault) => Err(fault),
-    }
+    let writer = Writer::begin(alloc, sink, reply.many)?;
+    write_rest(alloc, store, writer, sink, reply)
 }

@@ -7,7 +7,7 @@ ghost use Rattle.edr_send.specs.Filling.{SlotsGrew};
 ghost use Rattle.edr_send.specs.Gathered.{places_of_range, places_of_coverage, places_of_coverages};
 
 use edr_base::OutOfMemory;
-use edr_chunk::{GridPlace, GridShape, tiles_are_numbered};
+use edr_chunk::{GridPlace, GridShape, TILE_SIDE, tiles_are_numbered};
 use edr_select::{GridNode, Listing, Planned, listing_stands};
 
 // A value of a reply: the place that it is read from, the tile that has it, and its number among the values.
@@ -22,7 +22,7 @@ pub(crate) struct Slot {
 fn along(nodes: u32) -> u32
     ensures { result ≡ tiles_along nodes }
 {
-    ((nodes as u64 + 63) / 64) as u32
+    nodes.div_ceil(TILE_SIDE)
 }
 
 // The number of a place's tile.
@@ -44,8 +44,8 @@ pub(crate) fn tile_number(shape: GridShape, place: GridPlace) -> u64
         parameter: place.parameter,
         t: place.t,
         z: place.z,
-        y: place.y / 64,
-        x: place.x / 64,
+        y: place.y / TILE_SIDE,
+        x: place.x / TILE_SIDE,
     })
 }
 

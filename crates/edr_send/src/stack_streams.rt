@@ -103,21 +103,19 @@ fn write_stacked<K: Sink>(
     let sides = &stacking.stack.sides;
     let t = sides.times.items()[i] as u32;
     let z = sides.levels.items()[j] as u32;
-    match plane_of(alloc, &stacking.stack, i, j) {
-        Ok(plane) => write_strips(
-            alloc,
-            store,
-            writer,
-            sink,
-            stacking.shape,
-            &plane,
-            parameter,
-            t,
-            z,
-            values,
-        ),
-        Err(_) => Err(SendFault::OutOfMemory),
-    }
+    let plane = plane_of(alloc, &stacking.stack, i, j)?;
+    write_strips(
+        alloc,
+        store,
+        writer,
+        sink,
+        stacking.shape,
+        &plane,
+        parameter,
+        t,
+        z,
+        values,
+    )
 }
 
 // Writes the values of a time, level by level.
@@ -147,12 +145,9 @@ fn write_levels<K: Sink>(
     sides_are_small();
     tiles_are_numbered();
     for j in 0..stacking.stack.sides.levels.items().len() {
-        match write_stacked(
+        write_stacked(
             alloc, store, writer, sink, stacking, parameter, i, j, values,
-        ) {
-            Ok(()) => {}
-            Err(fault) => return Err(fault),
-        }
+        )?;
     }
     Ok(())
 }
@@ -182,10 +177,7 @@ fn write_times<K: Sink>(
     sides_are_small();
     tiles_are_numbered();
     for i in 0..stacking.stack.sides.times.items().len() {
-        match write_levels(alloc, store, writer, sink, stacking, parameter, i, values) {
-            Ok(()) => {}
-            Err(fault) => return Err(fault),
-        }
+        write_levels(alloc, store, writer, sink, stacking, parameter, i, values)?;
     }
     Ok(())
 }
@@ -214,10 +206,8 @@ fn write_filled<K: Sink>(
     ensures lent { SinkLent (K.beside sink.old) (K.beside sink.new) (K.faults sink.old) (K.faults sink.new) }
     ensures cause { IsErrOf result SendFault.WriteFault → Rose (K.faults sink.old) (K.faults sink.new) }
 {
-    match write_times(alloc, store, writer, sink, stacking, parameter, values) {
-        Ok(()) => writer.range_end(sink),
-        Err(fault) => Err(fault),
-    }
+    write_times(alloc, store, writer, sink, stacking, parameter, values)?;
+    writer.range_end(sink)
 }
 
 // Writes the range of a parameter, which has this number among the ranges.
@@ -245,10 +235,8 @@ fn write_range<K: Sink>(
     ensures lent { SinkLent (K.beside sink.old) (K.beside sink.new) (K.faults sink.old) (K.faults sink.new) }
     ensures cause { IsErrOf result SendFault.WriteFault → Rose (K.faults sink.old) (K.faults sink.new) }
 {
-    match writer.range_begin(alloc, sink, number) {
-        Ok(()) => write_filled(alloc, store, writer, sink, stacking, parameter, values),
-        Err(fault) => Err(fault),
-    }
+    writer.range_begin(alloc, sink, number)?;
+    write_filled(alloc, store, writer, sink, stacking, parameter, values)
 }
 
 // Writes the ranges of some parameters. Each strip takes the memory of the one before.
@@ -283,7 +271,7 @@ fn write_parameters<K: Sink>(
     let mut values = Vec::new(alloc);
     for number in 0..parameters.len() {
         let parameter = parameters[number];
-        match write_range(
+        write_range(
             alloc,
             store,
             writer,
@@ -292,10 +280,7 @@ fn write_parameters<K: Sink>(
             number,
             parameter,
             &mut values,
-        ) {
-            Ok(()) => {}
-            Err(fault) => return Err(fault),
-        }
+        )?;
     }
     Ok(())
 }
@@ -350,10 +335,8 @@ fn write_coverage<K: Sink>(
     ensures cause { IsErrOf result SendFault.WriteFault → Rose (K.faults sink.old) (K.faults sink.new) }
 {
     stacking_stands(stacking);
-    match writer.coverage(alloc, sink, &stacking.head) {
-        Ok(()) => write_ranges(alloc, store, writer, sink, stacking),
-        Err(fault) => Err(fault),
-    }
+    writer.coverage(alloc, sink, &stacking.head)?;
+    write_ranges(alloc, store, writer, sink, stacking)
 }
 
 // Writes the one coverage of a stacking and the end of the document.
@@ -376,10 +359,8 @@ fn write_rest<K: Sink>(
     ensures cause { IsErrOf result SendFault.WriteFault → Rose (K.faults sink.old) (K.faults sink.new) }
 {
     let mut writer = writer;
-    match write_coverage(alloc, store, &mut writer, sink, stacking) {
-        Ok(()) => writer.finish(sink),
-        Err(fault) => Err(fault),
-    }
+    write_coverage(alloc, store, &mut writer, sink, stacking)?;
+    writer.finish(sink)
 }
 
 // Writes the document of a stacking: each strip of values is read and written before the next.
@@ -397,8 +378,6 @@ pub(crate) fn stream_stacking<K: Sink>(
     ensures lent { SinkLent (K.beside sink.old) (K.beside sink.new) (K.faults sink.old) (K.faults sink.new) }
     ensures cause { IsErrOf result SendFault.WriteFault → Rose (K.faults sink.old) (K.faults sink.new) }
 {
-    match Writer::begin(alloc, sink, false) {
-        Ok(writer) => write_rest(alloc, store, writer, sink, stacking),
-        Err(fault) => Err(fault),
-    }
+    let writer = Writer::begin(alloc, sink, false)?;
+    write_rest(alloc, store, writer, sink, stacking)
 }

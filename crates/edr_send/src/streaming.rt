@@ -52,10 +52,8 @@ fn write_filled<K: Sink>(
     ensures lent { SinkLent (K.beside sink.old) (K.beside sink.new) (K.faults sink.old) (K.faults sink.new) }
     ensures cause { IsErrOf result SendFault.WriteFault → Rose (K.faults sink.old) (K.faults sink.new) }
 {
-    match write_runs(alloc, store, writer, sink, shape, parameter, cells, run) {
-        Ok(()) => writer.range_end(sink),
-        Err(fault) => Err(fault),
-    }
+    write_runs(alloc, store, writer, sink, shape, parameter, cells, run)?;
+    writer.range_end(sink)
 }
 
 // Writes the range of a parameter, which has this number among the ranges.
@@ -88,10 +86,8 @@ fn write_range<K: Sink>(
     ensures lent { SinkLent (K.beside sink.old) (K.beside sink.new) (K.faults sink.old) (K.faults sink.new) }
     ensures cause { IsErrOf result SendFault.WriteFault → Rose (K.faults sink.old) (K.faults sink.new) }
 {
-    match writer.range_begin(alloc, sink, number) {
-        Ok(()) => write_filled(alloc, store, writer, sink, shape, parameter, cells, run),
-        Err(fault) => Err(fault),
-    }
+    writer.range_begin(alloc, sink, number)?;
+    write_filled(alloc, store, writer, sink, shape, parameter, cells, run)
 }
 
 // Writes the ranges of some parameters, of each at the same nodes.
@@ -133,12 +129,9 @@ fn write_parameters<K: Sink>(
     };
     for number in 0..parameters.len() {
         let parameter = parameters[number];
-        match write_range(
+        write_range(
             alloc, store, writer, sink, shape, number, parameter, cells, &mut run,
-        ) {
-            Ok(()) => {}
-            Err(fault) => return Err(fault),
-        }
+        )?;
     }
     Ok(())
 }
@@ -201,10 +194,8 @@ fn write_coverage<K: Sink>(
     ensures lent { SinkLent (K.beside sink.old) (K.beside sink.new) (K.faults sink.old) (K.faults sink.new) }
     ensures cause { IsErrOf result SendFault.WriteFault → Rose (K.faults sink.old) (K.faults sink.new) }
 {
-    match writer.coverage(alloc, sink, &planned.head) {
-        Ok(()) => write_ranges(alloc, store, writer, sink, listing, planned),
-        Err(fault) => Err(fault),
-    }
+    writer.coverage(alloc, sink, &planned.head)?;
+    write_ranges(alloc, store, writer, sink, listing, planned)
 }
 
 // Writes the one coverage of a listing and the end of the document.
@@ -230,10 +221,8 @@ fn write_rest<K: Sink>(
 {
     listing_stands(listing);
     let mut writer = writer;
-    match write_coverage(alloc, store, &mut writer, sink, listing, planned) {
-        Ok(()) => writer.finish(sink),
-        Err(fault) => Err(fault),
-    }
+    write_coverage(alloc, store, &mut writer, sink, listing, planned)?;
+    writer.finish(sink)
 }
 
 // Writes the document of a listing whose tiles rise band by band: each run of values is read and written before the next.
@@ -253,8 +242,6 @@ pub(crate) fn stream_document<K: Sink>(
     ensures lent { SinkLent (K.beside sink.old) (K.beside sink.new) (K.faults sink.old) (K.faults sink.new) }
     ensures cause { IsErrOf result SendFault.WriteFault → Rose (K.faults sink.old) (K.faults sink.new) }
 {
-    match Writer::begin(alloc, sink, listing.many) {
-        Ok(writer) => write_rest(alloc, store, writer, sink, listing, planned),
-        Err(fault) => Err(fault),
-    }
+    let writer = Writer::begin(alloc, sink, listing.many)?;
+    write_rest(alloc, store, writer, sink, listing, planned)
 }

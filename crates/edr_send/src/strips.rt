@@ -2,7 +2,7 @@
 ghost use Rattle.std.specs.Prelude.{◌≡◌, ◌≢◌, ◌<◌, ◌≤◌, ◌+◌, ◌-◌, ◌*◌, ◌/◌, ◌++◌, ◌⊎◌, ◌^◌, ℕ, None, if◌then◌else◌, length, map, slice_index_or, OnOk, OnErr, IsTrue, true};
 ghost use Rattle.std.specs.List.{list_any, range_with_len};
 ghost use Rattle.edr_chunk.specs.Places.{IsShape, count};
-ghost use Rattle.edr_chunk.specs.Tiles.{LiesIn, value_in, tiles};
+ghost use Rattle.edr_chunk.specs.Tiles.{tile_side, LiesIn, value_in, tiles};
 ghost use Rattle.edr_select.specs.Samples.{ascending_once};
 ghost use Rattle.edr_select.specs.Listings.{tiles_of_range};
 ghost use Rattle.edr_send.specs.Filling.{grid_of, Adds};
@@ -11,7 +11,7 @@ ghost use Rattle.edr_send.specs.Strips.{HasMask, HasRows, HasColumns, some_taken
 
 use crate::slots::tile_number;
 use edr_base::OutOfMemory;
-use edr_chunk::{GridPlace, GridShape, Tile, sides_are_small, tiles_are_numbered};
+use edr_chunk::{GridPlace, GridShape, TILE_SIDE, Tile, sides_are_small, tiles_are_numbered};
 use edr_edition::Store;
 use edr_select::Frame;
 use std::alloc::Global;
@@ -92,7 +92,7 @@ fn fill_taken(
     requires low { frame.now.row ≤ y }
     requires high { y < frame.now.row + frame.now.rows }
     requires columns { HasColumns frame.now left right }
-    requires narrow { right ≤ left + 64 }
+    requires narrow { right ≤ left + tile_side }
     requires inside { first + frame.now.columns ≤ length values.old }
     requires lies { (x : ℕ) → left ≤ x → x < right → LiesIn tile.now y x }
     ensures long { length values.new ≡ length values.old }
@@ -102,7 +102,7 @@ fn fill_taken(
 {
     let bits = frame.mask.items();
     let start = row_start(frame, y);
-    let mut samples = [None; 64];
+    let mut samples = [None; TILE_SIDE as usize];
     tile.copy_row(y, left, &mut samples[..(right - left) as usize]);
     for x in left..right {
         if bits[start + (x - frame.left) as usize] {
@@ -126,7 +126,7 @@ fn fill_row(
     requires low { frame.now.row ≤ y }
     requires high { y < frame.now.row + frame.now.rows }
     requires columns { HasColumns frame.now left right }
-    requires narrow { right ≤ left + 64 }
+    requires narrow { right ≤ left + tile_side }
     requires inside { first + frame.now.columns ≤ length values.old }
     requires lies { (x : ℕ) → left ≤ x → x < right → LiesIn tile.now y x }
     ensures long { length values.new ≡ length values.old }
@@ -155,7 +155,7 @@ fn fill_tile(
     requires mask { HasMask frame.now }
     requires rows { HasRows frame.now from to }
     requires columns { HasColumns frame.now left right }
-    requires narrow { right ≤ left + 64 }
+    requires narrow { right ≤ left + tile_side }
     requires long { length values.old ≡ (to - from) * frame.now.columns }
     requires lies { (y x : ℕ) → from ≤ y → y < to → left ≤ x → x < right → LiesIn tile.now y x }
     ensures long { length values.new ≡ length values.old }
@@ -191,22 +191,22 @@ fn read_tile(
     requires t { t < shape.times }
     requires z { z < shape.levels }
     requires rows { HasRows frame.now from to }
-    requires one { to ≤ from / 64 * 64 + 64 }
-    requires low { frame.now.column < across * 64 + 64 }
-    requires high { across * 64 < frame.now.column + frame.now.columns }
+    requires one { to ≤ from / tile_side * tile_side + tile_side }
+    requires low { frame.now.column < across * tile_side + tile_side }
+    requires high { across * tile_side < frame.now.column + frame.now.columns }
     requires long { length values.old ≡ (to - from) * frame.now.columns }
-    requires blank { (y x : ℕ) → from ≤ y → y < to → frame.now.column ≤ x → x < frame.now.column + frame.now.columns → x / 64 ≡ across → shown frame.now from values.old y x ≡ None }
+    requires blank { (y x : ℕ) → from ≤ y → y < to → frame.now.column ≤ x → x < frame.now.column + frame.now.columns → x / tile_side ≡ across → shown frame.now from values.old y x ≡ None }
     ensures long { length values.new ≡ length values.old }
-    ensures here { OnOk result ((y x : ℕ) → from ≤ y → y < to → frame.now.column ≤ x → x < frame.now.column + frame.now.columns → x / 64 ≡ across → shown frame.now from values.new y x ≡ cell_value (grid_of store.old.subject.held) parameter (cell_at frame.now t z y x)) }
-    ensures other { (y x : ℕ) → from ≤ y → y < to → frame.now.column ≤ x → x < frame.now.column + frame.now.columns → x / 64 ≢ across → shown frame.now from values.new y x ≡ shown frame.now from values.old y x }
+    ensures here { OnOk result ((y x : ℕ) → from ≤ y → y < to → frame.now.column ≤ x → x < frame.now.column + frame.now.columns → x / tile_side ≡ across → shown frame.now from values.new y x ≡ cell_value (grid_of store.old.subject.held) parameter (cell_at frame.now t z y x)) }
+    ensures other { (y x : ℕ) → from ≤ y → y < to → frame.now.column ≤ x → x < frame.now.column + frame.now.columns → x / tile_side ≢ across → shown frame.now from values.new y x ≡ shown frame.now from values.old y x }
     ensures read { OnOk result (store.new.numbers ≡ store.old.numbers ++ tile_read shape frame.now parameter t z from to across) }
     ensures unread { OnErr result (store.new.numbers ≡ store.old.numbers) }
     ensures subject { store.new.subject ≡ store.old.subject }
 {
     sides_are_small();
     tiles_are_numbered();
-    let left = (across * 64).max(frame.column);
-    let right = (across * 64 + 64).min(frame.column + frame.columns);
+    let left = (across * TILE_SIDE).max(frame.column);
+    let right = (across * TILE_SIDE + TILE_SIDE).min(frame.column + frame.columns);
     if !has_taken(frame, from, to, left, right) {
         return Ok(());
     }
@@ -217,7 +217,7 @@ fn read_tile(
             t,
             z,
             y: from,
-            x: across * 64,
+            x: across * TILE_SIDE,
         },
     );
     let tile = store.tile(alloc, number)?;
@@ -246,7 +246,7 @@ fn read_tiles(
     requires t { t < shape.times }
     requires z { z < shape.levels }
     requires rows { HasRows frame.now from to }
-    requires one { to ≤ from / 64 * 64 + 64 }
+    requires one { to ≤ from / tile_side * tile_side + tile_side }
     requires long { length values.old ≡ (to - from) * frame.now.columns }
     requires blank { (k : ℕ) → k < length values.old → slice_index_or values.old k None ≡ None }
     ensures long { length values.new ≡ length values.old }
@@ -256,7 +256,7 @@ fn read_tiles(
 {
     sides_are_small();
     tiles_are_numbered();
-    for across in frame.column / 64..(frame.column + frame.columns + 63) / 64 {
+    for across in frame.column / TILE_SIDE..(frame.column + frame.columns).div_ceil(TILE_SIDE) {
         read_tile(
             alloc, store, shape, frame, parameter, t, z, from, to, across, values,
         )?;
@@ -286,7 +286,7 @@ pub(crate) fn fill_strip(
     requires t { t < shape.times }
     requires z { z < shape.levels }
     requires rows { HasRows frame.now from to }
-    requires one { to ≤ from / 64 * 64 + 64 }
+    requires one { to ≤ from / tile_side * tile_side + tile_side }
     ensures values { OnOk result (values.new.items ≡ map (cell_value (grid_of store.old.subject.held) parameter) (strip_cells frame.now t z from (to - from))) }
     ensures reads { Adds result (ascending_once (tiles shape) (tiles_of_range shape (taken (strip_cells frame.now t z from (to - from))) parameter)) store.old.numbers store.new.numbers }
     ensures subject { store.new.subject ≡ store.old.subject }

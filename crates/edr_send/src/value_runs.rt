@@ -102,10 +102,8 @@ fn write_run<K: Sink>(
     ensures lent { SinkLent (K.beside sink.old) (K.beside sink.new) (K.faults sink.old) (K.faults sink.new) }
     ensures cause { IsErrOf result SendFault.WriteFault → Rose (K.faults sink.old) (K.faults sink.new) }
 {
-    match fill_run(alloc, store, shape, parameter, cells, run) {
-        Ok(()) => writer.values(sink, &run.values),
-        Err(_) => Err(SendFault::OutOfMemory),
-    }
+    fill_run(alloc, store, shape, parameter, cells, run)?;
+    writer.values(sink, &run.values)
 }
 
 // Writes the values of the open range of a parameter, run by run.
@@ -140,7 +138,7 @@ pub(crate) fn write_runs<K: Sink>(
     let mut at = 0;
     while at < cells.len() {
         let end = run_end(shape, cells, at);
-        match write_run(
+        write_run(
             alloc,
             store,
             writer,
@@ -149,10 +147,7 @@ pub(crate) fn write_runs<K: Sink>(
             parameter,
             &cells[at..end],
             run,
-        ) {
-            Ok(()) => {}
-            Err(fault) => return Err(fault),
-        }
+        )?;
         at = end;
     }
     Ok(())

@@ -30,10 +30,8 @@ fn write_values<K: Sink>(
     ensures lent { SinkLent (K.beside sink.old) (K.beside sink.new) (K.faults sink.old) (K.faults sink.new) }
     ensures cause { IsErrOf result SendFault.WriteFault → Rose (K.faults sink.old) (K.faults sink.new) }
 {
-    match writer.values(sink, values) {
-        Ok(()) => writer.range_end(sink),
-        Err(fault) => Err(fault),
-    }
+    writer.values(sink, values)?;
+    writer.range_end(sink)
 }
 
 // Writes the range of a parameter.
@@ -54,10 +52,8 @@ fn write_range<K: Sink>(
     ensures lent { SinkLent (K.beside sink.old) (K.beside sink.new) (K.faults sink.old) (K.faults sink.new) }
     ensures cause { IsErrOf result SendFault.WriteFault → Rose (K.faults sink.old) (K.faults sink.new) }
 {
-    match writer.range_begin(alloc, sink, parameter) {
-        Ok(()) => write_values(writer, sink, values),
-        Err(fault) => Err(fault),
-    }
+    writer.range_begin(alloc, sink, parameter)?;
+    write_values(writer, sink, values)
 }
 
 // Writes the ranges of the parameters, each with so many of the values. There may be more of them.
@@ -85,10 +81,7 @@ fn write_ranges<K: Sink>(
     for parameter in 0..parameters {
         let from = parameter * cells;
         let range = &values[from..from + cells];
-        match write_range(alloc, writer, sink, parameter, range) {
-            Ok(()) => {}
-            Err(fault) => return Err(fault),
-        }
+        write_range(alloc, writer, sink, parameter, range)?;
     }
     Ok(())
 }
@@ -116,10 +109,8 @@ fn write_coverage<K: Sink>(
 {
     let parameters = planned.head.parameters.items().len();
     let cells = planned.cells.items().len();
-    match writer.coverage(alloc, sink, &planned.head) {
-        Ok(()) => write_ranges(alloc, writer, sink, parameters, cells, values),
-        Err(fault) => Err(fault),
-    }
+    writer.coverage(alloc, sink, &planned.head)?;
+    write_ranges(alloc, writer, sink, parameters, cells, values)
 }
 
 // Writes the coverages of a listing one after another, each with the values behind those of the one before.
@@ -146,10 +137,7 @@ fn write_coverages<K: Sink>(
     let mut from = 0;
     for planned in listing.coverages.items() {
         let size = parameters * planned.cells.items().len();
-        match write_coverage(alloc, writer, sink, planned, &values[from..]) {
-            Ok(()) => {}
-            Err(fault) => return Err(fault),
-        }
+        write_coverage(alloc, writer, sink, planned, &values[from..])?;
         from += size;
     }
     Ok(())
@@ -173,10 +161,8 @@ fn write_rest<K: Sink>(
     ensures cause { IsErrOf result SendFault.WriteFault → Rose (K.faults sink.old) (K.faults sink.new) }
 {
     let mut writer = writer;
-    match write_coverages(alloc, listing, &mut writer, sink, values) {
-        Ok(()) => writer.finish(sink),
-        Err(fault) => Err(fault),
-    }
+    write_coverages(alloc, listing, &mut writer, sink, values)?;
+    writer.finish(sink)
 }
 
 // Writes the document of a listing with these values.
@@ -192,8 +178,6 @@ pub(crate) fn write_document<K: Sink>(
     ensures lent { SinkLent (K.beside sink.old) (K.beside sink.new) (K.faults sink.old) (K.faults sink.new) }
     ensures cause { IsErrOf result SendFault.WriteFault → Rose (K.faults sink.old) (K.faults sink.new) }
 {
-    match Writer::begin(alloc, sink, listing.many) {
-        Ok(writer) => write_rest(alloc, listing, writer, sink, values),
-        Err(fault) => Err(fault),
-    }
+    let writer = Writer::begin(alloc, sink, listing.many)?;
+    write_rest(alloc, listing, writer, sink, values)
 }

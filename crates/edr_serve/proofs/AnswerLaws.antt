@@ -6,7 +6,8 @@ use Rattle.edr_base.specs.FirstThatApplies.{IsLeast, NoneApplies}
 use Rattle.edr_base.specs.declared.refusals.Refusal.{Refusal}
 use Rattle.edr_edition.specs.Values.{EditionValue}
 use Rattle.edr_query.specs.declared.pages.Page.{Page}
-use Rattle.edr_query.specs.Targets.{IsTarget, Refuses, TargetIsOne, rank}
+use Rattle.edr_base.specs.RefusalTable.{rank}
+use Rattle.edr_query.specs.Targets.{IsTarget, Refuses, TargetIsOne}
 use Rattle.edr_select.specs.Refusals.{Applies, refused, IsRefusedLeast, RefusalIsLeast}
 use Rattle.edr_serve.specs.Answers.{IsAnswer, AnswerIsOne, AppliesTo, IsTheFirst, RefusalIsTheFirst}
 

@@ -2,7 +2,10 @@
 use Rattle.std.proofs.Common.{◌≡◌, inl, inr, ◌∙◌, ℕ, List, ap, sym, subst, arith, Some, Ok, Err}
 use Rattle.std.specs.Prelude.{Result, option_map}
 use Rattle.std.specs.declared.option.Option.{Option}
+use Rattle.edr_base.specs.Calls.{Front}
 use Rattle.edr_base.specs.declared.refusals.Refusal.{Refusal}
+use Rattle.edr_base.specs.declared.sending.SendFault.{SendFault}
+use Rattle.edr_base.specs.declared.sending.SendFault.TheVariants as sending
 use Rattle.covjson_value.specs.Trees.{document_text}
 use Rattle.edr_edition.specs.Values.{EditionValue}
 use Rattle.edr_edition.specs.Stores.{Subject, subject_of}
@@ -14,6 +17,7 @@ use Rattle.edr_select.specs.Planning.{IsPlanFor}
 use Rattle.edr_serve.specs.declared.answering.AnswerFault.{AnswerFault}
 use Rattle.edr_serve.specs.declared.answering.AnswerFault.TheVariants.{Refused, WriteFault, OutOfMemory}
 use Rattle.edr_serve.specs.Answers.{IsTextOf, Answers}
+use Rattle.edr_serve.specs.Faults.{of_sending}
 
 -- ---- queries
 
@@ -38,6 +42,12 @@ stands_planned edition query plan subject collection instance planned c i store 
     let named : Some subject ≡ Some planned.subject =
     store ∙ (ap (λ (id : List ℕ). subject_of edition id instance) c ∙ (ap (subject_of edition query.collection) i ∙ planned.named)) in
     subst (StandsFor plan) (sym (same_subject named)) planned.stands
+
+-- a beginning of its text was written, and a fault of the sink is answered
+pub sent_in_part : (T : Type 0) (fault : SendFault) (P : Result (List ℕ) Refusal → Type 0) (text : List ℕ) (old new : Option (List ℕ))
+    → P (Ok text) → Front text old new → Answers {T = T} (Err (of_sending fault)) P old new
+sent_in_part T sending.WriteFault P text old new is front = record { text = text; is = is; front = front }
+sent_in_part T sending.OutOfMemory P text old new is front = inr (record { text = text; is = is; front = front })
 
 -- ---- targets
 

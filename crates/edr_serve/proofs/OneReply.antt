@@ -184,7 +184,7 @@ head_unread n head w s t = inr (none_broke w s t)
 
 -- ---- the same of results
 
-on_err : {T E : Type 0} (r : Result T E) (P : Type 0) → P → OnErr r P
+pub on_err : {T E : Type 0} (r : Result T E) (P : Type 0) → P → OnErr r P
 on_err (Ok x) P p = tt
 on_err (Err e) P p = p
 

@@ -9,7 +9,8 @@ use Rattle.covjson_value.specs.Trees.{document_text}
 use Rattle.edr_edition.specs.Values.{EditionValue}
 use Rattle.edr_edition.specs.Stores.{Subject, subject_of}
 use Rattle.edr_query.specs.Values.{QueryValue}
-use Rattle.edr_query.specs.Targets.{IsTarget, Refuses, rank}
+use Rattle.edr_base.specs.RefusalTable.{rank}
+use Rattle.edr_query.specs.Targets.{IsTarget, Refuses}
 use Rattle.edr_query.specs.declared.pages.Page.{Page}
 use Rattle.edr_query.specs.declared.pages.Page.TheVariants.{Ask}
 use Rattle.edr_select.specs.Refusals.{Applies, refused}

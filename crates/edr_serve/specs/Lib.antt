@@ -1,4 +1,5 @@
 pub mod Answers
+pub mod Faults
 pub mod Requests
 pub mod Replies
 pub mod Sessions

@@ -6,6 +6,7 @@ ghost use Rattle.edr_query.specs.declared.pages.Page.TheVariants.{Ask};
 ghost use Rattle.edr_select.specs.Planning.{IsPlanFor};
 ghost use Rattle.edr_describe.specs.Describing.{IsDescription};
 ghost use Rattle.edr_serve.specs.Answers.{IsAnswer, IsAnswerTo, Answers};
+ghost use Rattle.edr_serve.specs.Faults.{of_target, of_plan, of_description, of_sending};
 
 use edr_base::{Refusal, SendFault, Sink};
 use edr_describe::{DescribeFault, describe};
@@ -25,6 +26,50 @@ pub enum AnswerFault {
     WriteFault,
     /// Memory was wanting.
     OutOfMemory,
+}
+
+impl From<TargetFault> for AnswerFault {
+    ghost from_gives = { λ target fault. fault ≡ of_target target };
+
+    fn from(target: TargetFault) -> AnswerFault {
+        match target {
+            TargetFault::Refused(refusal) => AnswerFault::Refused(refusal),
+            TargetFault::OutOfMemory => AnswerFault::OutOfMemory,
+        }
+    }
+}
+
+impl From<PlanFault> for AnswerFault {
+    ghost from_gives = { λ plan fault. fault ≡ of_plan plan };
+
+    fn from(plan: PlanFault) -> AnswerFault {
+        match plan {
+            PlanFault::Refused(refusal) => AnswerFault::Refused(refusal),
+            PlanFault::OutOfMemory => AnswerFault::OutOfMemory,
+        }
+    }
+}
+
+impl From<DescribeFault> for AnswerFault {
+    ghost from_gives = { λ description fault. fault ≡ of_description description };
+
+    fn from(description: DescribeFault) -> AnswerFault {
+        match description {
+            DescribeFault::Refused(refusal) => AnswerFault::Refused(refusal),
+            DescribeFault::OutOfMemory => AnswerFault::OutOfMemory,
+        }
+    }
+}
+
+impl From<SendFault> for AnswerFault {
+    ghost from_gives = { λ sending fault. fault ≡ of_sending sending };
+
+    fn from(sending: SendFault) -> AnswerFault {
+        match sending {
+            SendFault::WriteFault => AnswerFault::WriteFault,
+            SendFault::OutOfMemory => AnswerFault::OutOfMemory,
+        }
+    }
 }
 
 // The id of the instance that a query names.
@@ -56,11 +101,7 @@ fn answer_planned<K: Sink>(
         query.collection.bytes(),
         instance_named(query),
     );
-    match send(alloc, plan, &mut store, sink) {
-        Ok(()) => Ok(()),
-        Err(SendFault::WriteFault) => Err(AnswerFault::WriteFault),
-        Err(SendFault::OutOfMemory) => Err(AnswerFault::OutOfMemory),
-    }
+    Ok(send(alloc, plan, &mut store, sink)?)
 }
 
 // Answers a query.
@@ -74,15 +115,10 @@ fn answer_query<K: Sink>(
     ensures lent { SinkLent (K.beside sink.old) (K.beside sink.new) (K.faults sink.old) (K.faults sink.new) }
     ensures cause { IsErrOf result AnswerFault.WriteFault → Rose (K.faults sink.old) (K.faults sink.new) }
 {
-    match plan(alloc, query, edition) {
-        Ok(plan) => {
-            let outcome = answer_planned(alloc, &plan, query, edition, sink);
-            drop(plan);
-            outcome
-        }
-        Err(PlanFault::Refused(refusal)) => Err(AnswerFault::Refused(refusal)),
-        Err(PlanFault::OutOfMemory) => Err(AnswerFault::OutOfMemory),
-    }
+    let plan = plan(alloc, query, edition)?;
+    let outcome = answer_planned(alloc, &plan, query, edition, sink);
+    drop(plan);
+    outcome
 }
 
 // Answers a page that describes.
@@ -97,16 +133,8 @@ fn answer_description<K: Sink>(
     ensures lent { SinkLent (K.beside sink.old) (K.beside sink.new) (K.faults sink.old) (K.faults sink.new) }
     ensures cause { IsErrOf result AnswerFault.WriteFault → Rose (K.faults sink.old) (K.faults sink.new) }
 {
-    let text = match describe(alloc, page, edition) {
-        Ok(text) => text,
-        Err(DescribeFault::Refused(refusal)) => return Err(AnswerFault::Refused(refusal)),
-        Err(DescribeFault::OutOfMemory) => return Err(AnswerFault::OutOfMemory),
-    };
-    match edr_base::send(sink, text.bytes()) {
-        Ok(()) => Ok(()),
-        Err(SendFault::WriteFault) => Err(AnswerFault::WriteFault),
-        Err(SendFault::OutOfMemory) => Err(AnswerFault::OutOfMemory),
-    }
+    let text = describe(alloc, page, edition)?;
+    Ok(edr_base::send(sink, text.bytes())?)
 }
 
 // Answers a page.
@@ -141,13 +169,8 @@ pub fn answer<K: Sink>(
     ensures lent { SinkLent (K.beside sink.old) (K.beside sink.new) (K.faults sink.old) (K.faults sink.new) }
     ensures cause { IsErrOf result AnswerFault.WriteFault → Rose (K.faults sink.old) (K.faults sink.new) }
 {
-    match read_target(alloc, target) {
-        Ok(page) => {
-            let outcome = answer_page(alloc, &page, edition, sink);
-            drop(page);
-            outcome
-        }
-        Err(TargetFault::Refused(refusal)) => Err(AnswerFault::Refused(refusal)),
-        Err(TargetFault::OutOfMemory) => Err(AnswerFault::OutOfMemory),
-    }
+    let page = read_target(alloc, target)?;
+    let outcome = answer_page(alloc, &page, edition, sink);
+    drop(page);
+    outcome
 }

@@ -62,17 +62,13 @@ pub(crate) fn refuse<K: Sink>(
     ensures lent { SinkLent (K.beside sink.old) (K.beside sink.new) (K.faults sink.old) (K.faults sink.new) }
     ensures cause { IsErrOf result SendFault.WriteFault → Rose (K.faults sink.old) (K.faults sink.new) }
 {
-    match write_refusal(alloc, sink, refusal, None, is_head, end.is_some()) {
-        Ok(()) => match settle(sink) {
-            Ok(()) => Ok(OneReport {
-                edition: None,
-                reads: Reads::new(alloc),
-                end,
-            }),
-            Err(fault) => Err(fault),
-        },
-        Err(fault) => Err(fault),
-    }
+    write_refusal(alloc, sink, refusal, None, is_head, end.is_some())?;
+    settle(sink)?;
+    Ok(OneReport {
+        edition: None,
+        reads: Reads::new(alloc),
+        end,
+    })
 }
 
 // Writes the reply to a page from an edition, and flushes.
@@ -90,17 +86,13 @@ fn reply_from<K: Sink>(
     ensures lent { SinkLent (K.beside sink.old) (K.beside sink.new) (K.faults sink.old) (K.faults sink.new) }
     ensures cause { IsErrOf result SendFault.WriteFault → Rose (K.faults sink.old) (K.faults sink.new) }
 {
-    match reply_page(alloc, sink, page, edition, is_head, end.is_some()) {
-        Ok(reads) => match settle(sink) {
-            Ok(()) => Ok(OneReport {
-                edition: Some(edition.number()),
-                reads,
-                end,
-            }),
-            Err(fault) => Err(fault),
-        },
-        Err(fault) => Err(fault),
-    }
+    let reads = reply_page(alloc, sink, page, edition, is_head, end.is_some())?;
+    settle(sink)?;
+    Ok(OneReport {
+        edition: Some(edition.number()),
+        reads,
+        end,
+    })
 }
 
 // Answers a page from the newest edition, and flushes.
@@ -122,13 +114,8 @@ fn answer_page<K: Sink, E: Editions>(
     ensures lent { SinkLent (K.beside sink.old) (K.beside sink.new) (K.faults sink.old) (K.faults sink.new) }
     ensures cause { IsErrOf result SendFault.WriteFault → Rose (K.faults sink.old) (K.faults sink.new) }
 {
-    match shelf.take() {
-        Ok(edition) => reply_from(alloc, sink, page, &edition, is_head, end),
-        Err(_) => {
-            drop(page);
-            Err(SendFault::OutOfMemory)
-        }
-    }
+    let edition = shelf.take()?;
+    reply_from(alloc, sink, page, &edition, is_head, end)
 }
 
 /// Answers the request that a head makes, and flushes.

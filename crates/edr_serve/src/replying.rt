@@ -35,15 +35,11 @@ fn reply_with<K: Sink>(
     ensures lent { SinkLent (K.beside sink.old) (K.beside sink.new) (K.faults sink.old) (K.faults sink.new) }
     ensures cause { IsErrOf result SendFault.WriteFault → Rose (K.faults sink.old) (K.faults sink.new) }
 {
-    match write_head(sink, 200, true, edition, close) {
-        Ok(()) => {
-            if is_head {
-                return Ok(());
-            }
-            send_body(sink, text)
-        }
-        Err(fault) => Err(fault),
+    write_head(sink, 200, true, edition, close)?;
+    if is_head {
+        return Ok(());
     }
+    send_body(sink, text)
 }
 
 // Writes the reply to a page that describes.
@@ -88,10 +84,8 @@ fn send_data<K: Sink>(
     let query = plan.query();
     let collection = query.collection.bytes();
     let mut store = Store::of(alloc, edition, collection, instance_named(query));
-    match send_in_chunks(alloc, plan, &mut store, sink) {
-        Ok(()) => Ok(store.into_reads()),
-        Err(fault) => Err(fault),
-    }
+    send_in_chunks(alloc, plan, &mut store, sink)?;
+    Ok(store.into_reads())
 }
 
 // Writes the reply to the query of a plan.
@@ -111,15 +105,11 @@ fn reply_planned<K: Sink>(
     ensures lent { SinkLent (K.beside sink.old) (K.beside sink.new) (K.faults sink.old) (K.faults sink.new) }
     ensures cause { IsErrOf result SendFault.WriteFault → Rose (K.faults sink.old) (K.faults sink.new) }
 {
-    match write_head(sink, 200, false, number, close) {
-        Ok(()) => {
-            if is_head {
-                return Ok(Reads::new(alloc));
-            }
-            send_data(alloc, sink, plan, edition)
-        }
-        Err(fault) => Err(fault),
+    write_head(sink, 200, false, number, close)?;
+    if is_head {
+        return Ok(Reads::new(alloc));
     }
+    send_data(alloc, sink, plan, edition)
 }
 
 // Writes the reply that refuses a page of an edition, for which no chunk is opened.
@@ -136,10 +126,8 @@ fn reply_refused<K: Sink>(
     ensures lent { SinkLent (K.beside sink.old) (K.beside sink.new) (K.faults sink.old) (K.faults sink.new) }
     ensures cause { IsErrOf result SendFault.WriteFault → Rose (K.faults sink.old) (K.faults sink.new) }
 {
-    match write_refusal(alloc, sink, refusal, number, is_head, close) {
-        Ok(()) => Ok(Reads::new(alloc)),
-        Err(fault) => Err(fault),
-    }
+    write_refusal(alloc, sink, refusal, number, is_head, close)?;
+    Ok(Reads::new(alloc))
 }
 
 // Writes the reply to a query.
@@ -188,10 +176,8 @@ fn reply_unopened<K: Sink>(
     ensures lent { SinkLent (K.beside sink.old) (K.beside sink.new) (K.faults sink.old) (K.faults sink.new) }
     ensures cause { IsErrOf result SendFault.WriteFault → Rose (K.faults sink.old) (K.faults sink.new) }
 {
-    match reply_description(alloc, sink, page, edition, number, is_head, close) {
-        Ok(()) => Ok(Reads::new(alloc)),
-        Err(fault) => Err(fault),
-    }
+    reply_description(alloc, sink, page, edition, number, is_head, close)?;
+    Ok(Reads::new(alloc))
 }
 
 /// Writes the reply to a page from an edition, and says which chunks were opened for it.

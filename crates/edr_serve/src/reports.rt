@@ -1,8 +1,12 @@
 //! What is reported of requests that were served.
+ghost use Rattle.std.specs.Prelude.{◌≡◌};
+ghost use Rattle.edr_serve.specs.declared.reports.SessionFault.TheVariants.{OutOfMemory as SessionWantsMemory};
+ghost use Rattle.edr_serve.specs.Faults.{of_head, of_reply};
 
 use crate::ends::End;
-use edr_base::Items;
+use edr_base::{Items, OutOfMemory, SendFault};
 use edr_chunk::Reads;
+use edr_http::HeadFault;
 
 /// What serving one request did.
 #[derive(Drop)]
@@ -37,4 +41,34 @@ pub enum SessionFault {
     WriteFault,
     /// Memory was wanting.
     OutOfMemory,
+}
+
+impl From<HeadFault> for SessionFault {
+    ghost from_gives = { λ head fault. fault ≡ of_head head };
+
+    fn from(head: HeadFault) -> SessionFault {
+        match head {
+            HeadFault::ReadFault => SessionFault::ReadFault,
+            HeadFault::OutOfMemory => SessionFault::OutOfMemory,
+        }
+    }
+}
+
+impl From<SendFault> for SessionFault {
+    ghost from_gives = { λ sending fault. fault ≡ of_reply sending };
+
+    fn from(sending: SendFault) -> SessionFault {
+        match sending {
+            SendFault::WriteFault => SessionFault::WriteFault,
+            SendFault::OutOfMemory => SessionFault::OutOfMemory,
+        }
+    }
+}
+
+impl From<OutOfMemory> for SessionFault {
+    ghost from_gives = { λ _ fault. fault ≡ SessionWantsMemory };
+
+    fn from(_: OutOfMemory) -> SessionFault {
+        SessionFault::OutOfMemory
+    }
 }

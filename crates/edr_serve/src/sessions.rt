@@ -1,5 +1,5 @@
 //! Sessions: the requests of a connection, one after another (RFC 9112, section 9.3).
-ghost use Rattle.std.specs.Prelude.{◌≡◌, ◌≢◌, ◌⊎◌, ◌+◌, ◌-◌, ◌≤◌, max, ◌++◌, [], ◌∷◌, None, Some, ℕ, length, option_map, option_to_list, IfOk, OnOk, OnErr, IsErrOf, IsTrue};
+ghost use Rattle.std.specs.Prelude.{◌≡◌, ◌≢◌, ◌⊎◌, ◌+◌, ◌-◌, ◌≤◌, max, ◌++◌, [], ◌∷◌, None, Some, ℕ, length, option_map, option_to_list, IfOk, OnOk, OnErr, IsErrOf};
 ghost use Rattle.std.specs.Io.KnownBytes.{prepend_known};
 ghost use Rattle.edr_base.specs.Outside.{Rose};
 ghost use Rattle.edr_base.specs.Calls.{SourceLent, SinkLent, ReadsAtMost, IsFlushed};
@@ -11,22 +11,11 @@ use crate::ends::End;
 use crate::heads::{answer_head, refuse};
 use crate::limits::REQUEST_LIMIT;
 use crate::reports::{OneReport, SessionFault, SessionReport};
-use edr_base::{Items, SendFault, Sink, Source};
+use edr_base::{Items, OutOfMemory, Sink, Source};
 use edr_chunk::Reads;
 use edr_edition::Editions;
-use edr_http::{HeadFault, HeadOutcome, Inbox, read_head};
+use edr_http::{HeadOutcome, Inbox, read_head};
 use std::alloc::Global;
-
-// The fault of a session whose sink couldn't take a reply.
-fn of_sending(fault: SendFault) -> SessionFault
-    ensures other { result ≢ SessionFault.ReadFault }
-    ensures write { result ≡ SessionFault.WriteFault → fault ≡ SendFault.WriteFault }
-{
-    match fault {
-        SendFault::WriteFault => SessionFault::WriteFault,
-        SendFault::OutOfMemory => SessionFault::OutOfMemory,
-    }
-}
 
 /// Serves one request of a connection: reads its head, and writes the reply and flushes it. `turn` is its number in the
 /// session, from 1 to `REQUEST_LIMIT`; a reply to the last closes the connection.
@@ -73,42 +62,35 @@ pub fn serve_one<S: Source, K: Sink, E: Editions>(
     ensures read { IsErrOf result SessionFault.ReadFault → Rose (S.faults source.old) (S.faults source.new) }
     ensures write { IsErrOf result SessionFault.WriteFault → Rose (K.faults sink.old) (K.faults sink.new) }
 {
-    match read_head(alloc, source, inbox) {
-        Ok(HeadOutcome::Got(head)) => match answer_head(alloc, sink, shelf, &head, turn) {
-            Ok(report) => Ok(report),
-            Err(fault) => Err(of_sending(fault)),
-        },
-        Ok(HeadOutcome::EndOfInput) => Ok(OneReport {
+    match read_head(alloc, source, inbox)? {
+        HeadOutcome::Got(head) => Ok(answer_head(alloc, sink, shelf, &head, turn)?),
+        HeadOutcome::EndOfInput => Ok(OneReport {
             edition: None,
             reads: Reads::new(alloc),
             end: Some(End::EndOfInput),
         }),
-        Ok(HeadOutcome::Refused(refusal)) => {
+        HeadOutcome::Refused(refusal) => {
             let end = Some(End::ClosedByRefusal(1));
-            match refuse(alloc, sink, refusal, false, end) {
-                Ok(report) => Ok(report),
-                Err(fault) => Err(of_sending(fault)),
-            }
+            Ok(refuse(alloc, sink, refusal, false, end)?)
         }
-        Err(HeadFault::ReadFault) => Err(SessionFault::ReadFault),
-        Err(HeadFault::OutOfMemory) => Err(SessionFault::OutOfMemory),
     }
 }
 
-// Keeps the edition of a report and the chunks that were opened, where an edition was taken; false where memory was wanting.
+// Keeps the edition of a report and the chunks that were opened, where an edition was taken.
 fn keep(
     editions: &mut Vec<u64>,
     reads: &mut Vec<Reads>,
     edition: Option<u64>,
     opened: Reads,
-) -> bool
-    ensures editions { IsTrue result → editions.new.items ≡ editions.old.items ++ option_to_list edition }
-    ensures reads { IsTrue result → reads.new.items ≡ reads.old.items ++ option_to_list (option_map (λ (number : ℕ). opened) edition) }
+) -> Result<(), OutOfMemory>
+    ensures editions { OnOk result (editions.new.items ≡ editions.old.items ++ option_to_list edition) }
+    ensures reads { OnOk result (reads.new.items ≡ reads.old.items ++ option_to_list (option_map (λ (number : ℕ). opened) edition)) }
 {
-    match edition {
-        Some(number) => editions.push(number).is_ok() && reads.push(opened).is_ok(),
-        None => true,
+    if let Some(number) = edition {
+        editions.push(number)?;
+        reads.push(opened)?;
     }
+    Ok(())
 }
 
 // How many replies were written, where the session ended at a turn.
@@ -162,29 +144,23 @@ pub fn serve_session<S: Source, K: Sink, E: Editions>(
     let mut reads = Vec::new(alloc);
     let mut turn: u32 = 1;
     'requests: while turn <= REQUEST_LIMIT {
-        match serve_one(alloc, source, sink, shelf, &mut inbox, turn) {
-            Ok(report) => {
-                let OneReport {
-                    edition,
-                    reads: opened,
+        let report = serve_one(alloc, source, sink, shelf, &mut inbox, turn)?;
+        let OneReport {
+            edition,
+            reads: opened,
+            end,
+        } = report;
+        keep(&mut editions, &mut reads, edition, opened)?;
+        match end {
+            Some(end) => {
+                return Ok(SessionReport {
+                    requests: replies(turn, end),
+                    editions: Items::of(editions),
+                    reads: Items::of(reads),
                     end,
-                } = report;
-                if !keep(&mut editions, &mut reads, edition, opened) {
-                    return Err(SessionFault::OutOfMemory);
-                }
-                match end {
-                    Some(end) => {
-                        return Ok(SessionReport {
-                            requests: replies(turn, end),
-                            editions: Items::of(editions),
-                            reads: Items::of(reads),
-                            end,
-                        });
-                    }
-                    None => {}
-                }
+                });
             }
-            Err(fault) => return Err(fault),
+            None => {}
         }
         turn += 1;
     }

@@ -4,7 +4,7 @@ use Rattle.std.proofs.Math.Nat.{eq-or-lt_of_le}
 use Rattle.std.proofs.lemmas.Cmp.{nat_list_cmp_total}
 use Rattle.std.proofs.lemmas.Bool.{cases_eq}
 use Rattle.std.proofs.lemmas.List.{get_or_default}
-use Rattle.edr_ids.specs.Ids.{order}
+use Rattle.edr_base.specs.Names.{order}
 use Rattle.edr_ids.specs.ListLaws.{order_itself}
 use Rattle.edr_base.specs.FirstThatApplies.{IsLeast}
 use Rattle.edr_station.specs.declared.inputs.StationInput.{StationInput}

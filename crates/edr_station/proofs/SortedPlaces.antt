@@ -10,7 +10,8 @@ use Rattle.std.proofs.lemmas.Bool.{cases_lt}
 use Rattle.std.proofs.lemmas.Cmp.{nat_list_cmp_total}
 use Rattle.std.proofs.lemmas.List.{append-nil, get_or-take, get_or-drop, length-take, length-drop, take-append-drop}
 use Rattle.std.proofs.lemmas.List.Elements.{All-nil, All-cons, All-append, All-take, All-drop, filter-append}
-use Rattle.edr_ids.specs.Ids.{order, AscendBy, has_id, is_below, is_above, item_of, with_item, without_id}
+use Rattle.edr_base.specs.Names.{order}
+use Rattle.edr_ids.specs.Ids.{AscendBy, has_id, is_below, is_above, item_of, with_item, without_id}
 use Rattle.edr_ids.specs.ListLaws.{order_itself, order_same, order_less_flips, order_greater_flips, less_from_test, greater_from_test, keys_ascend, has_id_is, filter_keeps_all, filter_keeps_none, item_of-found, item_of-none}
 use Rattle.edr_station.specs.Stations.{StationValue, station_id, nowhere, station_at}
 use Rattle.edr_station.specs.Shelves.{splice}

@@ -4,9 +4,13 @@ use Rattle.std.specs.Prelude.{◌≡◌, ℕ, ◌+◌, ◌*◌, ◌-◌, ◌/◌
 use Rattle.std.specs.List.{slice_index_or}
 use Rattle.edr_station.specs.Stations.{StationValue, StationsValue, levels_along, values_along, station_at}
 
+-- how many values a block has at most
+abbrev pub block_length : ℕ
+block_length = 256
+
 -- how many blocks hold so many values
 abbrev pub blocks_along : ℕ → ℕ
-blocks_along values = (values + 255) / 256
+blocks_along values = (values + (block_length - 1)) / block_length
 
 -- how many blocks each parameter of a station has
 abbrev pub blocks_of : StationValue → ℕ
@@ -55,15 +59,15 @@ value collection place =
 abbrev pub block_of : StationsValue → StationPlace → ℕ
 block_of collection place =
     let s = station_at collection.stations place.station in
-    first_block collection place.station + place.parameter * blocks_of s + place_in_series s place.time place.level / 256
+    first_block collection place.station + place.parameter * blocks_of s + place_in_series s place.time place.level / block_length
 
 -- where a place's value stands in its block
 abbrev pub place_in_block : StationsValue → StationPlace → ℕ
-place_in_block collection place = place_in_series (station_at collection.stations place.station) place.time place.level % 256
+place_in_block collection place = place_in_series (station_at collection.stations place.station) place.time place.level % block_length
 
--- the values of a block of a parameter: 256, or what is left at the last one
+-- the values of a block of a parameter: as many as a block has, or what is left at the last one
 abbrev pub cut_block : ℕ → List (Option ℤ) → List (Option ℤ)
-cut_block block values = take 256 (drop (block * 256) values)
+cut_block block values = take block_length (drop (block * block_length) values)
 
 -- what the block of a number is: it is one of some station and parameter, it has the values of its part of their series and
 -- no more; so all places whose block it is lie in it, with the collection's values
@@ -75,7 +79,7 @@ pub record IsBlock (collection : StationsValue) (number : ℕ) (values : List (O
   pub parameter_in : parameter < collection.parameters
   pub block_in : block < blocks_of (station_at collection.stations station)
   pub numbered : first_block collection station + parameter * blocks_of (station_at collection.stations station) + block ≡ number
-  pub long : length values ≡ min (values_along (station_at collection.stations station) - block * 256) 256
+  pub long : length values ≡ min (values_along (station_at collection.stations station) - block * block_length) block_length
   pub cut : values ≡ cut_block block (series_at (station_at collection.stations station) parameter)
   pub lies : (place : StationPlace) → Within collection place → block_of collection place ≡ number → place_in_block collection place < length values
   pub same : (place : StationPlace) → Within collection place → block_of collection place ≡ number

@@ -1,7 +1,7 @@
 -- The least id of those that are so, by the places of inputs: for private clauses.
 use Rattle.std.specs.Prelude.{◌≡◌, ◌⊎◌, ℕ, ◌<◌, List, length, Option, Some, MatchOption}
 use Rattle.std.specs.declared.cmp.Ordering.TheVariants.{Less}
-use Rattle.edr_ids.specs.Ids.{order}
+use Rattle.edr_base.specs.Names.{order}
 use Rattle.edr_station.specs.declared.inputs.StationInput.{StationInput}
 use Rattle.edr_station.specs.Inputs.{HasCounts, input_at, id_at}
 

@@ -1,7 +1,7 @@
 -- The stations of a collection (OGC 19-086r6, locations).
-use Rattle.std.specs.Prelude.{◌≡◌, ℕ, ◌*◌, ℤ, pos, ◌≤◌, List, [], length, All, IfSome, IsUtf8, Option, None, Some, unsigned_abs}
+use Rattle.std.specs.Prelude.{◌≡◌, ℕ, ◌*◌, ℤ, pos, ◌≤◌, List, [], length, All, IfSome, IsUtf8, Option, None, Some}
 use Rattle.std.specs.List.{slice_index_or}
-use Rattle.edr_base.specs.Limits.{coordinate_limit}
+use Rattle.edr_base.specs.Limits.{IsCoordinate}
 use Rattle.edr_base.specs.Names.{IsName}
 use Rattle.edr_axes.specs.Axes.{IsAxis}
 use Rattle.edr_axes.specs.Instants.{IsTime}
@@ -29,10 +29,6 @@ levels_along (Some zs) = length zs
 -- how many values each parameter of a station has: one for each time and level
 abbrev pub values_along : StationValue → ℕ
 values_along s = length s.ts * levels_along s.zs
-
--- a coordinate or a level, in metres
-abbrev pub IsCoordinate : ℤ → Type 0
-IsCoordinate value = unsigned_abs value ≤ coordinate_limit
 
 -- an axis whose values are within the limits
 pub record IsAxisWithin (IsValue : ℤ → Type 0) (values : List ℤ) : Type 0 where

@@ -15,6 +15,7 @@ mod tallies;
 pub use faults::has_counts;
 pub use inputs::{StationFault, StationInput};
 pub use laws::stations_cross_threads;
+pub use series::BLOCK_LENGTH;
 pub use station::Station;
 pub use stations::Stations;
 pub use tallies::{Tally, tallies_add_up};

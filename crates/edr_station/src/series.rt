@@ -1,7 +1,7 @@
 //! The values of one parameter of a station, in packed blocks.
 ghost use Rattle.std.specs.Prelude.{◌≡◌, ◌<◌, ◌*◌, length, IfOk};
 ghost use Rattle.edr_chunk.specs.Samples.{AreSamples};
-ghost use Rattle.edr_station.specs.Blocks.{blocks_along, cut_block};
+ghost use Rattle.edr_station.specs.Blocks.{block_length, blocks_along, cut_block};
 ghost use Rattle.edr_station.specs.KeptBlocks.{Filled};
 ghost use Rattle.edr_station.specs.Tallies.{tally_of};
 
@@ -13,9 +13,9 @@ use std::alloc::Global;
 use std::marker::Model;
 
 /// How many values a block holds at most.
-pub const BLOCK: usize = 256;
+pub const BLOCK_LENGTH: usize = 256;
 
-/// A list of samples in packed blocks: 256 values each, and the last one the rest.
+/// A list of samples in packed blocks: [`BLOCK_LENGTH`] values each, and the last one the rest.
 #[derive(Drop)]
 pub struct Series {
     blocks: Few<Packed>,
@@ -34,11 +34,11 @@ impl Model for Series {
 
 // The values of a block of a list.
 fn part_of(values: &[Option<i64>], block: usize) -> &[Option<i64>]
-    requires { block * 256 < length values.now }
+    requires { block * block_length < length values.now }
     ensures { result.now ≡ cut_block block values.now }
 {
-    let rest = &values[block * BLOCK..];
-    &rest[..rest.len().min(BLOCK)]
+    let rest = &values[block * BLOCK_LENGTH..];
+    &rest[..rest.len().min(BLOCK_LENGTH)]
 }
 
 // The packed blocks of a list.
@@ -46,7 +46,7 @@ fn packed_blocks(alloc: Global, values: &[Option<i64>]) -> Result<Vec<Packed>, O
     requires { AreSamples values.now }
     ensures { IfOk result (λ blocks. Filled values.now blocks.items (blocks_along (length values.now))) }
 {
-    let count = values.len().div_ceil(BLOCK);
+    let count = values.len().div_ceil(BLOCK_LENGTH);
     let mut blocks = Vec::with_capacity(alloc, count)?;
     for block in 0..count {
         blocks.push(Packed::pack(alloc, part_of(values, block))?)?;

@@ -12,7 +12,7 @@ ghost use Rattle.edr_station.specs.Kept.{IsKept, station_with};
 
 use crate::few::Few;
 use crate::inputs::StationInput;
-use crate::series::{BLOCK, Series};
+use crate::series::{BLOCK_LENGTH, Series};
 use crate::tallies::Tally;
 use edr_axes::Axis;
 use edr_base::{Items, OutOfMemory, Spot, Text};
@@ -320,7 +320,7 @@ impl Station {
         ensures { result ≡ blocks_of self.now }
     {
         let values = self.axes.times.len() * levels_in(&self.axes.levels);
-        values.div_ceil(BLOCK) as u64
+        values.div_ceil(BLOCK_LENGTH) as u64
     }
 
     // A block of a parameter.

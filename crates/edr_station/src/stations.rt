@@ -14,7 +14,7 @@ ghost use Rattle.edr_station.specs.Places.{IsPlaceOf, IsSpanOf, AreKept};
 
 use crate::faults::find_fault;
 use crate::inputs::{StationFault, StationInput};
-use crate::series::BLOCK;
+use crate::series::BLOCK_LENGTH;
 use crate::shelves::Shelf;
 use crate::station::Station;
 use edr_base::{OutOfMemory, Spot};
@@ -28,10 +28,10 @@ use std::sync::Arc;
 /// The stations of a collection, in strictly ascending order of their ids, byte by byte, each with the same number of
 /// parameters (OGC 19-086r6, locations).
 ///
-/// The values of each station and parameter are kept in packed blocks of up to 256, in the order t, z. The blocks are numbered
-/// by station, parameter and block, ascending from 0. `open_block` alone reads them. A station is found, set and taken out in
-/// a time that grows with the logarithm of their number. An equal copy takes no memory, and a change of one of two copies
-/// leaves the other as it is.
+/// The values of each station and parameter are kept in packed blocks of up to `BLOCK_LENGTH`, in the order t, z. The blocks are
+/// numbered by station, parameter and block, ascending from 0. `open_block` alone reads them. A station is found, set and taken
+/// out in a time that grows with the logarithm of their number. An equal copy takes no memory, and a change of one of two
+/// copies leaves the other as it is.
 #[derive(Drop)]
 pub struct Stations {
     parameters: usize,
@@ -284,7 +284,7 @@ impl Stations {
         ensures below { result < blocks self.now.parameters self.now.stations }
     {
         let place = self.shelf.at(station).place_in_series(time, level);
-        self.number_of(station, parameter, (place / BLOCK) as u64)
+        self.number_of(station, parameter, (place / BLOCK_LENGTH) as u64)
     }
 
     // The number of a block of a parameter of a station.

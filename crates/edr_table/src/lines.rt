@@ -73,17 +73,11 @@ pub fn put_line<K: Sink>(
     ensures lent { SinkLent (K.beside sink.old) (K.beside sink.new) (K.faults sink.old) (K.faults sink.new) }
     ensures cause { IsErrOf result SendFault.WriteFault → Rose (K.faults sink.old) (K.faults sink.new) }
 {
-    if lines.push(x, value).is_err() {
-        return Err(SendFault::OutOfMemory);
-    }
+    lines.push(x, value)?;
     if lines.gathered.len() < PIECE_SIZE {
         return Ok(());
     }
-    match send(sink, &lines.gathered) {
-        Ok(()) => {
-            lines.gathered.clear();
-            Ok(())
-        }
-        Err(fault) => Err(fault),
-    }
+    send(sink, &lines.gathered)?;
+    lines.gathered.clear();
+    Ok(())
 }

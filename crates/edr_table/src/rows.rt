@@ -41,18 +41,14 @@ fn put_row<'v, K: Sink>(
     ensures lent { SinkLent (K.beside sink.old) (K.beside sink.new) (K.faults sink.old) (K.faults sink.new) }
     ensures cause { IsErrOf result SendFault.WriteFault → Rose (K.faults sink.old) (K.faults sink.new) }
 {
-    if lines.set_front(parameter, turn.t, turn.z, y).is_err() {
-        return Err(SendFault::OutOfMemory);
-    }
+    lines.set_front(parameter, turn.t, turn.z, y)?;
     let mut left = values;
     for x in xs {
         let Some((value, rest)) = left.split_first() else {
             return Ok(left);
         };
-        match put_line(sink, lines, *x, *value) {
-            Ok(()) => left = rest,
-            Err(fault) => return Err(fault),
-        }
+        put_line(sink, lines, *x, *value)?;
+        left = rest;
     }
     Ok(left)
 }
@@ -77,10 +73,7 @@ pub fn put_rows<'v, K: Sink>(
 {
     let mut left = values;
     for y in ys {
-        match put_row(sink, lines, parameter, turn, *y, xs, left) {
-            Ok(rest) => left = rest,
-            Err(fault) => return Err(fault),
-        }
+        left = put_row(sink, lines, parameter, turn, *y, xs, left)?;
     }
     Ok(left)
 }
@@ -130,9 +123,7 @@ fn put_tuple<K: Sink>(
 {
     let t = time_of(domain, turn, tuple);
     let z = level_of(domain, turn, tuple);
-    if lines.set_front(parameter, t, z, tuple.y).is_err() {
-        return Err(SendFault::OutOfMemory);
-    }
+    lines.set_front(parameter, t, z, tuple.y)?;
     put_line(sink, lines, tuple.x, value)
 }
 
@@ -160,10 +151,8 @@ pub fn put_tuples<'v, K: Sink>(
         let Some((value, rest)) = left.split_first() else {
             return Ok(left);
         };
-        match put_tuple(sink, lines, domain, parameter, turn, tuple, *value) {
-            Ok(()) => left = rest,
-            Err(fault) => return Err(fault),
-        }
+        put_tuple(sink, lines, domain, parameter, turn, tuple, *value)?;
+        left = rest;
     }
     Ok(left)
 }

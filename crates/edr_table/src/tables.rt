@@ -34,10 +34,7 @@ fn put_parameters<K: Sink>(
 {
     for place in 0..parameters.len() {
         let id = parameters[place].id.bytes();
-        match put_parameter(sink, lines, domain, id, ranges[place].values.items()) {
-            Ok(()) => {}
-            Err(fault) => return Err(fault),
-        }
+        put_parameter(sink, lines, domain, id, ranges[place].values.items())?;
     }
     Ok(())
 }
@@ -78,10 +75,7 @@ fn put_coverages<K: Sink>(
     ensures cause { IsErrOf result SendFault.WriteFault → Rose (K.faults sink.old) (K.faults sink.new) }
 {
     for coverage in coverages {
-        match put_coverage(sink, lines, coverage) {
-            Ok(()) => {}
-            Err(fault) => return Err(fault),
-        }
+        put_coverage(sink, lines, coverage)?;
     }
     Ok(())
 }
@@ -126,8 +120,6 @@ pub fn write_table<K: Sink>(
     ensures cause { IsErrOf result SendFault.WriteFault → Rose (K.faults sink.old) (K.faults sink.new) }
 {
     let mut lines = Lines::new(alloc);
-    match put_document(sink, &mut lines, document) {
-        Ok(()) => send(sink, &lines.gathered),
-        Err(fault) => Err(fault),
-    }
+    put_document(sink, &mut lines, document)?;
+    send(sink, &lines.gathered)
 }

@@ -91,10 +91,7 @@ fn put_levels<'v, K: Sink>(
     let mut left = values;
     for place in 0..turns(domain, CoordinateName::Z) {
         let z = turn_value(domain, CoordinateName::Z, place);
-        match put_turn(sink, lines, domain, parameter, Turn { t, z }, left) {
-            Ok(rest) => left = rest,
-            Err(fault) => return Err(fault),
-        }
+        left = put_turn(sink, lines, domain, parameter, Turn { t, z }, left)?;
     }
     Ok(left)
 }
@@ -118,10 +115,7 @@ pub fn put_parameter<K: Sink>(
     let mut left = values;
     for place in 0..turns(domain, CoordinateName::T) {
         let t = turn_value(domain, CoordinateName::T, place);
-        match put_levels(sink, lines, domain, parameter, t, left) {
-            Ok(rest) => left = rest,
-            Err(fault) => return Err(fault),
-        }
+        left = put_levels(sink, lines, domain, parameter, t, left)?;
     }
     Ok(())
 }

@@ -6,15 +6,6 @@ use edr_base::{OutOfMemory, Text};
 use edr_query::{Address, Query, QueryKind, Shape};
 use std::alloc::Global;
 
-fn copy_text(alloc: Global, text: &Option<Text>) -> Result<Option<Text>, OutOfMemory>
-    ensures { IfOk result (λ copy. copy ≡ text.now) }
-{
-    match text {
-        Some(text) => Ok(Some(Text::of(alloc, text.bytes())?)),
-        None => Ok(None),
-    }
-}
-
 /// The address of a query: its collection, its instance where it has one, and its kind, or its station.
 pub fn address_of(alloc: Global, query: &Query) -> Result<Address, OutOfMemory>
     ensures { IfOk result (λ address. address ≡ address_of query.now) }
@@ -32,7 +23,7 @@ pub fn address_of(alloc: Global, query: &Query) -> Result<Address, OutOfMemory>
             return Ok(Address::Location(collection, station));
         }
     };
-    let instance = copy_text(alloc, &query.instance)?;
+    let instance = Text::copied(alloc, &query.instance)?;
     Ok(Address::Query {
         kind,
         collection,

@@ -1,3 +1,4 @@
 pub mod Lines
 pub mod Working
+pub mod Faults
 pub mod Counting

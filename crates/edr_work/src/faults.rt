@@ -1,8 +1,11 @@
 //! Why a run has no text.
 ghost use Rattle.std.specs.Prelude.{◌≡◌};
+ghost use Rattle.edr_work.specs.Faults.{of_target, of_plan};
 
 use edr_base::{OutOfMemory, Refusal};
 use edr_feed::FeedRefusal;
+use edr_query::TargetFault;
+use edr_select::PlanFault;
 use std::alloc::AllocError;
 
 /// Why a run has no text.
@@ -14,6 +17,28 @@ pub enum WorkFault {
     Refused(Refusal),
     /// Memory was wanting.
     OutOfMemory,
+}
+
+impl From<TargetFault> for WorkFault {
+    ghost from_gives = { λ target fault. fault ≡ of_target target };
+
+    fn from(target: TargetFault) -> WorkFault {
+        match target {
+            TargetFault::Refused(refusal) => WorkFault::Refused(refusal),
+            TargetFault::OutOfMemory => WorkFault::OutOfMemory,
+        }
+    }
+}
+
+impl From<PlanFault> for WorkFault {
+    ghost from_gives = { λ plan fault. fault ≡ of_plan plan };
+
+    fn from(plan: PlanFault) -> WorkFault {
+        match plan {
+            PlanFault::Refused(refusal) => WorkFault::Refused(refusal),
+            PlanFault::OutOfMemory => WorkFault::OutOfMemory,
+        }
+    }
 }
 
 impl From<OutOfMemory> for WorkFault {

@@ -15,8 +15,8 @@ use crate::faults::WorkFault;
 use edr_base::{OutOfMemory, QuietSink, SendFault, Sink, Text};
 use edr_edition::{Edition, Store};
 use edr_plan::plan;
-use edr_query::{Page, Query, TargetFault, read_target};
-use edr_select::{Plan, PlanFault};
+use edr_query::{Page, Query, read_target};
+use edr_select::Plan;
 use edr_send::send;
 use edr_station::Tally;
 use itoa::Buffer;
@@ -89,11 +89,8 @@ fn count_planned(
 fn count_of(alloc: Global, query: &Query, edition: &Edition) -> Result<Count, WorkFault>
     ensures { MatchCount result edition.now query.now }
 {
-    match plan(alloc, query, edition) {
-        Ok(plan) => count_planned(alloc, &plan, query, edition),
-        Err(PlanFault::Refused(refusal)) => Err(WorkFault::Refused(refusal)),
-        Err(PlanFault::OutOfMemory) => Err(WorkFault::OutOfMemory),
-    }
+    let plan = plan(alloc, query, edition)?;
+    count_planned(alloc, &plan, query, edition)
 }
 
 fn push_count(line: &mut Vec<u8>, count: u64) -> Result<(), OutOfMemory>
@@ -134,13 +131,11 @@ pub(crate) fn line_of(alloc: Global, target: &[u8], edition: &Edition) -> Result
     requires { AsksForQuery target.now }
     ensures { MatchLine result edition.now target.now }
 {
-    match read_target(alloc, target) {
-        Ok(Page::Ask(query)) => {
+    match read_target(alloc, target)? {
+        Page::Ask(query) => {
             let count = count_of(alloc, &query, edition)?;
             Ok(written(alloc, target, count)?)
         }
-        Ok(_) => unreachable!(),
-        Err(TargetFault::Refused(refusal)) => Err(WorkFault::Refused(refusal)),
-        Err(TargetFault::OutOfMemory) => Err(WorkFault::OutOfMemory),
+        _ => unreachable!(),
     }
 }

@@ -12,7 +12,7 @@ use Rattle.edr_feed.specs.declared.faults.FeedFault.{FeedFault}
 use Rattle.edr_feed.specs.declared.faults.FeedFault.TheVariants as faults
 use Rattle.edr_feed.specs.declared.refusals.FeedRefusal.{FeedRefusal}
 use Rattle.edr_feed.specs.Refusals.{refusal_of}
-use Rattle.edrd.specs.Ends.{IsFileRead}
+use Rattle.edr_program.specs.FileReads.{IsFileRead}
 use Rattle.edrd.specs.Feeding.{IsCause, ending_of}
 use Rattle.edrd.specs.Doors.{IsNew}
 use Rattle.edrd.specs.Serving.{HasEnded}

@@ -1,13 +1,11 @@
 -- How a run ends: its status, what it says, and what became of the feed's files, of the doors, of the shelf's places and of the
 -- gate. Each table goes by the ending; a last row of any `ending` is that of all which have none of their own.
-use Rattle.std.specs.Prelude.{◌≡◌, ◌⊎◌, ℕ, ◌+◌, ◌-◌, ◌^◌, min, Bool, true, false, ◌++◌, ⊤, codes, List, [], ◌∷◌, length, Ok, Err, IsSome, IsSomeAnd, IfSome, None, Some, option_map}
+use Rattle.std.specs.Prelude.{◌≡◌, ◌⊎◌, ℕ, ◌+◌, ◌-◌, ◌^◌, min, Bool, true, false, ◌++◌, ⊤, codes, List, [], ◌∷◌, length, Ok, Err, IsSome, IsSomeAnd, None, Some, option_map}
 use Rattle.std.specs.declared.option.Option.{Option}
-use Rattle.std.specs.Io.KnownBytes.{IsAtEnd}
-use Rattle.edr_base.specs.Limits.{feed_limit}
 use Rattle.edr_base.specs.Outside.{Aside, Rose}
-use Rattle.edr_base.specs.Calls.{ReadsAtMost, buffer_size}
 use Rattle.edr_edition.specs.Values.{EditionValue}
 use Rattle.edr_feed.specs.Feeds.{FeedStandsIn}
+use Rattle.edr_program.specs.FileReads.{IsFileRead}
 use Rattle.edr_program.specs.Lines.{feed_said, Tells}
 use Rattle.edrd.specs.declared.doors.DoorsAsked.{DoorsAsked}
 use Rattle.edrd.specs.declared.words.Settings.{Settings}
@@ -122,11 +120,6 @@ AsksFeed aside (Some settings) status old new =
     ⊎ ((status ≡ 5) × ((aside new).asked ≡ (aside old).asked))
 
 -- ---- how much is read of the feed's file, however the run ends
-
--- where it is open no more than so much of what it holds, where that is told; else nothing is left to read
-abbrev pub IsFileRead : Bool → Option (List ℕ) → Option (List ℕ) → Type 0
-IsFileRead true content left = IsAtEnd left
-IsFileRead false content left = IfSome content (λ bytes. ReadsAtMost (feed_limit + buffer_size) (Some bytes) left)
 
 -- the file that the words name, where they name one; with want of memory that, or the files are as they were
 abbrev pub ReadsFeed : {F : Type 0} → (F → Aside) → (F → Option (List ℕ)) → Option Settings → ℕ → F → F → Type 0

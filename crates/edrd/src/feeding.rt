@@ -2,7 +2,7 @@
 ghost use Rattle.std.specs.Prelude.{◌≡◌, ◌⊎◌, ◌++◌, ◌∷◌, [], IfErr, IfOk, IsUtf8, Ok, Err, option_map};
 ghost use Rattle.edr_edition.specs.Shelves.{IsLog};
 ghost use Rattle.edr_feed.specs.Feeds.{FeedStandsIn};
-ghost use Rattle.edrd.specs.Ends.{IsFileRead};
+ghost use Rattle.edr_program.specs.FileReads.{IsFileRead};
 ghost use Rattle.edrd.specs.Feeding.{IsCause, ending_of};
 
 use crate::endings::Ending;

@@ -138,10 +138,7 @@ fn parsed<'a>(alloc: Global, texts: &'a [&'a str]) -> Result<Option<Settings>, O
     ensures is { IfOk result (λ settings. settings ≡ asked_of spelled.command (map (λ text. text.now) texts.now)) }
     ensures within { IfOk result (λ settings. IfSome settings IsWithin) }
 {
-    let Ok(command) = command(alloc) else {
-        return Err(OutOfMemory);
-    };
-    match command.try_get_matches_from(texts) {
+    match command(alloc)?.try_get_matches_from(texts) {
         Ok(matches) => settings_in(alloc, &matches),
         Err(error) => match error.kind() {
             ErrorKind::OutOfMemory => Err(OutOfMemory),

@@ -1,5 +1,5 @@
 use Rattle.std.proofs.Common.{take}
-use Rattle.edr_chunk.specs.Samples.{IsSample}
+use Rattle.edr_base.specs.Limits.{IsSample}
 use Rattle.edr_chunk.specs.Codes.{AreBetween}
 use Rattle.edr_chunk.proofs.spans.span_of.Given as goal
 

@@ -1,7 +1,7 @@
 use Rattle.std.proofs.Common.{◌∙◌, ◌-◌, List, drop, ap, ap₂, sym, subst, ℤ}
 use Rattle.std.specs.List.{All}
 use Rattle.std.proofs.lemmas.List.Elements.{All-take, All-drop}
-use Rattle.edr_geometry.specs.Limits.{IsCoordinate}
+use Rattle.edr_base.specs.Limits.{IsCoordinate}
 use Rattle.edr_corridor.specs.Parts.{has_spot}
 use Rattle.edr_corridor.proofs.MaskedRows.{HasPlaces, about_places, in_rows, in_columns, part, cells, strip_has, strip_lies, no_strip_has}
 use Rattle.edr_corridor.proofs.strips.strip_of.Goals as goal

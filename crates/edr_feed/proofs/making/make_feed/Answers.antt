@@ -1,13 +1,13 @@
 use Rattle.std.proofs.Common.{◌≡◌, ◌++◌, ℕ, List, codes}
 use Rattle.std.specs.Io.KnownBytes.{append_known}
-use Rattle.edr_base.specs.KnownBytes.{grew_on, writes_stop}
+use Rattle.edr_base.specs.KnownBytes.{grew_on, front_on, front_more}
 use Rattle.edr_feed.specs.Made.{collection_line, grid_line, station_lines, made}
 use Rattle.edr_feed.proofs.MadeTexts.{stopped_first, stopped, wrote_third}
 use Rattle.edr_feed.proofs.making.make_feed.Goals as goal
 
-pub returns-in-Err-clause-text : goal.returns-in-Err-clause-text
+pub returns-in_err-send-clause-text : goal.returns-in_err-send-clause-text
 unfolding made
-returns-in-Err-clause-text g c =
+returns-in_err-send-clause-text g c =
     let number : ℕ = c.args.number in
     let grids : List ℕ = collection_line (codes "grid") (codes "grid") in
     let grid : List ℕ = grid_line number 500 1_040 in
@@ -16,13 +16,12 @@ returns-in-Err-clause-text g c =
     let publish : List ℕ = codes "{\"publish\":{}}\n" in
     let before = g.K.Sink.written c.args.sink.now in
     let first = g.K.Sink.written c.send.new.sink in
-    writes_stop (Unit {0}) c.in-Err.fault before first (((grids ++ grid) ++ sites) ++ stations) publish
-    (writes_stop (Unit {0}) c.in-Err.fault before first ((grids ++ grid) ++ sites) stations
-    (stopped_first {T = Unit {0}} c.in-Err.fault before first grids grid sites c.send.ensures.bytes.front).front).front
+    stopped_first c.from_residual.result before first ((grids ++ grid) ++ sites) stations publish c.from_residual.ensures.0
+    (front_more before first (grids ++ grid) sites (front_more before first grids grid c.send.ensures.bytes.front))
 
-pub returns-in-Err-write_grid_line-clause-text : goal.returns-in-Err-write_grid_line-clause-text
+pub returns-in_err-write_grid_line-clause-text : goal.returns-in_err-write_grid_line-clause-text
 unfolding made
-returns-in-Err-write_grid_line-clause-text g c =
+returns-in_err-write_grid_line-clause-text g c =
     let number : ℕ = c.args.number in
     let grids : List ℕ = collection_line (codes "grid") (codes "grid") in
     let grid : List ℕ = grid_line number 500 1_040 in
@@ -32,13 +31,12 @@ returns-in-Err-write_grid_line-clause-text g c =
     let before = g.K.Sink.written c.args.sink.now in
     let first = g.K.Sink.written c.send.new.sink in
     let second = g.K.Sink.written c.write_grid_line.new.sink in
-    writes_stop (Unit {0}) c.in-Err-write_grid_line.fault before second (((grids ++ grid) ++ sites) ++ stations) publish
-    (writes_stop (Unit {0}) c.in-Err-write_grid_line.fault before second ((grids ++ grid) ++ sites) stations
-    (stopped {T = Unit {0}} c.in-Err-write_grid_line.fault before first second grids grid sites c.in-Ok.ensures.bytes.whole c.write_grid_line.ensures.text.front).front).front
+    stopped_first c.from_residual-in_err-write_grid_line.result before second ((grids ++ grid) ++ sites) stations publish c.from_residual-in_err-write_grid_line.ensures.0
+    (front_more before second (grids ++ grid) sites (front_on before first second grids grid c.in_ok-send.ensures.bytes.whole c.write_grid_line.ensures.text.front))
 
-pub returns-in-Err-send-clause-text : goal.returns-in-Err-send-clause-text
+pub returns-in_err-send-2-clause-text : goal.returns-in_err-send-2-clause-text
 unfolding made
-returns-in-Err-send-clause-text g c =
+returns-in_err-send-2-clause-text g c =
     let number : ℕ = c.args.number in
     let grids : List ℕ = collection_line (codes "grid") (codes "grid") in
     let grid : List ℕ = grid_line number 500 1_040 in
@@ -49,13 +47,13 @@ returns-in-Err-send-clause-text g c =
     let first = g.K.Sink.written c.send.new.sink in
     let second = g.K.Sink.written c.write_grid_line.new.sink in
     let third = g.K.Sink.written c.send-2.new.sink in
-    let two : second ≡ append_known before (grids ++ grid) = grew_on before first second grids grid c.in-Ok.ensures.bytes.whole c.in-Ok-write_grid_line.ensures.text.whole in
-    writes_stop (Unit {0}) c.in-Err-send.fault before third (((grids ++ grid) ++ sites) ++ stations) publish
-    (stopped {T = Unit {0}} c.in-Err-send.fault before second third (grids ++ grid) sites stations two c.send-2.ensures.bytes.front).front
+    let two : second ≡ append_known before (grids ++ grid) = grew_on before first second grids grid c.in_ok-send.ensures.bytes.whole c.in_ok-write_grid_line.ensures.text.whole in
+    stopped_first c.from_residual-in_err-send-2.result before third ((grids ++ grid) ++ sites) stations publish c.from_residual-in_err-send-2.ensures.0
+    (front_on before second third (grids ++ grid) sites two c.send-2.ensures.bytes.front)
 
-pub returns-in-Err-write_stations-clause-text : goal.returns-in-Err-write_stations-clause-text
+pub returns-in_err-write_stations-clause-text : goal.returns-in_err-write_stations-clause-text
 unfolding made
-returns-in-Err-write_stations-clause-text g c =
+returns-in_err-write_stations-clause-text g c =
     let number : ℕ = c.args.number in
     let grids : List ℕ = collection_line (codes "grid") (codes "grid") in
     let grid : List ℕ = grid_line number 500 1_040 in
@@ -66,10 +64,10 @@ returns-in-Err-write_stations-clause-text g c =
     let first = g.K.Sink.written c.send.new.sink in
     let second = g.K.Sink.written c.write_grid_line.new.sink in
     let third = g.K.Sink.written c.send-2.new.sink in
-    let two : second ≡ append_known before (grids ++ grid) = grew_on before first second grids grid c.in-Ok.ensures.bytes.whole c.in-Ok-write_grid_line.ensures.text.whole in
+    let two : second ≡ append_known before (grids ++ grid) = grew_on before first second grids grid c.in_ok-send.ensures.bytes.whole c.in_ok-write_grid_line.ensures.text.whole in
     let fourth = g.K.Sink.written c.write_stations.new.sink in
-    let three : third ≡ append_known before ((grids ++ grid) ++ sites) = grew_on before second third (grids ++ grid) sites two c.in-Ok-send.ensures.bytes.whole in
-    stopped c.in-Err-write_stations.fault before third fourth ((grids ++ grid) ++ sites) stations publish three c.write_stations.ensures.text.front
+    let three : third ≡ append_known before ((grids ++ grid) ++ sites) = grew_on before second third (grids ++ grid) sites two c.in_ok-send-2.ensures.bytes.whole in
+    stopped c.from_residual-in_err-write_stations.result before third fourth ((grids ++ grid) ++ sites) stations publish c.from_residual-in_err-write_stations.ensures.0 three c.write_stations.ensures.text.front
 
 pub returns-clause-text : goal.returns-clause-text
 unfolding made
@@ -84,8 +82,8 @@ returns-clause-text g c =
     let first = g.K.Sink.written c.send.new.sink in
     let second = g.K.Sink.written c.write_grid_line.new.sink in
     let third = g.K.Sink.written c.send-2.new.sink in
-    let two : second ≡ append_known before (grids ++ grid) = grew_on before first second grids grid c.in-Ok.ensures.bytes.whole c.in-Ok-write_grid_line.ensures.text.whole in
+    let two : second ≡ append_known before (grids ++ grid) = grew_on before first second grids grid c.in_ok-send.ensures.bytes.whole c.in_ok-write_grid_line.ensures.text.whole in
     let fourth = g.K.Sink.written c.write_stations.new.sink in
-    let three : third ≡ append_known before ((grids ++ grid) ++ sites) = grew_on before second third (grids ++ grid) sites two c.in-Ok-send.ensures.bytes.whole in
+    let three : third ≡ append_known before ((grids ++ grid) ++ sites) = grew_on before second third (grids ++ grid) sites two c.in_ok-send-2.ensures.bytes.whole in
     wrote_third c.send-3.result before third fourth (g.K.Sink.written c.send-3.new.sink) ((grids ++ grid) ++ sites) stations publish three
-    c.in-Ok-write_stations.ensures.text.whole c.send-3.ensures.bytes
+    c.in_ok-write_stations.ensures.text.whole c.send-3.ensures.bytes

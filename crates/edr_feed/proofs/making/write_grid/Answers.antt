@@ -10,15 +10,15 @@ use Rattle.edr_feed.proofs.making.write_grid.Goals as goal
 
 pub write_grid_coverage-requires : goal.write_grid_coverage-requires
 write_grid_coverage-requires g c = record {
-  head = subst IsHead (sym c.in-Ok.ensures)
+  head = subst IsHead (sym c.in_ok-head.ensures)
       (head_over (grid_domain c.args.rows c.args.columns) (codes "temp") (codes "Cel") (record { values = grid_values c.args.number c.args.rows c.args.columns } ∷ [])
       (grid_is_valid c.args.number c.args.rows c.args.columns c.requires.rows.0 c.requires.rows.1 c.requires.columns.0 c.requires.columns.1));
-  one = ap (λ (h : Coverage). length h.parameters) c.in-Ok.ensures;
-  count = sym (ap (λ (h : Coverage). count_of h.domain) c.in-Ok.ensures ∙ grid_count c.args.rows c.args.columns);
+  one = ap (λ (h : Coverage). length h.parameters) c.in_ok-head.ensures;
+  count = sym (ap (λ (h : Coverage). count_of h.domain) c.in_ok-head.ensures ∙ grid_count c.args.rows c.args.columns);
 }
 
 pub returns-clause-text : goal.returns-clause-text
 returns-clause-text g c =
     subst (λ (l : List ℕ). Writes c.write_grid_coverage.result l (g.K.Sink.written c.args.sink.now) (g.K.Sink.written c.write_grid_coverage.new.sink))
-    (grid_parts c.in-Ok.head c.args.number c.args.rows c.args.columns c.requires.rows.0 c.requires.rows.1 c.requires.columns.0 c.requires.columns.1 c.in-Ok.ensures)
+    (grid_parts c.in_ok-head.head c.args.number c.args.rows c.args.columns c.requires.rows.0 c.requires.rows.1 c.requires.columns.0 c.requires.columns.1 c.in_ok-head.ensures)
     c.write_grid_coverage.ensures.text

@@ -3,21 +3,20 @@ use Rattle.edr_feed.specs.Made.{grid_text, grid_line}
 use Rattle.edr_feed.proofs.MadeTexts.{stopped_first, stopped, wrote_third}
 use Rattle.edr_feed.proofs.making.write_grid_line.Goals as goal
 
-pub returns-in-Err-clause-text : goal.returns-in-Err-clause-text
+pub returns-in_err-send-clause-text : goal.returns-in_err-send-clause-text
 unfolding grid_line
-returns-in-Err-clause-text g c =
-    stopped_first c.in-Err.fault (g.K.Sink.written c.args.sink.now) (g.K.Sink.written c.send.new.sink) (codes "{\"grid\":{\"collection\":\"grid\",\"coverage\":") (grid_text c.args.number c.args.rows c.args.columns) (codes ",\"instance\":\"1\"}}\n") c.send.ensures.bytes.front
+returns-in_err-send-clause-text g c =
+    stopped_first c.from_residual.result _ _ (codes "{\"grid\":{\"collection\":\"grid\",\"coverage\":") (grid_text c.args.number c.args.rows c.args.columns) (codes ",\"instance\":\"1\"}}\n")
+    c.from_residual.ensures.0 c.send.ensures.bytes.front
 
-pub returns-in-Err-write_grid-clause-text : goal.returns-in-Err-write_grid-clause-text
+pub returns-in_err-write_grid-clause-text : goal.returns-in_err-write_grid-clause-text
 unfolding grid_line
-returns-in-Err-write_grid-clause-text g c =
-    stopped c.in-Err-write_grid.fault (g.K.Sink.written c.args.sink.now) (g.K.Sink.written c.send.new.sink) (g.K.Sink.written c.write_grid.new.sink) (codes "{\"grid\":{\"collection\":\"grid\",\"coverage\":") (grid_text c.args.number c.args.rows c.args.columns) (codes ",\"instance\":\"1\"}}\n")
-    c.in-Ok.ensures.bytes.whole c.write_grid.ensures.text.front
+returns-in_err-write_grid-clause-text g c =
+    stopped c.from_residual-in_err-write_grid.result _ _ _ (codes "{\"grid\":{\"collection\":\"grid\",\"coverage\":") (grid_text c.args.number c.args.rows c.args.columns) (codes ",\"instance\":\"1\"}}\n")
+    c.from_residual-in_err-write_grid.ensures.0 c.in_ok-send.ensures.bytes.whole c.write_grid.ensures.text.front
 
 pub returns-clause-text : goal.returns-clause-text
 unfolding grid_line
 returns-clause-text g c =
-    let done = g.K.Sink.written c.write_grid.new.sink in
-    let after = g.K.Sink.written c.send-2.new.sink in
-    wrote_third c.send-2.result (g.K.Sink.written c.args.sink.now) (g.K.Sink.written c.send.new.sink) done after (codes "{\"grid\":{\"collection\":\"grid\",\"coverage\":") (grid_text c.args.number c.args.rows c.args.columns) (codes ",\"instance\":\"1\"}}\n")
-    c.in-Ok.ensures.bytes.whole c.in-Ok-write_grid.ensures.text.whole c.send-2.ensures.bytes
+    wrote_third c.send-2.result _ _ _ _ (codes "{\"grid\":{\"collection\":\"grid\",\"coverage\":") (grid_text c.args.number c.args.rows c.args.columns) (codes ",\"instance\":\"1\"}}\n")
+    c.in_ok-send.ensures.bytes.whole c.in_ok-write_grid.ensures.text.whole c.send-2.ensures.bytes

@@ -1,11 +1,11 @@
-use Rattle.std.proofs.Common.{rules, ◌+◌, ◌-◌, ℕ, List, [], Ok, Err, refl, sym, subst}
+use Rattle.std.proofs.Common.{rules, ◌+◌, ◌-◌, ℕ, List, [], Ok, refl, sym, subst}
 use Rattle.std.specs.List.{flat_map, range_with_len}
 use Rattle.edr_base.specs.Calls.{Writes}
 use Rattle.edr_base.specs.declared.sending.SendFault.{SendFault}
-use Rattle.edr_base.specs.KnownBytes.{append_nothing, front_none, writes_on, writes_stop}
+use Rattle.edr_base.specs.KnownBytes.{append_nothing, front_none, writes_on}
 use Rattle.edr_feed.specs.Made.{station_line}
 use Rattle.edr_feed.proofs.MadeLists.{next_list, no_list}
-use Rattle.edr_feed.proofs.MadeTexts.{all_stations}
+use Rattle.edr_feed.proofs.MadeTexts.{all_stations, stops}
 use Rattle.edr_feed.proofs.making.write_stations.Goals as goal
 
 pub loop-station-init : goal.loop-station-init
@@ -15,16 +15,16 @@ loop-station-init g c = record {
   lent = search rules;
 }
 
-pub returns-in-Err-clause-text : goal.returns-in-Err-clause-text
-returns-in-Err-clause-text g c =
+pub returns-in_err-write_station-clause-text : goal.returns-in_err-write_station-clause-text
+returns-in_err-write_station-clause-text g c =
     let line = station_line c.args.number c.args.times in
     let station : ℕ = c.loop-station.station in
     let before = g.K.Sink.written c.loop-station.sink in
     let after = g.K.Sink.written c.write_station.new.sink in
     let rest : List ℕ = flat_map line (range_with_len (station + 1) (c.args.stations - (station + 1))) in
-    c.loop-station.invariant.text (Err c.in-Err.fault) after
-    (subst (λ (l : List ℕ). Writes {T = Unit {0}} (Err c.in-Err.fault) l before after) (sym (next_list line station c.args.stations c.loop-station-test.true))
-    (writes_stop (Unit {0}) c.in-Err.fault before after (line station) rest c.write_station.ensures.text.front))
+    c.loop-station.invariant.text c.from_residual.result after
+    (subst (λ (l : List ℕ). Writes c.from_residual.result l before after) (sym (next_list line station c.args.stations c.loop-station-test.true))
+    (stops c.from_residual.result before after (line station) rest c.from_residual.ensures.0 c.write_station.ensures.text.front))
 
 pub loop-station-preserved : goal.loop-station-preserved
 loop-station-preserved g c =
@@ -37,7 +37,7 @@ loop-station-preserved g c =
       text = λ result new wrote.
           c.loop-station.invariant.text result new
           (subst (λ (l : List ℕ). Writes result l before new) (sym (next_list line station c.args.stations c.loop-station-test.true))
-          (writes_on result before after new (line station) rest c.in-Ok.ensures.text.whole wrote));
+          (writes_on result before after new (line station) rest c.in_ok-write_station.ensures.text.whole wrote));
       lent = search rules;
     }
 

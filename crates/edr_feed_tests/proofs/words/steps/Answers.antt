@@ -1,7 +1,7 @@
 use Rattle.std.proofs.Common.{rules, ◌≡◌, [], ◌∷◌, ◌++◌, ℤ, List, All, sym, subst}
 use Rattle.std.proofs.lemmas.List.Elements.{All-push}
 use Rattle.edr_axes.specs.Instants.{IsTime}
-use Rattle.edr_station.specs.Stations.{IsCoordinate}
+use Rattle.edr_base.specs.Limits.{IsCoordinate}
 use Rattle.edr_feed_tests.proofs.words.steps.Goals as goal
 
 pub loop-place-preserved : goal.loop-place-preserved

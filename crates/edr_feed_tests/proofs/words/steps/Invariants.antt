@@ -1,6 +1,6 @@
 use Rattle.std.specs.List.{All}
 use Rattle.edr_axes.specs.Instants.{IsTime}
-use Rattle.edr_station.specs.Stations.{IsCoordinate}
+use Rattle.edr_base.specs.Limits.{IsCoordinate}
 use Rattle.edr_feed_tests.proofs.words.steps.Given as goal
 
 abbrev pub invariant-loop-place : goal.invariant-loop-place

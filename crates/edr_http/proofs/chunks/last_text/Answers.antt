@@ -2,8 +2,8 @@ use Rattle.std.proofs.Common.{◌≡◌, codes, length, refl, arith, ◌∙◌}
 use Rattle.edr_http.proofs.ChunkFrames.{put_behind, full_end, empty_end, short_end, no_part}
 use Rattle.edr_http.proofs.chunks.last_text.Goals as goal
 
-pub returns-then-used-eq4096-clause-text : goal.returns-then-used-eq4096-clause-text
-returns-then-used-eq4096-clause-text c =
+pub returns-then-used-eq-CHUNK_LENGTH-clause-text : goal.returns-then-used-eq-CHUNK_LENGTH-clause-text
+returns-then-used-eq-CHUNK_LENGTH-clause-text c =
     let l : length c.args.frame.now ≡ 4109 = omega arith in
     full_end c.args.frame.now c.args.used c.args.sent l c.requires.framed (omega arith) (omega arith)
 

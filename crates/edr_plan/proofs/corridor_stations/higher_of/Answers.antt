@@ -1,6 +1,6 @@
 use Rattle.std.proofs.Common.{◌≡◌, ◌∙◌, ap₂, rules, sym, subst, to_z, of_z, w64}
 use Rattle.std.specs.Int.{int_max}
-use Rattle.edr_geometry.specs.Limits.{IsCoordinate}
+use Rattle.edr_base.specs.Limits.{IsCoordinate}
 use Rattle.edr_plan.proofs.NearBoxes.{higher_in}
 use Rattle.edr_plan.proofs.corridor_stations.higher_of.Goals as goal
 

@@ -1,6 +1,7 @@
-use Rattle.std.proofs.Common.{rules}
+use Rattle.std.proofs.Common.{Err, ap, rules}
 use Rattle.edr_reply.specs.Taking.{most_of_chunk}
 use Rattle.edr_reply.proofs.ChunkSteps.{going_more, going_last, going_breaks, going_cut, going_early, going_bounded, last_bounded}
+use Rattle.edr_reply.proofs.RestLemmas.{handed_on}
 use Rattle.edr_reply.proofs.chunks.take_chunks.Goals as goal
 
 pub take_chunk-requires-clause-early : goal.take_chunk-requires-clause-early
@@ -8,24 +9,24 @@ take_chunk-requires-clause-early g c = going_early c.args.place c.loop-next.next
 
 pub loop-next-preserved : goal.loop-next-preserved
 loop-next-preserved g c =
-    let taken = rw c.in-Ok-Some.field-0-is at c.in-Ok-Some.ensures.next in
+    let taken = rw c.in-Some.is at c.in_ok-next.ensures.next in
     record { going = going_more _ _ _ _ _ _ _ _ c.loop-next.invariant.going taken; lent = search rules }
 
-pub returns-in-Ok-None-clause-taken : goal.returns-in-Ok-None-clause-taken
-returns-in-Ok-None-clause-taken g c =
-    let taken = rw c.in-Ok-None.field-0-is at c.in-Ok-None.ensures.next in
+pub returns-in-None-clause-taken : goal.returns-in-None-clause-taken
+returns-in-None-clause-taken g c =
+    let taken = rw c.in-None.is at c.in_ok-next.ensures.next in
     going_last _ _ _ _ _ _ _ c.loop-next.invariant.going taken
 
-pub returns-in-Err-clause-broken : goal.returns-in-Err-clause-broken
-returns-in-Err-clause-broken g c at e = going_breaks _ _ at _ _ _ _ c.loop-next.invariant.going (c.in-Err.ensures.broken at cc)
+pub returns-in_err-next-clause-broken : goal.returns-in_err-next-clause-broken
+returns-in_err-next-clause-broken g c at e = going_breaks _ _ at _ _ _ _ c.loop-next.invariant.going (c.in_err-next.ensures.broken at (ap Err (handed_on c.from_residual.result _ _ c.from_residual.ensures.1 e)))
 
-pub returns-in-Err-clause-bounded : goal.returns-in-Err-clause-bounded
-returns-in-Err-clause-bounded g c = going_bounded _ _ most_of_chunk _ _ _ _ c.loop-next.invariant.going c.in-Err.ensures.bounded
+pub returns-in_err-next-clause-bounded : goal.returns-in_err-next-clause-bounded
+returns-in_err-next-clause-bounded g c = going_bounded _ _ most_of_chunk _ _ _ _ c.loop-next.invariant.going c.in_err-next.ensures.bounded
 
-pub returns-in-Ok-None-clause-bounded : goal.returns-in-Ok-None-clause-bounded
-returns-in-Ok-None-clause-bounded g c =
-    let taken = rw c.in-Ok-None.field-0-is at c.in-Ok-None.ensures.next in
+pub returns-in-None-clause-bounded : goal.returns-in-None-clause-bounded
+returns-in-None-clause-bounded g c =
+    let taken = rw c.in-None.is at c.in_ok-next.ensures.next in
     going_bounded _ _ most_of_chunk _ _ _ _ c.loop-next.invariant.going (last_bounded _ _ _ _ taken)
 
-pub returns-in-Err-clause-unfinished : goal.returns-in-Err-clause-unfinished
-returns-in-Err-clause-unfinished g c e = going_cut _ _ _ _ _ _ c.loop-next.invariant.going (c.in-Err.ensures.unfinished cc)
+pub returns-in_err-next-clause-unfinished : goal.returns-in_err-next-clause-unfinished
+returns-in_err-next-clause-unfinished g c e = going_cut _ _ _ _ _ _ c.loop-next.invariant.going (c.in_err-next.ensures.unfinished (ap Err (handed_on c.from_residual.result _ _ c.from_residual.ensures.1 e)))

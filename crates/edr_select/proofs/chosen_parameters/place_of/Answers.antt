@@ -1,6 +1,6 @@
 use Rattle.std.proofs.Common.{rules}
 use Rattle.std.proofs.lemmas.Fn.{always_returns_same}
-use Rattle.edr_ids.specs.Ids.{order}
+use Rattle.edr_base.specs.Names.{order}
 use Rattle.edr_select.proofs.SearchedIds.{place_from_search}
 use Rattle.edr_edition.specs.Values.{parameter_id}
 use Rattle.edr_select.proofs.chosen_parameters.place_of.Goals as goal

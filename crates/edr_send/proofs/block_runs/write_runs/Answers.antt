@@ -20,7 +20,7 @@ use Rattle.edr_send.proofs.BlockRuns.{InOne, cut_next, run_one, run_rise, run_te
 use Rattle.edr_send.proofs.TextSteps.{all_but_same, all_but_on, all_but_front, all_but_all, writes_fault}
 use Rattle.edr_send.proofs.TileSteps.{length-range}
 use Rattle.edr_send.proofs.RunSteps.{values_next, with_none, with_more}
-use Rattle.edr_send.proofs.WriterSteps.{lent_on, rose_on}
+use Rattle.edr_send.proofs.WriterSteps.{lent_on}
 use Rattle.edr_send.proofs.block_runs.write_runs.Goals as goal
 
 pub loop-at-init : goal.loop-at-init
@@ -69,7 +69,7 @@ loop-at-preserved g c =
     let piece = values_from at (map f (slice_range cells at next)) in
     let rest = values_from next (map f (drop next cells)) in
     let wrote : written c.write_run.new.sink ≡ append_known (written c.loop-at.sink) (values_from c.loop-at.writer.values (series_range (station_of (collection_of c.loop-at.store.subject.held) series) (slice_range c.items-cells.result.now at next) p).values) =
-    c.in-Ok.ensures.bytes.whole in
+    c.in_ok-write_run.ensures.bytes.whole in
     let told : written c.write_run.new.sink ≡ append_known (written c.loop-at.sink) piece =
     wrote
     ∙ ap (append_known (written c.loop-at.sink))
@@ -77,7 +77,7 @@ loop-at-preserved g c =
     record {
       high = inside;
       cut = cut_next cells at next c.requires.over.rise more c.loop-at.invariant.cut one other;
-      writer = c.in-Ok.ensures.writer ∙ with_more c.loop-at.writer c.args.writer.now at (length (slice_range c.items-cells.result.now at next)) c.loop-at.invariant.writer
+      writer = c.in_ok-write_run.ensures.writer ∙ with_more c.loop-at.writer c.args.writer.now at (length (slice_range c.items-cells.result.now at next)) c.loop-at.invariant.writer
           ∙ ap (λ (n : ℕ). with_values c.args.writer.now n) (omega (arith, ap length part, length-range cells at next (omega (arith, more)) inside, more));
       subject = c.write_run.ensures.subject ∙ c.loop-at.invariant.subject;
       text = all_but_on piece rest whole (written c.args.sink.now) (written c.loop-at.sink) (written c.write_run.new.sink)
@@ -85,13 +85,13 @@ loop-at-preserved g c =
           told;
       reads = added_on (ascending_once (blocks_in collection) (map b (take at cells))) (ascending_once (blocks_in collection) (map b (slice_range cells at next))) (ascending_once (blocks_in collection) (map b (take next cells)))
           c.args.store.now.numbers c.loop-at.store.numbers c.write_run.new.store.numbers c.loop-at.invariant.reads
-          (c.in-Ok.ensures.reads.all ∙ ap (λ (l : List ℕ). c.loop-at.store.numbers ++ l) (run_blocks c.loop-at.store.subject subject series p (slice_range c.items-cells.result.now at next) (slice_range cells at next) c.loop-at.invariant.subject part))
+          (c.in_ok-write_run.ensures.reads.all ∙ ap (λ (l : List ℕ). c.loop-at.store.numbers ++ l) (run_blocks c.loop-at.store.subject subject series p (slice_range c.items-cells.result.now at next) (slice_range cells at next) c.loop-at.invariant.subject part))
           (run_next collection series c.requires.over.station p c.requires.parameter at next c.requires.over.rise c.loop-at.invariant.cut more);
       lent = lent_on c.loop-at.invariant.lent c.write_run.ensures.lent;
     }
 
-pub returns-in-Err-clause-bytes : goal.returns-in-Err-clause-bytes
-returns-in-Err-clause-bytes g c =
+pub returns-in_err-write_run-clause-bytes : goal.returns-in_err-write_run-clause-bytes
+returns-in_err-write_run-clause-bytes g c =
     let series : StationSeriesValue = c.args.series.now in
     let cells : List ℕ = series.cells in
     let subject : Subject = c.args.store.now.subject in
@@ -113,13 +113,13 @@ returns-in-Err-clause-bytes g c =
     subst (λ (l : List ℕ). Front l (written c.loop-at.sink) (written c.write_run.new.sink))
     (run_text c.loop-at.store.subject subject series p c.loop-at.writer.values at (slice_range c.items-cells.result.now at next) (slice_range cells at next) c.loop-at.invariant.subject count part)
     c.write_run.ensures.bytes.front in
-    writes_fault (Unit {0}) c.in-Err.fault whole (written c.args.sink.now) (written c.write_run.new.sink)
+    writes_fault c.from_residual.result whole (written c.args.sink.now) (written c.write_run.new.sink) (search rules)
     (all_but_front piece rest whole (written c.args.sink.now) (written c.loop-at.sink) (written c.write_run.new.sink)
     (all_but_same (values_from at (map f (drop at cells))) (piece ++ rest) whole (written c.args.sink.now) (written c.loop-at.sink) (values_next f cells at next (omega (arith, more)) inside) c.loop-at.invariant.text)
     front)
 
-pub returns-in-Err-clause-reads : goal.returns-in-Err-clause-reads
-returns-in-Err-clause-reads g c =
+pub returns-in_err-write_run-clause-reads : goal.returns-in_err-write_run-clause-reads
+returns-in_err-write_run-clause-reads g c =
     let series : StationSeriesValue = c.args.series.now in
     let cells : List ℕ = series.cells in
     let subject : Subject = c.args.store.now.subject in
@@ -135,8 +135,7 @@ returns-in-Err-clause-reads g c =
     let other : next < length cells → get_or cells next 0 / 256 ≢ get_or cells at 0 / 256 =
     subst (λ (l : List ℕ). next < length l → get_or l next 0 / 256 ≢ get_or l at 0 / 256) listed c.run_end-end.ensures.other in
     let part : slice_range c.items-cells.result.now at next ≡ slice_range cells at next = ap (λ (l : List ℕ). slice_range l at next) listed in
-    adds_fault (Unit {0}) c.in-Err.fault (ascending_once n (map b (take at cells))) (ascending_once n (map b (slice_range cells at next))) (ascending_once n (map b (drop next cells))) (ascending_once n (map b cells))
-    c.args.store.now.numbers c.loop-at.store.numbers c.write_run.new.store.numbers c.loop-at.invariant.reads
+    adds_fault c.from_residual.result (ascending_once n (map b (take at cells))) (ascending_once n (map b (slice_range cells at next))) (ascending_once n (map b (drop next cells))) (ascending_once n (map b cells)) c.args.store.now.numbers c.loop-at.store.numbers c.write_run.new.store.numbers (search rules) c.loop-at.invariant.reads
     (run_whole collection series c.requires.over.station p c.requires.parameter at next c.requires.over.rise c.loop-at.invariant.cut (cut_next cells at next c.requires.over.rise more c.loop-at.invariant.cut one other) more)
     (subst (λ (l : List ℕ). Added l c.loop-at.store.numbers c.write_run.new.store.numbers)
     (run_blocks c.loop-at.store.subject subject series p (slice_range c.items-cells.result.now at next) (slice_range cells at next) c.loop-at.invariant.subject part) c.write_run.ensures.reads.begun)
@@ -149,12 +148,3 @@ returns-clause-reads g c =
     let past : length series.cells ≤ c.loop-at.at = subst (λ (l : List ℕ). length l ≤ c.loop-at.at) listed c.loop-at-test.false in
     adds_all (Ok tt) (ascending_once n (map (block_at series c.args.parameter) (take c.loop-at.at series.cells))) (ascending_once n (map (block_at series c.args.parameter) series.cells))
     c.args.store.now.numbers c.loop-at.store.numbers (ap (λ (l : List ℕ). ascending_once n (map (block_at series c.args.parameter) l)) (take_all c.loop-at.at series.cells past)) c.loop-at.invariant.reads
-
-pub returns-in-Err-clause-lent : goal.returns-in-Err-clause-lent
-returns-in-Err-clause-lent g c = lent_on c.loop-at.invariant.lent c.write_run.ensures.lent
-
-pub returns-in-Err-clause-cause : goal.returns-in-Err-clause-cause
-returns-in-Err-clause-cause g c = λ is. rose_on (g.K.Faults.faults c.write_run.new.sink) c.loop-at.invariant.lent (c.in-Err.ensures.cause is)
-
-pub returns-clause-lent : goal.returns-clause-lent
-returns-clause-lent g c = c.loop-at.invariant.lent

@@ -21,7 +21,7 @@ use Rattle.edr_send.proofs.Cuts.{stage_within, stage_ready}
 use Rattle.edr_send.proofs.TextSteps.{all_but_same, all_but_on, all_but_front, all_but_all, writes_fault, all_but_none}
 use Rattle.edr_send.proofs.FrameTiles.{taken_within}
 use Rattle.edr_send.proofs.RunSteps.{parameter_step, parameter_begun, ranges_next}
-use Rattle.edr_send.proofs.WriterSteps.{lent_on, rose_on, all_met}
+use Rattle.edr_send.proofs.WriterSteps.{lent_on, all_met}
 use Rattle.std.proofs.lemmas.List.Elements.{All-get_or}
 use Rattle.std.proofs.lemmas.List.{take_all, drop_all}
 use Rattle.edr_send.proofs.frame_streams.write_parameters.Goals as goal
@@ -58,28 +58,28 @@ loop-number-preserved g c =
     let rest = ranges_from head (i + 1) (map f (drop (i + 1) ps)) in
     let wrote : written c.write_range.new.sink ≡ append_known (written c.loop-number.sink) piece =
     subst (λ (h : RangeHead). written c.write_range.new.sink ≡ append_known (written c.loop-number.sink) (range_piece h i (f (get_or ps i 0)).values)) c.loop-number.invariant.head
-    (subst (λ (s : Subject). written c.write_range.new.sink ≡ append_known (written c.loop-number.sink) (range_piece c.loop-number.writer.head i (framed_range (grid_of s.held) frame (get_or ps i 0)).values)) c.loop-number.invariant.subject c.in-Ok.ensures.bytes.whole) in
+    (subst (λ (s : Subject). written c.write_range.new.sink ≡ append_known (written c.loop-number.sink) (range_piece c.loop-number.writer.head i (framed_range (grid_of s.held) frame (get_or ps i 0)).values)) c.loop-number.invariant.subject c.in_ok-write_range.ensures.bytes.whole) in
     let keys : length c.loop-number.writer.head.keys ≡ length ps = ap (λ (h : RangeHead). length h.keys) c.loop-number.invariant.head ∙ c.requires.each in
     record {
-      many = ap (λ (w : WriterValue). w.many) c.in-Ok.ensures.writer ∙ c.loop-number.invariant.many;
-      begun = ap (λ (w : WriterValue). w.begun) c.in-Ok.ensures.writer ∙ c.loop-number.invariant.begun;
-      head = ap (λ (w : WriterValue). w.head) c.in-Ok.ensures.writer ∙ c.loop-number.invariant.head;
-      ranges = ap (λ (w : WriterValue). w.ranges) c.in-Ok.ensures.writer ∙ ap (λ (k : ℕ). k + 1) c.loop-number.invariant.ranges;
-      within = λ more. ap (λ (w : WriterValue). w.stage) c.in-Ok.ensures.writer ∙ stage_within (c.loop-number.writer.ranges + 1) (length c.loop-number.writer.head.keys) (omega (arith, keys, c.loop-number.invariant.ranges, more));
-      ready = λ all. ap (λ (w : WriterValue). w.stage) c.in-Ok.ensures.writer ∙ stage_ready (c.loop-number.writer.ranges + 1) (length c.loop-number.writer.head.keys) (omega (arith, keys, c.loop-number.invariant.ranges, all));
+      many = ap (λ (w : WriterValue). w.many) c.in_ok-write_range.ensures.writer ∙ c.loop-number.invariant.many;
+      begun = ap (λ (w : WriterValue). w.begun) c.in_ok-write_range.ensures.writer ∙ c.loop-number.invariant.begun;
+      head = ap (λ (w : WriterValue). w.head) c.in_ok-write_range.ensures.writer ∙ c.loop-number.invariant.head;
+      ranges = ap (λ (w : WriterValue). w.ranges) c.in_ok-write_range.ensures.writer ∙ ap (λ (k : ℕ). k + 1) c.loop-number.invariant.ranges;
+      within = λ more. ap (λ (w : WriterValue). w.stage) c.in_ok-write_range.ensures.writer ∙ stage_within (c.loop-number.writer.ranges + 1) (length c.loop-number.writer.head.keys) (omega (arith, keys, c.loop-number.invariant.ranges, more));
+      ready = λ all. ap (λ (w : WriterValue). w.stage) c.in_ok-write_range.ensures.writer ∙ stage_ready (c.loop-number.writer.ranges + 1) (length c.loop-number.writer.head.keys) (omega (arith, keys, c.loop-number.invariant.ranges, all));
       subject = c.write_range.ensures.subject ∙ c.loop-number.invariant.subject;
       text = all_but_on piece rest whole (written c.args.sink.now) (written c.loop-number.sink) (written c.write_range.new.sink)
           (all_but_same (ranges_from head i (map f (drop i ps))) (piece ++ rest) whole (written c.args.sink.now) (written c.loop-number.sink) (ranges_next head f ps i inside) c.loop-number.invariant.text)
           wrote;
       reads = added_on (ascending_once (tiles shape) (flat_map (tiles_of_range shape cells) (take i ps))) (ascending_once (tiles shape) (tiles_of_range shape cells (get_or ps i 0)))
           (ascending_once (tiles shape) (flat_map (tiles_of_range shape cells) (take (i + 1) ps))) c.args.store.now.numbers c.loop-number.store.numbers c.write_range.new.store.numbers
-          c.loop-number.invariant.reads c.in-Ok.ensures.reads.all
+          c.loop-number.invariant.reads c.in_ok-write_range.ensures.reads.all
           (parameter_step shape (c.tiles_are_numbered.ensures shape) (c.numbers_tell_places.ensures (tile_shape shape)) ps i cells c.requires.parameters within c.requires.rise inside);
       lent = lent_on c.loop-number.invariant.lent c.write_range.ensures.lent;
     }
 
-pub returns-in-Err-clause-bytes : goal.returns-in-Err-clause-bytes
-returns-in-Err-clause-bytes g c =
+pub returns-in_err-write_range-clause-bytes : goal.returns-in_err-write_range-clause-bytes
+returns-in_err-write_range-clause-bytes g c =
     let head : RangeHead = c.args.writer.now.head in
     let ps : List ℕ = c.args.parameters.now in
     let frame : FrameValue = c.args.framing.now.frame in
@@ -95,13 +95,13 @@ returns-in-Err-clause-bytes g c =
     let front : Front piece (written c.loop-number.sink) (written c.write_range.new.sink) =
     subst (λ (h : RangeHead). Front (range_piece h i (f (get_or ps i 0)).values) (written c.loop-number.sink) (written c.write_range.new.sink)) c.loop-number.invariant.head
     (subst (λ (s : Subject). Front (range_piece c.loop-number.writer.head i (framed_range (grid_of s.held) frame (get_or ps i 0)).values) (written c.loop-number.sink) (written c.write_range.new.sink)) c.loop-number.invariant.subject c.write_range.ensures.bytes.front) in
-    writes_fault (Unit {0}) c.in-Err.fault whole (written c.args.sink.now) (written c.write_range.new.sink)
+    writes_fault c.from_residual.result whole (written c.args.sink.now) (written c.write_range.new.sink) (search rules)
     (all_but_front piece rest whole (written c.args.sink.now) (written c.loop-number.sink) (written c.write_range.new.sink)
     (all_but_same (ranges_from head i (map f (drop i ps))) (piece ++ rest) whole (written c.args.sink.now) (written c.loop-number.sink) (ranges_next head f ps i inside) c.loop-number.invariant.text)
     front)
 
-pub returns-in-Err-clause-reads : goal.returns-in-Err-clause-reads
-returns-in-Err-clause-reads g c =
+pub returns-in_err-write_range-clause-reads : goal.returns-in_err-write_range-clause-reads
+returns-in_err-write_range-clause-reads g c =
     let shape = c.args.framing.now.shape in
     let ps : List ℕ = c.args.parameters.now in
     let frame : FrameValue = c.args.framing.now.frame in
@@ -109,9 +109,7 @@ returns-in-Err-clause-reads g c =
     let within = taken_within shape (c.tiles_are_numbered.ensures shape) frame c.framing_stands.ensures.is.frame (let some = c.framing_stands.ensures.is.shape.parameters in omega (arith, some)) in
     let i : ℕ = c.loop-number.number in
     let inside : i < length ps = c.loop-number-test.true in
-    adds_fault (Unit {0}) c.in-Err.fault (ascending_once (tiles shape) (flat_map (tiles_of_range shape cells) (take i ps))) (ascending_once (tiles shape) (tiles_of_range shape cells (get_or ps i 0)))
-    (ascending_once (tiles shape) (flat_map (tiles_of_range shape cells) (drop (i + 1) ps))) (ascending_once (tiles shape) (flat_map (tiles_of_range shape cells) ps))
-    c.args.store.now.numbers c.loop-number.store.numbers c.write_range.new.store.numbers c.loop-number.invariant.reads
+    adds_fault c.from_residual.result (ascending_once (tiles shape) (flat_map (tiles_of_range shape cells) (take i ps))) (ascending_once (tiles shape) (tiles_of_range shape cells (get_or ps i 0))) (ascending_once (tiles shape) (flat_map (tiles_of_range shape cells) (drop (i + 1) ps))) (ascending_once (tiles shape) (flat_map (tiles_of_range shape cells) ps)) c.args.store.now.numbers c.loop-number.store.numbers c.write_range.new.store.numbers (search rules) c.loop-number.invariant.reads
     (parameter_begun shape (c.tiles_are_numbered.ensures shape) (c.numbers_tell_places.ensures (tile_shape shape)) ps i cells c.requires.parameters within c.requires.rise inside)
     c.write_range.ensures.reads.begun
 
@@ -132,15 +130,6 @@ write_range-requires-clause-one g c = subst (λ (k : ℕ). c.loop-number.number 
 
 pub write_range-requires-clause-whole : goal.write_range-requires-clause-whole
 write_range-requires-clause-whole g c = c.requires.whole ∙ sym (ap (λ (h : RangeHead). h.count) c.loop-number.invariant.head)
-
-pub returns-in-Err-clause-lent : goal.returns-in-Err-clause-lent
-returns-in-Err-clause-lent g c = lent_on c.loop-number.invariant.lent c.write_range.ensures.lent
-
-pub returns-in-Err-clause-cause : goal.returns-in-Err-clause-cause
-returns-in-Err-clause-cause g c = λ is. rose_on (g.K.Faults.faults c.write_range.new.sink) c.loop-number.invariant.lent (c.in-Err.ensures.cause is)
-
-pub returns-clause-lent : goal.returns-clause-lent
-returns-clause-lent g c = c.loop-number.invariant.lent
 
 pub returns-clause-bytes : goal.returns-clause-bytes
 returns-clause-bytes g c =

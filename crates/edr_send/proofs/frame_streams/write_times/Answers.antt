@@ -8,7 +8,7 @@ use Rattle.edr_select.specs.Framings.{FrameValue, plane_cells}
 use Rattle.edr_send.proofs.TextSteps.{writes_fault}
 use Rattle.edr_send.proofs.FrameSteps.{Cells, text_from, sent_none, sent_room, sent_more, sent_front, sent_begun, sent_text, sent_writer, sent_reads}
 use Rattle.edr_send.proofs.FrameTiles.{flat_take, flat_drop, times_apart}
-use Rattle.edr_send.proofs.WriterSteps.{lent_on, rose_on}
+use Rattle.edr_send.proofs.WriterSteps.{lent_on}
 use Rattle.edr_send.specs.Filling.{grid_of}
 use Rattle.edr_send.proofs.frame_streams.write_times.Goals as goal
 
@@ -75,13 +75,13 @@ loop-place-preserved g c =
     let next : Cells = flat_map cells_of (take (k + 1) xs) in
     record {
       sent = sent_more shape subject p whole c.args.writer.now (g.K.Sink.written c.args.sink.now) c.args.store.now.numbers done next rest piece later c.loop-place.writer c.write_levels.new.writer (g.K.Sink.written c.loop-place.sink) (g.K.Sink.written c.write_levels.new.sink) c.loop-place.store.numbers c.write_levels.new.store.numbers c.loop-place.store.subject
-          c.loop-place.invariant.sent (flat_drop cells_of xs c.items-times.result.now k 0 listed inside) (flat_take cells_of xs c.items-times.result.now k 0 listed inside) (times_apart shape (c.tiles_are_numbered.ensures shape) frame c.framing_stands.ensures.is.frame p c.requires.parameter k) c.loop-place.invariant.subject c.in-Ok.ensures.bytes.whole c.in-Ok.ensures.writer c.in-Ok.ensures.reads.all;
+          c.loop-place.invariant.sent (flat_drop cells_of xs c.items-times.result.now k 0 listed inside) (flat_take cells_of xs c.items-times.result.now k 0 listed inside) (times_apart shape (c.tiles_are_numbered.ensures shape) frame c.framing_stands.ensures.is.frame p c.requires.parameter k) c.loop-place.invariant.subject c.in_ok-write_levels.ensures.bytes.whole c.in_ok-write_levels.ensures.writer c.in_ok-write_levels.ensures.reads.all;
       subject = c.write_levels.ensures.subject ∙ c.loop-place.invariant.subject;
       lent = lent_on c.loop-place.invariant.lent c.write_levels.ensures.lent;
     }
 
-pub returns-in-Err-clause-bytes : goal.returns-in-Err-clause-bytes
-returns-in-Err-clause-bytes g c =
+pub returns-in_err-write_levels-clause-bytes : goal.returns-in_err-write_levels-clause-bytes
+returns-in_err-write_levels-clause-bytes g c =
     let shape : GridShape = c.args.framing.now.shape in
     let subject : Subject = c.args.store.now.subject in
     let p : ℕ = c.args.parameter in
@@ -96,11 +96,11 @@ returns-in-Err-clause-bytes g c =
     let inside : k < length xs = search rules in
     let piece : Cells = cells_of (get_or c.items-times.result.now k 0) in
     let later : Cells = flat_map cells_of (drop (k + 1) xs) in
-    writes_fault (Unit {0}) c.in-Err.fault (text_from c.args.writer.now.values subject p whole) (g.K.Sink.written c.args.sink.now) (g.K.Sink.written c.write_levels.new.sink)
+    writes_fault c.from_residual.result (text_from c.args.writer.now.values subject p whole) (g.K.Sink.written c.args.sink.now) (g.K.Sink.written c.write_levels.new.sink) (search rules)
     (sent_front shape subject p whole c.args.writer.now (g.K.Sink.written c.args.sink.now) c.args.store.now.numbers done rest piece later c.loop-place.writer (g.K.Sink.written c.loop-place.sink) (g.K.Sink.written c.write_levels.new.sink) c.loop-place.store.numbers c.loop-place.store.subject c.loop-place.invariant.sent (flat_drop cells_of xs c.items-times.result.now k 0 listed inside) c.loop-place.invariant.subject c.write_levels.ensures.bytes.front)
 
-pub returns-in-Err-clause-reads : goal.returns-in-Err-clause-reads
-returns-in-Err-clause-reads g c =
+pub returns-in_err-write_levels-clause-reads : goal.returns-in_err-write_levels-clause-reads
+returns-in_err-write_levels-clause-reads g c =
     let shape : GridShape = c.args.framing.now.shape in
     let subject : Subject = c.args.store.now.subject in
     let p : ℕ = c.args.parameter in
@@ -116,7 +116,7 @@ returns-in-Err-clause-reads g c =
     let piece : Cells = cells_of (get_or c.items-times.result.now k 0) in
     let later : Cells = flat_map cells_of (drop (k + 1) xs) in
     let next : Cells = flat_map cells_of (take (k + 1) xs) in
-    sent_begun shape subject p whole c.args.writer.now (g.K.Sink.written c.args.sink.now) c.args.store.now.numbers c.in-Err.fault done next rest piece later c.loop-place.writer (g.K.Sink.written c.loop-place.sink) c.loop-place.store.numbers c.write_levels.new.store.numbers
+    sent_begun shape subject p whole c.args.writer.now (g.K.Sink.written c.args.sink.now) c.args.store.now.numbers c.from_residual.result done next rest piece later c.loop-place.writer (g.K.Sink.written c.loop-place.sink) c.loop-place.store.numbers c.write_levels.new.store.numbers (search rules)
     c.loop-place.invariant.sent (flat_drop cells_of xs c.items-times.result.now k 0 listed inside) (flat_take cells_of xs c.items-times.result.now k 0 listed inside) (times_apart shape (c.tiles_are_numbered.ensures shape) frame c.framing_stands.ensures.is.frame p c.requires.parameter k) (times_apart shape (c.tiles_are_numbered.ensures shape) frame c.framing_stands.ensures.is.frame p c.requires.parameter (k + 1)) c.write_levels.ensures.reads.begun
 
 pub returns-clause-bytes : goal.returns-clause-bytes
@@ -163,15 +163,6 @@ returns-clause-reads g c =
     let rest : Cells = flat_map cells_of (drop k xs) in
     let past : length xs ≤ k = search rules in
     sent_reads shape subject p whole c.args.writer.now (g.K.Sink.written c.args.sink.now) c.args.store.now.numbers _ done rest c.loop-place.writer (g.K.Sink.written c.loop-place.sink) c.loop-place.store.numbers c.loop-place.invariant.sent (ap (flat_map cells_of) (drop_all k xs past))
-
-pub returns-in-Err-clause-lent : goal.returns-in-Err-clause-lent
-returns-in-Err-clause-lent g c = lent_on c.loop-place.invariant.lent c.write_levels.ensures.lent
-
-pub returns-in-Err-clause-cause : goal.returns-in-Err-clause-cause
-returns-in-Err-clause-cause g c = λ is. rose_on (g.K.Faults.faults c.write_levels.new.sink) c.loop-place.invariant.lent (c.in-Err.ensures.cause is)
-
-pub returns-clause-lent : goal.returns-clause-lent
-returns-clause-lent g c = c.loop-place.invariant.lent
 
 pub write_levels-requires-clause-grid : goal.write_levels-requires-clause-grid
 write_levels-requires-clause-grid g c = c.requires.grid ∙ ap (λ (s : Subject). (grid_of s.held).shape) (sym c.loop-place.invariant.subject)

@@ -1,4 +1,4 @@
-use Rattle.std.proofs.Common.{rules, ◌≡◌, ◌++◌, ◌∙◌, ap, subst, List}
+use Rattle.std.proofs.Common.{rules, ◌≡◌, ◌++◌, ◌∙◌, ap, subst, List, refl}
 use Rattle.std.specs.Prelude.{map}
 use Rattle.std.specs.Io.KnownBytes.{append_known}
 use Rattle.edr_base.specs.Calls.{Front}
@@ -11,27 +11,27 @@ use Rattle.edr_select.specs.Gaps.{GappedSeriesValue, gapped_range}
 use Rattle.edr_send.specs.SeriesTexts.{collection_of}
 use Rattle.edr_send.specs.GapTexts.{station_of}
 use Rattle.edr_send.proofs.TextSteps.{writes_third, writes_two}
-use Rattle.edr_send.proofs.WriterSteps.{lent_on, rose_on}
+use Rattle.edr_send.proofs.Additions.{adds_none}
 use Rattle.edr_send.proofs.gapped_streams.write_coverage.Goals as goal
 
-pub returns-in-Ok-clause-bytes : goal.returns-in-Ok-clause-bytes
-returns-in-Ok-clause-bytes g c =
+pub returns-clause-bytes : goal.returns-clause-bytes
+returns-clause-bytes g c =
     let w : WriterValue = c.args.writer.now in
     let series : GappedSeriesValue = c.args.series.now in
     let h : Coverage = series.head in
     let written = g.K.Sink.written in
     let ranges : List NdArray = map (gapped_range (station_of (collection_of c.args.store.now.subject.held) series) series.cells) c.args.parameters.now in
     let same : c.series.inside.head ≡ h = search rules in
-    let begun : written c.coverage.new.sink ≡ append_known (written c.args.sink.now) (comma_if w.begun ++ coverage_begin c.series.inside.head) = c.in-Ok.ensures.bytes.whole in
-    let stands : c.coverage.new.self ≡ with_coverage w c.series.inside.head = c.in-Ok.ensures.writer in
+    let begun : written c.coverage.new.sink ≡ append_known (written c.args.sink.now) (comma_if w.begun ++ coverage_begin c.series.inside.head) = c.in_ok-coverage.ensures.bytes.whole in
+    let stands : c.coverage.new.self ≡ with_coverage w c.series.inside.head = c.in_ok-coverage.ensures.writer in
     writes_third c.write_ranges.result (written c.args.sink.now) (written c.coverage.new.sink) (written c.write_ranges.new.sink) (comma_if w.begun) (coverage_begin h)
     (ranges_from c.coverage.new.self.head 0 ranges) (ranges_from (head_of h) 0 ranges)
     (subst (λ (x : Coverage). written c.coverage.new.sink ≡ append_known (written c.args.sink.now) (comma_if w.begun ++ coverage_begin x)) same begun)
     (ap (λ (s : WriterValue). ranges_from s.head 0 ranges) stands ∙ ap (λ (x : Coverage). ranges_from (head_of x) 0 ranges) same)
     c.write_ranges.ensures.bytes
 
-pub returns-in-Err-clause-bytes : goal.returns-in-Err-clause-bytes
-returns-in-Err-clause-bytes g c =
+pub returns-in_err-coverage-clause-bytes : goal.returns-in_err-coverage-clause-bytes
+returns-in_err-coverage-clause-bytes g c =
     let w : WriterValue = c.args.writer.now in
     let series : GappedSeriesValue = c.args.series.now in
     let h : Coverage = series.head in
@@ -39,23 +39,14 @@ returns-in-Err-clause-bytes g c =
     let ranges : List NdArray = map (gapped_range (station_of (collection_of c.args.store.now.subject.held) series) series.cells) c.args.parameters.now in
     let same : c.series.inside.head ≡ h = search rules in
     let front : Front (comma_if w.begun ++ coverage_begin c.series.inside.head) (written c.args.sink.now) (written c.coverage.new.sink) = c.coverage.ensures.bytes.front in
-    writes_two (Unit {0}) c.in-Err.fault (written c.args.sink.now) (written c.coverage.new.sink) (comma_if w.begun) (coverage_begin h) (ranges_from (head_of h) 0 ranges)
+    writes_two c.from_residual.result (written c.args.sink.now) (written c.coverage.new.sink) (comma_if w.begun) (coverage_begin h) (ranges_from (head_of h) 0 ranges) (search rules)
     (subst (λ (x : Coverage). Front (comma_if w.begun ++ coverage_begin x) (written c.args.sink.now) (written c.coverage.new.sink)) same front)
 
-pub returns-in-Ok-clause-lent : goal.returns-in-Ok-clause-lent
-returns-in-Ok-clause-lent g c = lent_on c.coverage.ensures.lent c.write_ranges.ensures.lent
-
-pub returns-in-Ok-clause-cause : goal.returns-in-Ok-clause-cause
-returns-in-Ok-clause-cause g c = λ is. rose_on (g.K.Faults.faults c.write_ranges.new.sink) c.coverage.ensures.lent (c.write_ranges.ensures.cause is)
-
-pub returns-in-Err-clause-lent : goal.returns-in-Err-clause-lent
-returns-in-Err-clause-lent g c = c.coverage.ensures.lent
-
-pub returns-in-Err-clause-cause : goal.returns-in-Err-clause-cause
-returns-in-Err-clause-cause g c = c.in-Err.ensures.cause
-
 pub write_ranges-requires-clause-within : goal.write_ranges-requires-clause-within
-write_ranges-requires-clause-within g c = ap (λ (s : WriterValue). s.stage) c.in-Ok.ensures.writer
+write_ranges-requires-clause-within g c = ap (λ (s : WriterValue). s.stage) c.in_ok-coverage.ensures.writer
 
 pub write_ranges-requires-clause-none : goal.write_ranges-requires-clause-none
-write_ranges-requires-clause-none g c = ap (λ (s : WriterValue). s.ranges) c.in-Ok.ensures.writer
+write_ranges-requires-clause-none g c = ap (λ (s : WriterValue). s.ranges) c.in_ok-coverage.ensures.writer
+
+pub returns-in_err-coverage-clause-reads : goal.returns-in_err-coverage-clause-reads
+returns-in_err-coverage-clause-reads g c = adds_none c.from_residual.result _ _ _ (search rules) refl

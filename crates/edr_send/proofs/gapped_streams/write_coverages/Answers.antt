@@ -19,7 +19,7 @@ use Rattle.edr_send.proofs.Cuts.{later_next}
 use Rattle.edr_send.proofs.TextSteps.{all_but_same, all_but_on, all_but_front, all_but_all, writes_fault}
 use Rattle.edr_send.proofs.SeriesSteps.{item_next, item_whole, coverages_next}
 use Rattle.edr_send.proofs.GapSteps.{coverage_blocks_told, coverage_written, coverage_told}
-use Rattle.edr_send.proofs.WriterSteps.{lent_on, rose_on}
+use Rattle.edr_send.proofs.WriterSteps.{lent_on}
 use Rattle.edr_send.proofs.gapped_streams.write_coverages.Goals as goal
 
 pub loop-series-init : goal.loop-series-init
@@ -54,17 +54,17 @@ loop-series-preserved g c =
     let piece = coverage_piece i (f series) in
     let rest = coverages_from (i + 1) (map f (drop (i + 1) all)) in
     let wrote : written c.write_coverage.new.sink ≡ append_known (written c.loop-series.sink) (coverage_written c.loop-series.writer.begun c.loop-series.store.subject c.items-parameters.result.now series) =
-    c.in-Ok.ensures.bytes.whole in
+    c.in_ok-write_coverage.ensures.bytes.whole in
     let told : coverage_written c.loop-series.writer.begun c.loop-series.store.subject c.items-parameters.result.now series ≡ piece =
     coverage_told c.loop-series.writer.begun c.loop-series.store.subject subject c.items-parameters.result.now ps i series c.loop-series.invariant.begun c.loop-series.invariant.subject listed in
     let read : ascending_once (blocks_in (collection_of c.loop-series.store.subject.held)) (blocks_of_coverage c.items-parameters.result.now series) ≡ ascending_once n (b (get_or all i series)) =
     coverage_blocks_told c.loop-series.store.subject subject c.items-parameters.result.now ps series c.loop-series.invariant.subject listed ∙ ap (λ (s : GappedSeriesValue). ascending_once n (b s)) is in
     let opened : c.write_coverage.new.store.numbers ≡ c.loop-series.store.numbers ++ ascending_once (blocks_in (collection_of c.loop-series.store.subject.held)) (blocks_of_coverage c.items-parameters.result.now series) =
-    c.in-Ok.ensures.reads.all in
+    c.in_ok-write_coverage.ensures.reads.all in
     record {
-      many = c.in-Ok.ensures.many ∙ c.loop-series.invariant.many;
-      begun = c.in-Ok.ensures.begun ∙ sym (later_next i);
-      stage = c.in-Ok.ensures.stage;
+      many = c.in_ok-write_coverage.ensures.many ∙ c.loop-series.invariant.many;
+      begun = c.in_ok-write_coverage.ensures.begun ∙ sym (later_next i);
+      stage = c.in_ok-write_coverage.ensures.stage;
       subject = c.write_coverage.ensures.subject ∙ c.loop-series.invariant.subject;
       text = all_but_on piece rest whole (written c.args.sink.now) (written c.loop-series.sink) (written c.write_coverage.new.sink)
           (all_but_same (coverages_from i (map f (drop i all))) (piece ++ rest) whole (written c.args.sink.now) (written c.loop-series.sink) (coverages_next f all i series inside is) c.loop-series.invariant.text)
@@ -76,8 +76,8 @@ loop-series-preserved g c =
       lent = lent_on c.loop-series.invariant.lent c.write_coverage.ensures.lent;
     }
 
-pub returns-in-Err-clause-bytes : goal.returns-in-Err-clause-bytes
-returns-in-Err-clause-bytes g c =
+pub returns-in_err-write_coverage-clause-bytes : goal.returns-in_err-write_coverage-clause-bytes
+returns-in_err-write_coverage-clause-bytes g c =
     let subject : Subject = c.args.store.now.subject in
     let ps : List ℕ = c.args.reply.now.parameters in
     let all : List GappedSeriesValue = c.args.reply.now.series in
@@ -95,13 +95,13 @@ returns-in-Err-clause-bytes g c =
     coverage_told c.loop-series.writer.begun c.loop-series.store.subject subject c.items-parameters.result.now ps i series c.loop-series.invariant.begun c.loop-series.invariant.subject listed in
     let front : Front piece (written c.loop-series.sink) (written c.write_coverage.new.sink) =
     subst (λ (l : List ℕ). Front l (written c.loop-series.sink) (written c.write_coverage.new.sink)) told c.write_coverage.ensures.bytes.front in
-    writes_fault (Unit {0}) c.in-Err.fault whole (written c.args.sink.now) (written c.write_coverage.new.sink)
+    writes_fault c.from_residual.result whole (written c.args.sink.now) (written c.write_coverage.new.sink) (search rules)
     (all_but_front piece rest whole (written c.args.sink.now) (written c.loop-series.sink) (written c.write_coverage.new.sink)
     (all_but_same (coverages_from i (map f (drop i all))) (piece ++ rest) whole (written c.args.sink.now) (written c.loop-series.sink) (coverages_next f all i series inside is) c.loop-series.invariant.text)
     front)
 
-pub returns-in-Err-clause-reads : goal.returns-in-Err-clause-reads
-returns-in-Err-clause-reads g c =
+pub returns-in_err-write_coverage-clause-reads : goal.returns-in_err-write_coverage-clause-reads
+returns-in_err-write_coverage-clause-reads g c =
     let subject : Subject = c.args.store.now.subject in
     let collection : StationsValue = collection_of subject.held in
     let n : ℕ = blocks_in collection in
@@ -115,8 +115,7 @@ returns-in-Err-clause-reads g c =
     let b : GappedSeriesValue → List ℕ = blocks_of_coverage ps in
     let read : ascending_once (blocks_in (collection_of c.loop-series.store.subject.held)) (blocks_of_coverage c.items-parameters.result.now series) ≡ ascending_once n (b (get_or all i series)) =
     coverage_blocks_told c.loop-series.store.subject subject c.items-parameters.result.now ps series c.loop-series.invariant.subject listed ∙ ap (λ (s : GappedSeriesValue). ascending_once n (b s)) is in
-    adds_fault (Unit {0}) c.in-Err.fault (ascending_once n (flat_map b (take i all))) (ascending_once n (b (get_or all i series))) (ascending_once n (flat_map b (drop (i + 1) all))) (ascending_once n (flat_map b all))
-    c.args.store.now.numbers c.loop-series.store.numbers c.write_coverage.new.store.numbers c.loop-series.invariant.reads
+    adds_fault c.from_residual.result (ascending_once n (flat_map b (take i all))) (ascending_once n (b (get_or all i series))) (ascending_once n (flat_map b (drop (i + 1) all))) (ascending_once n (flat_map b all)) c.args.store.now.numbers c.loop-series.store.numbers c.write_coverage.new.store.numbers (search rules) c.loop-series.invariant.reads
     (item_whole n b all i series inside (stations_parted collection ps c.requires.over.asked all c.requires.over.each c.gapped_reply_stands.ensures.rise i series)
     (stations_parted collection ps c.requires.over.asked all c.requires.over.each c.gapped_reply_stands.ensures.rise (i + 1) series))
     (subst (λ (l : List ℕ). Added l c.loop-series.store.numbers c.write_coverage.new.store.numbers) read c.write_coverage.ensures.reads.begun)
@@ -129,12 +128,3 @@ returns-clause-reads g c =
     let past : length all ≤ c.loop-series.series-index = search rules in
     adds_all (Ok tt) (ascending_once n (flat_map b (take c.loop-series.series-index all))) (ascending_once n (flat_map b all)) c.args.store.now.numbers c.loop-series.store.numbers
     (ap (λ (l : List GappedSeriesValue). ascending_once n (flat_map b l)) (take_all c.loop-series.series-index all past)) c.loop-series.invariant.reads
-
-pub returns-in-Err-clause-lent : goal.returns-in-Err-clause-lent
-returns-in-Err-clause-lent g c = lent_on c.loop-series.invariant.lent c.write_coverage.ensures.lent
-
-pub returns-in-Err-clause-cause : goal.returns-in-Err-clause-cause
-returns-in-Err-clause-cause g c = λ is. rose_on (g.K.Faults.faults c.write_coverage.new.sink) c.loop-series.invariant.lent (c.in-Err.ensures.cause is)
-
-pub returns-clause-lent : goal.returns-clause-lent
-returns-clause-lent g c = c.loop-series.invariant.lent

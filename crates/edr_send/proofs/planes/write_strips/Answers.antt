@@ -1,4 +1,5 @@
-use Rattle.std.proofs.Common.{◌≡◌, ◌+◌, ◌-◌, ◌/◌, ◌*◌, ◌<◌, ◌≤◌, ℕ, ap, sym, ◌∙◌, refl, arith, ◌^◌}
+use Rattle.std.proofs.Common.{rules, ◌≡◌, ◌+◌, ◌-◌, ◌/◌, ◌%◌, ◌*◌, ◌<◌, ◌≤◌, ℕ, ap, sym, ◌∙◌, refl, arith, ◌^◌}
+use Rattle.std.specs.Prelude.{min}
 use Rattle.edr_chunk.specs.declared.shapes.GridShape.{GridShape}
 use Rattle.edr_edition.specs.Stores.{Subject}
 use Rattle.edr_select.specs.Framings.{FrameValue, strip_cells, plane_cells}
@@ -7,7 +8,7 @@ use Rattle.edr_send.proofs.FrameSteps.{Cells, text_from, sent_none, sent_room, s
 use Rattle.edr_send.proofs.FrameTiles.{edge, strip_rest, strip_done, no_strip, strips_apart}
 use Rattle.edr_send.specs.Strips.{HasRows}
 use Rattle.edr_send.specs.Filling.{grid_of}
-use Rattle.edr_send.proofs.WriterSteps.{lent_on, rose_on}
+use Rattle.edr_send.proofs.WriterSteps.{lent_on}
 use Rattle.covjson_write.specs.Writers.{WriterValue}
 use Rattle.edr_base.specs.Limits.{node_limit}
 use Rattle.edr_send.proofs.planes.write_strips.Goals as goal
@@ -22,8 +23,8 @@ strip_start frame t z a e = ap (λ (k : ℕ). strip_cells frame t z k (frame.row
 rows_between : (frame : FrameValue) (down from to : ℕ) → from ≡ edge frame down → to ≡ edge frame (down + 1) → HasRows frame from to
 rows_between frame down from to e f = record { low = omega arith; order = omega arith; high = omega arith }
 
-one_row : (frame : FrameValue) (row rows down from to : ℕ) → row ≡ frame.row → rows ≡ frame.rows → down < (row + rows + 63) / 64 → from ≡ edge frame down → to ≡ edge frame (down + 1) → to ≤ from / 64 * 64 + 64
-one_row frame row rows down from to same_row same_rows before e f = omega arith
+one_row : (frame : FrameValue) (row rows last down from to : ℕ) → row ≡ frame.row → rows ≡ frame.rows → last ≡ (row + rows) / 64 + min 1 ((row + rows) % 64) → down < last → from ≡ edge frame down → to ≡ edge frame (down + 1) → to ≤ from / 64 * 64 + 64
+one_row frame row rows last down from to same_row same_rows is before e f = omega arith
 
 first_edge : (frame : FrameValue) (row : ℕ) → row ≡ frame.row → edge frame (row / 64) ≡ frame.row
 first_edge frame row same = omega arith
@@ -31,14 +32,14 @@ first_edge frame row same = omega arith
 no_row_before : (frame : FrameValue) (row : ℕ) → row ≡ frame.row → edge frame (row / 64) ≤ frame.row
 no_row_before frame row same = omega arith
 
-last_edge : (frame : FrameValue) (row rows down : ℕ) → row ≡ frame.row → rows ≡ frame.rows → (row + rows + 63) / 64 ≤ down → frame.row + frame.rows ≤ edge frame down
-last_edge frame row rows down same_row same_rows past = omega arith
+last_edge : (frame : FrameValue) (row rows last down : ℕ) → row ≡ frame.row → rows ≡ frame.rows → last ≡ (row + rows) / 64 + min 1 ((row + rows) % 64) → last ≤ down → frame.row + frame.rows ≤ edge frame down
+last_edge frame row rows last down same_row same_rows is past = omega arith
 
 few_rows : (first many rows : ℕ) → first + many ≤ rows → rows ≤ node_limit → first + many < 2 ^ 32
 few_rows first many rows inside small = omega arith
 
-few_strips : (frame : FrameValue) (row rows down many : ℕ) → row ≡ frame.row → rows ≡ frame.rows → frame.row + frame.rows ≤ many → many ≤ node_limit → down < (row + rows + 63) / 64 → down + 1 < 2 ^ 26
-few_strips frame row rows down many same_row same_rows inside small before = omega arith
+few_strips : (frame : FrameValue) (row rows last down many : ℕ) → row ≡ frame.row → rows ≡ frame.rows → last ≡ (row + rows) / 64 + min 1 ((row + rows) % 64) → frame.row + frame.rows ≤ many → many ≤ node_limit → down < last → down + 1 < 2 ^ 26
+few_strips frame row rows last down many same_row same_rows is inside small before = omega arith
 
 below_next : (a n : ℕ) → a + 1 < n → a < n
 below_next a n below = omega arith
@@ -109,13 +110,13 @@ loop-down-preserved g c =
     let next : Cells = strip_cells frame t z frame.row (edge frame (down + 1) - frame.row) in
     record {
       sent = sent_more shape subject p whole c.args.writer.now (g.K.Sink.written c.args.sink.now) c.args.store.now.numbers done next rest piece later c.loop-down.writer c.write_strip.new.writer (g.K.Sink.written c.loop-down.sink) (g.K.Sink.written c.write_strip.new.sink) c.loop-down.store.numbers c.write_strip.new.store.numbers c.loop-down.store.subject
-          c.loop-down.invariant.sent (strip_rest frame t z (edge frame down) (edge frame (down + 1)) from to end from_is to_is rows.order rows.high) (strip_done frame t z frame.row (edge frame down) (edge frame (down + 1)) from to from_is to_is rows.low rows.order) (strips_apart shape (c.tiles_are_numbered.ensures shape) frame c.requires.frame p c.requires.parameter t z down c.requires.t c.requires.z) c.loop-down.invariant.subject c.in-Ok.ensures.bytes.whole c.in-Ok.ensures.writer c.in-Ok.ensures.reads.all;
+          c.loop-down.invariant.sent (strip_rest frame t z (edge frame down) (edge frame (down + 1)) from to end from_is to_is rows.order rows.high) (strip_done frame t z frame.row (edge frame down) (edge frame (down + 1)) from to from_is to_is rows.low rows.order) (strips_apart shape (c.tiles_are_numbered.ensures shape) frame c.requires.frame p c.requires.parameter t z down c.requires.t c.requires.z) c.loop-down.invariant.subject c.in_ok-write_strip.ensures.bytes.whole c.in_ok-write_strip.ensures.writer c.in_ok-write_strip.ensures.reads.all;
       subject = c.write_strip.ensures.subject ∙ c.loop-down.invariant.subject;
       lent = lent_on c.loop-down.invariant.lent c.write_strip.ensures.lent;
     }
 
-pub returns-in-Err-clause-bytes : goal.returns-in-Err-clause-bytes
-returns-in-Err-clause-bytes g c =
+pub returns-in_err-write_strip-clause-bytes : goal.returns-in_err-write_strip-clause-bytes
+returns-in_err-write_strip-clause-bytes g c =
     let shape : GridShape = c.args.shape in
     let subject : Subject = c.args.store.now.subject in
     let p : ℕ = c.args.parameter in
@@ -134,11 +135,11 @@ returns-in-Err-clause-bytes g c =
     let rows : HasRows frame from to = rows_between frame down from to from_is to_is in
     let piece : Cells = strip_cells frame t z from (to - from) in
     let later : Cells = strip_cells frame t z (edge frame (down + 1)) (end - edge frame (down + 1)) in
-    writes_fault (Unit {0}) c.in-Err.fault (text_from c.args.writer.now.values subject p whole) (g.K.Sink.written c.args.sink.now) (g.K.Sink.written c.write_strip.new.sink)
+    writes_fault c.from_residual.result (text_from c.args.writer.now.values subject p whole) (g.K.Sink.written c.args.sink.now) (g.K.Sink.written c.write_strip.new.sink) (search rules)
     (sent_front shape subject p whole c.args.writer.now (g.K.Sink.written c.args.sink.now) c.args.store.now.numbers done rest piece later c.loop-down.writer (g.K.Sink.written c.loop-down.sink) (g.K.Sink.written c.write_strip.new.sink) c.loop-down.store.numbers c.loop-down.store.subject c.loop-down.invariant.sent (strip_rest frame t z (edge frame down) (edge frame (down + 1)) from to end from_is to_is rows.order rows.high) c.loop-down.invariant.subject c.write_strip.ensures.bytes.front)
 
-pub returns-in-Err-clause-reads : goal.returns-in-Err-clause-reads
-returns-in-Err-clause-reads g c =
+pub returns-in_err-write_strip-clause-reads : goal.returns-in_err-write_strip-clause-reads
+returns-in_err-write_strip-clause-reads g c =
     let shape : GridShape = c.args.shape in
     let subject : Subject = c.args.store.now.subject in
     let p : ℕ = c.args.parameter in
@@ -158,7 +159,7 @@ returns-in-Err-clause-reads g c =
     let piece : Cells = strip_cells frame t z from (to - from) in
     let later : Cells = strip_cells frame t z (edge frame (down + 1)) (end - edge frame (down + 1)) in
     let next : Cells = strip_cells frame t z frame.row (edge frame (down + 1) - frame.row) in
-    sent_begun shape subject p whole c.args.writer.now (g.K.Sink.written c.args.sink.now) c.args.store.now.numbers c.in-Err.fault done next rest piece later c.loop-down.writer (g.K.Sink.written c.loop-down.sink) c.loop-down.store.numbers c.write_strip.new.store.numbers
+    sent_begun shape subject p whole c.args.writer.now (g.K.Sink.written c.args.sink.now) c.args.store.now.numbers c.from_residual.result done next rest piece later c.loop-down.writer (g.K.Sink.written c.loop-down.sink) c.loop-down.store.numbers c.write_strip.new.store.numbers (search rules)
     c.loop-down.invariant.sent (strip_rest frame t z (edge frame down) (edge frame (down + 1)) from to end from_is to_is rows.order rows.high) (strip_done frame t z frame.row (edge frame down) (edge frame (down + 1)) from to from_is to_is rows.low rows.order) (strips_apart shape (c.tiles_are_numbered.ensures shape) frame c.requires.frame p c.requires.parameter t z down c.requires.t c.requires.z) (strips_apart shape (c.tiles_are_numbered.ensures shape) frame c.requires.frame p c.requires.parameter t z (down + 1) c.requires.t c.requires.z) c.write_strip.ensures.reads.begun
 
 pub returns-clause-bytes : goal.returns-clause-bytes
@@ -176,7 +177,7 @@ returns-clause-bytes g c =
     let down : ℕ = c.loop-down.down in
     let done : Cells = strip_cells frame t z frame.row (edge frame down - frame.row) in
     let rest : Cells = strip_cells frame t z (edge frame down) (end - edge frame down) in
-    let past : end ≤ edge frame down = last_edge frame c.frame.inside.row c.frame.inside.rows down same_row same_rows c.loop-down-test.false in
+    let past : end ≤ edge frame down = last_edge frame c.frame.inside.row c.frame.inside.rows c.div_ceil-down-end.result down same_row same_rows c.div_ceil-down-end.ensures c.loop-down-test.false in
     sent_text shape subject p whole c.args.writer.now (g.K.Sink.written c.args.sink.now) c.args.store.now.numbers _ done rest c.loop-down.writer (g.K.Sink.written c.loop-down.sink) c.loop-down.store.numbers c.loop-down.invariant.sent (no_strip frame t z (edge frame down) end past)
 
 pub returns-clause-writer : goal.returns-clause-writer
@@ -194,7 +195,7 @@ returns-clause-writer g c =
     let down : ℕ = c.loop-down.down in
     let done : Cells = strip_cells frame t z frame.row (edge frame down - frame.row) in
     let rest : Cells = strip_cells frame t z (edge frame down) (end - edge frame down) in
-    let past : end ≤ edge frame down = last_edge frame c.frame.inside.row c.frame.inside.rows down same_row same_rows c.loop-down-test.false in
+    let past : end ≤ edge frame down = last_edge frame c.frame.inside.row c.frame.inside.rows c.div_ceil-down-end.result down same_row same_rows c.div_ceil-down-end.ensures c.loop-down-test.false in
     sent_writer shape subject p whole c.args.writer.now (g.K.Sink.written c.args.sink.now) c.args.store.now.numbers done rest c.loop-down.writer (g.K.Sink.written c.loop-down.sink) c.loop-down.store.numbers c.loop-down.invariant.sent (no_strip frame t z (edge frame down) end past)
 
 pub returns-clause-reads : goal.returns-clause-reads
@@ -212,7 +213,7 @@ returns-clause-reads g c =
     let down : ℕ = c.loop-down.down in
     let done : Cells = strip_cells frame t z frame.row (edge frame down - frame.row) in
     let rest : Cells = strip_cells frame t z (edge frame down) (end - edge frame down) in
-    let past : end ≤ edge frame down = last_edge frame c.frame.inside.row c.frame.inside.rows down same_row same_rows c.loop-down-test.false in
+    let past : end ≤ edge frame down = last_edge frame c.frame.inside.row c.frame.inside.rows c.div_ceil-down-end.result down same_row same_rows c.div_ceil-down-end.ensures c.loop-down-test.false in
     sent_reads shape subject p whole c.args.writer.now (g.K.Sink.written c.args.sink.now) c.args.store.now.numbers _ done rest c.loop-down.writer (g.K.Sink.written c.loop-down.sink) c.loop-down.store.numbers c.loop-down.invariant.sent (no_strip frame t z (edge frame down) end past)
 
 pub write_strip-requires-clause-grid : goal.write_strip-requires-clause-grid
@@ -226,16 +227,7 @@ write_strip-requires-clause-one g c =
     let frame : FrameValue = c.args.frame.now in
     let same_row : c.frame.inside.row ≡ frame.row = ap (λ (v : FrameValue). v.row) c.frame.view_is in
     let same_rows : c.frame.inside.rows ≡ frame.rows = ap (λ (v : FrameValue). v.rows) c.frame.view_is in
-    one_row frame c.frame.inside.row c.frame.inside.rows c.loop-down.down c.strip_edge-from.result c.strip_edge-to.result same_row same_rows c.loop-down-test.true c.strip_edge-from.ensures c.strip_edge-to.ensures
-
-pub returns-in-Err-clause-lent : goal.returns-in-Err-clause-lent
-returns-in-Err-clause-lent g c = lent_on c.loop-down.invariant.lent c.write_strip.ensures.lent
-
-pub returns-in-Err-clause-cause : goal.returns-in-Err-clause-cause
-returns-in-Err-clause-cause g c = λ is. rose_on (g.K.Faults.faults c.write_strip.new.sink) c.loop-down.invariant.lent (c.in-Err.ensures.cause is)
-
-pub returns-clause-lent : goal.returns-clause-lent
-returns-clause-lent g c = c.loop-down.invariant.lent
+    one_row frame c.frame.inside.row c.frame.inside.rows c.div_ceil-down-end.result c.loop-down.down c.strip_edge-from.result c.strip_edge-to.result same_row same_rows c.div_ceil-down-end.ensures c.loop-down-test.true c.strip_edge-from.ensures c.strip_edge-to.ensures
 
 pub write_strip-requires-clause-open : goal.write_strip-requires-clause-open
 write_strip-requires-clause-open g c = ap (λ (s : WriterValue). s.stage) c.loop-down.invariant.sent.writer ∙ c.requires.open
@@ -258,7 +250,7 @@ strip_edge-to-requires-clause-down g c =
     let frame : FrameValue = c.args.frame.now in
     let same_row : c.frame.inside.row ≡ frame.row = ap (λ (v : FrameValue). v.row) c.frame.view_is in
     let same_rows : c.frame.inside.rows ≡ frame.rows = ap (λ (v : FrameValue). v.rows) c.frame.view_is in
-    few_strips frame c.frame.inside.row c.frame.inside.rows c.loop-down.down shape.rows same_row same_rows c.requires.frame.rows (c.sides_are_small.ensures shape c.requires.shape).rows c.loop-down-test.true
+    few_strips frame c.frame.inside.row c.frame.inside.rows c.div_ceil-down-end.result c.loop-down.down shape.rows same_row same_rows c.div_ceil-down-end.ensures c.requires.frame.rows (c.sides_are_small.ensures shape c.requires.shape).rows c.loop-down-test.true
 
 pub strip_edge-from-requires-clause-down : goal.strip_edge-from-requires-clause-down
 strip_edge-from-requires-clause-down g c =
@@ -266,4 +258,4 @@ strip_edge-from-requires-clause-down g c =
     let frame : FrameValue = c.args.frame.now in
     let same_row : c.frame.inside.row ≡ frame.row = ap (λ (v : FrameValue). v.row) c.frame.view_is in
     let same_rows : c.frame.inside.rows ≡ frame.rows = ap (λ (v : FrameValue). v.rows) c.frame.view_is in
-    below_next c.loop-down.down (2 ^ 26) (few_strips frame c.frame.inside.row c.frame.inside.rows c.loop-down.down shape.rows same_row same_rows c.requires.frame.rows (c.sides_are_small.ensures shape c.requires.shape).rows c.loop-down-test.true)
+    below_next c.loop-down.down (2 ^ 26) (few_strips frame c.frame.inside.row c.frame.inside.rows c.div_ceil-down-end.result c.loop-down.down shape.rows same_row same_rows c.div_ceil-down-end.ensures c.requires.frame.rows (c.sides_are_small.ensures shape c.requires.shape).rows c.loop-down-test.true)

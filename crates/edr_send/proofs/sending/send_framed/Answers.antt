@@ -2,7 +2,7 @@ use Rattle.std.proofs.Common.{◌≡◌, ◌∙◌, ap, sym, subst, ℕ, List, A
 use Rattle.std.specs.Prelude.{IfSome}
 use Rattle.edr_base.specs.Calls.{Writes}
 use Rattle.covjson_value.specs.declared.coverages.Document.{Document}
-use Rattle.covjson_value.specs.Coverages.{IsSample}
+use Rattle.edr_base.specs.Limits.{IsSample}
 use Rattle.covjson_value.specs.Trees.{document_text}
 use Rattle.edr_chunk.specs.Tiles.{tiles}
 use Rattle.edr_edition.specs.Values.{InstanceValue}

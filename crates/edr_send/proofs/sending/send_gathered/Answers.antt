@@ -1,8 +1,7 @@
 use Rattle.std.proofs.Common.{rules, ◌≡◌, ◌∙◌, ap, subst, ℕ, List, All}
 use Rattle.std.specs.Prelude.{map, IfSome}
 use Rattle.edr_base.specs.Calls.{Writes}
-use Rattle.edr_base.specs.declared.sending.SendFault.{SendFault}
-use Rattle.covjson_value.specs.Coverages.{IsSample}
+use Rattle.edr_base.specs.Limits.{IsSample}
 use Rattle.edr_chunk.specs.declared.shapes.GridPlace.{GridPlace}
 use Rattle.edr_chunk.specs.Grids as chunk
 use Rattle.edr_chunk.specs.Grids.{value}
@@ -24,34 +23,33 @@ pub write_document-requires : goal.write_document-requires
 write_document-requires g c =
     let listing : ListingValue = c.args.listing.now in
     let grid : chunk.Values = grid_of c.args.store.now.subject.held in
-    let read : c.deref.result.now ≡ c.in-Ok.values.items = search rules in
-    record { values = values_size grid listing.parameters listing.coverages c.deref.result.now (read ∙ c.in-Ok.ensures.values) }
+    let read : c.deref.result.now ≡ c.in_ok-values.values.items = search rules in
+    record { values = values_size grid listing.parameters listing.coverages c.deref.result.now (read ∙ c.in_ok-values.ensures.values) }
 
-pub returns-in-Ok-clause-text : goal.returns-in-Ok-clause-text
-returns-in-Ok-clause-text g c =
+pub returns-clause-text : goal.returns-clause-text
+returns-clause-text g c =
     let listing : ListingValue = c.args.listing.now in
     let stands = listed_stands c.args.plan.now c.args.listing.now c.args.store.now.subject c.requires.listed c.requires.stands in
     let subject = c.args.store.now.subject in
     let instance : InstanceValue = stands.instance in
     let held : subject.held ≡ of_grid instance = stands.held in
     let places : List GridPlace = places_of_coverages listing.parameters listing.coverages in
-    let read : c.deref.result.now ≡ c.in-Ok.values.items = search rules in
-    let gathered : c.deref.result.now ≡ map (value instance.grid) places = read ∙ c.in-Ok.ensures.values ∙ ap (λ (h : Held). map (value (grid_of h)) places) held in
+    let read : c.deref.result.now ≡ c.in_ok-values.values.items = search rules in
+    let gathered : c.deref.result.now ≡ map (value instance.grid) places = read ∙ c.in_ok-values.ensures.values ∙ ap (λ (h : Held). map (value (grid_of h)) places) held in
     let samples : All (λ v. IfSome v IsSample) instance.grid.values = instance_samples instance (subst (λ (h : Held). IsHeld h) held c.subject_stands.ensures.held) in
     subst (λ (text : List ℕ). Writes c.write_document.result text (g.K.Sink.written c.args.sink.now) (g.K.Sink.written c.write_document.new.sink))
     (text_is c.document_of_pieces.ensures instance.grid listing c.deref.result.now (document subject c.args.plan.now.query) c.listing_stands.ensures.is samples gathered stands.document)
     c.write_document.ensures.bytes
 
-pub returns-in-Ok-clause-reads : goal.returns-in-Ok-clause-reads
-returns-in-Ok-clause-reads g c =
+pub returns-clause-reads : goal.returns-clause-reads
+returns-clause-reads g c =
     let listing : ListingValue = c.args.listing.now in
     let stands = listed_stands c.args.plan.now c.args.listing.now c.args.store.now.subject c.requires.listed c.requires.stands in
     opens_all c.write_document.result (ascending_once (tiles listing.shape) (map (tile_of listing.shape) (places_of_coverages listing.parameters listing.coverages))) (needed c.args.store.now.subject c.args.plan.now.query)
-    c.args.store.now.numbers c.gather.new.store.numbers c.requires.unread (ap (ascending_once (tiles listing.shape)) (tiles_are listing) ∙ stands.chunks) c.in-Ok.ensures.reads.all
+    c.args.store.now.numbers c.gather.new.store.numbers c.requires.unread (ap (ascending_once (tiles listing.shape)) (tiles_are listing) ∙ stands.chunks) c.in_ok-values.ensures.reads.all
 
-pub returns-in-Err-clause-reads : goal.returns-in-Err-clause-reads
-returns-in-Err-clause-reads g c =
+pub returns-in_err-values-clause-reads : goal.returns-in_err-values-clause-reads
+returns-in_err-values-clause-reads g c =
     let listing : ListingValue = c.args.listing.now in
     let stands = listed_stands c.args.plan.now c.args.listing.now c.args.store.now.subject c.requires.listed c.requires.stands in
-    opens_begun (Unit {0}) SendFault.OutOfMemory (ascending_once (tiles listing.shape) (map (tile_of listing.shape) (places_of_coverages listing.parameters listing.coverages))) (needed c.args.store.now.subject c.args.plan.now.query)
-    c.args.store.now.numbers c.gather.new.store.numbers c.requires.unread (ap (ascending_once (tiles listing.shape)) (tiles_are listing) ∙ stands.chunks) c.gather.ensures.reads.begun
+    opens_begun c.from_residual.result (ascending_once (tiles listing.shape) (map (tile_of listing.shape) (places_of_coverages listing.parameters listing.coverages))) (needed c.args.store.now.subject c.args.plan.now.query) c.args.store.now.numbers c.gather.new.store.numbers (search rules) c.requires.unread (ap (ascending_once (tiles listing.shape)) (tiles_are listing) ∙ stands.chunks) c.gather.ensures.reads.begun

@@ -1,7 +1,7 @@
 use Rattle.std.proofs.Common.{◌≡◌, ◌∙◌, ap, subst, ℕ, List, All}
 use Rattle.std.specs.Prelude.{IfSome}
 use Rattle.edr_base.specs.Calls.{Writes}
-use Rattle.covjson_value.specs.Coverages.{IsSample}
+use Rattle.edr_base.specs.Limits.{IsSample}
 use Rattle.edr_chunk.specs.Tiles.{tiles}
 use Rattle.edr_edition.specs.Values.{InstanceValue}
 use Rattle.edr_edition.specs.Stores.{Held, of_grid, IsHeld}

@@ -7,8 +7,8 @@ use Rattle.edr_send.specs.SeriesTexts.{collection_of}
 use Rattle.edr_send.proofs.TextSteps.{writes_next}
 use Rattle.edr_send.proofs.series.stream_series.Goals as goal
 
-pub returns-in-Ok-clause-bytes : goal.returns-in-Ok-clause-bytes
-returns-in-Ok-clause-bytes g c =
+pub returns-clause-bytes : goal.returns-clause-bytes
+returns-clause-bytes g c =
     let reply : SeriesReplyValue = c.args.reply.now in
     let written = g.K.Sink.written in
     let begin : written c.begin.new.sink ≡ append_known (written c.args.sink.now) (document_begin reply.many) = search rules in

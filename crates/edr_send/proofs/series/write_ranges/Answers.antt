@@ -21,7 +21,7 @@ use Rattle.edr_send.proofs.Cuts.{stage_within, stage_ready}
 use Rattle.edr_send.proofs.TextSteps.{all_but_same, all_but_on, all_but_front, all_but_all, writes_fault}
 use Rattle.edr_send.proofs.RunSteps.{ranges_next}
 use Rattle.edr_send.proofs.SeriesSteps.{item_next, item_whole, range_told, blocks_told}
-use Rattle.edr_send.proofs.WriterSteps.{lent_on, rose_on}
+use Rattle.edr_send.proofs.WriterSteps.{lent_on}
 use Rattle.edr_send.proofs.series.write_ranges.Goals as goal
 
 pub loop-number-init : goal.loop-number-init
@@ -60,19 +60,19 @@ loop-number-preserved g c =
     let told : range_piece c.loop-number.writer.head i (series_range (station_of (collection_of c.loop-number.store.subject.held) series) series.cells (get_or ps i 0)).values ≡ piece =
     range_told c.loop-number.writer.head head c.loop-number.store.subject subject series i (get_or ps i 0) c.loop-number.invariant.head c.loop-number.invariant.subject in
     let wrote : written c.write_range.new.sink ≡ append_known (written c.loop-number.sink) (range_piece c.loop-number.writer.head i (series_range (station_of (collection_of c.loop-number.store.subject.held) series) series.cells (get_or ps i 0)).values) =
-    c.in-Ok.ensures.bytes.whole in
+    c.in_ok-write_range.ensures.bytes.whole in
     let opened : c.write_range.new.store.numbers ≡ c.loop-number.store.numbers ++ ascending_once (blocks_in (collection_of c.loop-number.store.subject.held)) (b (get_or ps i 0)) =
-    c.in-Ok.ensures.reads.all in
+    c.in_ok-write_range.ensures.reads.all in
     let read : c.write_range.new.store.numbers ≡ c.loop-number.store.numbers ++ ascending_once n (b (get_or ps i 0)) =
     opened ∙ ap (λ (l : List ℕ). c.loop-number.store.numbers ++ l) (blocks_told c.loop-number.store.subject subject (b (get_or ps i 0)) c.loop-number.invariant.subject) in
     let keys : length c.loop-number.writer.head.keys ≡ length ps = ap (λ (h : RangeHead). length h.keys) c.loop-number.invariant.head ∙ c.requires.each in
     record {
-      many = ap (λ (w : WriterValue). w.many) c.in-Ok.ensures.writer ∙ c.loop-number.invariant.many;
-      begun = ap (λ (w : WriterValue). w.begun) c.in-Ok.ensures.writer ∙ c.loop-number.invariant.begun;
-      head = ap (λ (w : WriterValue). w.head) c.in-Ok.ensures.writer ∙ c.loop-number.invariant.head;
-      ranges = ap (λ (w : WriterValue). w.ranges) c.in-Ok.ensures.writer ∙ ap (λ (k : ℕ). k + 1) c.loop-number.invariant.ranges;
-      within = λ more. ap (λ (w : WriterValue). w.stage) c.in-Ok.ensures.writer ∙ stage_within (c.loop-number.writer.ranges + 1) (length c.loop-number.writer.head.keys) (omega (arith, keys, c.loop-number.invariant.ranges, more));
-      ready = λ all. ap (λ (w : WriterValue). w.stage) c.in-Ok.ensures.writer ∙ stage_ready (c.loop-number.writer.ranges + 1) (length c.loop-number.writer.head.keys) (omega (arith, keys, c.loop-number.invariant.ranges, all));
+      many = ap (λ (w : WriterValue). w.many) c.in_ok-write_range.ensures.writer ∙ c.loop-number.invariant.many;
+      begun = ap (λ (w : WriterValue). w.begun) c.in_ok-write_range.ensures.writer ∙ c.loop-number.invariant.begun;
+      head = ap (λ (w : WriterValue). w.head) c.in_ok-write_range.ensures.writer ∙ c.loop-number.invariant.head;
+      ranges = ap (λ (w : WriterValue). w.ranges) c.in_ok-write_range.ensures.writer ∙ ap (λ (k : ℕ). k + 1) c.loop-number.invariant.ranges;
+      within = λ more. ap (λ (w : WriterValue). w.stage) c.in_ok-write_range.ensures.writer ∙ stage_within (c.loop-number.writer.ranges + 1) (length c.loop-number.writer.head.keys) (omega (arith, keys, c.loop-number.invariant.ranges, more));
+      ready = λ all. ap (λ (w : WriterValue). w.stage) c.in_ok-write_range.ensures.writer ∙ stage_ready (c.loop-number.writer.ranges + 1) (length c.loop-number.writer.head.keys) (omega (arith, keys, c.loop-number.invariant.ranges, all));
       subject = c.write_range.ensures.subject ∙ c.loop-number.invariant.subject;
       text = all_but_on piece rest whole (written c.args.sink.now) (written c.loop-number.sink) (written c.write_range.new.sink)
           (all_but_same (ranges_from head i (map f (drop i ps))) (piece ++ rest) whole (written c.args.sink.now) (written c.loop-number.sink) (ranges_next head f ps i inside) c.loop-number.invariant.text)
@@ -83,8 +83,8 @@ loop-number-preserved g c =
       lent = lent_on c.loop-number.invariant.lent c.write_range.ensures.lent;
     }
 
-pub returns-in-Err-clause-bytes : goal.returns-in-Err-clause-bytes
-returns-in-Err-clause-bytes g c =
+pub returns-in_err-write_range-clause-bytes : goal.returns-in_err-write_range-clause-bytes
+returns-in_err-write_range-clause-bytes g c =
     let head : RangeHead = c.args.writer.now.head in
     let series : StationSeriesValue = c.args.series.now in
     let subject : Subject = c.args.store.now.subject in
@@ -99,13 +99,13 @@ returns-in-Err-clause-bytes g c =
     let front : Front piece (written c.loop-number.sink) (written c.write_range.new.sink) =
     subst (λ (l : List ℕ). Front l (written c.loop-number.sink) (written c.write_range.new.sink))
     (range_told c.loop-number.writer.head head c.loop-number.store.subject subject series i (get_or ps i 0) c.loop-number.invariant.head c.loop-number.invariant.subject) c.write_range.ensures.bytes.front in
-    writes_fault (Unit {0}) c.in-Err.fault whole (written c.args.sink.now) (written c.write_range.new.sink)
+    writes_fault c.from_residual.result whole (written c.args.sink.now) (written c.write_range.new.sink) (search rules)
     (all_but_front piece rest whole (written c.args.sink.now) (written c.loop-number.sink) (written c.write_range.new.sink)
     (all_but_same (ranges_from head i (map f (drop i ps))) (piece ++ rest) whole (written c.args.sink.now) (written c.loop-number.sink) (ranges_next head f ps i inside) c.loop-number.invariant.text)
     front)
 
-pub returns-in-Err-clause-reads : goal.returns-in-Err-clause-reads
-returns-in-Err-clause-reads g c =
+pub returns-in_err-write_range-clause-reads : goal.returns-in_err-write_range-clause-reads
+returns-in_err-write_range-clause-reads g c =
     let series : StationSeriesValue = c.args.series.now in
     let subject : Subject = c.args.store.now.subject in
     let collection : StationsValue = collection_of subject.held in
@@ -117,8 +117,7 @@ returns-in-Err-clause-reads g c =
     let added : Added (ascending_once n (b (get_or ps i 0))) c.loop-number.store.numbers c.write_range.new.store.numbers =
     subst (λ (l : List ℕ). Added l c.loop-number.store.numbers c.write_range.new.store.numbers) (blocks_told c.loop-number.store.subject subject (b (get_or ps i 0)) c.loop-number.invariant.subject)
     c.write_range.ensures.reads.begun in
-    adds_fault (Unit {0}) c.in-Err.fault (ascending_once n (flat_map b (take i ps))) (ascending_once n (b (get_or ps i 0))) (ascending_once n (flat_map b (drop (i + 1) ps))) (ascending_once n (flat_map b ps))
-    c.args.store.now.numbers c.loop-number.store.numbers c.write_range.new.store.numbers c.loop-number.invariant.reads
+    adds_fault c.from_residual.result (ascending_once n (flat_map b (take i ps))) (ascending_once n (b (get_or ps i 0))) (ascending_once n (flat_map b (drop (i + 1) ps))) (ascending_once n (flat_map b ps)) c.args.store.now.numbers c.loop-number.store.numbers c.write_range.new.store.numbers (search rules) c.loop-number.invariant.reads
     (item_whole n b ps i 0 inside (parameters_parted collection series c.requires.over.station ps i c.requires.rise c.requires.asked)
     (parameters_parted collection series c.requires.over.station ps (i + 1) c.requires.rise c.requires.asked))
     added
@@ -130,12 +129,3 @@ returns-clause-reads g c =
     let b : ℕ → List ℕ = blocks_of_range c.args.series.now in
     adds_all (Ok tt) (ascending_once n (flat_map b (take c.loop-number.number ps))) (ascending_once n (flat_map b ps)) c.args.store.now.numbers c.loop-number.store.numbers
     (ap (λ (l : List ℕ). ascending_once n (flat_map b l)) (take_all c.loop-number.number ps c.loop-number-test.false)) c.loop-number.invariant.reads
-
-pub returns-in-Err-clause-lent : goal.returns-in-Err-clause-lent
-returns-in-Err-clause-lent g c = lent_on c.loop-number.invariant.lent c.write_range.ensures.lent
-
-pub returns-in-Err-clause-cause : goal.returns-in-Err-clause-cause
-returns-in-Err-clause-cause g c = λ is. rose_on (g.K.Faults.faults c.write_range.new.sink) c.loop-number.invariant.lent (c.in-Err.ensures.cause is)
-
-pub returns-clause-lent : goal.returns-clause-lent
-returns-clause-lent g c = c.loop-number.invariant.lent

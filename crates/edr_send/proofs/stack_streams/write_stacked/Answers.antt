@@ -10,9 +10,6 @@ use Rattle.edr_send.proofs.FrameSteps.{text_from, once_in}
 use Rattle.edr_send.proofs.StackTiles.{few, plane_is_frame, plane_tiles}
 use Rattle.edr_send.proofs.stack_streams.write_stacked.Goals as goal
 
-at_most_itself : (a : ℕ) → a ≤ a
-at_most_itself a = omega arith
-
 pub plane_of-requires-clause-times : goal.plane_of-requires-clause-times
 plane_of-requires-clause-times g c =
     let stacking = c.args.stacking.now in
@@ -35,36 +32,27 @@ write_strips-requires-clause-frame g c =
     let stack : StackValue = c.args.stacking.now.stack in
     let is : IsFrame shape (plane_at stack c.args.i c.args.j) = plane_is_frame shape stack c.stacking_stands.ensures.is.stack c.args.i c.args.j c.requires.time c.requires.level in
     let same : c.stacking.inside.stack ≡ stack = search rules in
-    let plane : c.in-Ok.plane ≡ plane_at stack c.args.i c.args.j = c.in-Ok.ensures ∙ ap (λ (s : StackValue). plane_at s c.args.i c.args.j) same in
+    let plane : c.in_ok-plane.plane ≡ plane_at stack c.args.i c.args.j = c.in_ok-plane.ensures ∙ ap (λ (s : StackValue). plane_at s c.args.i c.args.j) same in
     let across : c.stacking-inside.inside.0.0 ≡ shape = search rules in
-    subst (λ (s : GridShape). IsFrame s c.in-Ok.plane) (sym across) (subst (λ (x : FrameValue). IsFrame shape x) (sym plane) is)
+    subst (λ (s : GridShape). IsFrame s c.in_ok-plane.plane) (sym across) (subst (λ (x : FrameValue). IsFrame shape x) (sym plane) is)
 
-pub returns-in-Ok-clause-reads : goal.returns-in-Ok-clause-reads
-returns-in-Ok-clause-reads g c =
+pub returns-clause-reads : goal.returns-clause-reads
+returns-clause-reads g c =
     let shape : GridShape = c.args.stacking.now.shape in
     let stack : StackValue = c.args.stacking.now.stack in
     let p : ℕ = c.args.parameter in
     let same : c.stacking.inside.stack ≡ stack = search rules in
-    let plane : c.in-Ok.plane ≡ plane_at stack c.args.i c.args.j = c.in-Ok.ensures ∙ ap (λ (s : StackValue). plane_at s c.args.i c.args.j) same in
+    let plane : c.in_ok-plane.plane ≡ plane_at stack c.args.i c.args.j = c.in_ok-plane.ensures ∙ ap (λ (s : StackValue). plane_at s c.args.i c.args.j) same in
     let across : c.stacking-inside.inside.0.0 ≡ shape = search rules in
     let time : get_or c.items.result.now c.args.i 0 ≡ time_at stack.sides c.args.i = search rules in
     let level : get_or c.items-2.result.now c.args.j 0 ≡ level_at stack.sides c.args.j = search rules in
-    adds_same c.write_strips.result (once_in c.stacking-inside.inside.0.0 p (plane_cells c.in-Ok.plane (get_or c.items.result.now c.args.i 0) (get_or c.items-2.result.now c.args.j 0))) (once_in shape p (cells_of_plane stack c.args.i c.args.j))
+    adds_same c.write_strips.result (once_in c.stacking-inside.inside.0.0 p (plane_cells c.in_ok-plane.plane (get_or c.items.result.now c.args.i 0) (get_or c.items-2.result.now c.args.j 0))) (once_in shape p (cells_of_plane stack c.args.i c.args.j))
     c.args.store.now.numbers c.write_strips.new.store.numbers
-    (plane_tiles c.stacking-inside.inside.0.0 shape c.in-Ok.plane (plane_at stack c.args.i c.args.j) (get_or c.items.result.now c.args.i 0) (time_at stack.sides c.args.i) (get_or c.items-2.result.now c.args.j 0) (level_at stack.sides c.args.j) p across plane time level)
+    (plane_tiles c.stacking-inside.inside.0.0 shape c.in_ok-plane.plane (plane_at stack c.args.i c.args.j) (get_or c.items.result.now c.args.i 0) (time_at stack.sides c.args.i) (get_or c.items-2.result.now c.args.j 0) (level_at stack.sides c.args.j) p across plane time level)
     c.write_strips.ensures.reads
 
-pub returns-in-Err-clause-bytes : goal.returns-in-Err-clause-bytes
-returns-in-Err-clause-bytes g c =
+pub returns-in_err-plane-clause-bytes : goal.returns-in_err-plane-clause-bytes
+returns-in_err-plane-clause-bytes g c =
     let written = g.K.Sink.written in
     let text = text_from c.args.writer.now.values c.args.store.now.subject c.args.parameter (cells_of_plane c.args.stacking.now.stack c.args.i c.args.j) in
-    writes_fault (Unit {0}) _ text (written c.args.sink.now) (written c.args.sink.now) (front_none (written c.args.sink.now) (written c.args.sink.now) text refl)
-
-pub returns-in-Ok-clause-lent : goal.returns-in-Ok-clause-lent
-returns-in-Ok-clause-lent g c = c.write_strips.ensures.lent
-
-pub returns-in-Ok-clause-cause : goal.returns-in-Ok-clause-cause
-returns-in-Ok-clause-cause g c = c.write_strips.ensures.cause
-
-pub returns-in-Err-clause-lent : goal.returns-in-Err-clause-lent
-returns-in-Err-clause-lent g c = record { same = refl; later = at_most_itself (g.K.Faults.faults c.args.sink.now) }
+    writes_fault c.from_residual.result text (written c.args.sink.now) (written c.args.sink.now) (search rules) (front_none (written c.args.sink.now) (written c.args.sink.now) text refl)

@@ -6,7 +6,7 @@ use Rattle.edr_select.specs.Stacks.{StackValue, cells_of_time}
 use Rattle.edr_send.proofs.TextSteps.{writes_fault}
 use Rattle.edr_send.proofs.FrameSteps.{Cells, text_from, sent_none, sent_room, sent_more, sent_front, sent_begun, sent_text, sent_writer, sent_reads}
 use Rattle.edr_send.proofs.StackTiles.{range_rest, range_done, range_none, range_all, times_apart}
-use Rattle.edr_send.proofs.WriterSteps.{lent_on, rose_on}
+use Rattle.edr_send.proofs.WriterSteps.{lent_on}
 use Rattle.edr_send.specs.Filling.{grid_of}
 use Rattle.edr_send.proofs.stack_streams.write_times.Goals as goal
 
@@ -60,13 +60,13 @@ loop-i-preserved g c =
     let next : Cells = flat_map cells_of (range_with_len 0 (k + 1)) in
     record {
       sent = sent_more shape subject p whole c.args.writer.now (g.K.Sink.written c.args.sink.now) c.args.store.now.numbers done next rest piece later c.loop-i.writer c.write_levels.new.writer (g.K.Sink.written c.loop-i.sink) (g.K.Sink.written c.write_levels.new.sink) c.loop-i.store.numbers c.write_levels.new.store.numbers c.loop-i.store.subject
-          c.loop-i.invariant.sent (range_rest cells_of k n inside) (range_done cells_of k) (times_apart shape stack c.stacking_stands.ensures.is.stack (c.tiles_are_numbered.ensures shape) p c.requires.parameter k (omega (arith, inside))) c.loop-i.invariant.subject c.in-Ok.ensures.bytes.whole c.in-Ok.ensures.writer c.in-Ok.ensures.reads.all;
+          c.loop-i.invariant.sent (range_rest cells_of k n inside) (range_done cells_of k) (times_apart shape stack c.stacking_stands.ensures.is.stack (c.tiles_are_numbered.ensures shape) p c.requires.parameter k (omega (arith, inside))) c.loop-i.invariant.subject c.in_ok-write_levels.ensures.bytes.whole c.in_ok-write_levels.ensures.writer c.in_ok-write_levels.ensures.reads.all;
       subject = c.write_levels.ensures.subject ∙ c.loop-i.invariant.subject;
       lent = lent_on c.loop-i.invariant.lent c.write_levels.ensures.lent;
     }
 
-pub returns-in-Err-clause-bytes : goal.returns-in-Err-clause-bytes
-returns-in-Err-clause-bytes g c =
+pub returns-in_err-write_levels-clause-bytes : goal.returns-in_err-write_levels-clause-bytes
+returns-in_err-write_levels-clause-bytes g c =
     let shape : GridShape = c.args.stacking.now.shape in
     let subject : Subject = c.args.store.now.subject in
     let p : ℕ = c.args.parameter in
@@ -80,11 +80,11 @@ returns-in-Err-clause-bytes g c =
     let inside : k < n = search rules in
     let piece : Cells = cells_of k in
     let later : Cells = flat_map cells_of (range_with_len (k + 1) (n - (k + 1))) in
-    writes_fault (Unit {0}) c.in-Err.fault (text_from c.args.writer.now.values subject p whole) (g.K.Sink.written c.args.sink.now) (g.K.Sink.written c.write_levels.new.sink)
+    writes_fault c.from_residual.result (text_from c.args.writer.now.values subject p whole) (g.K.Sink.written c.args.sink.now) (g.K.Sink.written c.write_levels.new.sink) (search rules)
     (sent_front shape subject p whole c.args.writer.now (g.K.Sink.written c.args.sink.now) c.args.store.now.numbers done rest piece later c.loop-i.writer (g.K.Sink.written c.loop-i.sink) (g.K.Sink.written c.write_levels.new.sink) c.loop-i.store.numbers c.loop-i.store.subject c.loop-i.invariant.sent (range_rest cells_of k n inside) c.loop-i.invariant.subject c.write_levels.ensures.bytes.front)
 
-pub returns-in-Err-clause-reads : goal.returns-in-Err-clause-reads
-returns-in-Err-clause-reads g c =
+pub returns-in_err-write_levels-clause-reads : goal.returns-in_err-write_levels-clause-reads
+returns-in_err-write_levels-clause-reads g c =
     let shape : GridShape = c.args.stacking.now.shape in
     let subject : Subject = c.args.store.now.subject in
     let p : ℕ = c.args.parameter in
@@ -99,7 +99,7 @@ returns-in-Err-clause-reads g c =
     let piece : Cells = cells_of k in
     let later : Cells = flat_map cells_of (range_with_len (k + 1) (n - (k + 1))) in
     let next : Cells = flat_map cells_of (range_with_len 0 (k + 1)) in
-    sent_begun shape subject p whole c.args.writer.now (g.K.Sink.written c.args.sink.now) c.args.store.now.numbers c.in-Err.fault done next rest piece later c.loop-i.writer (g.K.Sink.written c.loop-i.sink) c.loop-i.store.numbers c.write_levels.new.store.numbers
+    sent_begun shape subject p whole c.args.writer.now (g.K.Sink.written c.args.sink.now) c.args.store.now.numbers c.from_residual.result done next rest piece later c.loop-i.writer (g.K.Sink.written c.loop-i.sink) c.loop-i.store.numbers c.write_levels.new.store.numbers (search rules)
     c.loop-i.invariant.sent (range_rest cells_of k n inside) (range_done cells_of k) (times_apart shape stack c.stacking_stands.ensures.is.stack (c.tiles_are_numbered.ensures shape) p c.requires.parameter k (omega (arith, inside))) (times_apart shape stack c.stacking_stands.ensures.is.stack (c.tiles_are_numbered.ensures shape) p c.requires.parameter (k + 1) (omega (arith, inside))) c.write_levels.ensures.reads.begun
 
 pub returns-clause-bytes : goal.returns-clause-bytes
@@ -146,15 +146,6 @@ returns-clause-reads g c =
     let rest : Cells = flat_map cells_of (range_with_len k (n - k)) in
     let past : n ≤ k = search rules in
     sent_reads shape subject p whole c.args.writer.now (g.K.Sink.written c.args.sink.now) c.args.store.now.numbers _ done rest c.loop-i.writer (g.K.Sink.written c.loop-i.sink) c.loop-i.store.numbers c.loop-i.invariant.sent (range_none cells_of k n past)
-
-pub returns-in-Err-clause-lent : goal.returns-in-Err-clause-lent
-returns-in-Err-clause-lent g c = lent_on c.loop-i.invariant.lent c.write_levels.ensures.lent
-
-pub returns-in-Err-clause-cause : goal.returns-in-Err-clause-cause
-returns-in-Err-clause-cause g c = λ is. rose_on (g.K.Faults.faults c.write_levels.new.sink) c.loop-i.invariant.lent (c.in-Err.ensures.cause is)
-
-pub returns-clause-lent : goal.returns-clause-lent
-returns-clause-lent g c = c.loop-i.invariant.lent
 
 pub write_levels-requires-clause-grid : goal.write_levels-requires-clause-grid
 write_levels-requires-clause-grid g c = c.requires.grid ∙ ap (λ (s : Subject). (grid_of s.held).shape) (sym c.loop-i.invariant.subject)

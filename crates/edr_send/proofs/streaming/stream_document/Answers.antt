@@ -5,31 +5,18 @@ use Rattle.covjson_write.specs.Pieces.{coverages_from, document_begin, document_
 use Rattle.edr_select.specs.Listings.{ListingValue, coverage_of, listing_tiles}
 use Rattle.edr_send.specs.Filling.{grid_of}
 use Rattle.edr_send.proofs.TextSteps.{writes_next}
-use Rattle.edr_send.proofs.WriterSteps.{lent_on, rose_on}
 use Rattle.edr_send.proofs.Additions.{adds_none}
 use Rattle.edr_chunk.specs.Tiles.{tiles}
 use Rattle.edr_select.specs.Samples.{ascending_once}
 use Rattle.edr_send.proofs.streaming.stream_document.Goals as goal
 
-pub returns-in-Ok-clause-bytes : goal.returns-in-Ok-clause-bytes
-returns-in-Ok-clause-bytes g c =
+pub returns-clause-bytes : goal.returns-clause-bytes
+returns-clause-bytes g c =
     let plan : ListingValue = c.args.listing.now in
     let written = g.K.Sink.written in
     let begin : written c.begin.new.sink ≡ append_known (written c.args.sink.now) (document_begin plan.many) = search rules in
     let rest = coverages_from 0 (map (coverage_of (grid_of c.args.store.now.subject.held) plan.parameters) plan.coverages) ++ document_end plan.many in
     writes_next c.write_rest.result (written c.args.sink.now) (written c.begin.new.sink) (written c.write_rest.new.sink) (document_begin plan.many) rest rest begin refl c.write_rest.ensures.bytes
 
-pub returns-in-Ok-clause-lent : goal.returns-in-Ok-clause-lent
-returns-in-Ok-clause-lent g c = lent_on c.begin.ensures.lent c.write_rest.ensures.lent
-
-pub returns-in-Ok-clause-cause : goal.returns-in-Ok-clause-cause
-returns-in-Ok-clause-cause g c = λ is. rose_on (g.K.Faults.faults c.write_rest.new.sink) c.begin.ensures.lent (c.write_rest.ensures.cause is)
-
-pub returns-in-Err-clause-lent : goal.returns-in-Err-clause-lent
-returns-in-Err-clause-lent g c = c.begin.ensures.lent
-
-pub returns-in-Ok-clause-reads : goal.returns-in-Ok-clause-reads
-returns-in-Ok-clause-reads g c = c.write_rest.ensures.reads
-
-pub returns-in-Err-clause-reads : goal.returns-in-Err-clause-reads
-returns-in-Err-clause-reads g c = adds_none (Unit {0}) c.in-Err.fault (ascending_once (tiles c.args.listing.now.shape) (listing_tiles c.args.listing.now)) c.args.store.now.numbers c.args.store.now.numbers refl
+pub returns-in_err-writer-clause-reads : goal.returns-in_err-writer-clause-reads
+returns-in_err-writer-clause-reads g c = adds_none c.from_residual.result (ascending_once (tiles c.args.listing.now.shape) (listing_tiles c.args.listing.now)) c.args.store.now.numbers c.args.store.now.numbers (search rules) refl

@@ -17,7 +17,7 @@ use Rattle.edr_send.proofs.Ascending.{once_none}
 use Rattle.edr_send.proofs.TextSteps.{all_but_same, all_but_on, all_but_front, all_but_all, writes_fault, all_but_none}
 use Rattle.edr_send.proofs.TileSteps.{length-range}
 use Rattle.edr_send.proofs.RunSteps.{cut_next, run_step, run_begun, values_next, with_none, with_more}
-use Rattle.edr_send.proofs.WriterSteps.{lent_on, rose_on, all_met}
+use Rattle.edr_send.proofs.WriterSteps.{lent_on, all_met}
 use Rattle.std.specs.Prelude.{Ok}
 use Rattle.std.proofs.lemmas.List.{take_all, drop_all}
 use Rattle.edr_send.proofs.value_runs.write_runs.Goals as goal
@@ -61,14 +61,14 @@ loop-at-preserved g c =
     let piece = values_from at (range_over grid (slice_range cells at next) p).values in
     let rest = values_from next (range_over grid (drop next cells) p).values in
     let count : c.loop-at.writer.values ≡ at = ap (λ (w : WriterValue). w.values) c.loop-at.invariant.writer ∙ ap (λ (n : ℕ). n + at) c.requires.none ∙ zero-add at in
-    let told : written c.write_run.new.sink ≡ append_known (written c.loop-at.sink) (values_from c.loop-at.writer.values (range_over (grid_of c.loop-at.store.subject.held) (slice_range cells at next) p).values) = c.in-Ok.ensures.bytes.whole in
+    let told : written c.write_run.new.sink ≡ append_known (written c.loop-at.sink) (values_from c.loop-at.writer.values (range_over (grid_of c.loop-at.store.subject.held) (slice_range cells at next) p).values) = c.in_ok-write_run.ensures.bytes.whole in
     let wrote : written c.write_run.new.sink ≡ append_known (written c.loop-at.sink) piece =
     subst (λ (n : ℕ). written c.write_run.new.sink ≡ append_known (written c.loop-at.sink) (values_from n (range_over grid (slice_range cells at next) p).values)) count
     (subst (λ (s : Subject). written c.write_run.new.sink ≡ append_known (written c.loop-at.sink) (values_from c.loop-at.writer.values (range_over (grid_of s.held) (slice_range cells at next) p).values)) c.loop-at.invariant.subject told) in
     record {
       high = inside;
       cut = cut_next shape cells next c.requires.rise (omega (arith, more)) c.run_end-end.ensures.other;
-      writer = c.in-Ok.ensures.writer ∙ with_more c.loop-at.writer c.args.writer.now at (length (slice_range cells at next)) c.loop-at.invariant.writer
+      writer = c.in_ok-write_run.ensures.writer ∙ with_more c.loop-at.writer c.args.writer.now at (length (slice_range cells at next)) c.loop-at.invariant.writer
           ∙ ap (λ (n : ℕ). with_values c.args.writer.now n) (omega (arith, length-range cells at next (omega (arith, more)) inside, more));
       subject = c.write_run.ensures.subject ∙ c.loop-at.invariant.subject;
       text = all_but_on piece rest whole (written c.args.sink.now) (written c.loop-at.sink) (written c.write_run.new.sink)
@@ -76,13 +76,13 @@ loop-at-preserved g c =
           wrote;
       reads = added_on (ascending_once (tiles shape) (tiles_of_range shape (take at cells) p)) (ascending_once (tiles shape) (tiles_of_range shape (slice_range cells at next) p))
           (ascending_once (tiles shape) (tiles_of_range shape (take next cells) p)) c.args.store.now.numbers c.loop-at.store.numbers c.write_run.new.store.numbers
-          c.loop-at.invariant.reads c.in-Ok.ensures.reads.all
+          c.loop-at.invariant.reads c.in_ok-write_run.ensures.reads.all
           (run_step shape (c.tiles_are_numbered.ensures shape) (c.numbers_tell_places.ensures (tile_shape shape)) p cells at next no_node c.requires.parameter c.requires.cells c.requires.rise c.loop-at.invariant.cut more inside);
       lent = lent_on c.loop-at.invariant.lent c.write_run.ensures.lent;
     }
 
-pub returns-in-Err-clause-bytes : goal.returns-in-Err-clause-bytes
-returns-in-Err-clause-bytes g c =
+pub returns-in_err-write_run-clause-bytes : goal.returns-in_err-write_run-clause-bytes
+returns-in_err-write_run-clause-bytes g c =
     let cells : List GridNode = c.args.cells.now in
     let p : ℕ = c.args.parameter in
     let grid : chunk.Values = grid_of c.args.store.now.subject.held in
@@ -99,34 +99,23 @@ returns-in-Err-clause-bytes g c =
     let front : Front piece (written c.loop-at.sink) (written c.write_run.new.sink) =
     subst (λ (n : ℕ). Front (values_from n (range_over grid (slice_range cells at next) p).values) (written c.loop-at.sink) (written c.write_run.new.sink)) count
     (subst (λ (s : Subject). Front (values_from c.loop-at.writer.values (range_over (grid_of s.held) (slice_range cells at next) p).values) (written c.loop-at.sink) (written c.write_run.new.sink)) c.loop-at.invariant.subject told) in
-    writes_fault (Unit {0}) c.in-Err.fault whole (written c.args.sink.now) (written c.write_run.new.sink)
+    writes_fault c.from_residual.result whole (written c.args.sink.now) (written c.write_run.new.sink) (search rules)
     (all_but_front piece rest whole (written c.args.sink.now) (written c.loop-at.sink) (written c.write_run.new.sink)
     (all_but_same (values_from at (range_over grid (drop at cells) p).values) (piece ++ rest) whole (written c.args.sink.now) (written c.loop-at.sink) (values_next f cells at next (omega (arith, more)) c.run_end-end.ensures.end) c.loop-at.invariant.text)
     front)
 
-pub returns-in-Err-clause-reads : goal.returns-in-Err-clause-reads
-returns-in-Err-clause-reads g c =
+pub returns-in_err-write_run-clause-reads : goal.returns-in_err-write_run-clause-reads
+returns-in_err-write_run-clause-reads g c =
     let cells : List GridNode = c.args.cells.now in
     let shape = c.args.shape in
     let p : ℕ = c.args.parameter in
     let at : ℕ = c.loop-at.at in
     let next : ℕ = c.run_end-end.result in
     let more : at < next = c.run_end-end.ensures.more in
-    adds_fault (Unit {0}) c.in-Err.fault (ascending_once (tiles shape) (tiles_of_range shape (take at cells) p)) (ascending_once (tiles shape) (tiles_of_range shape (slice_range cells at next) p))
-    (ascending_once (tiles shape) (tiles_of_range shape (drop next cells) p)) (ascending_once (tiles shape) (tiles_of_range shape cells p))
-    c.args.store.now.numbers c.loop-at.store.numbers c.write_run.new.store.numbers c.loop-at.invariant.reads
+    adds_fault c.from_residual.result (ascending_once (tiles shape) (tiles_of_range shape (take at cells) p)) (ascending_once (tiles shape) (tiles_of_range shape (slice_range cells at next) p)) (ascending_once (tiles shape) (tiles_of_range shape (drop next cells) p)) (ascending_once (tiles shape) (tiles_of_range shape cells p)) c.args.store.now.numbers c.loop-at.store.numbers c.write_run.new.store.numbers (search rules) c.loop-at.invariant.reads
     (run_begun shape (c.tiles_are_numbered.ensures shape) (c.numbers_tell_places.ensures (tile_shape shape)) p cells at next no_node c.requires.parameter c.requires.cells c.requires.rise c.loop-at.invariant.cut
     (cut_next shape cells next c.requires.rise (omega (arith, more)) c.run_end-end.ensures.other) more c.run_end-end.ensures.end)
     c.write_run.ensures.reads.begun
-
-pub returns-in-Err-clause-lent : goal.returns-in-Err-clause-lent
-returns-in-Err-clause-lent g c = lent_on c.loop-at.invariant.lent c.write_run.ensures.lent
-
-pub returns-in-Err-clause-cause : goal.returns-in-Err-clause-cause
-returns-in-Err-clause-cause g c = λ is. rose_on (g.K.Faults.faults c.write_run.new.sink) c.loop-at.invariant.lent (c.in-Err.ensures.cause is)
-
-pub returns-clause-lent : goal.returns-clause-lent
-returns-clause-lent g c = c.loop-at.invariant.lent
 
 pub write_run-requires-clause-grid : goal.write_run-requires-clause-grid
 write_run-requires-clause-grid g c = c.requires.grid ∙ ap (λ (s : Subject). (grid_of s.held).shape) (sym c.loop-at.invariant.subject)

@@ -9,11 +9,11 @@ use Rattle.edr_select.specs.Listings.{PlannedValue, IsPlanned}
 use Rattle.edr_send.specs.Gathered.{ranges_cut, coverage_cut, coverages_cut, size_of, AllBut}
 use Rattle.edr_send.proofs.TextSteps.{all_but_same, all_but_on, all_but_front, writes_fault}
 use Rattle.edr_send.proofs.Cuts.{coverages_next, sizes_next, piece_is, later_next, rest_is}
-use Rattle.edr_send.proofs.WriterSteps.{lent_on, rose_on}
+use Rattle.edr_send.proofs.WriterSteps.{lent_on}
 use Rattle.edr_send.proofs.writing.write_coverages.Goals as goal
 
-pub returns-in-Err-clause-bytes : goal.returns-in-Err-clause-bytes
-returns-in-Err-clause-bytes g c =
+pub returns-in_err-write_coverage-clause-bytes : goal.returns-in_err-write_coverage-clause-bytes
+returns-in_err-write_coverage-clause-bytes g c =
     let coverages : List PlannedValue = c.args.listing.now.coverages in
     let k : ℕ = length c.args.listing.now.parameters in
     let values = c.args.values.now in
@@ -34,7 +34,7 @@ returns-in-Err-clause-bytes g c =
     let front : Front piece (written c.loop-planned.sink) (written c.write_coverage.new.sink) =
     subst (λ (l : List ℕ). Front l (written c.loop-planned.sink) (written c.write_coverage.new.sink))
     (piece_is i c.loop-planned.writer.begun planned all (drop from values) (length planned.head.parameters) k c.loop-planned.invariant.begun one.as_many (rest_is values from)) told in
-    writes_fault (Unit {0}) c.in-Err.fault whole (written c.args.sink.now) (written c.write_coverage.new.sink)
+    writes_fault c.from_residual.result whole (written c.args.sink.now) (written c.write_coverage.new.sink) (search rules)
     (all_but_front piece rest whole (written c.args.sink.now) (written c.loop-planned.sink) (written c.write_coverage.new.sink)
     (all_but_same (coverages_from i (coverages_cut k (drop i coverages) (drop from values))) (piece ++ rest) whole (written c.args.sink.now) (written c.loop-planned.sink) (coverages_next k coverages values i from planned inside is) c.loop-planned.invariant.text)
     front)
@@ -59,14 +59,14 @@ loop-planned-preserved g c =
     let rest = coverages_from (i + 1) (coverages_cut k (drop (i + 1) coverages) (drop next values)) in
     let all = slice_range values from (length values) in
     let told : written c.write_coverage.new.sink ≡ append_known (written c.loop-planned.sink) (comma_if c.loop-planned.writer.begun ++ (coverage_begin planned.head ++ ranges_from (head_of planned.head) 0 (ranges_cut (length planned.cells) all 0 (length planned.head.parameters)))) =
-    c.in-Ok.ensures.bytes.whole in
+    c.in_ok-write_coverage.ensures.bytes.whole in
     let wrote : written c.write_coverage.new.sink ≡ append_known (written c.loop-planned.sink) piece =
     subst (λ (l : List ℕ). written c.write_coverage.new.sink ≡ append_known (written c.loop-planned.sink) l)
     (piece_is i c.loop-planned.writer.begun planned all (drop from values) (length planned.head.parameters) k c.loop-planned.invariant.begun one.as_many (rest_is values from)) told in
     record {
-      many = c.in-Ok.ensures.many ∙ c.loop-planned.invariant.many;
-      begun = c.in-Ok.ensures.begun ∙ sym (later_next i);
-      stage = c.in-Ok.ensures.stage;
+      many = c.in_ok-write_coverage.ensures.many ∙ c.loop-planned.invariant.many;
+      begun = c.in_ok-write_coverage.ensures.begun ∙ sym (later_next i);
+      stage = c.in_ok-write_coverage.ensures.stage;
       size = omega (arith, size, sizes_next k coverages i planned inside is, c.loop-planned.invariant.size);
       text = subst (λ (n : ℕ). AllBut (coverages_from (i + 1) (coverages_cut k (drop (i + 1) coverages) (drop n values))) whole (written c.args.sink.now) (written c.write_coverage.new.sink)) (ap (λ (n : ℕ). from + n) (sym size))
           (all_but_on piece rest whole (written c.args.sink.now) (written c.loop-planned.sink) (written c.write_coverage.new.sink)
@@ -74,12 +74,3 @@ loop-planned-preserved g c =
           wrote);
       lent = lent_on c.loop-planned.invariant.lent c.write_coverage.ensures.lent;
     }
-
-pub returns-in-Err-clause-lent : goal.returns-in-Err-clause-lent
-returns-in-Err-clause-lent g c = lent_on c.loop-planned.invariant.lent c.write_coverage.ensures.lent
-
-pub returns-in-Err-clause-cause : goal.returns-in-Err-clause-cause
-returns-in-Err-clause-cause g c = λ is. rose_on (g.K.Faults.faults c.write_coverage.new.sink) c.loop-planned.invariant.lent (c.in-Err.ensures.cause is)
-
-pub returns-clause-lent : goal.returns-clause-lent
-returns-clause-lent g c = c.loop-planned.invariant.lent

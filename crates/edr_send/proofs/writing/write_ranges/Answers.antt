@@ -1,4 +1,4 @@
-use Rattle.std.proofs.Common.{◌≡◌, ◌++◌, ◌+◌, ◌-◌, ◌*◌, ℕ, length, subst, ap, ◌∙◌, arith}
+use Rattle.std.proofs.Common.{rules, ◌≡◌, ◌++◌, ◌+◌, ◌-◌, ◌*◌, ℕ, length, subst, ap, ◌∙◌, arith}
 use Rattle.std.specs.List.{slice_range}
 use Rattle.std.specs.Io.KnownBytes.{append_known}
 use Rattle.edr_base.specs.Calls.{Front}
@@ -8,11 +8,11 @@ use Rattle.covjson_write.specs.Writers.{WriterValue}
 use Rattle.edr_send.specs.Gathered.{ranges_cut}
 use Rattle.edr_send.proofs.TextSteps.{all_but_same, all_but_on, all_but_front, writes_fault}
 use Rattle.edr_send.proofs.Cuts.{ranges_next, stage_within, stage_ready}
-use Rattle.edr_send.proofs.WriterSteps.{lent_on, rose_on}
+use Rattle.edr_send.proofs.WriterSteps.{lent_on}
 use Rattle.edr_send.proofs.writing.write_ranges.Goals as goal
 
-pub returns-in-Err-clause-bytes : goal.returns-in-Err-clause-bytes
-returns-in-Err-clause-bytes g c =
+pub returns-in_err-write_range-clause-bytes : goal.returns-in_err-write_range-clause-bytes
+returns-in_err-write_range-clause-bytes g c =
     let head : RangeHead = c.args.writer.now.head in
     let cells : ℕ = c.args.cells in
     let values = c.args.values.now in
@@ -24,7 +24,7 @@ returns-in-Err-clause-bytes g c =
     let rest = ranges_from head (n + 1) (ranges_cut cells values (n + 1) (count - (n + 1))) in
     let front : Front piece (written c.loop-parameter.sink) (written c.write_range.new.sink) =
     subst (λ (h : RangeHead). Front (range_piece h n (slice_range values (n * cells) (n * cells + cells))) (written c.loop-parameter.sink) (written c.write_range.new.sink)) c.loop-parameter.invariant.head c.write_range.ensures.bytes.front in
-    writes_fault (Unit {0}) c.in-Err.fault whole (written c.args.sink.now) (written c.write_range.new.sink)
+    writes_fault c.from_residual.result whole (written c.args.sink.now) (written c.write_range.new.sink) (search rules)
     (all_but_front piece rest whole (written c.args.sink.now) (written c.loop-parameter.sink) (written c.write_range.new.sink)
     (all_but_same (ranges_from head n (ranges_cut cells values n (count - n))) (piece ++ rest) whole (written c.args.sink.now) (written c.loop-parameter.sink) (ranges_next head cells values n count c.loop-parameter-test.true) c.loop-parameter.invariant.text)
     front)
@@ -41,26 +41,17 @@ loop-parameter-preserved g c =
     let piece = range_piece head n (slice_range values (n * cells) (n * cells + cells)) in
     let rest = ranges_from head (n + 1) (ranges_cut cells values (n + 1) (count - (n + 1))) in
     let wrote : written c.write_range.new.sink ≡ append_known (written c.loop-parameter.sink) piece =
-    subst (λ (h : RangeHead). written c.write_range.new.sink ≡ append_known (written c.loop-parameter.sink) (range_piece h n (slice_range values (n * cells) (n * cells + cells)))) c.loop-parameter.invariant.head c.in-Ok.ensures.bytes.whole in
+    subst (λ (h : RangeHead). written c.write_range.new.sink ≡ append_known (written c.loop-parameter.sink) (range_piece h n (slice_range values (n * cells) (n * cells + cells)))) c.loop-parameter.invariant.head c.in_ok-write_range.ensures.bytes.whole in
     let keys : length c.loop-parameter.writer.head.keys ≡ count = ap (λ (h : RangeHead). length h.keys) c.loop-parameter.invariant.head ∙ c.requires.each in
     record {
-      many = ap (λ (w : WriterValue). w.many) c.in-Ok.ensures.writer ∙ c.loop-parameter.invariant.many;
-      begun = ap (λ (w : WriterValue). w.begun) c.in-Ok.ensures.writer ∙ c.loop-parameter.invariant.begun;
-      head = ap (λ (w : WriterValue). w.head) c.in-Ok.ensures.writer ∙ c.loop-parameter.invariant.head;
-      ranges = ap (λ (w : WriterValue). w.ranges) c.in-Ok.ensures.writer ∙ ap (λ (k : ℕ). k + 1) c.loop-parameter.invariant.ranges;
-      within = λ more. ap (λ (w : WriterValue). w.stage) c.in-Ok.ensures.writer ∙ stage_within (c.loop-parameter.writer.ranges + 1) (length c.loop-parameter.writer.head.keys) (omega (arith, keys, c.loop-parameter.invariant.ranges, more));
-      ready = λ all. ap (λ (w : WriterValue). w.stage) c.in-Ok.ensures.writer ∙ stage_ready (c.loop-parameter.writer.ranges + 1) (length c.loop-parameter.writer.head.keys) (omega (arith, keys, c.loop-parameter.invariant.ranges, all));
+      many = ap (λ (w : WriterValue). w.many) c.in_ok-write_range.ensures.writer ∙ c.loop-parameter.invariant.many;
+      begun = ap (λ (w : WriterValue). w.begun) c.in_ok-write_range.ensures.writer ∙ c.loop-parameter.invariant.begun;
+      head = ap (λ (w : WriterValue). w.head) c.in_ok-write_range.ensures.writer ∙ c.loop-parameter.invariant.head;
+      ranges = ap (λ (w : WriterValue). w.ranges) c.in_ok-write_range.ensures.writer ∙ ap (λ (k : ℕ). k + 1) c.loop-parameter.invariant.ranges;
+      within = λ more. ap (λ (w : WriterValue). w.stage) c.in_ok-write_range.ensures.writer ∙ stage_within (c.loop-parameter.writer.ranges + 1) (length c.loop-parameter.writer.head.keys) (omega (arith, keys, c.loop-parameter.invariant.ranges, more));
+      ready = λ all. ap (λ (w : WriterValue). w.stage) c.in_ok-write_range.ensures.writer ∙ stage_ready (c.loop-parameter.writer.ranges + 1) (length c.loop-parameter.writer.head.keys) (omega (arith, keys, c.loop-parameter.invariant.ranges, all));
       text = all_but_on piece rest whole (written c.args.sink.now) (written c.loop-parameter.sink) (written c.write_range.new.sink)
           (all_but_same (ranges_from head n (ranges_cut cells values n (count - n))) (piece ++ rest) whole (written c.args.sink.now) (written c.loop-parameter.sink) (ranges_next head cells values n count c.loop-parameter-test.true) c.loop-parameter.invariant.text)
           wrote;
       lent = lent_on c.loop-parameter.invariant.lent c.write_range.ensures.lent;
     }
-
-pub returns-in-Err-clause-lent : goal.returns-in-Err-clause-lent
-returns-in-Err-clause-lent g c = lent_on c.loop-parameter.invariant.lent c.write_range.ensures.lent
-
-pub returns-in-Err-clause-cause : goal.returns-in-Err-clause-cause
-returns-in-Err-clause-cause g c = λ is. rose_on (g.K.Faults.faults c.write_range.new.sink) c.loop-parameter.invariant.lent (c.in-Err.ensures.cause is)
-
-pub returns-clause-lent : goal.returns-clause-lent
-returns-clause-lent g c = c.loop-parameter.invariant.lent

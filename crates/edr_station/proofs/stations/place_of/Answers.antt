@@ -1,5 +1,5 @@
 use Rattle.std.proofs.Common.{◌≡◌, ◌+◌, ◌-◌, ◌/◌, ◌<◌, length, Less, Equal, Greater, sym, ap, ◌∙◌, arith}
-use Rattle.edr_ids.specs.Ids.{order}
+use Rattle.edr_base.specs.Names.{order}
 use Rattle.edr_station.proofs.SortedPlaces.{below_to, above_from, found_at}
 use Rattle.edr_station.proofs.stations.place_of.Goals as goal
 

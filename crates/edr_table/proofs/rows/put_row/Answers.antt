@@ -1,5 +1,6 @@
 use Rattle.std.proofs.Common.{rules, ◌≡◌, ◌++◌, ℕ, ℤ, pos, List, [], ◌∷◌, Option, get_or, map, FitsSigned, w64, to_z, of_z, sym, ap, ◌∙◌}
 use Rattle.std.proofs.lemmas.List.{nil_from_length}
+use Rattle.std.proofs.lemmas.Result.{err_from_is_err_and}
 use Rattle.edr_base.specs.Calls.{Front}
 use Rattle.covjson_value.specs.Samples.{node}
 use Rattle.edr_table.specs.Gathering.{Gathered}
@@ -29,8 +30,9 @@ returns-in_default-clause-lines g c =
       stopped = tt;
     }
 
-pub returns-in-Err-clause-lines : goal.returns-in-Err-clause-lines
-returns-in-Err-clause-lines g c =
+pub returns-in_err-put_line-clause-lines : goal.returns-in_err-put_line-clause-lines
+returns-in_err-put_line-clause-lines g c =
+    let fault = err_from_is_err_and c.from_residual-in_err-put_line.result c.from_residual-in_err-put_line.ensures.1 in
     let old = g.K.Sink.written c.args.sink.now in
     let mid = g.K.Sink.written c.loop-x.sink in
     let now = g.K.Sink.written c.put_line.new.sink in
@@ -40,15 +42,15 @@ returns-in-Err-clause-lines g c =
     let x : ℤ = get_or c.args.xs.now c.loop-x.x-index (pos 0) in
     let fits : FitsSigned w64 x = search rules in
     let stopped : Front (q ++ (c.loop-x.lines.front.items ++ line_back x c.in-Some.value.now)) mid now =
-    passed (λ (n : ℤ). Front (q ++ (c.loop-x.lines.front.items ++ line_back n c.in-Some.value.now)) mid now) x fits c.in-Err.ensures.line.stopped in
+    passed (λ (n : ℤ). Front (q ++ (c.loop-x.lines.front.items ++ line_back n c.in-Some.value.now)) mid now) x fits c.in_err-put_line.ensures.line.stopped in
     let all : Front (p ++ lines_along c.args.parameter.now (map (node c.args.turn.t c.args.turn.z y) c.args.xs.now) c.args.values.now) old now =
     node_stop c.args.parameter.now (node c.args.turn.t c.args.turn.z y) c.args.xs.now c.loop-x.x-index (pos 0) c.args.values.now c.loop-x.left.now _ old mid now p q c.loop-x-test.true c.loop-x.invariant.left
     (row_line c.args.parameter.now c.args.turn.t c.args.turn.z y x c.in-Some.value.now c.in-Some.rest.now c.loop-x.left.now c.loop-x.lines.front.items c.loop-x.invariant.front c.in-Some.ensures.cases.0)
     c.loop-x.invariant.gathered stopped in
-    record {
+    rw fault.1 (record {
       gathered = tt;
       stopped = passed (λ (n : ℤ). Front (p ++ lines_along c.args.parameter.now (map (node c.args.turn.t c.args.turn.z n) c.args.xs.now) c.args.values.now) old now) c.args.y c.ranges.y all;
-    }
+    })
 
 pub loop-x-preserved : goal.loop-x-preserved
 loop-x-preserved g c =
@@ -60,7 +62,7 @@ loop-x-preserved g c =
     let x : ℤ = get_or c.args.xs.now c.loop-x.x-index (pos 0) in
     let fits : FitsSigned w64 x = search rules in
     let put : Gathered mid now r (q ++ (c.loop-x.lines.front.items ++ line_back x c.in-Some.value.now)) =
-    passed (λ (n : ℤ). Gathered mid now r (q ++ (c.loop-x.lines.front.items ++ line_back n c.in-Some.value.now))) x fits c.in-Ok.ensures.line.gathered in
+    passed (λ (n : ℤ). Gathered mid now r (q ++ (c.loop-x.lines.front.items ++ line_back n c.in-Some.value.now))) x fits c.in_ok-put_line.ensures.line.gathered in
     record {
       left = node_left (node c.args.turn.t c.args.turn.z y) c.args.xs.now c.loop-x.x-index (pos 0) c.args.values.now c.loop-x.left.now c.in-Some.rest.now c.in-Some.value.now c.loop-x-test.true c.loop-x.invariant.left c.in-Some.ensures.cases.0;
       front = search rules;

@@ -1,24 +1,26 @@
 use Rattle.std.proofs.Common.{rules, ◌≡◌, ◌++◌, ℕ, ℤ, pos, List, get_or, drop, length, FitsSigned, w64}
+use Rattle.std.proofs.lemmas.Result.{err_from_is_err_and}
 use Rattle.edr_base.specs.Calls.{Front}
 use Rattle.edr_table.specs.Gathering.{Gathered}
 use Rattle.edr_table.specs.Turns.{lines_along, row_nodes}
 use Rattle.edr_table.proofs.TurnLemmas.{passed, turn_left, turn_put, turn_stop}
 use Rattle.edr_table.proofs.rows.put_rows.Goals as goal
 
-pub returns-in-Err-clause-lines : goal.returns-in-Err-clause-lines
-returns-in-Err-clause-lines g c =
+pub returns-in_err-left-clause-lines : goal.returns-in_err-left-clause-lines
+returns-in_err-left-clause-lines g c =
+    let fault = err_from_is_err_and c.from_residual.result c.from_residual.ensures.1 in
     let mid = g.K.Sink.written c.loop-y.sink in
     let now = g.K.Sink.written c.put_row.new.sink in
     let q : List ℕ = c.loop-y.lines.gathered.items in
     let y : ℤ = get_or c.args.ys.now c.loop-y.y-index (pos 0) in
     let fits : FitsSigned w64 y = search rules in
     let stopped : Front (q ++ lines_along c.args.parameter.now (row_nodes c.args.turn.t c.args.turn.z c.args.xs.now y) c.loop-y.left.now) mid now =
-    passed (λ (n : ℤ). Front (q ++ lines_along c.args.parameter.now (row_nodes c.args.turn.t c.args.turn.z c.args.xs.now n) c.loop-y.left.now) mid now) y fits c.in-Err.ensures.lines.stopped in
-    record {
+    passed (λ (n : ℤ). Front (q ++ lines_along c.args.parameter.now (row_nodes c.args.turn.t c.args.turn.z c.args.xs.now n) c.loop-y.left.now) mid now) y fits c.in_err-left.ensures.lines.stopped in
+    rw fault.1 (record {
       gathered = tt;
       stopped = turn_stop c.args.parameter.now (row_nodes c.args.turn.t c.args.turn.z c.args.xs.now) c.args.ys.now c.loop-y.y-index (pos 0) c.args.values.now c.loop-y.left.now (g.K.Sink.written c.args.sink.now) mid now
           c.args.lines.now.gathered.items q c.loop-y-test.true c.loop-y.invariant.left c.loop-y.invariant.gathered stopped;
-    }
+    })
 
 pub loop-y-preserved : goal.loop-y-preserved
 loop-y-preserved g c =
@@ -29,11 +31,11 @@ loop-y-preserved g c =
     let y : ℤ = get_or c.args.ys.now c.loop-y.y-index (pos 0) in
     let fits : FitsSigned w64 y = search rules in
     let put : Gathered mid now r (q ++ lines_along c.args.parameter.now (row_nodes c.args.turn.t c.args.turn.z c.args.xs.now y) c.loop-y.left.now) =
-    passed (λ (n : ℤ). Gathered mid now r (q ++ lines_along c.args.parameter.now (row_nodes c.args.turn.t c.args.turn.z c.args.xs.now n) c.loop-y.left.now)) y fits c.in-Ok.ensures.lines.gathered in
-    let left : c.in-Ok.rest.now ≡ drop (length (row_nodes c.args.turn.t c.args.turn.z c.args.xs.now y)) c.loop-y.left.now =
-    passed (λ (n : ℤ). c.in-Ok.rest.now ≡ drop (length (row_nodes c.args.turn.t c.args.turn.z c.args.xs.now n)) c.loop-y.left.now) y fits c.in-Ok.ensures.left in
+    passed (λ (n : ℤ). Gathered mid now r (q ++ lines_along c.args.parameter.now (row_nodes c.args.turn.t c.args.turn.z c.args.xs.now n) c.loop-y.left.now)) y fits c.in_ok-left.ensures.lines.gathered in
+    let left : c.in_ok-left.left.now ≡ drop (length (row_nodes c.args.turn.t c.args.turn.z c.args.xs.now y)) c.loop-y.left.now =
+    passed (λ (n : ℤ). c.in_ok-left.left.now ≡ drop (length (row_nodes c.args.turn.t c.args.turn.z c.args.xs.now n)) c.loop-y.left.now) y fits c.in_ok-left.ensures.left in
     record {
-      left = turn_left (row_nodes c.args.turn.t c.args.turn.z c.args.xs.now) c.args.ys.now c.loop-y.y-index (pos 0) c.args.values.now c.loop-y.left.now c.in-Ok.rest.now c.loop-y-test.true c.loop-y.invariant.left left;
+      left = turn_left (row_nodes c.args.turn.t c.args.turn.z c.args.xs.now) c.args.ys.now c.loop-y.y-index (pos 0) c.args.values.now c.loop-y.left.now c.in_ok-left.left.now c.loop-y-test.true c.loop-y.invariant.left left;
       gathered = turn_put c.args.parameter.now (row_nodes c.args.turn.t c.args.turn.z c.args.xs.now) c.args.ys.now c.loop-y.y-index (pos 0) c.args.values.now c.loop-y.left.now (g.K.Sink.written c.args.sink.now) mid now
           c.args.lines.now.gathered.items q r c.loop-y-test.true c.loop-y.invariant.left c.loop-y.invariant.gathered put;
       flushed = search rules;

@@ -1,5 +1,6 @@
 use Rattle.std.proofs.Common.{rules, ◌∷◌, [], get_or, pos, sym, ap}
 use Rattle.std.proofs.lemmas.List.{nil_from_length}
+use Rattle.std.proofs.lemmas.Result.{err_from_is_err_and}
 use Rattle.edr_base.specs.declared.places.Position.{Position}
 use Rattle.covjson_value.specs.Domains.{coordinates_of}
 use Rattle.covjson_value.specs.Samples.{Node, tuple_node}
@@ -15,16 +16,17 @@ returns-in_default-clause-lines g c = record {
   stopped = tt;
 }
 
-pub returns-in-Err-clause-lines : goal.returns-in-Err-clause-lines
-returns-in-Err-clause-lines g c =
+pub returns-in_err-put_tuple-clause-lines : goal.returns-in_err-put_tuple-clause-lines
+returns-in_err-put_tuple-clause-lines g c =
+    let fault = err_from_is_err_and c.from_residual.result c.from_residual.ensures.1 in
     let f : Position → Node = tuple_node (coordinates_of c.args.domain.now) c.args.turn.t c.args.turn.z in
     let none : Position = record { x = pos 0; y = pos 0; z = pos 0; m = pos 0 } in
-    record {
+    rw fault.1 (record {
       gathered = tt;
       stopped = node_stop c.args.parameter.now f c.args.tuples.now c.loop-tuple.tuple-index none c.args.values.now c.loop-tuple.left.now _ (g.K.Sink.written c.args.sink.now) (g.K.Sink.written c.loop-tuple.sink)
           (g.K.Sink.written c.put_tuple.new.sink) c.args.lines.now.gathered.items c.loop-tuple.lines.gathered.items c.loop-tuple-test.true c.loop-tuple.invariant.left
-          (ap (lines_along c.args.parameter.now (f (get_or c.args.tuples.now c.loop-tuple.tuple-index none) ∷ [])) (sym c.in-Some.ensures.cases.0)) c.loop-tuple.invariant.gathered c.in-Err.ensures.line.stopped;
-    }
+          (ap (lines_along c.args.parameter.now (f (get_or c.args.tuples.now c.loop-tuple.tuple-index none) ∷ [])) (sym c.in-Some.ensures.cases.0)) c.loop-tuple.invariant.gathered c.in_err-put_tuple.ensures.line.stopped;
+    })
 
 pub loop-tuple-preserved : goal.loop-tuple-preserved
 loop-tuple-preserved g c =
@@ -35,7 +37,7 @@ loop-tuple-preserved g c =
           c.in-Some.ensures.cases.0;
       gathered = node_put c.args.parameter.now f c.args.tuples.now c.loop-tuple.tuple-index none c.args.values.now c.loop-tuple.left.now _ (g.K.Sink.written c.args.sink.now) (g.K.Sink.written c.loop-tuple.sink)
           (g.K.Sink.written c.put_tuple.new.sink) c.args.lines.now.gathered.items c.loop-tuple.lines.gathered.items c.put_tuple.new.lines.gathered.items c.loop-tuple-test.true c.loop-tuple.invariant.left
-          (ap (lines_along c.args.parameter.now (f (get_or c.args.tuples.now c.loop-tuple.tuple-index none) ∷ [])) (sym c.in-Some.ensures.cases.0)) c.loop-tuple.invariant.gathered c.in-Ok.ensures.line.gathered;
+          (ap (lines_along c.args.parameter.now (f (get_or c.args.tuples.now c.loop-tuple.tuple-index none) ∷ [])) (sym c.in-Some.ensures.cases.0)) c.loop-tuple.invariant.gathered c.in_ok-put_tuple.ensures.line.gathered;
       flushed = search rules;
       lent = search rules;
     }

@@ -1,4 +1,5 @@
 use Rattle.std.proofs.Common.{rules, ◌++◌, ℕ, ℤ, List, Option, get_or, subst, sym}
+use Rattle.std.proofs.lemmas.Result.{err_from_is_err_and}
 use Rattle.edr_base.specs.Calls.{Front}
 use Rattle.covjson_value.specs.declared.coverages.Parameter.{Parameter}
 use Rattle.covjson_value.specs.declared.coverages.NdArray.{NdArray}
@@ -9,8 +10,9 @@ use Rattle.edr_table.proofs.GatherLemmas.{gathered_on, gathered_stop}
 use Rattle.edr_table.proofs.LineLemmas.{parameters_more, parameters_all}
 use Rattle.edr_table.proofs.tables.put_parameters.Goals as goal
 
-pub returns-in-Err-clause-lines : goal.returns-in-Err-clause-lines
-returns-in-Err-clause-lines g c =
+pub returns-in_err-put_parameter-clause-lines : goal.returns-in_err-put_parameter-clause-lines
+returns-in_err-put_parameter-clause-lines g c =
+    let fault = err_from_is_err_and c.from_residual.result c.from_residual.ensures.1 in
     let old = g.K.Sink.written c.args.sink.now in
     let mid = g.K.Sink.written c.loop-place.sink in
     let now = g.K.Sink.written c.put_parameter.new.sink in
@@ -21,13 +23,13 @@ returns-in-Err-clause-lines g c =
     let range : NdArray = get_or c.args.ranges.now c.loop-place.place c.index-ranges-place.result in
     let stopped : Front (q ++ lines_along parameter.id nodes range.values) mid now =
     subst (λ (id : List ℕ). Front (q ++ lines_along id nodes range.values) mid now) c.bytes-id.ensures
-    (subst (λ (values : List (Option ℤ)). Front (q ++ lines_along c.bytes-id.result.now nodes values) mid now) c.items.ensures c.in-Err.ensures.lines.stopped) in
-    record {
+    (subst (λ (values : List (Option ℤ)). Front (q ++ lines_along c.bytes-id.result.now nodes values) mid now) c.items.ensures c.in_err-put_parameter.ensures.lines.stopped) in
+    rw fault.1 (record {
       gathered = tt;
       stopped = subst (λ (t : List ℕ). Front (p ++ t) old now)
           (sym (parameters_all nodes c.args.parameters.now c.args.ranges.now c.loop-place.place c.index-parameters-place.result c.index-ranges-place.result c.loop-place-test.true c.requires.as_many))
           (gathered_stop old mid now p q _ _ _ c.loop-place.invariant.gathered stopped);
-    }
+    })
 
 pub loop-place-preserved : goal.loop-place-preserved
 loop-place-preserved g c =
@@ -42,7 +44,7 @@ loop-place-preserved g c =
     let range : NdArray = get_or c.args.ranges.now c.loop-place.place c.index-ranges-place.result in
     let put : Gathered mid now r (q ++ lines_along parameter.id nodes range.values) =
     subst (λ (id : List ℕ). Gathered mid now r (q ++ lines_along id nodes range.values)) c.bytes-id.ensures
-    (subst (λ (values : List (Option ℤ)). Gathered mid now r (q ++ lines_along c.bytes-id.result.now nodes values)) c.items.ensures c.in-Ok.ensures.lines.gathered) in
+    (subst (λ (values : List (Option ℤ)). Gathered mid now r (q ++ lines_along c.bytes-id.result.now nodes values)) c.items.ensures c.in_ok-put_parameter.ensures.lines.gathered) in
     record {
       gathered = subst (λ (t : List ℕ). Gathered old now r (p ++ t))
           (sym (parameters_more nodes c.args.parameters.now c.args.ranges.now c.loop-place.place c.index-parameters-place.result c.index-ranges-place.result c.loop-place-test.true c.requires.as_many))

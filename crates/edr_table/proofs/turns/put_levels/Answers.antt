@@ -1,4 +1,5 @@
 use Rattle.std.proofs.Common.{rules, ◌≡◌, ◌<◌, ◌++◌, ℕ, ℤ, List, Option, None, get_or, drop, length, arith}
+use Rattle.std.proofs.lemmas.Result.{err_from_is_err_and}
 use Rattle.edr_base.specs.Calls.{Front}
 use Rattle.covjson_value.specs.declared.domains.CoordinateName.TheVariants.{Z}
 use Rattle.covjson_value.specs.Domains.{axis_of}
@@ -8,8 +9,9 @@ use Rattle.edr_table.specs.Turns.{lines_along, turn_nodes}
 use Rattle.edr_table.proofs.TurnLemmas.{turn_left, turn_put, turn_stop}
 use Rattle.edr_table.proofs.turns.put_levels.Goals as goal
 
-pub returns-in-Err-clause-lines : goal.returns-in-Err-clause-lines
-returns-in-Err-clause-lines g c =
+pub returns-in_err-left-clause-lines : goal.returns-in_err-left-clause-lines
+returns-in_err-left-clause-lines g c =
+    let fault = err_from_is_err_and c.from_residual.result c.from_residual.ensures.1 in
     let old = g.K.Sink.written c.args.sink.now in
     let mid = g.K.Sink.written c.loop-place.sink in
     let now = g.K.Sink.written c.put_turn.new.sink in
@@ -17,12 +19,12 @@ returns-in-Err-clause-lines g c =
     let q : List ℕ = c.loop-place.lines.gathered.items in
     let inside : c.loop-place.place < length zs = omega (arith, c.turns-place-end.ensures) in
     let stopped : Front (q ++ lines_along c.args.parameter.now (turn_nodes c.args.domain.now c.args.t (get_or zs c.loop-place.place None)) c.loop-place.left.now) mid now =
-    rw c.turn_value-z.ensures at c.in-Err.ensures.lines.stopped in
-    record {
+    rw c.turn_value-z.ensures at c.in_err-left.ensures.lines.stopped in
+    rw fault.1 (record {
       gathered = tt;
       stopped = turn_stop c.args.parameter.now (turn_nodes c.args.domain.now c.args.t) zs c.loop-place.place None c.args.values.now c.loop-place.left.now old mid now c.args.lines.now.gathered.items q inside
           c.loop-place.invariant.left c.loop-place.invariant.gathered stopped;
-    }
+    })
 
 pub loop-place-preserved : goal.loop-place-preserved
 loop-place-preserved g c =
@@ -34,11 +36,11 @@ loop-place-preserved g c =
     let r : List ℕ = c.put_turn.new.lines.gathered.items in
     let inside : c.loop-place.place < length zs = omega (arith, c.turns-place-end.ensures) in
     let put : Gathered mid now r (q ++ lines_along c.args.parameter.now (turn_nodes c.args.domain.now c.args.t (get_or zs c.loop-place.place None)) c.loop-place.left.now) =
-    rw c.turn_value-z.ensures at c.in-Ok.ensures.lines.gathered in
-    let left : c.in-Ok.rest.now ≡ drop (length (turn_nodes c.args.domain.now c.args.t (get_or zs c.loop-place.place None))) c.loop-place.left.now =
-    rw c.turn_value-z.ensures at c.in-Ok.ensures.left in
+    rw c.turn_value-z.ensures at c.in_ok-left.ensures.lines.gathered in
+    let left : c.in_ok-left.left.now ≡ drop (length (turn_nodes c.args.domain.now c.args.t (get_or zs c.loop-place.place None))) c.loop-place.left.now =
+    rw c.turn_value-z.ensures at c.in_ok-left.ensures.left in
     record {
-      left = turn_left (turn_nodes c.args.domain.now c.args.t) zs c.loop-place.place None c.args.values.now c.loop-place.left.now c.in-Ok.rest.now inside c.loop-place.invariant.left left;
+      left = turn_left (turn_nodes c.args.domain.now c.args.t) zs c.loop-place.place None c.args.values.now c.loop-place.left.now c.in_ok-left.left.now inside c.loop-place.invariant.left left;
       gathered = turn_put c.args.parameter.now (turn_nodes c.args.domain.now c.args.t) zs c.loop-place.place None c.args.values.now c.loop-place.left.now old mid now c.args.lines.now.gathered.items q r inside
           c.loop-place.invariant.left c.loop-place.invariant.gathered put;
       flushed = search rules;

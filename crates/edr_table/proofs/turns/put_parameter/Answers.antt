@@ -1,6 +1,7 @@
 use Rattle.std.proofs.Common.{rules, ◌≡◌, ◌<◌, ◌++◌, ℕ, ℤ, List, Option, None, get_or, take, drop, length, subst, arith, sym, ap, ◌∙◌}
 use Rattle.std.specs.List.{flat_map}
 use Rattle.std.proofs.lemmas.List.{take_all}
+use Rattle.std.proofs.lemmas.Result.{err_from_is_err_and}
 use Rattle.edr_base.specs.Calls.{Front}
 use Rattle.covjson_value.specs.declared.domains.CoordinateName.TheVariants.{T}
 use Rattle.covjson_value.specs.Domains.{axis_of}
@@ -15,8 +16,9 @@ pub put_levels-requires-clause-time : goal.put_levels-requires-clause-time
 put_levels-requires-clause-time g c =
     rw (c.turn_value-t.ensures) (turn_time (axis_of c.args.domain.now T) c.loop-place.place (c.requires.axes T) (omega (arith, c.turns-place-end.ensures)))
 
-pub returns-in-Err-clause-lines : goal.returns-in-Err-clause-lines
-returns-in-Err-clause-lines g c =
+pub returns-in_err-left-clause-lines : goal.returns-in_err-left-clause-lines
+returns-in_err-left-clause-lines g c =
+    let fault = err_from_is_err_and c.from_residual.result c.from_residual.ensures.1 in
     let old = g.K.Sink.written c.args.sink.now in
     let mid = g.K.Sink.written c.loop-place.sink in
     let now = g.K.Sink.written c.put_levels.new.sink in
@@ -24,13 +26,13 @@ returns-in-Err-clause-lines g c =
     let q : List ℕ = c.loop-place.lines.gathered.items in
     let inside : c.loop-place.place < length ts = omega (arith, c.turns-place-end.ensures) in
     let stopped : Front (q ++ lines_along c.args.parameter.now (level_nodes c.args.domain.now (get_or ts c.loop-place.place None)) c.loop-place.left.now) mid now =
-    rw c.turn_value-t.ensures at c.in-Err.ensures.lines.stopped in
-    record {
+    rw c.turn_value-t.ensures at c.in_err-left.ensures.lines.stopped in
+    rw fault.1 (record {
       gathered = tt;
       stopped = subst (λ (ns : List Node). Front (c.args.lines.now.gathered.items ++ lines_along c.args.parameter.now ns c.args.values.now) old now) (sym (nodes_are_levels c.args.domain.now))
           (turn_stop c.args.parameter.now (level_nodes c.args.domain.now) ts c.loop-place.place None c.args.values.now c.loop-place.left.now old mid now c.args.lines.now.gathered.items q inside
           c.loop-place.invariant.left c.loop-place.invariant.gathered stopped);
-    }
+    })
 
 pub loop-place-preserved : goal.loop-place-preserved
 loop-place-preserved g c =
@@ -42,11 +44,11 @@ loop-place-preserved g c =
     let r : List ℕ = c.put_levels.new.lines.gathered.items in
     let inside : c.loop-place.place < length ts = omega (arith, c.turns-place-end.ensures) in
     let put : Gathered mid now r (q ++ lines_along c.args.parameter.now (level_nodes c.args.domain.now (get_or ts c.loop-place.place None)) c.loop-place.left.now) =
-    rw c.turn_value-t.ensures at c.in-Ok.ensures.lines.gathered in
-    let left : c.in-Ok.rest.now ≡ drop (length (level_nodes c.args.domain.now (get_or ts c.loop-place.place None))) c.loop-place.left.now =
-    rw c.turn_value-t.ensures at c.in-Ok.ensures.left in
+    rw c.turn_value-t.ensures at c.in_ok-left.ensures.lines.gathered in
+    let left : c.in_ok-left.left.now ≡ drop (length (level_nodes c.args.domain.now (get_or ts c.loop-place.place None))) c.loop-place.left.now =
+    rw c.turn_value-t.ensures at c.in_ok-left.ensures.left in
     record {
-      left = turn_left (level_nodes c.args.domain.now) ts c.loop-place.place None c.args.values.now c.loop-place.left.now c.in-Ok.rest.now inside c.loop-place.invariant.left left;
+      left = turn_left (level_nodes c.args.domain.now) ts c.loop-place.place None c.args.values.now c.loop-place.left.now c.in_ok-left.left.now inside c.loop-place.invariant.left left;
       gathered = turn_put c.args.parameter.now (level_nodes c.args.domain.now) ts c.loop-place.place None c.args.values.now c.loop-place.left.now old mid now c.args.lines.now.gathered.items q r inside
           c.loop-place.invariant.left c.loop-place.invariant.gathered put;
       flushed = search rules;

@@ -1,5 +1,6 @@
 use Rattle.std.proofs.Common.{◌≡◌, Option, Some, IfSome, ℤ, subst}
-use Rattle.edr_geometry.specs.Limits.{IsCoordinate, IsDistance}
+use Rattle.edr_base.specs.Limits.{IsCoordinate}
+use Rattle.edr_geometry.specs.Limits.{IsDistance}
 use Rattle.edr_corridor.proofs.Halves.{about_back, levels_about_z, levels_about_level}
 use Rattle.edr_corridor.proofs.segment.Segment.levels.Goals as goal
 

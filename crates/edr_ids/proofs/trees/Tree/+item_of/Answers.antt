@@ -1,6 +1,7 @@
 use Rattle.std.proofs.Common.{◌≡◌, Less, Equal, Greater, Some, ap, sym, ◌∙◌, arith}
 use Rattle.std.specs.Arc.{arc_value}
-use Rattle.edr_ids.specs.Ids.{order, item_of}
+use Rattle.edr_base.specs.Names.{order}
+use Rattle.edr_ids.specs.Ids.{item_of}
 use Rattle.edr_ids.proofs.Branches.{at_branch}
 use Rattle.edr_ids.proofs.PartedLists.{item_of-less, item_of-equal, item_of-greater}
 use Rattle.edr_ids.proofs.trees.Tree.+item_of.Goals as goal

@@ -1,6 +1,7 @@
 use Rattle.std.proofs.Common.{◌≡◌, Less, Equal, Greater, refl, ap, sym, ◌∙◌, arith}
 use Rattle.std.specs.Arc.{arc_value}
-use Rattle.edr_ids.specs.Ids.{order, with_item}
+use Rattle.edr_base.specs.Names.{order}
+use Rattle.edr_ids.specs.Ids.{with_item}
 use Rattle.edr_ids.proofs.Branches.{at_branch, joined_is}
 use Rattle.edr_ids.proofs.PartedLists.{with_item-less, with_item-equal, with_item-greater}
 use Rattle.edr_ids.proofs.trees.Tree.+with.Goals as goal

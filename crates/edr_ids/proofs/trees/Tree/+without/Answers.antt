@@ -1,6 +1,7 @@
 use Rattle.std.proofs.Common.{◌≡◌, ◌++◌, Less, Equal, Greater, ap, sym, ◌∙◌, arith}
 use Rattle.std.specs.Arc.{arc_value}
-use Rattle.edr_ids.specs.Ids.{order, without_id}
+use Rattle.edr_base.specs.Names.{order}
+use Rattle.edr_ids.specs.Ids.{without_id}
 use Rattle.edr_ids.proofs.Branches.{at_branch, joined_is, followed_is}
 use Rattle.edr_ids.proofs.PartedLists.{without_id-less, without_id-equal, without_id-greater}
 use Rattle.edr_ids.proofs.trees.Tree.+without.Goals as goal

@@ -1,7 +1,7 @@
 use Rattle.std.proofs.Common.{arith, ◌+◌}
 use Rattle.std.proofs.lemmas.Str.Parse.{digits_value-take-le}
-use Rattle.edr_program.proofs.NumberLemmas.{digit_more}
-use Rattle.edr_program.proofs.numbers.value_of.Goals as goal
+use Rattle.edr_base.proofs.DigitLemmas.{digit_more}
+use Rattle.edr_base.proofs.digits.value_of_digits.Goals as goal
 
 pub overflow_sub-next : goal.overflow_sub-next
 overflow_sub-next c = (digit_more c.args.digits.now c.loop-digit.digit-index c.requires c.loop-digit-test.true).0
