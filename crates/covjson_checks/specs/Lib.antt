@@ -2,6 +2,7 @@ pub mod Answers
 pub mod Members
 pub mod Turns
 pub mod CheckLaws
+pub mod AxisNameLaws
 pub mod RowLaws
 pub mod Places
 pub mod PlaceLaws

@@ -10,44 +10,25 @@ use Rattle.serde_json.specs.Data.{Data, Members, no_members, member}
 use Rattle.serde_json.specs.Find.{get_member}
 use Rattle.edr_json.specs.Trees.{names_of}
 use Rattle.covjson_value.specs.declared.axis_names.AxisName.{AxisName}
-use Rattle.covjson_value.specs.declared.axis_names.AxisName.TheVariants.{T, Z, Y, X, Composite}
-use Rattle.covjson_value.specs.AxisNames.{axis_key}
-use Rattle.covjson_checks.specs.CheckLaws.{named_one}
+use Rattle.covjson_value.specs.AxisNames.{axis_key, axis_by_name}
+use Rattle.covjson_checks.specs.AxisNameLaws.{key_is, named_axis, one_name}
 use Rattle.covjson_domains.specs.declared.domain_types.DomainType.{DomainType}
 use Rattle.covjson_domains.specs.DomainTypes.{presence, IsAllowed, IsAxisOf}
 use Rattle.covjson_domains.specs.Domains.{IsAxisKey}
-use Rattle.covjson_domains.specs.TypeAnswers.{axis_named, is_allowed, is_axis_of, may_have, has_no_others}
+use Rattle.covjson_domains.specs.TypeAnswers.{is_allowed, is_axis_of, may_have, has_no_others}
 use Rattle.covjson_domains.proofs.DomainTypes.{allowed_decides}
 
 -- ---- names of axes
 
--- an axis is named by its text alone
-axis_is_named : (key : List ℕ) (name : AxisName) → axis_named key ≡ Some name → key ≡ axis_key name
-axis_is_named key name h =
-    named_one axis_key key T name _ (named_one axis_key key Z name _ (named_one axis_key key Y name _ (named_one axis_key key X name _
-    (named_one axis_key key Composite name None (λ none. cc))))) h
-
--- and the text names it
-named_axis : (name : AxisName) → axis_named (axis_key name) ≡ Some name
-named_axis T = refl
-named_axis Z = refl
-named_axis Y = refl
-named_axis X = refl
-named_axis Composite = refl
-
--- axes of one name are one
-one_name : (name other : AxisName) → axis_key name ≡ axis_key other → name ≡ other
-one_name name other h = let e : ◌≡◌ {A = Option AxisName} (Some name) (Some other) = sym (named_axis name) ∙ ap axis_named h ∙ named_axis other in cc
-
 -- what is found is the name of an axis that the type may have
-found_axis : (kind : DomainType) (key : List ℕ) (o : Option AxisName) → axis_named key ≡ o → is_axis_of kind o ≡ true → IsAxisOf kind key
+found_axis : (kind : DomainType) (key : List ℕ) (o : Option AxisName) → axis_by_name key ≡ o → is_axis_of kind o ≡ true → IsAxisOf kind key
 found_axis kind key None is h = cc
-found_axis kind key (Some name) is h = (name, axis_is_named key name is, (allowed_decides (presence kind name)).0 h)
+found_axis kind key (Some name) is h = (name, key_is key name is, (allowed_decides (presence kind name)).0 h)
 
 -- a name is tested to be that of an axis of the type
 pub may_have_decides : (kind : DomainType) (key : List ℕ) → Decides (may_have kind key) (IsAxisOf kind key)
 may_have_decides kind key = (
-  found_axis kind key (axis_named key) refl,
+  found_axis kind key (axis_by_name key) refl,
   λ h. ap (may_have kind) h.1 ∙ ap (is_axis_of kind) (named_axis h.0) ∙ (allowed_decides (presence kind h.0)).1 h.2,
 )
 

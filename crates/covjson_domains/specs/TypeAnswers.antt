@@ -3,7 +3,7 @@ use Rattle.std.specs.Prelude.{ℕ, List, bytes_eq, codes, Bool, true, false, not
 use Rattle.serde_json.specs.Data.{Members, no_members, member}
 use Rattle.edr_base.specs.FirstThatApplies.{check}
 use Rattle.covjson_value.specs.declared.axis_names.AxisName.{AxisName}
-use Rattle.covjson_value.specs.declared.axis_names.AxisName.TheVariants.{T, Z, Y, X, Composite}
+use Rattle.covjson_value.specs.AxisNames.{axis_by_name}
 use Rattle.covjson_checks.specs.declared.faults.Member.{Member}
 use Rattle.covjson_checks.specs.declared.faults.CovFault.TheVariants.{Missing}
 use Rattle.covjson_checks.specs.Answers.{Answer}
@@ -22,16 +22,6 @@ type_named name =
     else if bytes_eq name (codes "VerticalProfile") then Some VerticalProfile
     else if bytes_eq name (codes "MultiPoint") then Some MultiPoint
     else if bytes_eq name (codes "Trajectory") then Some Trajectory
-    else None
-
--- the axis of a name
-abbrev pub axis_named : List ℕ → Option AxisName
-axis_named name =
-    if bytes_eq name (codes "t") then Some T
-    else if bytes_eq name (codes "z") then Some Z
-    else if bytes_eq name (codes "y") then Some Y
-    else if bytes_eq name (codes "x") then Some X
-    else if bytes_eq name (codes "composite") then Some Composite
     else None
 
 -- the axis may be there
@@ -69,7 +59,7 @@ is_axis_of kind (Some name) = is_allowed (presence kind name)
 
 -- so is the axis of a name
 abbrev pub may_have : DomainType → List ℕ → Bool
-may_have kind name = is_axis_of kind (axis_named name)
+may_have kind name = is_axis_of kind (axis_by_name name)
 
 -- each member has the name of an axis that the type may have
 abbrev pub has_no_others : DomainType → Members → Bool

@@ -5,7 +5,7 @@ ghost use Rattle.covjson_domains.specs.DomainTypes.{axis_name, presence};
 ghost use Rattle.covjson_domains.specs.TypeAnswers as types;
 
 use covjson_checks::{CovFault, Member};
-use covjson_value::{AxisName, CoordinateName};
+use covjson_value::{AxisName, CoordinateName, axis_by_name};
 use serde_json::{Map, Value};
 
 /// The type of a domain (OGC 21-069r2, Domain types).
@@ -150,29 +150,11 @@ fn is_allowed(presence: Presence) -> bool
     }
 }
 
-fn axis_named(key: &str) -> Option<AxisName>
-    ensures { result ≡ types.axis_named key.now }
-{
-    if key == "t" {
-        Some(AxisName::T)
-    } else if key == "z" {
-        Some(AxisName::Z)
-    } else if key == "y" {
-        Some(AxisName::Y)
-    } else if key == "x" {
-        Some(AxisName::X)
-    } else if key == "composite" {
-        Some(AxisName::Composite)
-    } else {
-        None
-    }
-}
-
 // Whether a domain of a type may have an axis of that name.
 fn may_have(kind: DomainType, key: &str) -> bool
     ensures { result ≡ types.may_have kind key.now }
 {
-    match axis_named(key) {
+    match axis_by_name(key) {
         Some(name) => is_allowed(presence_of(kind, name)),
         None => false,
     }

@@ -1,5 +1,5 @@
 -- The axes of a range: what was checked of them, and what stands.
-use Rattle.std.proofs.Common.{◌≡◌, inl, inr, ℕ, suc, ◌<◌, ◌≤◌, true, not, nat_le, List, [], ◌∷◌, length, All, option_and_then, Some, None, Ok, refl, ap, arith}
+use Rattle.std.proofs.Common.{◌≡◌, inl, inr, suc, ◌<◌, ◌≤◌, true, not, nat_le, List, [], ◌∷◌, length, All, option_and_then, Some, Ok, refl, ap, arith}
 use Rattle.std.proofs.lemmas.Bool.{and_parts, and_from, or_right, or_left, not-true, not_from_false, leb-true, le-leb, cases_lt, or_cases}
 use Rattle.std.proofs.lemmas.List.Elements.{All-cons, All-nil, All-head, All-tail}
 use Rattle.serde_json.specs.Data.{Data, null, boolean, number, string, array, object, Items, no_items, item}
@@ -8,10 +8,10 @@ use Rattle.covjson_value.specs.declared.domains.Domain.{Domain}
 use Rattle.covjson_value.specs.declared.axis_names.AxisName.{AxisName}
 use Rattle.covjson_value.specs.declared.axis_names.AxisName.TheVariants.{T, Z, Y, X, Composite}
 use Rattle.edr_json.specs.Trees.{EachStands, count_items}
-use Rattle.covjson_value.specs.AxisNames.{axis_key}
-use Rattle.covjson_checks.specs.CheckLaws.{named_one}
+use Rattle.covjson_value.specs.AxisNames.{axis_by_name}
+use Rattle.covjson_checks.specs.AxisNameLaws.{key_is}
 use Rattle.covjson_ranges.specs.Ranges.{StandsForName, length_of, has_range_axis, is_named, AreDistinct, AreRangeAxes, IsOnePlace}
-use Rattle.covjson_ranges.specs.RangeAnswers.{axis_by_name, axis_named, are_distinct, are_owned, is_kept, are_range_axes, is_one_place}
+use Rattle.covjson_ranges.specs.RangeAnswers.{axis_named, are_distinct, are_owned, is_kept, are_range_axes, is_one_place}
 use Rattle.edr_json.specs.AnswerLaws.{or_fault_ok}
 use Rattle.covjson_ranges.proofs.PlaceNumbers.{each_axis}
 
@@ -23,11 +23,6 @@ stands_count R (item d ds) [] h = absurd h
 stands_count R (item d ds) (v ∷ vs) h = ap suc (stands_count R ds vs h.1)
 
 -- ---- the names of axes
-
--- an axis is found by its name alone
-key_is : (text : List ℕ) (name : AxisName) → axis_by_name text ≡ Some name → text ≡ axis_key name
-key_is text name h =
-    named_one axis_key text T name _ (named_one axis_key text Z name _ (named_one axis_key text Y name _ (named_one axis_key text X name _ (named_one axis_key text Composite name None (λ none. cc))))) h
 
 -- a datum that is found to be a name is the text of that name
 name_is : (d : Data) (name : AxisName) → option_and_then axis_by_name (as_str d) ≡ Some name → StandsForName d name

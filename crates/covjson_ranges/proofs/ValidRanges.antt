@@ -1,12 +1,11 @@
 -- A range for which a tree stands is one over the domain.
 use Rattle.std.specs.Prelude.{IfSome}
-use Rattle.std.proofs.Common.{◌≡◌, inl, inr, ℕ, ◌<◌, ℤ, List, length, get_or, Option, Some, None, sym, ap, ◌∙◌, subst, arith}
+use Rattle.std.proofs.Common.{◌≡◌, inl, inr, ℕ, ◌<◌, ℤ, List, length, get_or, Option, None, sym, ap, ◌∙◌, subst, arith}
 use Rattle.std.proofs.lemmas.Bool.{cases_lt}
 use Rattle.std.proofs.lemmas.List.{get_or_default, get_or_past}
-use Rattle.covjson_value.specs.declared.domains.Domain.{Domain}
 use Rattle.covjson_value.specs.Domains.{count_of}
 use Rattle.edr_base.specs.Limits.{IsSample}
-use Rattle.covjson_ranges.specs.Ranges.{number_of, tree_number, AreSamples, AreInOrder}
+use Rattle.covjson_ranges.specs.Ranges.{tree_number, AreSamples}
 use Rattle.covjson_ranges.specs.Orders.{places_at}
 use Rattle.covjson_ranges.specs.Laws.{RangesAreValid}
 use Rattle.covjson_ranges.proofs.PlaceLemmas.{places_at_inside, places_at_number}

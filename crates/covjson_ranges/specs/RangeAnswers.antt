@@ -1,5 +1,5 @@
 -- The range of a tree: its values, or the first check that fails.
-use Rattle.std.specs.Prelude.{ℕ, ◌==◌, nat_le, ℤ, List, [], ◌∷◌, length, map, bytes_eq, codes, Bool, true, not, ◌||◌, ◌&&◌, if◌then◌else◌, ⊤, Option, Some, None, option_and_then, Ok}
+use Rattle.std.specs.Prelude.{ℕ, ◌==◌, nat_le, ℤ, List, [], ◌∷◌, length, map, bytes_eq, codes, Bool, true, not, ◌||◌, ◌&&◌, ⊤, Option, Some, None, option_and_then, Ok}
 use Rattle.serde_json.specs.Data.{Data, Items, no_items, item}
 use Rattle.serde_json.specs.Find.{get, as_str}
 use Rattle.covjson_value.specs.declared.domains.Domain.{Domain}
@@ -16,20 +16,11 @@ use Rattle.covjson_checks.specs.Answers.{Answer, each}
 use Rattle.edr_base.specs.FirstThatApplies.{and_then, or_fault, check}
 use Rattle.covjson_checks.specs.Members.{need, object_at, list_at, whole_or_null, need_each}
 use Rattle.edr_json.specs.Trees.{text_or_empty, natural_of, count_items}
-use Rattle.covjson_value.specs.AxisNames.{axis_key}
+use Rattle.covjson_value.specs.AxisNames.{axis_by_name}
 use Rattle.covjson_ranges.specs.Ranges.{length_of, has_range_axis, is_named}
 use Rattle.covjson_ranges.specs.Orders.{ordered}
 
 -- ---- the axes of a range
-
-abbrev pub axis_by_name : List ℕ → Option AxisName
-axis_by_name text =
-    if bytes_eq text (axis_key T) then Some T
-    else if bytes_eq text (axis_key Z) then Some Z
-    else if bytes_eq text (axis_key Y) then Some Y
-    else if bytes_eq text (axis_key X) then Some X
-    else if bytes_eq text (axis_key Composite) then Some Composite
-    else None
 
 -- the axis that an item names, or WrongType
 abbrev pub axis_named : Data → Answer AxisName

@@ -17,9 +17,9 @@ use covjson_checks::{
     CovFault, Member, ReadDomain, Wanted, list_at, need, need_form, need_wholes, object_at,
     unsupported_range, wholes_or_nulls,
 };
-use covjson_value::{AxisName, Domain, NdArray};
+use covjson_value::{AxisName, Domain, NdArray, axis_by_name};
 use edr_base::{Items, SAMPLE_LIMIT};
-use edr_json::{is_text, text_or_empty};
+use edr_json::text_or_empty;
 use serde_json::Value;
 use std::alloc::Global;
 
@@ -51,18 +51,12 @@ fn need_integers(alloc: Global, tree: &Value) -> Result<(), CovFault>
 fn axis_named(item: &Value) -> Result<AxisName, CovFault>
     ensures { result ≡ ranges.axis_named (view item.now) }
 {
-    if is_text(item, "t") {
-        Ok(AxisName::T)
-    } else if is_text(item, "z") {
-        Ok(AxisName::Z)
-    } else if is_text(item, "y") {
-        Ok(AxisName::Y)
-    } else if is_text(item, "x") {
-        Ok(AxisName::X)
-    } else if is_text(item, "composite") {
-        Ok(AxisName::Composite)
-    } else {
-        Err(CovFault::WrongType(Member::AxisNames))
+    let Some(text) = item.as_str() else {
+        return Err(CovFault::WrongType(Member::AxisNames))
+    };
+    match axis_by_name(text) {
+        Some(name) => Ok(name),
+        None => Err(CovFault::WrongType(Member::AxisNames)),
     }
 }
 

@@ -69,15 +69,18 @@ pub record StandsAmong (tree : Data) (parameter : Parameter) : Type 0 where
   pub named : get parameter.id tree ≡ Some d
   pub stands : StandsForParameter d parameter
 
+-- each member is an object by a name
+abbrev pub EachIsNamedObject : Members → Type 0
+EachIsNamedObject no_members = ⊤
+EachIsNamedObject (member name d members) = IsName name × ((inside : Members) × (d ≡ object inside)) × EachIsNamedObject members
+
+-- ---- for private clauses
+
 -- the names of an object's members are names
 abbrev pub EachHasName : Members → Type 0
 EachHasName no_members = ⊤
 EachHasName (member name d members) = IsName name × EachHasName members
 
+-- an object whose members have such names
 abbrev pub HaveNames : Data → Type 0
 HaveNames d = (members : Members) × (d ≡ object members) × EachHasName members
-
--- each member is an object by a name
-abbrev pub EachIsNamedObject : Members → Type 0
-EachIsNamedObject no_members = ⊤
-EachIsNamedObject (member name d members) = IsName name × ((inside : Members) × (d ≡ object inside)) × EachIsNamedObject members

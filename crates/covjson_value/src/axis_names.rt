@@ -1,6 +1,6 @@
 //! The names of axes.
 ghost use Rattle.std.specs.Prelude.{◌≡◌};
-ghost use Rattle.covjson_value.specs.AxisNames.{axis_key};
+ghost use Rattle.covjson_value.specs.AxisNames.{axis_by_name, axis_key};
 
 /// The name of an axis (OGC 21-069r2, Domain objects and NdArray objects).
 #[derive(Clone, Copy, Debug, PartialEq, Eq)]
@@ -27,5 +27,24 @@ pub fn axis_key(name: AxisName) -> &'static str
         AxisName::Y => "y",
         AxisName::X => "x",
         AxisName::Composite => "composite",
+    }
+}
+
+/// The axis that has a name in CoverageJSON, and none where no axis has it. It takes no memory.
+pub fn axis_by_name(name: &str) -> Option<AxisName>
+    ensures { result ≡ axis_by_name name.now }
+{
+    if name == "t" {
+        Some(AxisName::T)
+    } else if name == "z" {
+        Some(AxisName::Z)
+    } else if name == "y" {
+        Some(AxisName::Y)
+    } else if name == "x" {
+        Some(AxisName::X)
+    } else if name == "composite" {
+        Some(AxisName::Composite)
+    } else {
+        None
     }
 }

@@ -64,8 +64,9 @@ fn list_tree(alloc: Global, name: CoordinateName, values: &[i64]) -> Result<Valu
     only_member(alloc, "values", values)
 }
 
-// Times are always listed.
-fn is_spanned(name: CoordinateName, values: &[i64]) -> bool
+/// Whether the values of an axis of a name are written by their count, the first and the last (OGC 21-069r2, regularly
+/// spaced axes). Times are always listed. One pass over them, and no memory.
+pub fn is_spanned(name: CoordinateName, values: &[i64]) -> bool
     requires { All (IsAxisValue name) values.now }
     ensures { result ≡ is_spanned name values.now }
 {

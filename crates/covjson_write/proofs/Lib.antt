@@ -1,4 +1,3 @@
-pub mod RegularGaps
 pub mod HeadLemmas
 pub mod HeadTextLemmas
 pub mod PlaceLemmas

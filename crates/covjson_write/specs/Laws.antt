@@ -4,10 +4,10 @@ use Rattle.std.specs.declared.option.Option.{Option}
 use Rattle.covjson_value.specs.declared.coverages.NdArray.{NdArray}
 use Rattle.covjson_value.specs.declared.coverages.Coverage.{Coverage}
 use Rattle.covjson_value.specs.declared.coverages.Document.{Document}
-use Rattle.covjson_value.specs.Coverages.{IsValid, IsValidDocument}
+use Rattle.covjson_value.specs.Coverages.{IsValid, IsValidDocument, coverages_in}
 use Rattle.covjson_value.specs.Trees.{coverage_text, document_text}
 use Rattle.covjson_write.specs.declared.range_heads.RangeHead.{RangeHead}
-use Rattle.covjson_write.specs.Pieces.{values_from, head_of, ranges_from, coverage_begin, coverages_from, is_many, coverages_of, document_begin, document_end}
+use Rattle.covjson_write.specs.Pieces.{values_from, head_of, ranges_from, coverage_begin, coverages_from, is_many, document_begin, document_end}
 
 -- values one after another are written as those first and those behind them
 abbrev pub ValuesGoOn : Type 0
@@ -26,4 +26,4 @@ CoverageOfPieces = (coverage : Coverage) → IsValid coverage → coverage_text 
 -- the text of a valid document is its beginning, its coverages and its end
 abbrev pub DocumentOfPieces : Type 0
 DocumentOfPieces = (document : Document) → IsValidDocument document
-    → document_text document ≡ document_begin (is_many document) ++ (coverages_from 0 (coverages_of document) ++ document_end (is_many document))
+    → document_text document ≡ document_begin (is_many document) ++ (coverages_from 0 (coverages_in document) ++ document_end (is_many document))

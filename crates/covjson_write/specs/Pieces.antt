@@ -104,10 +104,6 @@ abbrev pub is_many : Document → Bool
 is_many (One coverage) = false
 is_many (Many coverages) = true
 
-abbrev pub coverages_of : Document → List Coverage
-coverages_of (One coverage) = coverage ∷ []
-coverages_of (Many coverages) = coverages
-
 -- what stands before and behind the coverages: a collection's object, and nothing round one coverage
 abbrev pub document_begin : Bool → List ℕ
 document_begin true = codes "{\"coverages\":["

@@ -59,6 +59,8 @@ without_range writer = record {
   values = 0;
 }
 
+-- ---- for private clauses
+
 -- what was written since, and what is gathered behind it, are a text
 pub record Gathered (old now : Option (List ℕ)) (piece text : List ℕ) : Type 0 where
   pub sent : List ℕ

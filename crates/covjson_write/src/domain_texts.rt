@@ -10,9 +10,9 @@ ghost use Rattle.covjson_value.specs.Trees.{array_of, axis_value_data, list_data
 ghost use Rattle.covjson_write.specs.HeadTexts.{member_text};
 
 use crate::leaves::{push_comma, push_integer, push_time, quoted_name};
-use crate::regular_axes::{is_regular, push_span};
+use crate::regular_axes::push_span;
 use crate::system_texts::push_referencing;
-use covjson_value::{CoordinateName, Domain, Referencing};
+use covjson_value::{CoordinateName, Domain, Referencing, is_spanned};
 use edr_base::{OutOfMemory, Position};
 use std::alloc::Global;
 
@@ -51,17 +51,6 @@ fn push_list(text: &mut Vec<u8>, name: CoordinateName, values: &[i64]) -> Result
     push_axis_values(text, name, values)?;
     text.push(b'}')?;
     Ok(())
-}
-
-// Times are always listed.
-fn is_spanned(name: CoordinateName, values: &[i64]) -> bool
-    requires { All (IsAxisValue name) values.now }
-    ensures { result ≡ is_spanned name values.now }
-{
-    match name {
-        CoordinateName::T => false,
-        CoordinateName::Z | CoordinateName::Y | CoordinateName::X => is_regular(values),
-    }
 }
 
 fn push_values(text: &mut Vec<u8>, name: CoordinateName, values: &[i64]) -> Result<(), OutOfMemory>

@@ -5,6 +5,7 @@ pub mod ComputedInstants
 pub mod ComputedSeconds
 pub mod ComputedSteps
 pub mod ComputedZones
+pub mod DistanceLemmas
 pub mod InstantEnds
 pub mod InstantLemmas
 pub mod InstantTexts

@@ -1,5 +1,5 @@
 //! Axes of coverages.
-ghost use Rattle.std.specs.Prelude.{◌≡◌, ◌<◌, ℕ, length, [], IfOk, Err, MatchOption, Contains, count_by, int_lt, int_le, max};
+ghost use Rattle.std.specs.Prelude.{◌≡◌, ◌<◌, ◌≤◌, ◌-◌, ℕ, length, map, take, drop, [], All, IfOk, Err, MatchOption, Contains, count_by, int_lt, int_le, max};
 ghost use Rattle.edr_axes.specs.Axes.{value_at, IsAscending, IsAxis, IsFirstFall, IsNearest, NearestIsOne, NearestIsThere, BoundsSplitAxes};
 
 use edr_base::OutOfMemory;
@@ -124,6 +124,16 @@ impl Axis {
         Ok(Axis { values })
     }
 
+    /// The axis of values that are one, or want of memory.
+    pub fn over(alloc: Global, values: &[i64]) -> Result<Axis, OutOfMemory>
+        requires { IsAxis values.now }
+        ensures { IfOk result (λ axis. axis ≡ values.now) }
+    {
+        Ok(Axis {
+            values: Vec::from_slice(alloc, values)?,
+        })
+    }
+
     /// An equal axis, or want of memory.
     pub fn copy(&self, alloc: Global) -> Result<Axis, OutOfMemory>
         ensures { IfOk result (λ axis. axis ≡ self.now) }
@@ -131,6 +141,15 @@ impl Axis {
         Ok(Axis {
             values: Vec::from_slice(alloc, &self.values)?,
         })
+    }
+
+    /// The axis of its values from one place to before another, or want of memory.
+    pub fn part(&self, alloc: Global, from: usize, end: usize) -> Result<Axis, OutOfMemory>
+        requires some { from < end }
+        requires inside { end ≤ length self.now }
+        ensures { IfOk result (λ part. part ≡ take (end - from) (drop from self.now)) }
+    {
+        Axis::over(alloc, &self.values[from..end])
     }
 
     /// How many values it has.
@@ -154,6 +173,18 @@ impl Axis {
         ensures { result ≡ value_at self.now place }
     {
         self.values[place]
+    }
+
+    /// The values at some places, each from 0, or want of memory.
+    pub fn values_at(&self, alloc: Global, places: &[u64]) -> Result<Vec<i64>, OutOfMemory>
+        requires { All (λ place. place < length self.now) places.now }
+        ensures { IfOk result (λ values. values.items ≡ map (value_at self.now) places.now) }
+    {
+        let mut values = Vec::new(alloc);
+        for place in places {
+            values.push(self.value(*place as usize))?;
+        }
+        Ok(values)
     }
 
     /// The place of a value, from 0, or `None` where it isn't on the axis. It takes no memory.

@@ -2,7 +2,7 @@
 ghost use Rattle.std.specs.Prelude.{◌≡◌, ◌*◌, ◌<◌, ◌≤ℤ◌, ◌↔◌, ℕ, ℤ, List, IsTrue, IfOk, IfSome, MatchOption, Contains, Err};
 ghost use Rattle.edr_axes.specs.Levels.{AreLevelTexts, HasLevel, HasNoLevels, IsInSeries, IsLevel, IsLevels, IsLevelText, IsLevelsText, IsRangeText, IsSeries, IsSeriesText, LevelsAreUnique};
 
-use edr_base::{COORDINATE_LIMIT, Items, Whole, cut_at, whole_number, without_front};
+use edr_base::{COORDINATE_LIMIT, Items, OutOfMemory, Whole, cut_at, whole_number, without_front};
 use std::alloc::{AllocFailed, Global};
 
 /// Levels that a request selects (OGC 19-086r6, the parameter `z`).
@@ -177,6 +177,26 @@ pub fn read_levels(alloc: Global, text: &[u8]) -> Result<Levels, LevelFault>
 }
 
 impl Levels {
+    /// Equal levels, or want of memory.
+    pub fn copy(&self, alloc: Global) -> Result<Levels, OutOfMemory>
+        ensures { IfOk result (λ copy. copy ≡ self.now) }
+    {
+        match self {
+            Levels::All => Ok(Levels::All),
+            Levels::At(only) => Ok(Levels::At(*only)),
+            Levels::Between(low, high) => Ok(Levels::Between(*low, *high)),
+            Levels::List(levels) => Ok(Levels::List(Items::of(Vec::from_slice(
+                alloc,
+                levels.items(),
+            )?))),
+            Levels::Series { n, first, step } => Ok(Levels::Series {
+                n: *n,
+                first: *first,
+                step: *step,
+            }),
+        }
+    }
+
     /// Whether a level is one of these. It takes no memory, and for a series the same time for each.
     pub fn has(&self, level: i64) -> bool
         ensures { IsTrue result ↔ HasLevel self.now level }

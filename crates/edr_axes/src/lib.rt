@@ -2,12 +2,14 @@
 #![tactic(auto)]
 
 mod axis;
+mod distances;
 mod instants;
 mod levels;
 mod reading_instants;
 mod times;
 
 pub use axis::{Axis, AxisFault, bounds_split_axes, nearest_is_one, nearest_is_there};
+pub use distances::{DISTANCE_LIMIT, distances_are_unique, read_distance};
 pub use instants::{texts_tell_times, times_are_written, write_instant};
 pub use levels::{LevelFault, Levels, levels_are_unique, read_levels};
 pub use reading_instants::{

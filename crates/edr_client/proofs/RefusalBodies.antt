@@ -1,5 +1,5 @@
 -- The bodies that tell refusals are JSON whose code is the refusal's.
-use Rattle.std.proofs.Common.{◌≡◌, ◌≢◌, ◌≤◌, ◌⊎◌, inl, inr, List, length, codes, Some, IsUtf8, refl, arith}
+use Rattle.std.proofs.Common.{◌≡◌, ◌≢◌, ◌≤◌, inl, inr, length, codes, Some, IsUtf8, refl, arith}
 use Rattle.std.specs.Fmt.{digits}
 use Rattle.std.specs.Float.Numeral.{scan_numeral}
 use Rattle.json.proofs.Printed.Utf8.{IsUtf8-are_ascii}
@@ -13,7 +13,6 @@ use Rattle.edr_base.specs.RefusalTable.{line_of, body_of}
 use Rattle.edr_base.specs.declared.refusals.Refusal.{Refusal}
 use Rattle.edr_base.specs.declared.refusals.Refusal.TheVariants.{BadHead, BodyNotAllowed, BadHost, VersionNotOffered, MethodNotOffered, NoSuchPage, UnknownParameter, RepeatedParameter, BadFormat, MissingParameter, BadCoords, WrongGeometry, BadBbox, BadDatetime, BadLevel, BadDistance, Conflict, UnknownCollection, UnknownInstance, UnknownLocation, QueryNotOffered, UnknownParameterName, BadCrs, NoLevels, NoSamples, TooLarge}
 use Rattle.edr_http.specs.Replies.{IsStatus}
-use Rattle.edr_json.specs.Json.{IsJson}
 use Rattle.edr_reply.specs.Messages.{body_limit}
 use Rattle.edr_client.specs.Replies.{IsCode}
 

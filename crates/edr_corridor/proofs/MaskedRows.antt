@@ -1,12 +1,11 @@
 -- Masks of some rows and columns of a plane.
-use Rattle.std.proofs.Common.{◌≡◌, ℕ, ◌+◌, ◌-◌, ◌<◌, ◌≤◌, ◌⊎◌, arith, Bool, true, false, ◌&&◌, ◌∙◌, List, [], length, map, take, drop, get_or, ap, ap₂, subst, sym, inl, inr, All, ℤ, pos, ◌<ℤ◌, ◌≤ℤ◌, nat_lt, length-drop}
+use Rattle.std.proofs.Common.{◌≡◌, ℕ, ◌+◌, ◌-◌, ◌<◌, ◌≤◌, ◌⊎◌, arith, Bool, true, false, ◌&&◌, ◌∙◌, List, [], length, map, take, drop, get_or, ap, ap₂, subst, sym, inl, inr, All, ℤ, pos, ◌≤ℤ◌, nat_lt, length-drop}
 use Rattle.std.specs.Prelude.{nat_le}
 use Rattle.std.proofs.lemmas.Bool.{cases_lt, and_left, and_right, le-leb, lt-leb, lt-ltb, le-ltb}
 use Rattle.std.proofs.lemmas.List.{get_or-map, get_or-take, get_or-drop, get_or_past, length-map, length-take-le}
 use Rattle.std.proofs.lemmas.List.Elements.{All-map}
 use Rattle.edr_base.specs.declared.places.Spot.{Spot}
-use Rattle.jiff_core.proofs.SignedLemmas.{signed_arith}
-use Rattle.edr_axes.specs.Axes.{value_at, IsAxis, IsFirstFall}
+use Rattle.edr_axes.specs.Axes.{value_at}
 use Rattle.edr_geometry.specs.Planar.{spot_of, near_segment}
 use Rattle.edr_geometry.specs.Masks.{spot_at, row_of}
 use Rattle.edr_base.specs.Limits.{IsCoordinate}
@@ -192,13 +191,3 @@ mask_of segment xs start end y mask start_is end_is width_in y_in h =
     h ∙ (ap (λ w. row_of (λ p. near_segment p start end w) (read y) xs) (distance_back segment.rule.width width_in)
     ∙ (ap (λ v. row_of (λ p. near_segment p start end segment.rule.width) v xs) (coordinate_back y y_in)
     ∙ ap₂ (λ s e. row_of (λ p. near_segment p s e segment.rule.width) y xs) start_is end_is))
-
--- ---- parts of axes
-
--- the values of an axis never fall
-pub never_falls : (values : List ℤ) (place : ℕ) → IsAxis values → IsFirstFall values place → ⊥
-never_falls values place axis fall =
-    let rises = axis.ascending (place - 1) (omega (arith, fall.inside.0, fall.inside.1)) in
-    let same : place - 1 + 1 ≡ place = omega (arith, fall.inside.0) in
-    let up : value_at values (place - 1) <ℤ value_at values place = subst (λ k. value_at values (place - 1) <ℤ value_at values k) same rises in
-    absurd (omega (arith, signed_arith, fall.falls, up))

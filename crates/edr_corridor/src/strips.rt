@@ -1,12 +1,11 @@
 //! Masks of the rows near a segment.
-ghost use Rattle.std.specs.Prelude.{◌≡◌, ◌<◌, ◌≤◌, ◌-◌, length, map, take, drop, true, IfOk};
+ghost use Rattle.std.specs.Prelude.{◌≡◌, map, true, IfOk};
 ghost use Rattle.std.specs.List.{All};
-ghost use Rattle.edr_axes.specs.Axes.{IsAxis};
 ghost use Rattle.edr_base.specs.Limits.{IsCoordinate};
 ghost use Rattle.edr_corridor.specs.Parts.{IsSegment, HasSpots, IsStrip, has_spot};
 
 use crate::segment::{Segment, spot_of};
-use edr_axes::{Axis, AxisFault};
+use edr_axes::Axis;
 use edr_base::OutOfMemory;
 use edr_geometry::RowMask;
 use std::alloc::Global;
@@ -17,28 +16,6 @@ pub struct Strip {
     pub first_row: usize,
     pub first_column: usize,
     pub rows: Vec<RowMask>,
-}
-
-// The axis of some values.
-fn axis_of(alloc: Global, values: &[i64]) -> Result<Axis, OutOfMemory>
-    requires { IsAxis values.now }
-    ensures { IfOk result (λ axis. axis ≡ values.now) }
-{
-    match Axis::of(alloc, values) {
-        Ok(axis) => Ok(axis),
-        Err(AxisFault::OutOfMemory) => Err(OutOfMemory),
-        Err(AxisFault::Empty) => unreachable!(),
-        Err(AxisFault::NotAscending(_)) => unreachable!(),
-    }
-}
-
-// The axis of an axis's values from one place to before another.
-fn axis_within(alloc: Global, axis: &Axis, from: usize, end: usize) -> Result<Axis, OutOfMemory>
-    requires some { from < end }
-    requires inside { end ≤ length axis.now }
-    ensures { IfOk result (λ part. part ≡ take (end - from) (drop from axis.now)) }
-{
-    axis_of(alloc, &axis.values()[from..end])
 }
 
 // The masks of some rows, of some columns.
@@ -84,7 +61,7 @@ pub fn strip_of(
             rows: Vec::new(alloc),
         });
     }
-    let columns = axis_within(alloc, xs, first_column, end_column)?;
+    let columns = xs.part(alloc, first_column, end_column)?;
     let rows = masks_of(alloc, segment, &ys.values()[first_row..end_row], &columns)?;
     Ok(Strip {
         first_row,

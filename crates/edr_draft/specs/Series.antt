@@ -22,13 +22,6 @@ is_at_one_place (VerticalProfile t z y x) = false
 is_at_one_place (MultiPoint t has_z spots) = false
 is_at_one_place (Trajectory z has_z steps) = false
 
--- a valid one with times, of few enough values
-pub record IsTimedSeries (coverage : Coverage) : Type 0 where
-  pub valid : IsValid coverage
-  pub place : is_at_one_place coverage.domain ≡ true
-  pub times : has_axis coverage.domain T ≡ true
-  pub few : count_of coverage.domain ≤ node_limit
-
 -- the first value of an axis
 abbrev pub first_of : Option (List ℤ) → ℤ
 first_of axis = value_at (values_or_none axis) 0
@@ -61,3 +54,10 @@ input_over id label domain ranges = record {
   levels = axis_of domain Z;
   series = map range_values ranges;
 }
+
+-- a valid series of a station, with times and few enough values
+pub record IsTimedSeries (coverage : Coverage) : Type 0 where
+  pub valid : IsValid coverage
+  pub place : is_at_one_place coverage.domain ≡ true
+  pub times : has_axis coverage.domain T ≡ true
+  pub few : count_of coverage.domain ≤ node_limit

@@ -250,24 +250,6 @@ pub fn drop_station(
     Ok(())
 }
 
-fn copy_where_given(alloc: Global, text: &Option<Text>) -> Result<Option<Text>, OutOfMemory>
-    ensures { IfOk result (λ copied. copied ≡ text.now) }
-{
-    match text {
-        Some(text) => Ok(Some(Text::of(alloc, text.bytes())?)),
-        None => Ok(None),
-    }
-}
-
-fn copy_referencing(alloc: Global, referencing: &Referencing) -> Result<Referencing, OutOfMemory>
-    ensures { IfOk result (λ copied. copied ≡ referencing.now) }
-{
-    Ok(Referencing {
-        crs: Text::of(alloc, referencing.crs.bytes())?,
-        vertical: copy_where_given(alloc, &referencing.vertical)?,
-    })
-}
-
 // The id and the title of the collection of bare coverages.
 fn bare_name(alloc: Global) -> Result<Text, OutOfMemory>
     ensures { IfOk result (λ name. name ≡ codes "grid") }
@@ -285,7 +267,7 @@ fn empty_bare_collection(
 {
     let id = bare_name(alloc)?;
     let title = bare_name(alloc)?;
-    let referencing = copy_referencing(alloc, referencing)?;
+    let referencing = referencing.copy(alloc)?;
     CollectionData::empty(alloc, id, Kind::Grid, title, referencing)
 }
 

@@ -4,7 +4,7 @@ use edr_axes::{Axis, AxisFault};
 use edr_base::{Items, OutOfMemory, Text};
 use edr_chunk::Reads;
 use edr_draft::{Change, Draft, drafts_cross_threads};
-use edr_edition::{Edition, GridInstance, Kind, Store, editions_cross_threads};
+use edr_edition::{Edition, GridInstance, Kind, Store};
 use std::alloc::Global;
 use std::rt::HostRuntime;
 
@@ -119,11 +119,6 @@ fn opened(alloc: Global, edition: &Edition) -> Result<Reads, OutOfMemory> {
 
 fn is_shared_by_threads<T: Send + Sync + Drop>(_: &T) {}
 
-fn editions_are_shared_by_threads(edition: &Edition) {
-    editions_cross_threads();
-    is_shared_by_threads(edition);
-}
-
 fn drafts_are_shared_by_threads(draft: &Draft) {
     drafts_cross_threads();
     is_shared_by_threads(draft);
@@ -143,5 +138,4 @@ fn editions_stay_and_are_counted(rt: HostRuntime) -> Result<(), OutOfMemory> {
 fn drafts_are_shared(rt: HostRuntime) {
     let draft = Draft::empty(rt.alloc());
     drafts_are_shared_by_threads(&draft);
-    editions_are_shared_by_threads(&draft.finish(1));
 }

@@ -1,6 +1,7 @@
 //! Values that people know, by the calendar and by hand: a line for each case, cut here.
 use edr_axes::{
-    Axis, AxisFault, Levels, Times, read_instant, read_levels, read_times, write_instant,
+    Axis, AxisFault, Levels, Times, read_distance, read_instant, read_levels, read_times,
+    write_instant,
 };
 use std::alloc::Global;
 use std::fmt::Debug;
@@ -272,6 +273,34 @@ times=2024-01-01T00:00:00Z/2024-01-01T01:00:00Z => 1704067200 1704070800
 times=2024-01-01T00:00:00Z/.. => 1704067200 1704070800 1704070801
 times=../2024-01-01T01:00:00Z => 1704067199 1704067200 1704070800
 times=../.. => 1704067199 1704067200 1704070800 1704070801
+# distances
+distance=5 m => 5
+distance=5. M => 5
+distance=005.000 m => 5
+distance=0 km => 0
+distance=0.1 km => 100
+distance=1.5 Km => 1500
+distance=1.234 kM => 1234
+distance=1.23400 km => 1234
+distance=400000 km => 400000000
+distance=400000000.0 m => 400000000
+distance=00000000000000000000000000000001 m => 1
+distance=.5 km => none
+distance=5.1 m => none
+distance=1.2345 km => none
+distance=1.0001 km => none
+distance=400000.001 km => none
+distance=400000001 m => none
+distance=99999999999999999999999999999999 m => none
+distance=+5 m => none
+distance=-5 m => none
+distance=5e3 m => none
+distance=5,0 m => none
+distance=1.2.3 km => none
+distance=. m => none
+distance=5 mi => none
+distance=5 mm => none
+distance=5 k => none
 ";
 
 // Whether a number is one of some words.
@@ -324,6 +353,16 @@ fn is_written(text: &str, time: &str) -> bool {
     }
 }
 
+// Whether a number and a unit are so many metres.
+fn is_distance(text: &str, answer: &str) -> bool {
+    match text.split_once(' ') {
+        Some((number, unit)) => {
+            read_distance(number.as_bytes(), unit.as_bytes()) == answer.parse::<i64>().ok()
+        }
+        None => false,
+    }
+}
+
 fn is_answered(alloc: Global, name: &str, text: &str, answer: &str) -> bool {
     match name {
         "written" => is_written(text, answer),
@@ -331,6 +370,7 @@ fn is_answered(alloc: Global, name: &str, text: &str, answer: &str) -> bool {
         "datetime" => is_shown(alloc, &read_times(text.as_bytes()), answer),
         "times" => are_times(text, answer),
         "levels" => are_levels(alloc, text, answer),
+        "distance" => is_distance(text, answer),
         _ => is_shown(alloc, &read_levels(alloc, text.as_bytes()), answer),
     }
 }
@@ -348,6 +388,6 @@ fn first_wrong(alloc: Global, lines: &str) -> &str {
 }
 
 #[test]
-fn times_and_levels(rt: HostRuntime) {
+fn times_levels_and_distances(rt: HostRuntime) {
     assert_eq!(rt; first_wrong(rt.alloc(), TABLE), "");
 }

@@ -1,4 +1,4 @@
-//! Tests of the ground: the outside, numbers, lists of ids, chunks of grids, well-known text, axes, and what lines take.
+//! Tests of the ground: numbers, lists of ids, chunks of grids, well-known text, axes, and what lines take.
 #![tactic(auto)]
 
 #[cfg(test)]
@@ -13,8 +13,6 @@ mod geometries;
 mod ids;
 #[cfg(test)]
 mod numbers;
-#[cfg(test)]
-mod outside;
 #[cfg(test)]
 mod planes;
 #[cfg(test)]

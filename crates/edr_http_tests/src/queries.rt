@@ -1,8 +1,6 @@
-//! Rows of targets, of paths and of distances.
+//! Rows of targets and of paths.
 use edr_base::{Items, Text};
-use edr_query::{
-    Page, Query, Shape, TargetFault, path_of, read_address, read_distance, read_target,
-};
+use edr_query::{Page, Query, Shape, TargetFault, path_of, read_address, read_target};
 use std::alloc::{AllocError, Global};
 use std::rt::HostRuntime;
 
@@ -432,53 +430,11 @@ fn is_spelled(alloc: Global, path: &str, answer: &str) -> bool {
     }
 }
 
-// A line for each distance: its number and its unit, and its metres, or `none`.
-const DISTANCES: &str = "\
-5 m => 5
-5. M => 5
-005.000 m => 5
-0 km => 0
-0.1 km => 100
-1.5 Km => 1500
-1.234 kM => 1234
-1.23400 km => 1234
-400000 km => 400000000
-400000000.0 m => 400000000
-00000000000000000000000000000001 m => 1
-.5 km => none
-5.1 m => none
-1.2345 km => none
-1.0001 km => none
-400000.001 km => none
-400000001 m => none
-99999999999999999999999999999999 m => none
-+5 m => none
--5 m => none
-5e3 m => none
-5,0 m => none
-1.2.3 km => none
-. m => none
-5 mi => none
-5 mm => none
-5 k => none
-";
-
-// Whether a number and a unit are so many metres.
-fn is_distance(text: &str, answer: &str) -> bool {
-    match text.split_once(' ') {
-        Some((number, unit)) => {
-            read_distance(number.as_bytes(), unit.as_bytes()) == answer.parse::<i64>().ok()
-        }
-        None => false,
-    }
-}
-
 #[derive(Clone, Copy)]
 enum Table {
     Targets,
     Pages,
     Paths,
-    Distances,
 }
 
 fn is_right(alloc: Global, table: Table, asked: &str, answer: &str) -> bool {
@@ -486,7 +442,6 @@ fn is_right(alloc: Global, table: Table, asked: &str, answer: &str) -> bool {
         Table::Targets => is_answered(alloc, asked, answer),
         Table::Pages => is_page(alloc, asked, answer),
         Table::Paths => is_spelled(alloc, asked, answer),
-        Table::Distances => is_distance(asked, answer),
     }
 }
 
@@ -506,5 +461,4 @@ fn targets_pages_and_paths(rt: HostRuntime) {
     assert_eq!(rt; first_wrong(rt.alloc(), Table::Targets, TARGETS), "");
     assert_eq!(rt; first_wrong(rt.alloc(), Table::Pages, PAGES), "");
     assert_eq!(rt; first_wrong(rt.alloc(), Table::Paths, PATHS), "");
-    assert_eq!(rt; first_wrong(rt.alloc(), Table::Distances, DISTANCES), "");
 }

@@ -10,7 +10,7 @@ use Rattle.covjson_value.specs.Samples.{node, nodes_of, values_or_absent}
 use Rattle.edr_chunk.specs.AllPlaces.{at}
 use Rattle.edr_edition.specs.Values.{InstanceValue}
 use Rattle.edr_select.specs.Samples.{node_at}
-use Rattle.edr_select.specs.Choices.{level_at}
+use Rattle.edr_corridor.specs.Boxes.{level_at}
 use Rattle.edr_select.specs.ListLaws.{flat_map_agree, map-map}
 use Rattle.edr_select.specs.BoxLaws.{rows_of, planes_of, boxed}
 use Rattle.edr_select.specs.NodeLaws.{levels_shown}

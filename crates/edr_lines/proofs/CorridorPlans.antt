@@ -6,7 +6,7 @@ use Rattle.std.proofs.lemmas.Bool.{false≢true, false_from_ne_true}
 use Rattle.edr_base.specs.declared.refusals.Refusal.TheVariants.{NoSamples, TooLarge}
 use Rattle.edr_wkt.specs.declared.geometry.Geometry.{Geometry}
 use Rattle.covjson_value.specs.declared.coverages.Coverage.{Coverage}
-use Rattle.covjson_value.specs.Coverages.{IsValidDocument}
+use Rattle.covjson_value.specs.Coverages.{IsValidDocument, coverages_in}
 use Rattle.edr_chunk.specs.declared.shapes.GridShape.{GridShape}
 use Rattle.edr_edition.specs.Values.{InstanceValue, CollectionValue}
 use Rattle.edr_edition.specs.Stores.{Held, of_grid, Subject}
@@ -17,7 +17,7 @@ use Rattle.edr_select.specs.declared.plans.Reply.TheVariants.{Stacked}
 use Rattle.edr_select.specs.Limits.{value_limit, coverage_limit}
 use Rattle.edr_select.specs.Selections.{picked}
 use Rattle.edr_select.specs.Heads.{is_some_stored, alone, without_id, frame_of, heads_on_grid, heads_of}
-use Rattle.edr_select.specs.Documents.{document, coverages_in, values_in}
+use Rattle.edr_select.specs.Documents.{document, values_in}
 use Rattle.edr_select.specs.Checks.{refused_query, grid_of}
 use Rattle.edr_select.specs.Planned.{head_of, parameters_at}
 use Rattle.edr_select.specs.Plans.{IsReplyTo}

@@ -4,27 +4,25 @@ use Rattle.std.specs.Prelude.{not, ◌&&◌, ◌||◌, nat_lt}
 use Rattle.std.specs.List.{list_any}
 use Rattle.std.proofs.lemmas.Bool.{false_from_ne_true, and_parts}
 use Rattle.edr_base.specs.declared.refusals.Refusal.{Refusal}
-use Rattle.edr_base.specs.declared.refusals.Refusal.TheVariants.{UnknownParameterName, NoSamples, TooLarge}
-use Rattle.covjson_value.specs.declared.coverages.Parameter.{Parameter}
-use Rattle.covjson_value.specs.Coverages.{ids_of}
+use Rattle.edr_base.specs.declared.refusals.Refusal.TheVariants.{NoSamples, TooLarge}
+use Rattle.covjson_value.specs.Coverages.{coverages_in}
 use Rattle.edr_chunk.specs.AllPlaces.{places}
 use Rattle.edr_edition.specs.Values.{InstanceValue, CollectionValue}
 use Rattle.edr_edition.specs.Stores.{Subject}
 use Rattle.edr_query.specs.Values.{QueryValue}
-use Rattle.edr_select.specs.Checks.{refused_query, grid_of}
+use Rattle.edr_select.specs.Checks.{grid_of}
 use Rattle.edr_select.specs.Choices.{parameter_places}
-use Rattle.edr_select.specs.Documents.{document, coverages_in, values_in}
+use Rattle.edr_select.specs.Documents.{document, values_in}
 use Rattle.edr_select.specs.GridLaws.{IsGrid}
 use Rattle.edr_select.specs.Heads.{is_some_stored}
 use Rattle.edr_select.specs.KeptLaws.{contains_kept}
 use Rattle.edr_select.specs.Limits.{value_limit, coverage_limit}
-use Rattle.edr_select.specs.ListLaws.{all_member, any-filter, any-map, no_member}
-use Rattle.edr_select.specs.NamedLaws.{named_member}
+use Rattle.edr_select.specs.ListLaws.{any-filter, any-map, no_member}
 use Rattle.edr_select.specs.PlaceLaws.{found_place}
-use Rattle.edr_select.specs.Refusals.{applies_to_query, applies_to_subject, names_other}
+use Rattle.edr_select.specs.Refusals.{applies_to_subject}
 use Rattle.edr_select.specs.Samples.{Stored, id_at, stored_at, grid_samples}
 use Rattle.edr_select.specs.Selections.{is_asked, takes, wants, picked}
-use Rattle.edr_select.specs.Steps.{refused_known, refused_sizes, refused_large}
+use Rattle.edr_select.specs.Steps.{IsInstanceOf, refused_sizes, refused_large}
 use Rattle.edr_lines.specs.Asked.{IsAskedAlong}
 use Rattle.edr_lines.proofs.LineGrids.{grid_from}
 
@@ -55,25 +53,13 @@ pub some_picked : (picks : List Stored) → list_any (λ (x : Stored). true) pic
 some_picked [] = refl
 some_picked (x ∷ picks) = refl
 
+-- what is asked is asked of an instance of grids
+pub of_asked : (c : CollectionValue) (q : QueryValue) (i : InstanceValue) → IsAskedAlong c q i → IsInstanceOf c q i
+of_asked c q i asked = record { is_collection = asked.is_collection; kind = asked.kind; instance_is = asked.instance_is }
+
 module _ (c : CollectionValue) (q : QueryValue) (i : InstanceValue) (asked : IsAskedAlong c q i) where
   abbrev s : Subject
   s = grid_of c i
-
-  -- ---- names
-
-  same_parameters : i.parameters ≡ c.parameters
-  same_parameters =
-      all_member (λ (o : InstanceValue). o.parameters ≡ c.parameters) c.instances i asked.is_collection.instances.same
-      (named_member q.instance c.instances i asked.instance_is)
-
-  names_are : applies_to_query c q UnknownParameterName ≡ names_other q.parameters (ids_of i.parameters)
-  names_are = ap (λ (ps : List Parameter). names_other q.parameters (ids_of ps)) (sym same_parameters)
-
-  pub refused_names : names_other q.parameters (ids_of i.parameters) ≡ true → refused_query c q ≡ Some UnknownParameterName
-  refused_names h = stops (applies_to_query c q UnknownParameterName) UnknownParameterName (refused_known c q) (names_are ∙ h)
-
-  pub known_names : names_other q.parameters (ids_of i.parameters) ≡ false → refused_query c q ≡ refused_known c q
-  known_names h = passes (applies_to_query c q UnknownParameterName) UnknownParameterName (refused_known c q) (names_are ∙ h)
 
   -- ---- without a parameter no sample is picked
 

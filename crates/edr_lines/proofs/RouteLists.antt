@@ -21,7 +21,8 @@ use Rattle.edr_query.specs.Queries as queries
 use Rattle.edr_query.specs.Queries.{coords_of, box_of}
 use Rattle.edr_query.specs.Values.{QueryValue}
 use Rattle.edr_select.specs.declared.plans.GridNode.{GridNode}
-use Rattle.edr_select.specs.Choices.{level_at, time_places, level_places}
+use Rattle.edr_select.specs.Choices.{time_places, level_places}
+use Rattle.edr_corridor.specs.Boxes.{level_at}
 use Rattle.edr_select.specs.GridLaws.{IsGrid}
 use Rattle.edr_select.specs.KeptLaws.{filter_by_places, kept_below}
 use Rattle.edr_select.specs.Lines.{is_inside, step_of, without_repeats, turns, is_some_node}

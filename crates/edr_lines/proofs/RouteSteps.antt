@@ -14,7 +14,7 @@ use Rattle.edr_chunk.specs.Places.{Within}
 use Rattle.edr_edition.specs.Values.{InstanceValue}
 use Rattle.edr_edition.specs.Instances.{HasGrid}
 use Rattle.edr_select.specs.declared.plans.GridNode.{GridNode}
-use Rattle.edr_select.specs.Choices.{level_at}
+use Rattle.edr_corridor.specs.Boxes.{level_at}
 use Rattle.edr_select.specs.GridLaws.{IsGrid, same_stored, stored_itself}
 use Rattle.edr_select.specs.Lines.{nearest_if, is_inside, is_along_if, step_of, without_repeats}
 use Rattle.edr_select.specs.ListLaws.{Each, both, map-map}

@@ -19,7 +19,8 @@ use Rattle.edr_query.specs.Values.{QueryValue}
 use Rattle.edr_select.specs.Samples.{node_at}
 use Rattle.edr_select.specs.Selections.{picked}
 use Rattle.edr_select.specs.Heads.{alone, without_id, frame_of, heads_of}
-use Rattle.edr_select.specs.Documents.{coverage_over, value_in, parameters_asked, document, coverages_in, values_in}
+use Rattle.edr_select.specs.Documents.{coverage_over, value_in, parameters_asked, document, values_in}
+use Rattle.covjson_value.specs.Coverages.{coverages_in}
 use Rattle.edr_select.specs.Stacks.{SidesValue, stack_count}
 use Rattle.edr_select.specs.ListLaws.{Member}
 use Rattle.edr_select.specs.BoxLaws.{length_boxed}

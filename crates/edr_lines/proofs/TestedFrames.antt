@@ -10,14 +10,14 @@ use Rattle.covjson_value.specs.Domains.{axis_length}
 use Rattle.covjson_value.specs.declared.domains.Domain.TheVariants.{Grid}
 use Rattle.covjson_value.specs.Samples.{same_where_given}
 use Rattle.edr_chunk.specs.AllPlaces.{at}
-use Rattle.edr_corridor.specs.Boxes.{level_count}
+use Rattle.edr_corridor.specs.Boxes.{level_count, level_at}
 use Rattle.edr_edition.specs.Values.{InstanceValue}
 use Rattle.edr_edition.specs.Stores.{of_grid, Subject}
 use Rattle.edr_query.specs.Values.{QueryValue}
 use Rattle.edr_select.specs.Samples.{Stored, stored_at}
 use Rattle.edr_select.specs.Selections.{picked, is_asked}
 use Rattle.edr_select.specs.Heads.{times_in, levels_in, spanned, frame_of}
-use Rattle.edr_select.specs.Choices.{parameter_places, level_at}
+use Rattle.edr_select.specs.Choices.{parameter_places}
 use Rattle.edr_select.specs.Samples.{id_at}
 use Rattle.edr_select.specs.Stacks.{SidesValue}
 use Rattle.edr_select.specs.ListLaws.{both, Member}

@@ -14,7 +14,8 @@ use Rattle.edr_query.specs.declared.shapes.Shape.TheVariants as at
 use Rattle.edr_query.specs.Values.{QueryValue}
 use Rattle.edr_select.specs.declared.plans.GridNode.{GridNode}
 use Rattle.edr_select.specs.Choices.{parameter_places}
-use Rattle.edr_select.specs.Documents.{document, coverages_in, values_in}
+use Rattle.edr_select.specs.Documents.{document, values_in}
+use Rattle.covjson_value.specs.Coverages.{coverages_in}
 use Rattle.edr_select.specs.Limits.{value_limit, coverage_limit}
 use Rattle.edr_select.specs.ListLaws.{Each, each-map_in, each-flat_map_in}
 use Rattle.edr_select.specs.Listings.{PlannedValue, place_at, range_over, coverage_of}

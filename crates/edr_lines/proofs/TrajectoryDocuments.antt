@@ -18,7 +18,8 @@ use Rattle.edr_query.specs.declared.shapes.Shape.TheVariants as at
 use Rattle.edr_query.specs.Values.{QueryValue}
 use Rattle.edr_select.specs.declared.plans.GridNode.{GridNode}
 use Rattle.edr_select.specs.Choices.{parameter_places}
-use Rattle.edr_select.specs.Documents.{value_in, coverage_over, document, document_over, coverages_in}
+use Rattle.edr_select.specs.Documents.{value_in, coverage_over, document, document_over}
+use Rattle.covjson_value.specs.Coverages.{coverages_in}
 use Rattle.edr_select.specs.HeadLaws.{coverage_with}
 use Rattle.edr_select.specs.Heads.{Head, without_id, trajectory_of, heads_of_route, heads_on_grid, heads_of}
 use Rattle.edr_select.specs.ListLaws.{Each, map-map, map-flat_map, map_agree_in, map_agree_each, each-map_in}

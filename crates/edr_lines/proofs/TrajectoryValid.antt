@@ -25,7 +25,8 @@ use Rattle.edr_edition.specs.Stores.{Subject}
 use Rattle.edr_query.specs.declared.shapes.Shape.TheVariants as at
 use Rattle.edr_query.specs.Values.{QueryValue}
 use Rattle.edr_select.specs.declared.plans.GridNode.{GridNode}
-use Rattle.edr_select.specs.Choices.{level_at, parameter_places}
+use Rattle.edr_select.specs.Choices.{parameter_places}
+use Rattle.edr_corridor.specs.Boxes.{level_at}
 use Rattle.edr_select.specs.DomainLaws.{one_value}
 use Rattle.edr_select.specs.GridLaws.{IsGrid}
 use Rattle.edr_select.specs.HeadLaws.{asked_are, asked_ascend, head_is}

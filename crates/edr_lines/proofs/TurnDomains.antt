@@ -9,7 +9,7 @@ use Rattle.covjson_value.specs.declared.domains.Domain.TheVariants.{Trajectory}
 use Rattle.covjson_value.specs.Samples.{Node, node, nodes_of}
 use Rattle.edr_edition.specs.Values.{InstanceValue}
 use Rattle.edr_select.specs.declared.plans.GridNode.{GridNode}
-use Rattle.edr_select.specs.Choices.{level_at}
+use Rattle.edr_corridor.specs.Boxes.{level_at}
 use Rattle.edr_select.specs.Heads.{step_at, level_along, trajectory_of}
 use Rattle.edr_select.specs.ListLaws.{Each, each-map_in, map-map}
 use Rattle.edr_select.specs.Listings.{place_at}

@@ -11,7 +11,7 @@ use Rattle.edr_chunk.specs.Places.{Within}
 use Rattle.edr_edition.specs.Values.{InstanceValue}
 use Rattle.edr_edition.specs.Instances.{HasGrid}
 use Rattle.edr_select.specs.declared.plans.GridNode.{GridNode}
-use Rattle.edr_select.specs.Choices.{level_at}
+use Rattle.edr_corridor.specs.Boxes.{level_at}
 use Rattle.edr_select.specs.Heads.{step_at}
 use Rattle.edr_select.specs.ListLaws.{all_member, each-map_in}
 use Rattle.edr_select.specs.LevelLaws.{all_from_each}

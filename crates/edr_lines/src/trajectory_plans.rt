@@ -7,7 +7,7 @@ ghost use Rattle.edr_edition.specs.Instances.{HasGrid};
 ghost use Rattle.edr_query.specs.declared.shapes.Shape.TheVariants as at;
 ghost use Rattle.edr_select.specs.declared.plans.Reply.TheVariants.{Listed};
 ghost use Rattle.edr_select.specs.Checks.{refused_query};
-ghost use Rattle.edr_select.specs.Choices as choices;
+ghost use Rattle.edr_corridor.specs.Boxes as boxes;
 ghost use Rattle.edr_select.specs.Heads.{step_at};
 ghost use Rattle.edr_select.specs.Limits.{value_limit, coverage_limit};
 ghost use Rattle.edr_select.specs.Listings.{place_at};
@@ -45,7 +45,7 @@ fn is_too_large(parameters: &[u64], route: &Route) -> bool
 // The level of a place on the axis of levels, where there is one.
 fn level_at(axes: &Axes<'_>, place: u64) -> Option<i64>
     requires { IfSome axes.now.zs (λ zs. place < length zs) }
-    ensures { result ≡ choices.level_at axes.now.zs place }
+    ensures { result ≡ boxes.level_at axes.now.zs place }
 {
     match axes.zs {
         Some(axis) => Some(axis.value(place as usize)),
@@ -82,7 +82,7 @@ fn domain_of(
     requires grid { HasGrid instance.now }
     requires within { All (λ n. Within instance.now.grid.shape (place_at 0 n)) nodes.now }
     requires level { z < axis_length instance.now.zs }
-    ensures { IfOk result (λ domain. domain ≡ Trajectory (if has_z then None else choices.level_at instance.now.zs z) has_z (map (λ n. step_at has_z (node_at instance.now (place_at 0 n))) nodes.now)) }
+    ensures { IfOk result (λ domain. domain ≡ Trajectory (if has_z then None else boxes.level_at instance.now.zs z) has_z (map (λ n. step_at has_z (node_at instance.now (place_at 0 n))) nodes.now)) }
 {
     let mut steps = Vec::new(alloc);
     for node in nodes {

@@ -1,7 +1,7 @@
 -- The blocks that the coverages of a corridor of stations are read from are those that are needed.
 use Rattle.std.proofs.Common.{◌≡◌, ℕ, ◌+◌, ◌*◌, ◌/◌, Bool, true, List, length, refl, sym, ◌∙◌}
 use Rattle.std.specs.Prelude.{map, ◌&&◌, ◌==◌}
-use Rattle.std.specs.List.{filter, flat_map, list_any, range_with_len}
+use Rattle.std.specs.List.{filter, list_any, range_with_len}
 use Rattle.std.proofs.lemmas.Bool.{and_parts, and_from}
 use Rattle.covjson_value.specs.declared.coverages.Parameter.{Parameter}
 use Rattle.edr_station.specs.Stations.{StationValue, station_at, levels_along}

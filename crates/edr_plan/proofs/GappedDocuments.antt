@@ -16,7 +16,8 @@ use Rattle.edr_query.specs.Values.{QueryValue}
 use Rattle.edr_select.specs.Samples.{id_at}
 use Rattle.edr_select.specs.Selections.{is_asked, picked}
 use Rattle.edr_select.specs.Heads.{Head, is_some_stored, heads_of_stations, heads_on_stations}
-use Rattle.edr_select.specs.Documents.{coverage_over, document, document_over, coverages_in}
+use Rattle.edr_select.specs.Documents.{coverage_over, document, document_over}
+use Rattle.covjson_value.specs.Coverages.{coverages_in}
 use Rattle.edr_select.specs.Choices.{parameter_places}
 use Rattle.edr_select.specs.Checks.{stations_in}
 use Rattle.edr_select.specs.Gaps.{GappedSeriesValue, GappedReplyValue, gapped_coverage, gapped_document}

@@ -19,7 +19,7 @@ use Rattle.edr_station.specs.Boxes.{is_inside, places_from, places_inside}
 use Rattle.edr_corridor.specs.Segments.{within_half, any_segment, segment_takes, takes_between, takes_height}
 use Rattle.edr_edition.specs.Values.{CollectionValue}
 use Rattle.edr_query.specs.Values.{QueryValue}
-use Rattle.edr_select.specs.Choices.{level_at}
+use Rattle.edr_corridor.specs.Boxes.{level_at}
 use Rattle.edr_select.specs.Lines.{segments_of}
 use Rattle.edr_select.specs.Listings.{NumbersRise}
 use Rattle.edr_select.specs.ListLaws.{flat_map-cond, member_here, member_later, no_member, all_member}

@@ -20,7 +20,8 @@ use Rattle.edr_select.specs.Samples.{Stored, id_at}
 use Rattle.edr_select.specs.Wanted.{is_station}
 use Rattle.edr_select.specs.Selections.{is_asked, picked}
 use Rattle.edr_select.specs.Heads.{of_station, is_some_stored, times_in, levels_in}
-use Rattle.edr_select.specs.Choices.{level_at, parameter_places}
+use Rattle.edr_select.specs.Choices.{parameter_places}
+use Rattle.edr_corridor.specs.Boxes.{level_at}
 use Rattle.edr_select.specs.ListLaws.{any-filter, passes_at, any_range, both, some_member}
 use Rattle.edr_select.specs.KeptLaws.{kept_agree, kept_below, kept_passes, filter_by_places}
 use Rattle.edr_plan.specs.StationPlaces.{stored_in}

@@ -13,7 +13,8 @@ use Rattle.edr_station.specs.Stations.{StationValue, station_at, levels_along, v
 use Rattle.edr_edition.specs.Values.{CollectionValue}
 use Rattle.edr_query.specs.Values.{QueryValue}
 use Rattle.edr_select.specs.Wanted.{takes_time, takes_level, levels_asked}
-use Rattle.edr_select.specs.Choices.{level_at, parameter_places, level_places}
+use Rattle.edr_select.specs.Choices.{parameter_places, level_places}
+use Rattle.edr_corridor.specs.Boxes.{level_at}
 use Rattle.edr_select.specs.Listings.{NumbersRise}
 use Rattle.edr_select.specs.KeptLaws.{all_below}
 use Rattle.edr_select.specs.RiseLaws.{numbers_rise}

@@ -17,7 +17,8 @@ use Rattle.edr_select.specs.Samples.{id_at}
 use Rattle.edr_select.specs.Wanted.{levels_asked}
 use Rattle.edr_select.specs.Selections.{picked}
 use Rattle.edr_select.specs.Documents.{referencing_over, coverage_over, value_in}
-use Rattle.edr_select.specs.Choices.{level_at, parameter_places}
+use Rattle.edr_select.specs.Choices.{parameter_places}
+use Rattle.edr_corridor.specs.Boxes.{level_at}
 use Rattle.edr_select.specs.Checks.{stations_in}
 use Rattle.edr_select.specs.Series.{series_value, series_range, series_coverage}
 use Rattle.edr_select.specs.ListLaws.{map-map, map-flat_map, map_agree_in, member_here, member_later}

@@ -18,7 +18,8 @@ use Rattle.edr_query.specs.Values.{QueryValue}
 use Rattle.edr_select.specs.Samples.{Stored, ascending_once}
 use Rattle.edr_select.specs.Selections.{picked, needed, chunk_of}
 use Rattle.edr_select.specs.Heads.{Head, first_alone, is_some_stored, heads_of_stations, heads_on_stations}
-use Rattle.edr_select.specs.Documents.{coverage_over, document, document_over, coverages_in}
+use Rattle.edr_select.specs.Documents.{coverage_over, document, document_over}
+use Rattle.covjson_value.specs.Coverages.{coverages_in}
 use Rattle.edr_select.specs.Choices.{parameter_places}
 use Rattle.edr_select.specs.Checks.{stations_in}
 use Rattle.edr_select.specs.Listings.{document_of}

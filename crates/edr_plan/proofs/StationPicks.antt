@@ -33,7 +33,8 @@ use Rattle.edr_select.specs.Wanted.{takes_time, takes_level, levels_asked, takes
 use Rattle.edr_select.specs.Selections.{is_asked, takes, wants, picked, chunk_of}
 use Rattle.edr_select.specs.Heads.{of_station, is_some_stored, times_in, levels_in}
 use Rattle.edr_select.specs.Documents.{same_station, value_in}
-use Rattle.edr_select.specs.Choices.{level_at, parameter_places, level_places}
+use Rattle.edr_select.specs.Choices.{parameter_places, level_places}
+use Rattle.edr_corridor.specs.Boxes.{level_at}
 use Rattle.edr_select.specs.ListLaws.{any-map, any-flat_map, any_agree, any_range, filter_product, filter-flat_map, filter_and, filter_at, flat_map_agree, flat_map-cond, map-map, map-flat_map, Each, each-map_in, each-flat_map_in, find_each, both, passing, all_member, any_member, no_member}
 use Rattle.edr_plan.specs.StationPlaces.{cell_of, collection_of, stored_in, IsOfStations, takes_station, station_times, station_levels, station_cells, station_picks, not_empty, is_taken}
 use Rattle.edr_select.specs.KeptLaws.{all_below, contains_kept, kept_below, kept_passes, filter_by_places, one_kept}

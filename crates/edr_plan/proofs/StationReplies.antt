@@ -13,7 +13,7 @@ use Rattle.edr_base.specs.declared.refusals.Refusal.TheVariants.{NoSamples, TooL
 use Rattle.covjson_value.specs.declared.coverages.NdArray.{NdArray}
 use Rattle.covjson_value.specs.declared.coverages.Coverage.{Coverage}
 use Rattle.covjson_value.specs.declared.coverages.Parameter.{Parameter}
-use Rattle.covjson_value.specs.Coverages.{IsValid, IsValidDocument}
+use Rattle.covjson_value.specs.Coverages.{IsValid, IsValidDocument, coverages_in}
 use Rattle.edr_station.specs.Stations.{StationValue, StationsValue, station_at}
 use Rattle.edr_station.specs.Blocks.{blocks}
 use Rattle.edr_edition.specs.Values.{CollectionValue}
@@ -23,7 +23,7 @@ use Rattle.edr_query.specs.Values.{QueryValue}
 use Rattle.edr_select.specs.Limits.{value_limit, coverage_limit}
 use Rattle.edr_select.specs.Selections.{picked}
 use Rattle.edr_select.specs.Heads.{is_some_stored}
-use Rattle.edr_select.specs.Documents.{document, coverages_in, values_in}
+use Rattle.edr_select.specs.Documents.{document, values_in}
 use Rattle.edr_select.specs.Choices.{parameter_places}
 use Rattle.edr_select.specs.Checks.{refused_query, stations_in}
 use Rattle.edr_select.specs.Steps.{refused_sizes}

@@ -13,7 +13,7 @@ use Rattle.covjson_value.specs.Samples.{Node, node, values_or_absent}
 use Rattle.edr_station.specs.Stations.{StationValue, IsStation, HasSeries, levels_along, values_along, station_at}
 use Rattle.edr_station.specs.Blocks.{blocks_of, blocks}
 use Rattle.edr_select.specs.Samples.{Stored, id_at, station_nodes, series_samples, samples_of_station, samples_of_stations}
-use Rattle.edr_select.specs.Choices.{level_at}
+use Rattle.edr_corridor.specs.Boxes.{level_at}
 use Rattle.edr_select.specs.ListLaws.{map-map, map_agree_in, flat_map_agree, all_member}
 use Rattle.edr_plan.specs.StationPlaces.{cell_of, stored_of, stored_in}
 use Rattle.edr_select.specs.KeptLaws.{all_below, values_read, rows_numbered}

@@ -9,7 +9,7 @@ use Rattle.edr_axes.specs.Axes.{value_at}
 use Rattle.edr_base.specs.declared.places.Spot.{Spot}
 use Rattle.edr_corridor.specs.Values.{SegmentsValue}
 use Rattle.edr_corridor.specs.Segments as segments
-use Rattle.edr_corridor.specs.Boxes.{level_count, wants_node}
+use Rattle.edr_corridor.specs.Boxes.{level_count, wants_node, level_at}
 use Rattle.edr_corridor.specs.BoxLaws.{is_about, CorridorsAreCut}
 use Rattle.edr_lines.specs.Bits.{IsSmall}
 use Rattle.edr_lines.specs.Taken.{Counts, NodeTest, counts_of, NoneTaken, AreSidesOf, HasBits, some_at_time, some_at_level, bit_number}
@@ -17,7 +17,6 @@ use Rattle.edr_lines.specs.Corridors as lines
 use Rattle.edr_lines.specs.Corridors.{IsCorridorOf}
 use Rattle.edr_station.specs.Stations.{StationValue, levels_along}
 use Rattle.edr_query.specs.Values.{QueryValue}
-use Rattle.edr_select.specs.Choices.{level_at}
 use Rattle.edr_select.specs.Lines.{segments_of}
 use Rattle.edr_select.specs.Limits.{value_limit}
 use Rattle.edr_select.specs.ListLaws.{map-map, map_agree_in, passes_at, any_range, both, all_member}

@@ -11,7 +11,7 @@ use Rattle.covjson_value.specs.Coverages.{IsValidDocument}
 use Rattle.covjson_value.specs.Samples.{node}
 use Rattle.edr_station.specs.Stations.{StationValue, station_at, levels_along}
 use Rattle.edr_station.specs.Blocks.{blocks_of, first_block}
-use Rattle.edr_corridor.specs.Boxes.{GridAxes}
+use Rattle.edr_corridor.specs.Boxes.{GridAxes, level_at}
 use Rattle.edr_corridor.specs.Segments.{any_segment}
 use Rattle.edr_corridor.specs.Values.{SegmentsValue, needs_level}
 use Rattle.edr_edition.specs.Values.{CollectionValue}
@@ -19,7 +19,7 @@ use Rattle.edr_edition.specs.Stores.{stations_of}
 use Rattle.edr_query.specs.declared.shapes.Shape.TheVariants as at
 use Rattle.edr_query.specs.Values.{QueryValue}
 use Rattle.edr_select.specs.Checks.{refused_query, stations_in}
-use Rattle.edr_select.specs.Choices.{level_at, parameter_places}
+use Rattle.edr_select.specs.Choices.{parameter_places}
 use Rattle.edr_select.specs.Documents.{document}
 use Rattle.edr_select.specs.Gaps.{GappedSeriesValue, GappedReplyValue}
 use Rattle.edr_select.specs.Limits.{value_limit, coverage_limit}

@@ -12,7 +12,8 @@ use Rattle.edr_query.specs.declared.shapes.Shape.TheVariants as at
 use Rattle.edr_query.specs.Values.{QueryValue}
 use Rattle.edr_select.specs.Samples.{Stored, id_at}
 use Rattle.edr_select.specs.Wanted.{levels_asked}
-use Rattle.edr_select.specs.Choices.{level_at, parameter_places, time_places, level_places}
+use Rattle.edr_select.specs.Choices.{parameter_places, time_places, level_places}
+use Rattle.edr_corridor.specs.Boxes.{level_at}
 use Rattle.edr_select.specs.Masks.{takes_spot}
 
 -- ---- samples

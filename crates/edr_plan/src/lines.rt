@@ -9,7 +9,6 @@ use edr_base::OutOfMemory;
 use edr_corridor::Segments;
 use edr_lines::{Axes, Corridor, corridor_of};
 use edr_query::Query;
-use edr_select::axis_of;
 use edr_station::Station;
 use edr_wkt::Geometry;
 use std::alloc::Global;
@@ -44,7 +43,7 @@ impl<'a> Model for Line<'a> {
 pub(crate) fn axis_at(alloc: Global, value: i64) -> Result<Axis, OutOfMemory>
     ensures { IfOk result (λ axis. axis ≡ value ∷ []) }
 {
-    axis_of(alloc, slice::from_ref(&value))
+    Axis::over(alloc, slice::from_ref(&value))
 }
 
 // The axes of a station as of a grid of one row and one column.

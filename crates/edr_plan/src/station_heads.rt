@@ -7,7 +7,7 @@ use crate::station_choices::{StationChoice, station_stands};
 use covjson_value::{Coverage, Domain};
 use edr_base::{OutOfMemory, Text};
 use edr_edition::CollectionData;
-use edr_select::{domain_at, head_of, values_at};
+use edr_select::{domain_at, head_of};
 use edr_station::Station;
 use std::alloc::Global;
 
@@ -21,11 +21,11 @@ fn domain_of(
     ensures { IfOk result (λ domain. domain ≡ domain_of station.now choice.now) }
 {
     station_stands(station);
-    let times = values_at(alloc, station.times(), &choice.times)?;
+    let times = station.times().values_at(alloc, &choice.times)?;
     match station.levels() {
         None => domain_at(alloc, &times, None, station.y(), station.x()),
         Some(axis) => {
-            let levels = values_at(alloc, axis, &choice.levels)?;
+            let levels = axis.values_at(alloc, &choice.levels)?;
             domain_at(alloc, &times, Some(&levels), station.y(), station.x())
         }
     }

@@ -1,5 +1,5 @@
 -- Laws of lines that are told.
-use Rattle.std.specs.Prelude.{ℕ, List, [], ◌++◌, codes, refl, Ok}
+use Rattle.std.specs.Prelude.{ℕ, List, [], refl, Ok}
 use Rattle.std.specs.declared.option.Option.{Option}
 use Rattle.edr_base.specs.KnownBytes.{append_nothing, front_none}
 use Rattle.edr_program.specs.Lines.{Tells}

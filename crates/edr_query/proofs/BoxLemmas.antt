@@ -4,7 +4,7 @@ use Rattle.std.specs.Prelude.{MatchOption}
 use Rattle.std.specs.List.{slice_index_or}
 use Rattle.std.specs.declared.option.Option.{Option}
 use Rattle.edr_query.specs.declared.shapes.BoundingBox.{BoundingBox}
-use Rattle.edr_query.specs.Distances.{numbers_of, IsOrdered, IsRange}
+use Rattle.edr_query.specs.Boxes.{numbers_of, IsOrdered, IsRange}
 use Rattle.edr_query.specs.Reads.{IsBoxOf}
 use Rattle.edr_query.proofs.SaidLemmas.{box_from}
 

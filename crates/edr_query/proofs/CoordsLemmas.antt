@@ -22,7 +22,7 @@ use Rattle.edr_query.specs.declared.parameters.Parameter.{Parameter}
 use Rattle.edr_query.specs.declared.parameters.Parameter.TheVariants as p
 use Rattle.edr_query.specs.declared.shapes.BoundingBox.{BoundingBox}
 use Rattle.edr_query.specs.Parameters.{Pair, value_of, Given, MaySay}
-use Rattle.edr_query.specs.Distances.{numbers_with, numbers_of, IsBoxText, HasNoBox}
+use Rattle.edr_query.specs.Boxes.{numbers_with, numbers_of, IsBoxText, HasNoBox}
 use Rattle.edr_query.specs.Queries.{IsGeometryText, takes}
 use Rattle.edr_query.specs.Targets.{Coords, IsAlongZ, LacksRequired, LacksHeight, IsMissing, HasBadCoords, HasWrongGeometry}
 use Rattle.edr_query.specs.Reads.{IsHeightPaired, is_along_z, is_corridor, query_kind, list_in, IsBoxOf}

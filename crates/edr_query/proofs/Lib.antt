@@ -5,7 +5,6 @@ pub mod PairLemmas
 pub mod CoordsLemmas
 pub mod NameLemmas
 pub mod SeenLemmas
-pub mod DistanceLemmas
 pub mod SaidLemmas
 pub mod BoxLemmas
 pub mod RefusalLemmas

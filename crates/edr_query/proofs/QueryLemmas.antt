@@ -29,7 +29,8 @@ use Rattle.edr_query.specs.declared.shapes.Shape.TheVariants as at
 use Rattle.edr_query.specs.declared.said.Said.{Said}
 use Rattle.edr_query.specs.Paths.{kind_text, IsPart, parts_of}
 use Rattle.edr_query.specs.Parameters.{Pair, value_of, is_required, MaySay, MaySayBoth}
-use Rattle.edr_query.specs.Distances.{IsDistance, IsBoxText, numbers_with}
+use Rattle.edr_axes.specs.Distances.{IsDistance}
+use Rattle.edr_query.specs.Boxes.{IsBoxText, numbers_with}
 use Rattle.edr_query.specs.Values.{QueryValue}
 use Rattle.edr_query.specs.Queries.{IsGeometryText, takes, has_z, has_m, has_levels, are_several, conflicts, around, along, inside, shape_of, IsTaken, IsMetres, IsBox, IsHeight, IsShape, IsInstanceOf, IsLevelsAsked, coords_of, within_of, box_of, width_of, height_of, IsQuery}
 use Rattle.edr_query.specs.Targets.{Applies, HasWrongGeometry, IsMissing}

@@ -12,11 +12,11 @@ use Rattle.edr_query.specs.declared.parameters.Parameter.TheVariants as p
 use Rattle.edr_query.specs.declared.shapes.BoundingBox.{BoundingBox}
 use Rattle.edr_query.specs.declared.said.Said.{Said}
 use Rattle.edr_query.specs.Parameters.{Pair, value_of, MaySay, MaySayBoth}
-use Rattle.edr_query.specs.Distances.{IsDistance, IsBoxText, numbers_of, numbers_with}
+use Rattle.edr_axes.specs.Distances.{DistancesAreUnique, IsDistance}
+use Rattle.edr_query.specs.Boxes.{IsBoxText, numbers_of, numbers_with}
 use Rattle.edr_query.specs.Queries.{IsGeometryText, IsSaid}
 use Rattle.edr_query.specs.Reads.{list_in}
 use Rattle.edr_query.proofs.CoordsLemmas.{WktIsOne, box_levels}
-use Rattle.edr_query.proofs.DistanceLemmas.{distance_same}
 
 -- ---- one value
 
@@ -92,13 +92,13 @@ abbrev said_mk : Option Geometry → Option ℤ → Option BoundingBox → Optio
 said_mk a b c d e f g = record { coords = a; within = b; bbox = c; width = d; height = e; times = f; levels = g }
 
 -- what the parameters say is one
-pub said_same : WktIsOne → TimesAreUnique → LevelsAreUnique → (pairs : List Pair) (a b : Said) → IsSaid pairs a → IsSaid pairs b → a ≡ b
-said_same wkt times levels pairs a b x y =
+pub said_same : WktIsOne → TimesAreUnique → LevelsAreUnique → DistancesAreUnique → (pairs : List Pair) (a b : Said) → IsSaid pairs a → IsSaid pairs b → a ≡ b
+said_same wkt times levels distances pairs a b x y =
     let e0 = may_same IsGeometryText (λ t v w h k. wkt t v w h.0 k.0) (value_of p.Coords pairs) a.coords b.coords x.coords y.coords in
-    let e1 = both_same IsDistance distance_same (value_of p.Within pairs) (value_of p.WithinUnits pairs) a.within b.within x.within y.within in
+    let e1 = both_same IsDistance distances (value_of p.Within pairs) (value_of p.WithinUnits pairs) a.within b.within x.within y.within in
     let e2 = may_same IsBoxText (box_same levels) (value_of p.Bbox pairs) a.bbox b.bbox x.bbox y.bbox in
-    let e3 = both_same IsDistance distance_same (value_of p.CorridorWidth pairs) (value_of p.WidthUnits pairs) a.width b.width x.width y.width in
-    let e4 = both_same IsDistance distance_same (value_of p.CorridorHeight pairs) (value_of p.HeightUnits pairs) a.height b.height x.height y.height in
+    let e3 = both_same IsDistance distances (value_of p.CorridorWidth pairs) (value_of p.WidthUnits pairs) a.width b.width x.width y.width in
+    let e4 = both_same IsDistance distances (value_of p.CorridorHeight pairs) (value_of p.HeightUnits pairs) a.height b.height x.height y.height in
     let e5 = may_same IsTimesText times (value_of p.Datetime pairs) a.times b.times x.times y.times in
     let e6 = may_same IsLevelsText levels (value_of p.Z pairs) a.levels b.levels x.levels y.levels in
     ap (λ v. said_mk v a.within a.bbox a.width a.height a.times a.levels) e0

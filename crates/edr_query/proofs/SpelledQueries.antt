@@ -28,7 +28,8 @@ use Rattle.edr_query.specs.declared.shapes.Shape.{Shape}
 use Rattle.edr_query.specs.declared.shapes.Shape.TheVariants as at
 use Rattle.edr_query.specs.Paths.{kind_text, parts_of, page_kind, IsPart, IsPath, path_text, path_in, query_in}
 use Rattle.edr_query.specs.Parameters.{Pair, pairs_in, value_of, MaySay, MaySayBoth}
-use Rattle.edr_query.specs.Distances.{IsDistance, IsBoxText}
+use Rattle.edr_axes.specs.Distances.{DistancesAreUnique, IsDistance}
+use Rattle.edr_query.specs.Boxes.{IsBoxText}
 use Rattle.edr_query.specs.Values.{QueryValue}
 use Rattle.edr_query.specs.Queries.{IsGeometryText, IsSaid, shape_of, IsPlaced, Says, names_in, AreNames, IsMetres, IsBox, IsShape, IsInstanceOf, IsLevelsAsked, coords_of, within_of, box_of, width_of, height_of, said_of, IsQuery}
 use Rattle.edr_query.specs.Targets.{Applies, HasBadFormat, LacksHeight, HasWrongGeometry}
@@ -199,8 +200,8 @@ geometry_fine wkt (at.Trajectory g) ps id i h said = taken_coords wkt (Query Tra
 geometry_fine wkt (at.Corridor g w d) ps id i h said = taken_coords wkt (Query Corridor) Corridor g ps refl said h.0.1
 geometry_fine wkt (at.Location x) ps id i h said = λ wrong. wrong
 
-all_fine : WktIsOne → TimesAreUnique → LevelsAreUnique → Stands → WrittenTimesAreInstants → (q : QueryValue) → IsQuery q → IsAllSaid (page_kind (address_of q)) (pairs_of q) (said_of q)
-all_fine wkt times levels stands written q is =
+all_fine : WktIsOne → TimesAreUnique → LevelsAreUnique → DistancesAreUnique → Stands → WrittenTimesAreInstants → (q : QueryValue) → IsQuery q → IsAllSaid (page_kind (address_of q)) (pairs_of q) (said_of q)
+all_fine wkt times levels distances stands written q is =
     let s = q.shape in let t = q.times in let l = q.levels in let n = q.parameters in let c = q.crs in
     let page = page_kind (address_of q) in let ps = pairs_of q in
     let said = is_said stands written q is in
@@ -209,7 +210,7 @@ all_fine wkt times levels stands written q is =
     let required = all_required page ps (required_at s t l n c q.collection q.instance) in
     let height = height_fine wkt s t l n c q.collection q.instance is.shape said.coords in
     let p13 = more page ps WrongGeometry (passed_coords page ps (coords_of s) p9 format required said.coords height) (geometry_fine wkt s ps q.collection q.instance is.shape said.coords) in
-    all_said wkt times levels page ps (said_of q) (passed_levels page ps l (passed_times page ps t (passed_box page ps (box_of s) p13 said.bbox) said.times) said.levels) said is.no_conflict
+    all_said wkt times levels distances page ps (said_of q) (passed_levels page ps l (passed_times page ps t (passed_box page ps (box_of s) p13 said.bbox) said.times) said.levels) said is.no_conflict
 
 -- ---- the query is said
 
@@ -229,8 +230,8 @@ names_map : (o : Option (List (List ℕ))) → IfSome o AreNames → o ≡ optio
 names_map None h = refl
 names_map (Some names) h = ap Some (sym (names_back names h))
 
-says : WktIsOne → TimesAreUnique → LevelsAreUnique → Stands → WrittenTimesAreInstants → (q : QueryValue) → IsQuery q → Says (address_of q) (pairs_of q) q
-says wkt times levels stands written q is =
+says : WktIsOne → TimesAreUnique → LevelsAreUnique → DistancesAreUnique → Stands → WrittenTimesAreInstants → (q : QueryValue) → IsQuery q → Says (address_of q) (pairs_of q) q
+says wkt times levels distances stands written q is =
     let s = q.shape in let t = q.times in let l = q.levels in let n = q.parameters in let c = q.crs in
     record {
       said = said_of q;
@@ -350,8 +351,8 @@ target_at a [] all e = (ap path_in (append-nil (path_text a)) ∙ path_alone a a
 target_at a (p ∷ ps) all e = (path_before a (extend_pairs [] (p ∷ ps)) all, ap pairs_in (query_after a (extend_pairs [] (p ∷ ps)) all) ∙ e)
 
 -- the written form of a query asks for it
-pub written_asks : WktIsOne → TimesAreUnique → LevelsAreUnique → Stands → WrittenTimesAreInstants → TimesAreWritten → WrittenQueriesReadBack
-written_asks wkt times levels stands instants written q is =
+pub written_asks : WktIsOne → TimesAreUnique → LevelsAreUnique → DistancesAreUnique → Stands → WrittenTimesAreInstants → TimesAreWritten → WrittenQueriesReadBack
+written_asks wkt times levels distances stands instants written q is =
     let a = address_of q in let ps = pairs_of q in
     let parts = all_parts q.shape q.collection q.instance is.collection (instance_if q.shape q.instance is.instance) is.shape in
     let back = entries_back (entries q.shape q.times q.levels q.parameters q.crs) (texts written q.shape q.times q.levels q.parameters q.crs is.shape is.times is.levels is.parameters is.crs) in
@@ -363,6 +364,6 @@ written_asks wkt times levels stands instants written q is =
     record {
       address = a;
       path = names;
-      page_is = subst S (sym h.1) (says wkt times levels stands instants q is);
-      none = none_up (spell q) a names (subst R (sym h.1) (all_fine wkt times levels stands instants q is).none);
+      page_is = subst S (sym h.1) (says wkt times levels distances stands instants q is);
+      none = none_up (spell q) a names (subst R (sym h.1) (all_fine wkt times levels distances stands instants q is).none);
     }

@@ -31,7 +31,7 @@ use Rattle.edr_query.specs.declared.parameters.Parameter.TheVariants as q
 use Rattle.edr_query.specs.declared.shapes.BoundingBox.{BoundingBox}
 use Rattle.edr_query.specs.Paths.{kind_text, IsPart}
 use Rattle.edr_query.specs.Parameters.{name_of}
-use Rattle.edr_query.specs.Distances.{numbers_with, numbers_of}
+use Rattle.edr_query.specs.Boxes.{numbers_with, numbers_of}
 use Rattle.edr_query.specs.Queries.{IsMetres, IsBox, AreNames}
 use Rattle.edr_query.specs.Spelling.{side_text, times_text, levels_text, box_text}
 use Rattle.edr_query.proofs.SpelledNames.{plain, byte_utf8, number_utf8, joined_utf8}

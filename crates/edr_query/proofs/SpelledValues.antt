@@ -20,7 +20,8 @@ use Rattle.edr_axes.specs.Times.{IsTimes, IsTimesText, IsSideText, IsSideTime}
 use Rattle.edr_axes.specs.Levels.{IsLevel, IsLevelText, AreLevelTexts, IsLevelsText}
 use Rattle.edr_wkt.specs.Spelling.{joined}
 use Rattle.edr_query.specs.declared.shapes.BoundingBox.{BoundingBox}
-use Rattle.edr_query.specs.Distances.{IsUnit, IsDistance, IsBoxText, numbers_with}
+use Rattle.edr_axes.specs.Distances.{IsUnit, IsDistance}
+use Rattle.edr_query.specs.Boxes.{IsBoxText, numbers_with}
 use Rattle.edr_query.specs.Queries.{IsMetres, IsBox, IsLevelsAsked}
 use Rattle.edr_query.specs.Spelling.{side_text, times_text, levels_text, box_text}
 

@@ -21,7 +21,8 @@ use Rattle.edr_query.specs.declared.parameters.Parameter.TheVariants as p
 use Rattle.edr_query.specs.declared.shapes.BoundingBox.{BoundingBox}
 use Rattle.edr_query.specs.declared.said.Said.{Said}
 use Rattle.edr_query.specs.Parameters.{Pair, value_of, is_required, Given, GivenBoth, MaySay, MaySayBoth}
-use Rattle.edr_query.specs.Distances.{IsDistance, HasNoDistance, IsBoxText}
+use Rattle.edr_axes.specs.Distances.{DistancesAreUnique, IsDistance, HasNoDistance}
+use Rattle.edr_query.specs.Boxes.{IsBoxText}
 use Rattle.edr_query.specs.Queries.{IsGeometryText, IsSaid, conflicts}
 use Rattle.edr_query.specs.Targets.{HasBadCoords, HasBadDistance, HasBadFormat, LacksRequired, LacksHeight}
 use Rattle.edr_query.specs.Reads.{Passed, Steps, IsComplete, is_given, has_required, IsAllSaid}
@@ -135,12 +136,12 @@ passed_all page pairs said passed is =
     (λ b. ⊎_elim (metres_fine p.Within p.WithinUnits pairs said.within is.within)
     (λ c. ⊎_elim (metres_fine p.CorridorWidth p.WidthUnits pairs said.width is.width) (metres_fine p.CorridorHeight p.HeightUnits pairs said.height is.height) c) b)
 
-pub all_said : WktIsOne → TimesAreUnique → LevelsAreUnique → (page : PageKind) (pairs : List Pair) (said : Said) → Passed page pairs 16 → IsSaid pairs said → conflicts said ≡ false → IsAllSaid page pairs said
-all_said wkt times levels page pairs said passed is calm =
+pub all_said : WktIsOne → TimesAreUnique → LevelsAreUnique → DistancesAreUnique → (page : PageKind) (pairs : List Pair) (said : Said) → Passed page pairs 16 → IsSaid pairs said → conflicts said ≡ false → IsAllSaid page pairs said
+all_said wkt times levels distances page pairs said passed is calm =
     record {
       is_said = is;
       none = done page pairs (more page pairs Conflict (passed_all page pairs said passed is)
-          (λ c. true_false (sym c.2 ∙ ap conflicts (said_same wkt times levels pairs c.0 said c.1 is) ∙ calm)));
+          (λ c. true_false (sym c.2 ∙ ap conflicts (said_same wkt times levels distances pairs c.0 said c.1 is) ∙ calm)));
     }
 
 -- ---- what a step stops at

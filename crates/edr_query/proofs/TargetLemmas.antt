@@ -10,6 +10,7 @@ use Rattle.edr_axes.specs.declared.times.Times.{Times}
 use Rattle.edr_axes.specs.declared.levels.Levels.{Levels}
 use Rattle.edr_axes.specs.Times.{TimesAreUnique}
 use Rattle.edr_axes.specs.Levels.{LevelsAreUnique}
+use Rattle.edr_axes.specs.Distances.{DistancesAreUnique}
 use Rattle.edr_query.specs.declared.addresses.Address.{Address}
 use Rattle.edr_query.specs.declared.addresses.Address.TheVariants as to
 use Rattle.edr_query.specs.declared.pages.Page.{Page}
@@ -22,10 +23,9 @@ use Rattle.edr_query.specs.Parameters.{Pair, pairs_in}
 use Rattle.edr_query.specs.Values.{QueryValue}
 use Rattle.edr_query.specs.Queries.{IsPlaced, Says}
 use Rattle.edr_base.specs.RefusalTable.{rank}
-use Rattle.edr_query.specs.Targets.{Names, Refuses, Applies, IsPage, IsAsked, MatchTarget, TargetIsOne}
+use Rattle.edr_query.specs.Targets.{Names, Refuses, Applies, IsPage, MatchTarget, TargetIsOne}
 use Rattle.edr_query.specs.declared.reading.TargetFault.{TargetFault}
 use Rattle.edr_query.specs.declared.reading.TargetFault.TheVariants.{Refused, OutOfMemory}
-use Rattle.edr_query.specs.declared.addresses.PageKind.{PageKind}
 use Rattle.edr_query.specs.Reads.{Steps, IsGoodPage}
 use Rattle.edr_query.proofs.ListLemmas.{some_same, none_some}
 use Rattle.edr_query.proofs.AddressLemmas.{address_back}
@@ -138,21 +138,21 @@ placed_same (to.Query kind c i) said a b x y = (x.0 ∙ sym y.0, x.1 ∙ sym y.1
 placed_same (to.Location c s) said a b x y = (x.0 ∙ sym y.0, x.1 ∙ sym y.1, x.2 ∙ sym y.2)
 placed_same _ said a b x y = absurd x
 
-says_same : WktIsOne → TimesAreUnique → LevelsAreUnique → (address : Address) (pairs : List Pair) (a b : QueryValue) → Says address pairs a → Says address pairs b → a ≡ b
-says_same wkt times levels address pairs a b x y =
-    let s = said_same wkt times levels pairs x.said y.said x.is_said y.is_said in
+says_same : WktIsOne → TimesAreUnique → LevelsAreUnique → DistancesAreUnique → (address : Address) (pairs : List Pair) (a b : QueryValue) → Says address pairs a → Says address pairs b → a ≡ b
+says_same wkt times levels distances address pairs a b x y =
+    let s = said_same wkt times levels distances pairs x.said y.said x.is_said y.is_said in
     let P : Said → Type 0 = λ said. IsPlaced address said a in
     let h = placed_same address y.said a b (subst P s x.placed) y.placed in
     query_same a b h.0 h.1 h.2 (x.times ∙ ap (λ (v : Said). v.times) s ∙ sym y.times) (x.levels ∙ ap (λ (v : Said). v.levels) s ∙ sym y.levels) (x.parameters ∙ sym y.parameters) (x.crs ∙ sym y.crs)
 
-pages_at : WktIsOne → TimesAreUnique → LevelsAreUnique → (address : Address) (pairs : List Pair) (a b : Page) → (description address ≡ Some a) ⊎ Asks address pairs a → (description address ≡ Some b) ⊎ Asks address pairs b → a ≡ b
-pages_at wkt times levels address pairs a b (inl e) (inl f) = some_same a b (sym e ∙ f)
-pages_at wkt times levels address pairs a b (inl e) (inr h) = absurd (none_some a (sym (not_described address h.2.said h.0 h.2.placed) ∙ e))
-pages_at wkt times levels address pairs a b (inr h) (inl f) = absurd (none_some b (sym (not_described address h.2.said h.0 h.2.placed) ∙ f))
-pages_at wkt times levels address pairs a b (inr h) (inr k) = h.1 ∙ ap Ask (says_same wkt times levels address pairs h.0 k.0 h.2 k.2) ∙ sym k.1
+pages_at : WktIsOne → TimesAreUnique → LevelsAreUnique → DistancesAreUnique → (address : Address) (pairs : List Pair) (a b : Page) → (description address ≡ Some a) ⊎ Asks address pairs a → (description address ≡ Some b) ⊎ Asks address pairs b → a ≡ b
+pages_at wkt times levels distances address pairs a b (inl e) (inl f) = some_same a b (sym e ∙ f)
+pages_at wkt times levels distances address pairs a b (inl e) (inr h) = absurd (none_some a (sym (not_described address h.2.said h.0 h.2.placed) ∙ e))
+pages_at wkt times levels distances address pairs a b (inr h) (inl f) = absurd (none_some b (sym (not_described address h.2.said h.0 h.2.placed) ∙ f))
+pages_at wkt times levels distances address pairs a b (inr h) (inr k) = h.1 ∙ ap Ask (says_same wkt times levels distances address pairs h.0 k.0 h.2 k.2) ∙ sym k.1
 
-pages_same : WktIsOne → TimesAreUnique → LevelsAreUnique → (address : Address) (pairs : List Pair) (a b : Page) → IsPage address pairs a → IsPage address pairs b → a ≡ b
-pages_same wkt times levels address pairs a b x y = pages_at wkt times levels address pairs a b (page_cases address pairs a x) (page_cases address pairs b y)
+pages_same : WktIsOne → TimesAreUnique → LevelsAreUnique → DistancesAreUnique → (address : Address) (pairs : List Pair) (a b : Page) → IsPage address pairs a → IsPage address pairs b → a ≡ b
+pages_same wkt times levels distances address pairs a b x y = pages_at wkt times levels distances address pairs a b (page_cases address pairs a x) (page_cases address pairs b y)
 
 at_least : (a b : ℕ) → (a < b) ⊎ (b ≤ a)
 at_least a b = ⊎_elim (λ t. inr t.1) (λ t. inl t.1) (leb_tells b a)
@@ -164,13 +164,13 @@ least_same target r s x y =
     (at_least (rank r) (rank s))
 
 -- a target has one answer
-pub target_one : WktIsOne → TimesAreUnique → LevelsAreUnique → TargetIsOne
-target_one wkt times levels target (Ok a) (Ok b) x y =
+pub target_one : WktIsOne → TimesAreUnique → LevelsAreUnique → DistancesAreUnique → TargetIsOne
+target_one wkt times levels distances target (Ok a) (Ok b) x y =
     let P : Address → Type 0 = λ c. IsPage c (pairs_at target) b in
-    ap Ok (pages_same wkt times levels x.address (pairs_at target) a b x.page_is (subst P (path_is_one (path_in target) y.address x.address y.path x.path) y.page_is))
-target_one wkt times levels target (Ok a) (Err r) x y = absurd (x.none r y.applies)
-target_one wkt times levels target (Err r) (Ok b) x y = absurd (y.none r x.applies)
-target_one wkt times levels target (Err r) (Err s) x y = ap Err (least_same target r s x y)
+    ap Ok (pages_same wkt times levels distances x.address (pairs_at target) a b x.page_is (subst P (path_is_one (path_in target) y.address x.address y.path x.path) y.page_is))
+target_one wkt times levels distances target (Ok a) (Err r) x y = absurd (x.none r y.applies)
+target_one wkt times levels distances target (Err r) (Ok b) x y = absurd (y.none r x.applies)
+target_one wkt times levels distances target (Err r) (Err s) x y = ap Err (least_same target r s x y)
 
 -- ---- what reading answers
 

@@ -1,12 +1,11 @@
 pub mod Paths
 pub mod Parameters
 pub mod Named
-pub mod Distances
+pub mod Boxes
 pub mod Values
 pub mod Queries
 pub mod Targets
 pub mod Spelling
-pub mod Metres
 pub mod PathReads
 pub mod Reads
 pub mod Seen

@@ -21,7 +21,8 @@ use Rattle.edr_query.specs.declared.shapes.Shape.TheVariants as at
 use Rattle.edr_query.specs.declared.said.Said.{Said}
 use Rattle.edr_query.specs.Paths.{IsPart}
 use Rattle.edr_query.specs.Parameters.{Pair, value_of, MaySay, MaySayBoth}
-use Rattle.edr_query.specs.Distances.{IsDistance, IsBoxText, IsOrdered, IsRange}
+use Rattle.edr_axes.specs.Distances.{IsDistance}
+use Rattle.edr_query.specs.Boxes.{IsBoxText, IsOrdered, IsRange}
 use Rattle.edr_query.specs.Values.{QueryValue}
 
 -- ---- what the parameters say

@@ -25,7 +25,8 @@ use Rattle.edr_query.specs.declared.reading.TargetFault.TheVariants.{Refused, Ou
 use Rattle.edr_query.specs.Paths.{page_kind}
 use Rattle.edr_query.specs.Parameters.{Pair, name_of, value_of, MaySay, MaySayBoth, IsGiven, HasUnknown, HasRepeat}
 use Rattle.edr_query.specs.declared.shapes.BoundingBox.{BoundingBox}
-use Rattle.edr_query.specs.Distances.{numbers_of, IsDistance, IsBoxText, IsOrdered, IsRange}
+use Rattle.edr_axes.specs.Distances.{IsDistance}
+use Rattle.edr_query.specs.Boxes.{numbers_of, IsBoxText, IsOrdered, IsRange}
 use Rattle.edr_query.specs.Queries.{IsGeometryText, IsSaid}
 use Rattle.edr_base.specs.RefusalTable.{rank}
 use Rattle.edr_query.specs.Targets.{Applies, LacksRequired, IsPage}

@@ -20,7 +20,7 @@ use Rattle.edr_query.specs.declared.shapes.Shape.{Shape}
 use Rattle.edr_query.specs.declared.shapes.Shape.TheVariants as at
 use Rattle.edr_query.specs.Paths.{path_text}
 use Rattle.edr_query.specs.Parameters.{Pair, name_of}
-use Rattle.edr_query.specs.Distances.{numbers_of}
+use Rattle.edr_query.specs.Boxes.{numbers_of}
 use Rattle.edr_query.specs.Values.{QueryValue}
 use Rattle.edr_query.specs.Queries.{coords_of, within_of, box_of, width_of, height_of, IsQuery}
 use Rattle.edr_query.specs.Targets.{IsTarget}

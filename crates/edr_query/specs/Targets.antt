@@ -22,7 +22,8 @@ use Rattle.edr_query.specs.declared.reading.TargetFault.{TargetFault}
 use Rattle.edr_query.specs.declared.reading.TargetFault.TheVariants.{Refused, OutOfMemory}
 use Rattle.edr_query.specs.Paths.{page_kind, IsPath, path_in, query_in}
 use Rattle.edr_query.specs.Parameters.{Pair, pairs_in, value_of, is_required, IsFormat, IsGiven, Given, GivenBoth, HasUnknown, HasRepeat}
-use Rattle.edr_query.specs.Distances.{HasNoDistance, HasNoBox}
+use Rattle.edr_axes.specs.Distances.{HasNoDistance}
+use Rattle.edr_query.specs.Boxes.{HasNoBox}
 use Rattle.edr_query.specs.Queries.{IsGeometryText, IsSaid, takes, conflicts, Says}
 
 -- ---- when each refusal applies to the parameters of a page

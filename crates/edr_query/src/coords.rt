@@ -3,7 +3,7 @@ ghost use Rattle.std.specs.Prelude.{◌≡◌, MatchOption};
 ghost use Rattle.edr_base.specs.declared.refusals.Refusal.TheVariants.{MissingParameter, BadCoords, WrongGeometry, BadBbox};
 ghost use Rattle.edr_query.specs.declared.parameters.Parameter.TheVariants as p;
 ghost use Rattle.edr_query.specs.Parameters.{value_of, MaySay};
-ghost use Rattle.edr_query.specs.Distances.{IsBoxText, IsOrdered};
+ghost use Rattle.edr_query.specs.Boxes.{IsBoxText, IsOrdered};
 ghost use Rattle.edr_query.specs.Queries.{IsGeometryText, takes};
 ghost use Rattle.edr_query.specs.Targets.{HasBadCoords, HasWrongGeometry, HasBadBox, LacksHeight, IsMissing};
 ghost use Rattle.edr_query.specs.Reads.{Checks, IsHeightPaired, is_along_z, is_corridor, query_kind, list_in, IsBoxOf};

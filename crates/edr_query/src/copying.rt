@@ -5,8 +5,7 @@ ghost use Rattle.edr_query.specs.Queries.{IsQuery};
 use crate::queries::Query;
 use crate::shapes::Shape;
 use edr_axes::Levels;
-use edr_base::{Items, OutOfMemory, Position, Text};
-use edr_wkt::{Geometry, Polygon};
+use edr_base::{Items, OutOfMemory, Text};
 use std::alloc::Global;
 
 fn copy_texts(alloc: Global, texts: &[Text]) -> Result<Items<Text>, OutOfMemory>
@@ -31,106 +30,28 @@ fn copy_names(
     }
 }
 
-fn copy_positions(
-    alloc: Global,
-    positions: &Items<Position>,
-) -> Result<Items<Position>, OutOfMemory>
-    ensures { IfOk result (λ copy. copy ≡ positions.now) }
-{
-    Ok(Items::of(Vec::from_slice(alloc, positions.items())?))
-}
-
-fn copy_rings(
-    alloc: Global,
-    rings: &[Items<Position>],
-) -> Result<Items<Items<Position>>, OutOfMemory>
-    ensures { IfOk result (λ copy. copy ≡ rings.now) }
-{
-    let mut copies = Vec::new(alloc);
-    for ring in rings {
-        copies.push(copy_positions(alloc, ring)?)?;
-    }
-    Ok(Items::of(copies))
-}
-
-fn copy_polygon(alloc: Global, polygon: &Polygon) -> Result<Polygon, OutOfMemory>
-    ensures { IfOk result (λ copy. copy ≡ polygon.now) }
-{
-    Ok(Polygon {
-        rings: copy_rings(alloc, polygon.rings.items())?,
-    })
-}
-
-fn copy_polygons(alloc: Global, polygons: &[Polygon]) -> Result<Items<Polygon>, OutOfMemory>
-    ensures { IfOk result (λ copy. copy ≡ polygons.now) }
-{
-    let mut copies = Vec::new(alloc);
-    for polygon in polygons {
-        copies.push(copy_polygon(alloc, polygon)?)?;
-    }
-    Ok(Items::of(copies))
-}
-
-fn copy_geometry(alloc: Global, geometry: &Geometry) -> Result<Geometry, OutOfMemory>
-    ensures { IfOk result (λ copy. copy ≡ geometry.now) }
-{
-    match geometry {
-        Geometry::Points {
-            multi,
-            has_z,
-            has_m,
-            positions,
-        } => Ok(Geometry::Points {
-            multi: *multi,
-            has_z: *has_z,
-            has_m: *has_m,
-            positions: copy_positions(alloc, positions)?,
-        }),
-        Geometry::Line {
-            has_z,
-            has_m,
-            positions,
-        } => Ok(Geometry::Line {
-            has_z: *has_z,
-            has_m: *has_m,
-            positions: copy_positions(alloc, positions)?,
-        }),
-        Geometry::Polygons {
-            multi,
-            has_z,
-            has_m,
-            polygons,
-        } => Ok(Geometry::Polygons {
-            multi: *multi,
-            has_z: *has_z,
-            has_m: *has_m,
-            polygons: copy_polygons(alloc, polygons.items())?,
-        }),
-    }
-}
-
 fn copy_shape(alloc: Global, shape: &Shape) -> Result<Shape, OutOfMemory>
     ensures { IfOk result (λ copy. copy ≡ shape.now) }
 {
     match shape {
-        Shape::Position(geometry) => Ok(Shape::Position(copy_geometry(alloc, geometry)?)),
+        Shape::Position(geometry) => Ok(Shape::Position(geometry.copy(alloc)?)),
         Shape::Radius { geometry, within } => Ok(Shape::Radius {
-            geometry: copy_geometry(alloc, geometry)?,
+            geometry: geometry.copy(alloc)?,
             within: *within,
         }),
-        Shape::Area(geometry) => Ok(Shape::Area(copy_geometry(alloc, geometry)?)),
+        Shape::Area(geometry) => Ok(Shape::Area(geometry.copy(alloc)?)),
         Shape::Cube { lo, hi, levels } => Ok(Shape::Cube {
             lo: *lo,
             hi: *hi,
             levels: *levels,
         }),
-        Shape::Trajectory(geometry) => Ok(Shape::Trajectory(copy_geometry(alloc, geometry)?)),
+        Shape::Trajectory(geometry) => Ok(Shape::Trajectory(geometry.copy(alloc)?)),
         Shape::Corridor {
             geometry,
             width,
             height,
         } => Ok(Shape::Corridor {
-            geometry: copy_geometry(alloc, geometry)?,
+            geometry: geometry.copy(alloc)?,
             width: *width,
             height: *height,
         }),
@@ -138,33 +59,11 @@ fn copy_shape(alloc: Global, shape: &Shape) -> Result<Shape, OutOfMemory>
     }
 }
 
-fn copy_levels(alloc: Global, levels: &Levels) -> Result<Levels, OutOfMemory>
+fn copy_levels(alloc: Global, levels: &Option<Levels>) -> Result<Option<Levels>, OutOfMemory>
     ensures { IfOk result (λ copy. copy ≡ levels.now) }
 {
     match levels {
-        Levels::All => Ok(Levels::All),
-        Levels::At(only) => Ok(Levels::At(*only)),
-        Levels::Between(low, high) => Ok(Levels::Between(*low, *high)),
-        Levels::List(levels) => Ok(Levels::List(Items::of(Vec::from_slice(
-            alloc,
-            levels.items(),
-        )?))),
-        Levels::Series { n, first, step } => Ok(Levels::Series {
-            n: *n,
-            first: *first,
-            step: *step,
-        }),
-    }
-}
-
-fn copy_levels_where_given(
-    alloc: Global,
-    levels: &Option<Levels>,
-) -> Result<Option<Levels>, OutOfMemory>
-    ensures { IfOk result (λ copy. copy ≡ levels.now) }
-{
-    match levels {
-        Some(levels) => Ok(Some(copy_levels(alloc, levels)?)),
+        Some(levels) => Ok(Some(levels.copy(alloc)?)),
         None => Ok(None),
     }
 }
@@ -191,7 +90,7 @@ fn copy_place(
     ensures { IfOk result (λ copies. (copies.0 ≡ shape.now) × (copies.1 ≡ levels.now)) }
 {
     let shape = copy_shape(alloc, shape)?;
-    let levels = copy_levels_where_given(alloc, levels)?;
+    let levels = copy_levels(alloc, levels)?;
     Ok((shape, levels))
 }
 

@@ -4,7 +4,8 @@ ghost use Rattle.edr_query.specs.Targets.{TargetIsOne};
 ghost use Rattle.edr_query.specs.Spelling.{WrittenQueriesReadBack};
 
 use edr_axes::{
-    levels_are_unique, times_are_unique, times_are_written, written_times_are_instants,
+    distances_are_unique, levels_are_unique, times_are_unique, times_are_written,
+    written_times_are_instants,
 };
 use edr_wkt::{wkt_is_one, written_wkt_reads_back};
 
@@ -15,6 +16,7 @@ pub fn target_is_one()
     wkt_is_one();
     times_are_unique();
     levels_are_unique();
+    distances_are_unique();
 }
 
 /// The written form of a query asks for that query; by `target_is_one` it asks for no other.
@@ -24,6 +26,7 @@ pub fn written_queries_read_back()
     wkt_is_one();
     times_are_unique();
     levels_are_unique();
+    distances_are_unique();
     written_wkt_reads_back();
     written_times_are_instants();
     times_are_written();

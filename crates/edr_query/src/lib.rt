@@ -5,7 +5,6 @@ mod addresses;
 mod asking;
 mod coords;
 mod copying;
-mod distances;
 mod filters;
 mod laws;
 mod pages;
@@ -20,7 +19,6 @@ mod steps;
 mod written_paths;
 
 pub use addresses::{Address, ID_SET, PageKind, QueryKind};
-pub use distances::read_distance;
 pub use laws::{
     paths_escape_all_others, target_is_one, written_paths_read_back, written_queries_read_back,
 };

@@ -4,21 +4,22 @@ ghost use Rattle.edr_base.specs.declared.refusals.Refusal.TheVariants.{BadFormat
 ghost use Rattle.edr_query.specs.declared.parameters.Parameter.TheVariants as p;
 ghost use Rattle.edr_query.specs.declared.parameters.Parameter.{Parameter as AnyParameter};
 ghost use Rattle.edr_query.specs.Parameters.{value_of, IsFormat, GivenBoth, MaySayBoth};
-ghost use Rattle.edr_query.specs.Distances.{IsDistance, HasNoDistance};
+ghost use Rattle.edr_axes.specs.Distances.{IsDistance, HasNoDistance};
 ghost use Rattle.edr_query.specs.Queries.{IsSaid, conflicts, has_m, has_z, has_levels, are_several};
 ghost use Rattle.edr_query.specs.Targets.{HasBadDistance, HasBadFormat, LacksRequired, IsMissing};
 ghost use Rattle.edr_query.specs.Reads.{Checks, Steps, Passed, IsComplete, IsPlace, AreLimits, AreDistances, IsHeightPaired, IsAllSaid, has_required};
 
 use crate::addresses::{PageKind, QueryKind};
 use crate::coords::{check_geometry, check_height_along, is_corridor, read_bbox, read_coords};
-use crate::distances::read_distance;
 use crate::filters::{read_datetime, read_z};
 use crate::pairs::Parameters;
 use crate::parameters::Parameter;
 use crate::reading::TargetFault;
 use crate::said::Said;
 use crate::shapes::BoundingBox;
-use edr_axes::{Levels, Times, levels_are_unique, times_are_unique};
+use edr_axes::{
+    Levels, Times, distances_are_unique, levels_are_unique, read_distance, times_are_unique,
+};
 use edr_base::Refusal;
 use edr_wkt::{Geometry, wkt_is_one};
 use std::alloc::Global;
@@ -256,6 +257,7 @@ fn without_conflict(
     wkt_is_one();
     times_are_unique();
     levels_are_unique();
+    distances_are_unique();
     if conflicts(&said) {
         return Err(TargetFault::Refused(Refusal::Conflict));
     }

@@ -15,7 +15,8 @@ use Rattle.edr_select.specs.Wanted.{takes_time, takes_level, levels_asked}
 use Rattle.edr_select.specs.Selections.{is_asked}
 use Rattle.edr_select.specs.Heads.{is_some_stored}
 use Rattle.edr_select.specs.Documents.{value_in}
-use Rattle.edr_select.specs.Choices.{TakesEach, takes_node, Chosen, chosen, IsSome, level_at, row_of, column_of, node_of}
+use Rattle.edr_select.specs.Choices.{TakesEach, takes_node, Chosen, chosen, IsSome, row_of, column_of, node_of}
+use Rattle.edr_corridor.specs.Boxes.{level_at}
 use Rattle.edr_select.specs.Listings.{place_at}
 use Rattle.edr_select.specs.ListLaws.{some_member, no_member}
 use Rattle.edr_select.specs.KeptLaws.{contains_kept, kept_below, kept_passes}

@@ -17,7 +17,8 @@ use Rattle.edr_edition.specs.Stores.{of_grid, Subject}
 use Rattle.edr_query.specs.declared.shapes.Shape.TheVariants as at
 use Rattle.edr_query.specs.Values.{QueryValue}
 use Rattle.edr_select.specs.declared.plans.GridNode.{GridNode}
-use Rattle.edr_select.specs.Documents.{document, coverages_in, values_in}
+use Rattle.edr_select.specs.Documents.{document, values_in}
+use Rattle.covjson_value.specs.Coverages.{coverages_in}
 use Rattle.edr_select.specs.Choices.{Chosen, chosen, IsSome, node_of}
 use Rattle.edr_select.specs.Listings.{PlannedValue, place_at, range_over, coverage_of}
 use Rattle.edr_select.specs.GridLaws.{IsGrid}

@@ -18,13 +18,15 @@ use Rattle.edr_select.specs.Wanted.{levels_asked}
 use Rattle.edr_select.specs.Selections.{picked}
 use Rattle.edr_select.specs.Heads.{without_id, domain_at}
 use Rattle.edr_select.specs.Documents.{coverage_over, value_in}
-use Rattle.edr_select.specs.Choices.{TakesEach, Chosen, chosen, IsSome, level_at, node_of, cells_at, cells_along, times_of, levels_of, spot_of}
+use Rattle.edr_select.specs.Choices.{TakesEach, Chosen, chosen, IsSome, node_of, cells_at, cells_along, times_of, levels_of, spot_of}
+use Rattle.edr_corridor.specs.Boxes.{level_at}
 use Rattle.edr_select.specs.Listings.{PlannedValue, place_at, range_over, coverage_of}
 use Rattle.edr_select.specs.ListLaws.{Each, map-map, map_agree_in, map_agree_each, each-map_in, each-flat_map_in}
 use Rattle.edr_select.specs.GridLaws.{IsGrid}
 use Rattle.edr_select.proofs.Picks.{picks_at, picked_is}
 use Rattle.edr_select.proofs.ChosenLaws as laws
-use Rattle.edr_select.specs.NodeLaws.{one_level, nodes_at_spot, points_domain, nodes_along_spots}
+use Rattle.edr_select.specs.NodeLaws.{one_level, nodes_at_spot, nodes_along_spots}
+use Rattle.edr_select.specs.Planned.{points_domain}
 use Rattle.edr_select.specs.HeadLaws.{coverage_with}
 use Rattle.edr_select.specs.ParameterLaws.{parameter_at, same_id, parameters_are}
 

@@ -18,7 +18,8 @@ use Rattle.edr_select.specs.Checks.{grid_of}
 use Rattle.edr_select.specs.Choices.{TakesEach, Chosen, chosen, IsSome}
 use Rattle.edr_select.specs.Listings.{ListingValue}
 use Rattle.edr_select.specs.Masks.{IsArea}
-use Rattle.edr_select.specs.Steps.{IsAsked, IsForm, are_several, is_many, planned_in}
+use Rattle.edr_wkt.specs.Geometries.{is_multi_point}
+use Rattle.edr_select.specs.Steps.{IsAsked, IsForm, is_many, planned_in}
 use Rattle.edr_select.specs.GridLaws.{IsGrid}
 use Rattle.edr_select.proofs.Instances.{grid_from}
 use Rattle.edr_select.proofs.PickLaws as picks
@@ -36,7 +37,7 @@ one_number [] = inr (λ e. absurd (omega (arith, e)))
 one_number (number ∷ []) = inl (number, refl)
 one_number (number ∷ other ∷ numbers) = inr (λ e. absurd (omega (arith, e)))
 
-form_at : (geometry : Geometry) (choice : Chosen) (several : Bool) → are_several geometry ≡ several → (are_several geometry ≡ false → length choice.spots ≡ 1) → HasForm geometry choice
+form_at : (geometry : Geometry) (choice : Chosen) (several : Bool) → is_multi_point geometry ≡ several → (is_multi_point geometry ≡ false → length choice.spots ≡ 1) → HasForm geometry choice
 form_at geometry choice false e alone = elim (one_number choice.spots) [
   | inl spot ↦ record { form = AtPoint spot.0; is = (e, spot.1) }
   | inr none ↦ absurd (none (alone e))
@@ -65,7 +66,7 @@ module _ (c : CollectionValue) (q : QueryValue) (i : InstanceValue) (asked : IsA
   -- of a position
   valid_position : (geometry : Geometry) → q.shape ≡ at.Position geometry → IsSome (chosen i q) → IsValidDocument (document (grid_of c i) q)
   valid_position geometry shape some =
-      let h = form_at geometry (chosen i q) (are_several geometry) refl (spot_alone c q i geometry asked shape some) in
+      let h = form_at geometry (chosen i q) (is_multi_point geometry) refl (spot_alone c q i geometry asked shape some) in
       let listing : ListingValue = record {
         shape = i.grid.shape;
         parameters = (chosen i q).parameters;

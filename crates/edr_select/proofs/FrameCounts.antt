@@ -13,7 +13,8 @@ use Rattle.edr_chunk.specs.Grids as chunk
 use Rattle.edr_edition.specs.Values.{InstanceValue}
 use Rattle.edr_edition.specs.Stores.{of_grid, Subject}
 use Rattle.edr_query.specs.Values.{QueryValue}
-use Rattle.edr_select.specs.Documents.{document, coverages_in, values_in}
+use Rattle.edr_select.specs.Documents.{document, values_in}
+use Rattle.covjson_value.specs.Coverages.{coverages_in}
 use Rattle.edr_select.specs.Choices.{TakesEach, Chosen, chosen, IsSome}
 use Rattle.edr_select.specs.Framings.{FrameValue, cell_at, cell_value, frame_cells, framed_range, framed_coverage, node_count}
 use Rattle.edr_select.specs.Masks.{IsArea, MaskValue, IsMask, frame_with}

@@ -18,7 +18,8 @@ use Rattle.edr_select.specs.Wanted.{levels_asked}
 use Rattle.edr_select.specs.Selections.{picked}
 use Rattle.edr_select.specs.Heads.{without_id}
 use Rattle.edr_select.specs.Documents.{coverage_over, value_in, document, document_over}
-use Rattle.edr_select.specs.Choices.{TakesEach, Chosen, chosen, IsSome, level_at}
+use Rattle.edr_select.specs.Choices.{TakesEach, Chosen, chosen, IsSome}
+use Rattle.edr_corridor.specs.Boxes.{level_at}
 use Rattle.edr_select.specs.Framings.{FrameValue, FramingValue, cell_at, cell_value, framed_range, framed_coverage}
 use Rattle.edr_select.specs.Masks.{IsArea, MaskValue, IsMask, frame_with}
 use Rattle.edr_select.specs.AreaPlans.{domain_over}

@@ -5,14 +5,14 @@ use Rattle.std.proofs.lemmas.Bool.{false≢true}
 use Rattle.std.proofs.lemmas.Nat.{div_below}
 use Rattle.edr_base.specs.declared.refusals.Refusal.TheVariants.{NoSamples, TooLarge}
 use Rattle.covjson_value.specs.declared.coverages.Coverage.{Coverage}
-use Rattle.covjson_value.specs.Coverages.{IsValidDocument}
+use Rattle.covjson_value.specs.Coverages.{IsValidDocument, coverages_in}
 use Rattle.edr_chunk.specs.declared.shapes.GridShape.{GridShape}
 use Rattle.edr_edition.specs.Values.{InstanceValue, CollectionValue}
 use Rattle.edr_edition.specs.Stores.{Subject}
 use Rattle.edr_query.specs.Values.{QueryValue}
 use Rattle.edr_select.specs.declared.plans.Reply.TheVariants.{Framed}
 use Rattle.edr_select.specs.Limits.{value_limit, coverage_limit}
-use Rattle.edr_select.specs.Documents.{document, coverages_in, values_in}
+use Rattle.edr_select.specs.Documents.{document, values_in}
 use Rattle.edr_select.specs.Checks.{refused_query, grid_of}
 use Rattle.edr_select.specs.Choices.{takes_node, chosen, IsSome, parameter_places, row_of, column_of}
 use Rattle.edr_select.specs.Planned.{head_of, parameters_at}

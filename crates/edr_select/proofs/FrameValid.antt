@@ -19,7 +19,8 @@ use Rattle.edr_query.specs.Values.{QueryValue}
 use Rattle.edr_select.specs.Samples.{Stored, id_at}
 use Rattle.edr_select.specs.Wanted.{takes_time, takes_level, levels_asked}
 use Rattle.edr_select.specs.Selections.{is_asked}
-use Rattle.edr_select.specs.Choices.{TakesEach, Chosen, chosen, IsSome, level_at}
+use Rattle.edr_select.specs.Choices.{TakesEach, Chosen, chosen, IsSome}
+use Rattle.edr_corridor.specs.Boxes.{level_at}
 use Rattle.edr_select.specs.Framings.{FrameValue, node_count, IsFrame, IsFraming}
 use Rattle.edr_select.specs.Masks.{MaskValue, IsMask, frame_with}
 use Rattle.edr_select.specs.AreaPlans.{domain_over}

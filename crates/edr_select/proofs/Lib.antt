@@ -26,7 +26,6 @@ mod ParameterChoices
 mod LevelChoices
 mod SpotChoices
 mod TimeChoices
-mod PointDomains
 mod PlanSteps
 mod PlanForms
 mod PlanChoices

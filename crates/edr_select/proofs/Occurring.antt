@@ -14,7 +14,8 @@ use Rattle.edr_query.specs.Values.{QueryValue}
 use Rattle.edr_select.specs.Samples.{Stored}
 use Rattle.edr_select.specs.Wanted.{takes_time, takes_level, levels_asked}
 use Rattle.edr_select.specs.Heads.{Spot, times_in, levels_in, spots_in, stands_at}
-use Rattle.edr_select.specs.Choices.{TakesEach, takes_node, Chosen, chosen, IsSome, level_at, row_of, column_of, times_of, levels_of, spot_of}
+use Rattle.edr_select.specs.Choices.{TakesEach, takes_node, Chosen, chosen, IsSome, row_of, column_of, times_of, levels_of, spot_of}
+use Rattle.edr_corridor.specs.Boxes.{level_at}
 use Rattle.edr_select.specs.ListLaws.{filter_at, filter-map, both}
 use Rattle.edr_select.specs.KeptLaws.{contains_kept, kept_agree, filter_by_places, pairs_numbered}
 use Rattle.edr_select.specs.GridLaws.{IsGrid, one_place}

@@ -13,7 +13,8 @@ use Rattle.edr_select.specs.Wanted.{takes_time, takes_level, levels_asked}
 use Rattle.edr_select.specs.Selections.{is_asked, wants, picked}
 use Rattle.edr_select.specs.Heads.{times_in, levels_in, spots_in, is_some_stored}
 use Rattle.edr_select.specs.Documents.{value_in}
-use Rattle.edr_select.specs.Choices.{TakesEach, takes_node, Chosen, chosen, IsSome, level_at, node_of, times_of, levels_of, spot_of}
+use Rattle.edr_select.specs.Choices.{TakesEach, takes_node, Chosen, chosen, IsSome, node_of, times_of, levels_of, spot_of}
+use Rattle.edr_corridor.specs.Boxes.{level_at}
 use Rattle.edr_select.specs.Listings.{place_at}
 use Rattle.edr_select.specs.GridLaws.{IsGrid}
 use Rattle.edr_select.proofs.Picks.{picks_at, picked_is, wants_is, taken_product, taken_from, from_taken}

@@ -16,7 +16,8 @@ use Rattle.edr_query.specs.Values.{QueryValue}
 use Rattle.edr_select.specs.Samples.{Stored, id_at, stored_at, grid_samples, samples_in, samples_of}
 use Rattle.edr_select.specs.Wanted.{takes_time, takes_level, levels_asked, takes_place}
 use Rattle.edr_select.specs.Selections.{is_asked, takes_each, takes, wants, picked}
-use Rattle.edr_select.specs.Choices.{TakesEach, takes_node, level_at}
+use Rattle.edr_select.specs.Choices.{TakesEach, takes_node}
+use Rattle.edr_corridor.specs.Boxes.{level_at}
 use Rattle.edr_select.specs.ListLaws.{any-filter, any-map, Each, each-filter, each-map}
 use Rattle.edr_select.specs.PlaceLaws.{found_place, place_found, each_place}
 

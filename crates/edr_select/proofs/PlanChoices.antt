@@ -13,7 +13,8 @@ use Rattle.edr_select.specs.Checks.{refused_query}
 use Rattle.edr_select.specs.Choices.{Chosen, chosen, IsSome}
 use Rattle.edr_select.specs.Planned.{IsInside, AreAxes}
 use Rattle.edr_select.specs.Listings.{ListingValue, IsListing}
-use Rattle.edr_select.specs.Steps.{IsAsked, IsChoice, IsForm, IsPlanIn, are_several, is_many, value_count, coverage_count, planned_in}
+use Rattle.edr_wkt.specs.Geometries.{is_multi_point}
+use Rattle.edr_select.specs.Steps.{IsAsked, IsChoice, IsForm, IsPlanIn, is_many, value_count, coverage_count, planned_in}
 use Rattle.edr_select.proofs.PlanForms.{spot_alone, inside, axes, is_listing, is_plan_in, is_refused_in}
 
 module _ (c : CollectionValue) (q : QueryValue) (i : InstanceValue) (asked : IsAsked c q i) (choice : Chosen) (made : IsChoice c q i choice) where
@@ -29,7 +30,7 @@ module _ (c : CollectionValue) (q : QueryValue) (i : InstanceValue) (asked : IsA
   -- ---- positions
 
   module _ (geometry : Geometry) (shape : q.shape ≡ at.Position geometry) where
-    pub choice_alone : are_several geometry ≡ false → length choice.spots ≡ 1
+    pub choice_alone : is_multi_point geometry ≡ false → length choice.spots ≡ 1
     choice_alone e = ap (λ (ch : Chosen). length ch.spots) made.is ∙ spot_alone c q i geometry asked shape some_chosen e
 
     pub too_large : (form : Form) → IsForm geometry choice form

@@ -18,13 +18,15 @@ use Rattle.edr_select.specs.Wanted.{levels_asked}
 use Rattle.edr_select.specs.Selections.{picked}
 use Rattle.edr_select.specs.Heads.{Spot, Head, alone, together, without_id, domain_at, levels_in, spots_in, heads_at_points, heads_of_points, heads_on_grid, heads_of}
 use Rattle.edr_select.specs.Documents.{coverage_over, document, document_over}
-use Rattle.edr_select.specs.Choices.{TakesEach, Chosen, chosen, IsSome, level_at, times_of, levels_of, spot_of}
+use Rattle.edr_select.specs.Choices.{TakesEach, Chosen, chosen, IsSome, times_of, levels_of, spot_of}
+use Rattle.edr_corridor.specs.Boxes.{level_at}
 use Rattle.edr_select.specs.Listings.{PlannedValue, ListingValue, coverage_of, document_of, listing_document}
 use Rattle.edr_select.specs.ListLaws.{map-map, map_agree_in, member_here}
 use Rattle.edr_select.specs.GridLaws.{IsGrid}
 use Rattle.edr_select.proofs.Picks.{picks_at, picked_is, takes_position}
 use Rattle.edr_select.proofs.Occurring.{times_are, levels_are, spots_are}
-use Rattle.edr_select.specs.NodeLaws.{one_level, points_domain}
+use Rattle.edr_select.specs.NodeLaws.{one_level}
+use Rattle.edr_select.specs.Planned.{points_domain}
 use Rattle.edr_select.proofs.Coverages.{planned_at, planned_along, coverage_at_spot, coverage_along}
 
 here : (x : ℕ) (xs : List ℕ) → xs ≡ x ∷ [] → Contains xs x

@@ -7,13 +7,13 @@ use Rattle.std.proofs.lemmas.List.{length-map, get_or_default}
 use Rattle.edr_base.specs.declared.places.Position.{Position}
 use Rattle.edr_base.specs.Limits.{node_limit}
 use Rattle.edr_base.specs.declared.refusals.Refusal.TheVariants.{TooLarge}
-use Rattle.edr_axes.specs.Axes.{IsAxis, value_at}
+use Rattle.edr_axes.specs.Axes.{IsAxis}
 use Rattle.edr_wkt.specs.declared.geometry.Geometry.{Geometry}
 use Rattle.edr_wkt.specs.declared.geometry.Geometry.TheVariants.{Points, Line, Polygons}
-use Rattle.edr_wkt.specs.Geometries.{positions_of}
+use Rattle.edr_wkt.specs.Geometries.{positions_of, is_multi_point}
 use Rattle.covjson_value.specs.declared.domains.Domain.{Domain}
 use Rattle.covjson_value.specs.declared.domains.CoordinateName.TheVariants.{Z}
-use Rattle.covjson_value.specs.Coverages.{IsNamedAxis, IsValidDocument}
+use Rattle.covjson_value.specs.Coverages.{IsNamedAxis, IsValidDocument, coverages_in}
 use Rattle.covjson_value.specs.Domains.{axis_length}
 use Rattle.edr_chunk.specs.declared.shapes.GridShape.{GridShape}
 use Rattle.edr_chunk.specs.Places.{IsShape}
@@ -30,22 +30,20 @@ use Rattle.edr_select.specs.declared.plans.Reply.TheVariants.{Listed}
 use Rattle.edr_select.specs.declared.forms.Form.{Form}
 use Rattle.edr_select.specs.declared.forms.Form.TheVariants.{AtPoint, Along, Apart}
 use Rattle.edr_select.specs.Limits.{value_limit, coverage_limit}
-use Rattle.edr_select.specs.Heads.{Spot}
 use Rattle.edr_select.specs.Wanted.{levels_asked}
-use Rattle.edr_select.specs.Documents.{document, coverages_in, values_in}
+use Rattle.edr_select.specs.Documents.{document, values_in}
 use Rattle.edr_select.specs.Checks.{refused_query, grid_of}
-use Rattle.edr_select.specs.Choices.{IsPoints, Chosen, chosen, IsSome, level_at, cells_along, levels_of, spot_of}
+use Rattle.edr_select.specs.Choices.{IsPoints, Chosen, chosen, IsSome, levels_of}
 use Rattle.edr_select.specs.Planned as planned
 use Rattle.edr_select.specs.Planned.{IsInside, IsSmall, AreAxes}
 use Rattle.edr_select.specs.Listings.{PlannedValue, ListingValue, IsListing}
 use Rattle.edr_select.specs.Plans.{IsReplyTo}
-use Rattle.edr_select.specs.Steps.{IsAsked, IsForm, IsPlanIn, are_several, is_many, value_count, coverage_count, planned_in, refused_large}
+use Rattle.edr_select.specs.Steps.{IsAsked, IsForm, IsPlanIn, is_many, value_count, coverage_count, planned_in, refused_large}
 use Rattle.edr_select.specs.ListLaws.{all_member, member_here}
 use Rattle.edr_select.specs.GridLaws.{IsGrid}
 use Rattle.edr_select.proofs.Instances.{grid_from}
 use Rattle.edr_select.proofs.ChosenLaws as laws
 use Rattle.edr_select.proofs.Nearest.{one_spot}
-use Rattle.edr_select.specs.NodeLaws as nodes_of_spots
 use Rattle.edr_select.proofs.Coverages as coverages
 use Rattle.edr_select.proofs.Counts as counts
 use Rattle.edr_select.proofs.PlanLaws as plans
@@ -75,7 +73,7 @@ record PointsAre (geometry : Geometry) (multi : Bool) : Type 0 where
   positions : List Position
   is : geometry ≡ Points multi has_z has_m positions
 
-points_as : (geometry : Geometry) → IsTaken kind.Position geometry → (multi : Bool) → are_several geometry ≡ multi → PointsAre geometry multi
+points_as : (geometry : Geometry) → IsTaken kind.Position geometry → (multi : Bool) → is_multi_point geometry ≡ multi → PointsAre geometry multi
 points_as (Points multi has_z has_m positions) h other e = record { has_z = has_z; has_m = has_m; positions = positions; is = ap (λ b. Points b has_z has_m positions) e }
 points_as (Line has_z has_m positions) h other e = absurd (false≢true h.1)
 points_as (Polygons multi has_z has_m polygons) h other e = absurd (false≢true h.1)
@@ -84,7 +82,7 @@ record OnePoint (geometry : Geometry) : Type 0 where
   point : Position
   alone : positions_of geometry ≡ point ∷ []
 
-one_of : (geometry : Geometry) → ArePoints geometry → are_several geometry ≡ false → OnePoint geometry
+one_of : (geometry : Geometry) → ArePoints geometry → is_multi_point geometry ≡ false → OnePoint geometry
 one_of _ (one has_z point) e = record { point = point; alone = refl }
 one_of _ (several positions some) e = absurd (false≢true (sym e))
 
@@ -131,10 +129,6 @@ small i h =
 axis_if : (zs : Option (List ℤ)) → IfSome zs (IsNamedAxis Z) → IfSome zs IsAxis
 axis_if None h = tt
 axis_if (Some values) h = h.ascending
-
-same_domain : (t : ℤ) (z : Option ℤ) (spots : List Spot) → planned.points_domain t z spots ≡ nodes_of_spots.points_domain t z spots
-same_domain t None spots = refl
-same_domain t (Some z) spots = refl
 
 -- the choice of a query of any kind
 module _ (c : CollectionValue) (q : QueryValue) (i : InstanceValue) (asked : IsAsked c q i) where
@@ -184,7 +178,7 @@ module _ (c : CollectionValue) (q : QueryValue) (i : InstanceValue) (geometry : 
   points = taken_points q geometry asked.shape shape
 
   -- one spot is the nearest to one point
-  pub spot_alone : IsSome taken → are_several geometry ≡ false → length taken.spots ≡ 1
+  pub spot_alone : IsSome taken → is_multi_point geometry ≡ false → length taken.spots ≡ 1
   spot_alone some e =
       let p = one_of geometry (position_points geometry points) e in
       ap (λ (spots : List ℕ). length spots) (one_spot i q geometry shape gr p.point p.alone some.spots).1
@@ -227,7 +221,7 @@ module _ (c : CollectionValue) (q : QueryValue) (i : InstanceValue) (geometry : 
     over cells domain = record { head = coverages.head_over s i taken domain; cells = cells }
 
     same_along : (t z : ℕ) → planned.planned_along c.referencing i taken t z ≡ coverages.planned_along s i taken t z
-    same_along t z = ap (over (cells_along i.xs taken t z)) (same_domain (value_at i.ts t) (level_at i.zs z) (map (spot_of i) taken.spots))
+    same_along t z = refl
 
     -- every listing is valid
     pub is_listing : (form : Form) → IsForm geometry taken form → (listing : ListingValue) → listing.shape ≡ i.grid.shape → listing.parameters ≡ taken.parameters

@@ -6,7 +6,7 @@ use Rattle.std.proofs.lemmas.Bool.{false≢true, false_from_ne_true}
 use Rattle.edr_base.specs.declared.refusals.Refusal.{Refusal}
 use Rattle.edr_base.specs.declared.refusals.Refusal.TheVariants.{UnknownParameterName, BadCrs, NoLevels, NoSamples, TooLarge}
 use Rattle.covjson_value.specs.declared.coverages.Parameter.{Parameter}
-use Rattle.covjson_value.specs.Coverages.{ids_of}
+use Rattle.covjson_value.specs.Coverages.{ids_of, coverages_in}
 use Rattle.edr_edition.specs.Values.{InstanceValue, CollectionValue}
 use Rattle.edr_edition.specs.Stores.{Subject}
 use Rattle.edr_query.specs.Values.{QueryValue}
@@ -14,10 +14,10 @@ use Rattle.edr_select.specs.Limits.{value_limit, coverage_limit}
 use Rattle.edr_select.specs.Refusals.{applies_if, applies_to_query, applies_to_subject, names_other, crs_is_other}
 use Rattle.edr_select.specs.Selections.{picked}
 use Rattle.edr_select.specs.Heads.{is_some_stored}
-use Rattle.edr_select.specs.Documents.{document, coverages_in, values_in}
+use Rattle.edr_select.specs.Documents.{document, values_in}
 use Rattle.edr_select.specs.Checks.{of_data, refused_data, refused_query, grid_of}
 use Rattle.edr_select.specs.Choices.{Chosen, chosen, IsSome}
-use Rattle.edr_select.specs.Steps.{IsAsked, refused_known, refused_sizes, refused_large, lacks_levels}
+use Rattle.edr_select.specs.Steps.{IsAsked, IsInstanceOf, refused_known, refused_sizes, refused_large, lacks_levels}
 use Rattle.edr_select.specs.ListLaws.{all_member}
 use Rattle.edr_select.specs.NamedLaws.{named_member, subject_found}
 use Rattle.edr_select.proofs.Instances.{grid_from}
@@ -31,7 +31,11 @@ stops b refusal rest e = ap (λ b. cond b (Some refusal) rest) e
 passes : (b : Bool) (refusal : Refusal) (rest : Option Refusal) → b ≡ false → cond b (Some refusal) rest ≡ rest
 passes b refusal rest e = ap (λ b. cond b (Some refusal) rest) e
 
-module _ (c : CollectionValue) (q : QueryValue) (i : InstanceValue) (asked : IsAsked c q i) where
+-- what is asked is asked of such an instance
+pub of_asked : (c : CollectionValue) (q : QueryValue) (i : InstanceValue) → IsAsked c q i → IsInstanceOf c q i
+of_asked c q i asked = record { is_collection = asked.is_collection; kind = asked.kind; instance_is = asked.instance_is }
+
+module _ (c : CollectionValue) (q : QueryValue) (i : InstanceValue) (asked : IsInstanceOf c q i) where
   abbrev s : Subject
   s = grid_of c i
 
@@ -68,33 +72,37 @@ module _ (c : CollectionValue) (q : QueryValue) (i : InstanceValue) (asked : IsA
   pub known_levels : crs_is_other q.crs c.referencing.crs ≡ false → lacks_levels q i ≡ false → refused_known c q ≡ refused_sizes q s
   known_levels crs h = known_crs crs ∙ passes (lacks_levels q i) NoLevels (refused_sizes q s) h
 
-  -- ---- samples
+-- ---- samples
 
-  none_picked : (¬ (IsSome (chosen i q))) → is_some_stored (picked s q) ≡ false
+module _ (c : CollectionValue) (q : QueryValue) (i : InstanceValue) (asked : IsAsked c q i) where
+  abbrev held : Subject
+  held = grid_of c i
+
+  none_picked : (¬ (IsSome (chosen i q))) → is_some_stored (picked held q) ≡ false
   none_picked none =
       let g = grid_from i asked.grid in
-      false_from_ne_true (is_some_stored (picked s q)) (λ h. none (record {
-        parameters = λ e. false≢true (sym (picks.none_without_parameters s q i refl asked.each g e) ∙ h);
-        times = λ e. false≢true (sym (picks.none_without_times s q i refl asked.each g e) ∙ h);
-        levels = λ e. false≢true (sym (picks.none_without_levels s q i refl asked.each g e) ∙ h);
-        spots = λ e. false≢true (sym (picks.none_without_spots s q i refl asked.each g e) ∙ h);
+      false_from_ne_true (is_some_stored (picked held q)) (λ h. none (record {
+        parameters = λ e. false≢true (sym (picks.none_without_parameters held q i refl asked.each g e) ∙ h);
+        times = λ e. false≢true (sym (picks.none_without_times held q i refl asked.each g e) ∙ h);
+        levels = λ e. false≢true (sym (picks.none_without_levels held q i refl asked.each g e) ∙ h);
+        spots = λ e. false≢true (sym (picks.none_without_spots held q i refl asked.each g e) ∙ h);
       }))
 
-  pub refused_samples : (¬ (IsSome (chosen i q))) → refused_sizes q s ≡ Some NoSamples
-  refused_samples none = stops (not (is_some_stored (picked s q))) NoSamples (refused_large q s) (ap not (none_picked none))
+  pub refused_samples : (¬ (IsSome (chosen i q))) → refused_sizes q held ≡ Some NoSamples
+  refused_samples none = stops (not (is_some_stored (picked held q))) NoSamples (refused_large q held) (ap not (none_picked none))
 
-  pub known_samples : IsSome (chosen i q) → refused_sizes q s ≡ refused_large q s
+  pub known_samples : IsSome (chosen i q) → refused_sizes q held ≡ refused_large q held
   known_samples some =
-      passes (not (is_some_stored (picked s q))) NoSamples (refused_large q s)
-      (ap not (picks.some_picked s q i refl asked.each (grid_from i asked.grid) some))
+      passes (not (is_some_stored (picked held q))) NoSamples (refused_large q held)
+      (ap not (picks.some_picked held q i refl asked.each (grid_from i asked.grid) some))
 
   -- ---- sizes
 
-  pub refused_size : (nat_lt value_limit (values_in (document s q)) || nat_lt coverage_limit (length (coverages_in (document s q)))) ≡ true → refused_large q s ≡ Some TooLarge
-  refused_size h = stops (applies_to_subject q TooLarge s) TooLarge None h
+  pub refused_size : (nat_lt value_limit (values_in (document held q)) || nat_lt coverage_limit (length (coverages_in (document held q)))) ≡ true → refused_large q held ≡ Some TooLarge
+  refused_size h = stops (applies_to_subject q TooLarge held) TooLarge None h
 
-  pub known_size : (nat_lt value_limit (values_in (document s q)) || nat_lt coverage_limit (length (coverages_in (document s q)))) ≡ false → refused_large q s ≡ None
-  known_size h = passes (applies_to_subject q TooLarge s) TooLarge None h
+  pub known_size : (nat_lt value_limit (values_in (document held q)) || nat_lt coverage_limit (length (coverages_in (document held q)))) ≡ false → refused_large q held ≡ None
+  known_size h = passes (applies_to_subject q TooLarge held) TooLarge None h
 
 -- ---- what was tested
 

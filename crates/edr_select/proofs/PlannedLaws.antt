@@ -16,7 +16,8 @@ use Rattle.edr_edition.specs.Stores.{Subject}
 use Rattle.edr_query.specs.Values.{QueryValue}
 use Rattle.edr_select.specs.Wanted.{levels_asked}
 use Rattle.edr_select.specs.Heads.{domain_at}
-use Rattle.edr_select.specs.Choices.{TakesEach, takes_node, Chosen, chosen, IsSome, level_at, node_of, cells_at, cells_along, times_of, levels_of, row_of, column_of, spot_of}
+use Rattle.edr_select.specs.Choices.{TakesEach, takes_node, Chosen, chosen, IsSome, node_of, cells_at, cells_along, times_of, levels_of, row_of, column_of, spot_of}
+use Rattle.edr_corridor.specs.Boxes.{level_at}
 use Rattle.edr_select.specs.Listings.{PlannedValue, ListingValue, place_at, IsPlanned, IsListing}
 use Rattle.edr_select.specs.ListLaws.{Each, each-map_in, each-flat_map_in}
 use Rattle.edr_select.specs.GridLaws.{IsGrid}

@@ -17,14 +17,11 @@ use Rattle.edr_edition.specs.Values.{InstanceValue}
 use Rattle.edr_query.specs.declared.shapes.Shape.{Shape}
 use Rattle.edr_query.specs.declared.shapes.Shape.TheVariants as at
 use Rattle.edr_query.specs.Values.{QueryValue}
+use Rattle.edr_corridor.specs.Boxes.{level_at}
 use Rattle.edr_select.specs.declared.plans.GridNode.{GridNode}
 use Rattle.edr_select.specs.Samples.{id_at}
 use Rattle.edr_select.specs.Wanted.{takes_time, takes_level, levels_asked, is_along, is_nearest, in_areas, in_box}
 use Rattle.edr_select.specs.Selections.{is_asked}
-
--- the level at a place, where there is an axis of levels
-abbrev pub level_at : Option (List ℤ) → ℕ → Option ℤ
-level_at zs z = option_map (λ values. value_at values z) zs
 
 -- the places of the parameters, the times and the levels that are taken
 abbrev pub parameter_places : Option (List (List ℕ)) → List Parameter → List ℕ

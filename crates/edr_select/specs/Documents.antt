@@ -1,5 +1,5 @@
 -- The document that a query gets: the heads of its coverages, and one rule for all values (OGC 21-069r2).
-use Rattle.std.specs.Prelude.{ℕ, ℤ, Bool, true, false, ◌&&◌, bytes_eq, if◌then◌else◌, List, [], ◌∷◌, length, map, Option, None, Some, option_map, unwrap_or}
+use Rattle.std.specs.Prelude.{ℕ, ℤ, Bool, true, false, ◌&&◌, bytes_eq, if◌then◌else◌, List, length, map, Option, None, Some, option_map, unwrap_or}
 use Rattle.std.specs.List.{filter, find, sum_by}
 use Rattle.covjson_value.specs.declared.domains.CoordinateName.TheVariants.{Z}
 use Rattle.covjson_value.specs.declared.domains.Domain.{Domain}
@@ -10,6 +10,7 @@ use Rattle.covjson_value.specs.declared.coverages.Coverage.{Coverage}
 use Rattle.covjson_value.specs.declared.coverages.Document.{Document}
 use Rattle.covjson_value.specs.declared.coverages.Document.TheVariants.{One, Many}
 use Rattle.covjson_value.specs.Domains.{has_coordinate}
+use Rattle.covjson_value.specs.Coverages.{coverages_in}
 use Rattle.covjson_value.specs.Samples.{Node, nodes_of, is_of}
 use Rattle.edr_edition.specs.Stores.{Subject}
 use Rattle.edr_query.specs.Values.{QueryValue}
@@ -56,10 +57,6 @@ abbrev pub document : Subject → QueryValue → Document
 document subject q = document_over (coverage_over subject q (picked subject q)) (heads_of subject.held q (picked subject q))
 
 -- ---- sizes
-
-abbrev pub coverages_in : Document → List Coverage
-coverages_in (One coverage) = coverage ∷ []
-coverages_in (Many coverages) = coverages
 
 -- how many values all ranges have
 abbrev pub values_in : Document → ℕ

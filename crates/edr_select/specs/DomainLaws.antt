@@ -16,7 +16,7 @@ use Rattle.covjson_value.specs.Domains.{axis_of, axis_length, tuples_of, coordin
 use Rattle.covjson_value.specs.CountLaws.{count_is}
 use Rattle.covjson_value.specs.Coverages.{IsAxisValue, IsNamedAxis, HasAxes, IsTuple, NeverFall, AreTuples, HasTuples}
 use Rattle.edr_select.specs.Heads.{Spot, domain_at, position_at}
-use Rattle.edr_select.specs.NodeLaws.{points_domain}
+use Rattle.edr_select.specs.Planned.{points_domain}
 
 -- ---- one spot
 

@@ -11,7 +11,8 @@ use Rattle.covjson_value.specs.declared.domains.CoordinateName.TheVariants.{T, Z
 use Rattle.covjson_value.specs.Domains.{axis_length}
 use Rattle.covjson_value.specs.Coverages.{IsAxisValue, IsNamedAxis}
 use Rattle.edr_select.specs.Wanted.{takes_time, takes_level}
-use Rattle.edr_select.specs.Choices.{level_at, level_places, time_places}
+use Rattle.edr_select.specs.Choices.{level_places, time_places}
+use Rattle.edr_corridor.specs.Boxes.{level_at}
 use Rattle.edr_select.specs.ListLaws.{Each}
 use Rattle.edr_select.specs.KeptLaws.{filter_by_places}
 use Rattle.edr_select.specs.NodeLaws.{one_level}

@@ -7,15 +7,15 @@ use Rattle.std.proofs.lemmas.List.Concat.{flat_map_single}
 use Rattle.std.proofs.lemmas.List.Folds.{flat_map-map}
 use Rattle.edr_axes.specs.declared.levels.Levels.{Levels}
 use Rattle.edr_axes.specs.Axes.{value_at}
-use Rattle.covjson_value.specs.declared.domains.Domain.{Domain}
-use Rattle.covjson_value.specs.declared.domains.Domain.TheVariants.{MultiPoint}
 use Rattle.covjson_value.specs.Samples.{Node, node, nodes_of, values_or_absent}
 use Rattle.edr_edition.specs.Values.{InstanceValue}
 use Rattle.edr_select.specs.Samples.{node_at}
 use Rattle.edr_select.specs.Wanted.{takes_level}
 use Rattle.edr_select.specs.Heads.{Spot, domain_at, position_at}
-use Rattle.edr_select.specs.Choices.{Chosen, level_at, level_places, node_of, cells_at, cells_along, times_of, levels_of, spot_of}
+use Rattle.edr_select.specs.Choices.{Chosen, level_places, node_of, cells_at, cells_along, times_of, levels_of, spot_of}
+use Rattle.edr_corridor.specs.Boxes.{level_at}
 use Rattle.edr_select.specs.Listings.{place_at}
+use Rattle.edr_select.specs.Planned.{points_domain}
 use Rattle.edr_select.specs.ListLaws.{map-map, map-flat_map, flat_map_agree}
 
 -- the nodes of one place, at each time and level
@@ -78,10 +78,6 @@ nodes_at_spot i c spot one =
     (λ t. map-map (λ cell. node_at i (place_at 0 cell)) (node_of i.xs spot t) c.levels) c.times)))
 
 -- ---- several spots at one time and at most one level
-
-abbrev pub points_domain : ℤ → Option ℤ → List Spot → Domain
-points_domain t None spots = MultiPoint (Some t) false (map (position_at (pos 0)) spots)
-points_domain t (Some z) spots = MultiPoint (Some t) true (map (position_at z) spots)
 
 tuples_flat : (t : ℤ) (z : ℤ) (spots : List Spot)
     → map (λ p. node (Some t) None p.y p.x) (map (position_at z) spots) ≡ map (λ (spot : Spot). node (Some t) None spot.0 spot.1) spots

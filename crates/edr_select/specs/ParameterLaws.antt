@@ -1,5 +1,5 @@
 -- The parameters that are asked, by their places.
-use Rattle.std.proofs.Common.{◌≡◌, ℕ, zero, suc, ◌+◌, ◌<◌, List, [], ◌∷◌, length, refl, ap, ap₂, sym, ◌∙◌, arith, None}
+use Rattle.std.proofs.Common.{◌≡◌, ℕ, zero, suc, ◌+◌, ◌<◌, List, [], ◌∷◌, length, refl, ap, ap₂, sym, ◌∙◌, arith}
 use Rattle.std.specs.declared.option.Option.{Option}
 use Rattle.std.specs.Prelude.{map}
 use Rattle.std.specs.List.{filter, range_with_len, slice_index_or}
@@ -12,10 +12,8 @@ use Rattle.edr_select.specs.Samples.{id_at, parameters_in}
 use Rattle.edr_select.specs.Selections.{is_asked}
 use Rattle.edr_select.specs.Documents.{parameters_asked}
 use Rattle.edr_select.specs.Choices.{parameter_places}
+use Rattle.edr_select.specs.Planned.{no_parameter}
 use Rattle.edr_select.specs.ListLaws.{filter-map}
-
-abbrev pub no_parameter : Parameter
-no_parameter = record { id = []; lang = []; label = []; unit = None }
 
 abbrev pub parameter_at : List Parameter → ℕ → Parameter
 parameter_at parameters place = slice_index_or parameters place no_parameter

@@ -5,13 +5,8 @@ use Rattle.edr_chunk.specs.declared.shapes.GridShape.{GridShape}
 use Rattle.edr_chunk.specs.declared.shapes.GridPlace.{GridPlace}
 use Rattle.edr_chunk.specs.Places.{Within}
 use Rattle.edr_chunk.specs.AllPlaces.{at, places}
+use Rattle.edr_chunk.specs.LawsOfPlaces.{Found}
 use Rattle.edr_select.specs.ListLaws.{any-map, any-flat_map, passes_at, any_range, Each, each-map_range, each-flat_map_range}
-
--- a place that passes
-pub record Found (t : GridPlace → Bool) (s : GridShape) : Type 0 where
-  pub place : GridPlace
-  pub within : Within s place
-  pub passes : t place ≡ true
 
 -- some place passes: along x, then y, z, t and the parameters
 abbrev pub some_x : (GridPlace → Bool) → GridShape → ℕ → ℕ → ℕ → ℕ → Bool

@@ -11,9 +11,11 @@ use Rattle.covjson_value.specs.declared.coverages.Coverage.{Coverage}
 use Rattle.edr_edition.specs.Values.{InstanceValue}
 use Rattle.edr_select.specs.Heads.{Spot, position_at, domain_at}
 use Rattle.edr_select.specs.Documents.{referencing_over}
-use Rattle.edr_select.specs.Choices.{Chosen, level_at, cells_at, cells_along, times_of, levels_of, spot_of}
+use Rattle.edr_select.specs.Choices.{Chosen, cells_at, cells_along, times_of, levels_of, spot_of}
+use Rattle.edr_corridor.specs.Boxes.{level_at}
 use Rattle.edr_select.specs.Listings.{PlannedValue}
 
+-- what stands where no parameter does
 abbrev pub no_parameter : Parameter
 no_parameter = record { id = []; lang = []; label = []; unit = None }
 

@@ -5,7 +5,7 @@ use Rattle.edr_base.specs.FirstThatApplies.{IsLeast, NoneApplies}
 use Rattle.edr_base.specs.RefusalTable.{rank}
 use Rattle.edr_base.specs.declared.refusals.Refusal.{Refusal}
 use Rattle.edr_base.specs.declared.refusals.Refusal.TheVariants.{UnknownCollection, UnknownInstance, UnknownLocation, QueryNotOffered, UnknownParameterName, BadCrs, NoLevels, NoSamples, TooLarge}
-use Rattle.covjson_value.specs.Coverages.{ids_of}
+use Rattle.covjson_value.specs.Coverages.{ids_of, coverages_in}
 use Rattle.edr_ids.specs.Ids.{item_of}
 use Rattle.edr_edition.specs.declared.kinds.Kind.{Kind}
 use Rattle.edr_edition.specs.declared.kinds.Kind.TheVariants.{Grid, Station}
@@ -21,7 +21,7 @@ use Rattle.edr_query.specs.Queries.{has_z, has_levels, coords_of, box_of}
 use Rattle.edr_select.specs.Limits.{value_limit, coverage_limit}
 use Rattle.edr_select.specs.Selections.{picked}
 use Rattle.edr_select.specs.Heads.{is_some_stored}
-use Rattle.edr_select.specs.Documents.{document, coverages_in, values_in}
+use Rattle.edr_select.specs.Documents.{document, values_in}
 
 -- ---- what a page names
 

@@ -12,9 +12,9 @@ use Rattle.covjson_value.specs.declared.coverages.Coverage.{Coverage}
 use Rattle.covjson_value.specs.declared.coverages.Document.{Document}
 use Rattle.covjson_value.specs.declared.coverages.Document.TheVariants.{One, Many}
 use Rattle.edr_base.specs.Limits.{IsSample}
-use Rattle.covjson_value.specs.Coverages.{IsRange, IsValid, IsValidDocument}
+use Rattle.covjson_value.specs.Coverages.{IsRange, IsValid, IsValidDocument, coverages_in}
 use Rattle.covjson_value.specs.Domains.{count_of}
-use Rattle.covjson_write.specs.Pieces.{is_many, coverages_of}
+use Rattle.covjson_write.specs.Pieces.{is_many}
 use Rattle.edr_chunk.specs.declared.shapes.GridShape.{GridShape}
 use Rattle.edr_chunk.specs.Places.{number}
 use Rattle.edr_chunk.specs.Grids as chunk
@@ -88,7 +88,7 @@ instance_samples instance is =
 
 pub record Told (many : Bool) (coverages : List Coverage) (d : Document) : Type 0 where
   pub many_is : is_many d ≡ many
-  pub coverages_is : coverages_of d ≡ coverages
+  pub coverages_is : coverages_in d ≡ coverages
   pub valid : All IsValid coverages → IsValidDocument d
 
 pub told_by : (many : Bool) (coverages : List Coverage) (d : Document) → (many ≡ false → length coverages ≡ 1) → document_of many coverages ≡ Some d → Told many coverages d

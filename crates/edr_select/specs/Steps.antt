@@ -4,7 +4,7 @@ use Rattle.std.specs.List.{find}
 use Rattle.edr_base.specs.declared.refusals.Refusal.{Refusal}
 use Rattle.edr_base.specs.declared.refusals.Refusal.TheVariants.{BadCrs, NoSamples, TooLarge}
 use Rattle.edr_wkt.specs.declared.geometry.Geometry.{Geometry}
-use Rattle.edr_wkt.specs.declared.geometry.Geometry.TheVariants.{Points, Line, Polygons}
+use Rattle.edr_wkt.specs.Geometries.{is_multi_point}
 use Rattle.covjson_value.specs.declared.coverages.Referencing.{Referencing}
 use Rattle.covjson_value.specs.Coverages.{IsValidDocument}
 use Rattle.edr_edition.specs.declared.kinds.Kind.TheVariants.{Grid}
@@ -25,6 +25,12 @@ use Rattle.edr_select.specs.Choices.{TakesEach, Chosen, chosen, IsSome}
 use Rattle.edr_select.specs.Planned.{planned_at, planned_along}
 use Rattle.edr_select.specs.Listings.{PlannedValue}
 use Rattle.edr_select.specs.Plans.{PlanValue, StandsFor}
+
+-- the instance of a collection of grids that a query is asked of
+pub record IsInstanceOf (collection : CollectionValue) (q : QueryValue) (instance : InstanceValue) : Type 0 where
+  pub is_collection : IsCollection collection
+  pub kind : collection.kind ≡ Grid
+  pub instance_is : instance_named q.instance collection.instances ≡ Some instance
 
 -- a query is asked of an instance of a collection of grids, and takes each of its times, levels and places by itself
 pub record IsAsked (collection : CollectionValue) (q : QueryValue) (instance : InstanceValue) : Type 0 where
@@ -66,17 +72,11 @@ pub record IsChoice (collection : CollectionValue) (q : QueryValue) (instance : 
 
 -- ---- the coverages of a reply
 
--- points of a MULTIPOINT
-abbrev pub are_several : Geometry → Bool
-are_several (Points multi has_z has_m positions) = multi
-are_several (Line has_z has_m positions) = false
-are_several (Polygons multi has_z has_m polygons) = false
-
 -- one spot; several at one time and place of levels; several at several times or levels
 abbrev pub IsForm : Geometry → Chosen → Form → Type 0
-IsForm geometry c (AtPoint spot) = (are_several geometry ≡ false) × (c.spots ≡ spot ∷ [])
-IsForm geometry c (Along t z) = (are_several geometry ≡ true) × ((c.times ≡ t ∷ []) × (c.levels ≡ z ∷ []))
-IsForm geometry c Apart = (are_several geometry ≡ true) × (¬ ((length c.times ≡ 1) × (length c.levels ≡ 1)))
+IsForm geometry c (AtPoint spot) = (is_multi_point geometry ≡ false) × (c.spots ≡ spot ∷ [])
+IsForm geometry c (Along t z) = (is_multi_point geometry ≡ true) × ((c.times ≡ t ∷ []) × (c.levels ≡ z ∷ []))
+IsForm geometry c Apart = (is_multi_point geometry ≡ true) × (¬ ((length c.times ≡ 1) × (length c.levels ≡ 1)))
 
 abbrev pub is_many : Form → Bool
 is_many (AtPoint spot) = false

@@ -2,12 +2,10 @@
 ghost use Rattle.std.specs.Prelude.{◌≡◌, ◌||◌};
 ghost use Rattle.edr_query.specs.Queries as queries;
 ghost use Rattle.edr_query.specs.Queries.{coords_of, box_of};
-ghost use Rattle.edr_wkt.specs.Wkt.{has_z_of};
 ghost use Rattle.edr_select.specs.Refusals.{asks_levels, crs_is_other};
 
 use edr_edition::CollectionData;
 use edr_query::{Query, Shape};
-use edr_wkt::Geometry;
 
 /// Whether `crs` is another text than that of a collection's reference system.
 pub fn has_other_crs(query: &Query, collection: &CollectionData) -> bool
@@ -19,26 +17,15 @@ pub fn has_other_crs(query: &Query, collection: &CollectionData) -> bool
     }
 }
 
-// Whether the positions of a geometry have z.
-pub(crate) fn has_z(geometry: &Geometry) -> bool
-    ensures { result ≡ has_z_of geometry.now }
-{
-    match geometry {
-        Geometry::Points { has_z, .. }
-        | Geometry::Line { has_z, .. }
-        | Geometry::Polygons { has_z, .. } => *has_z,
-    }
-}
-
 // Whether a shape asks for levels: by the z of its geometry, or as a box with levels.
 fn has_levels(shape: &Shape) -> bool
     ensures { result ≡ (queries.has_z (coords_of shape.now) || queries.has_levels (box_of shape.now)) }
 {
     match shape {
-        Shape::Position(geometry) | Shape::Area(geometry) | Shape::Trajectory(geometry) => has_z(
-            geometry,
-        ),
-        Shape::Radius { geometry, .. } | Shape::Corridor { geometry, .. } => has_z(geometry),
+        Shape::Position(geometry) | Shape::Area(geometry) | Shape::Trajectory(geometry) => {
+            geometry.has_z()
+        }
+        Shape::Radius { geometry, .. } | Shape::Corridor { geometry, .. } => geometry.has_z(),
         Shape::Cube { levels, .. } => levels.is_some(),
         Shape::Location(_) => false,
     }

@@ -11,7 +11,6 @@ ghost use Rattle.edr_select.specs.Wanted as wanted;
 ghost use Rattle.edr_select.specs.Wanted.{levels_asked};
 ghost use Rattle.edr_select.specs.Choices.{IsPoints, chosen, level_places, parameter_places};
 
-use crate::checks::has_z;
 use crate::chosen_levels::levels_taken;
 use crate::chosen_spots::spots_taken;
 use crate::chosen_times::times_taken;
@@ -62,7 +61,7 @@ fn level_of(geometry: &Geometry) -> Option<Levels>
     requires { IsPoints geometry.now }
     ensures { result ≡ wanted.level_of (has_z_of geometry.now) (positions_of geometry.now) }
 {
-    if !has_z(geometry) {
+    if !geometry.has_z() {
         return None;
     }
     match points_of(geometry).first() {

@@ -1,5 +1,6 @@
 //! How many coverages a reply has, and of what.
 ghost use Rattle.std.specs.Prelude.{◌≡◌, ◌∷◌, [], false, length};
+ghost use Rattle.edr_wkt.specs.Geometries.{is_multi_point};
 ghost use Rattle.edr_select.specs.Steps as steps;
 ghost use Rattle.edr_select.specs.Steps.{IsForm};
 
@@ -17,17 +18,6 @@ pub enum Form {
     Apart,
 }
 
-// Whether points are those of a MULTIPOINT.
-fn are_several(geometry: &Geometry) -> bool
-    ensures { result ≡ steps.are_several geometry.now }
-{
-    match geometry {
-        Geometry::Points { multi, .. } => *multi,
-        Geometry::Line { .. } => false,
-        Geometry::Polygons { .. } => false,
-    }
-}
-
 // The first of numbers, which is alone.
 fn alone_in(numbers: &[u64]) -> u64
     requires { length numbers.now ≡ 1 }
@@ -38,10 +28,10 @@ fn alone_in(numbers: &[u64]) -> u64
 
 // How the coverages of a reply are made.
 pub(crate) fn form_of(geometry: &Geometry, choice: &Choice) -> Form
-    requires { steps.are_several geometry.now ≡ false → length choice.now.spots ≡ 1 }
+    requires { is_multi_point geometry.now ≡ false → length choice.now.spots ≡ 1 }
     ensures { IsForm geometry.now choice.now result }
 {
-    if !are_several(geometry) {
+    if !geometry.is_multi_point() {
         return Form::AtPoint(alone_in(&choice.spots));
     }
     if choice.times.len() == 1 && choice.levels.len() == 1 {

@@ -9,9 +9,7 @@ ghost use Rattle.edr_select.specs.Listings.{NumbersRise};
 ghost use Rattle.edr_select.specs.Framings.{IsFrame};
 
 use crate::frames::Frame;
-use crate::heads::values_at;
 use crate::numbers::numbers_between;
-use crate::point_domains::axis_of;
 use covjson_value::Domain;
 use edr_axes::Axis;
 use edr_base::OutOfMemory;
@@ -26,8 +24,8 @@ pub fn axis_at(alloc: Global, axis: &Axis, places: &[u64]) -> Result<Axis, OutOf
     requires some { places.now ≢ [] }
     ensures { IfOk result (λ part. part ≡ map (value_at axis.now) places.now) }
 {
-    let values = values_at(alloc, axis, places)?;
-    axis_of(alloc, &values)
+    let values = axis.values_at(alloc, places)?;
+    Axis::over(alloc, &values)
 }
 
 /// The axis of so many of an axis's values from one on.

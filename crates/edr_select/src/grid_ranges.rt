@@ -1,11 +1,9 @@
 //! The rows and the columns of a plane that can have nodes which a disc, some polygons or a box takes.
-ghost use Rattle.std.specs.Prelude.{◌≡◌, ◌<◌, ◌≤◌, ◌-◌, length, take, drop, IfOk, MatchOption};
-ghost use Rattle.edr_axes.specs.Axes.{IsAxis};
+ghost use Rattle.std.specs.Prelude.{IfOk, MatchOption};
 ghost use Rattle.edr_edition.specs.Instances.{HasGrid};
 ghost use Rattle.edr_query.specs.Queries.{IsShape};
 ghost use Rattle.edr_select.specs.Masks.{IsArea, NoneTaken, LiesInRows, LiesInColumns};
 
-use crate::point_domains::axis_of;
 use crate::reaches::reach_of;
 use edr_axes::{Axis, bounds_split_axes};
 use edr_base::OutOfMemory;
@@ -32,16 +30,6 @@ impl Model for Columns {
     } };
 }
 
-// The axis of an axis's values from one place to before another.
-fn axis_within(alloc: Global, axis: &Axis, from: usize, end: usize) -> Result<Axis, OutOfMemory>
-    requires axis { IsAxis axis.now }
-    requires some { from < end }
-    requires inside { end ≤ length axis.now }
-    ensures { IfOk result (λ part. part ≡ take (end - from) (drop from axis.now)) }
-{
-    axis_of(alloc, &axis.values()[from..end])
-}
-
 // The rows and the columns that can have nodes which a shape takes, or None where there are no such columns: the first row, the
 // one behind the last, and the columns.
 pub(crate) fn ranges_of(
@@ -62,6 +50,6 @@ pub(crate) fn ranges_of(
     if left == right {
         return Ok(None);
     }
-    let xs = axis_within(alloc, instance.xs(), left, right)?;
+    let xs = instance.xs().part(alloc, left, right)?;
     Ok(Some((from, end, Columns { left, xs })))
 }

@@ -1,36 +1,11 @@
 //! The heads of a reply's coverages: all of them but their ranges.
-ghost use Rattle.std.specs.Prelude.{◌≡◌, ◌<◌, All, length, map, IfOk};
-ghost use Rattle.edr_axes.specs.Axes.{value_at};
+ghost use Rattle.std.specs.Prelude.{◌≡◌, ◌<◌, All, length, IfOk};
 ghost use Rattle.edr_select.specs.Documents as documents;
 ghost use Rattle.edr_select.specs.Planned as planned;
 
 use covjson_value::{CoordinateName, Coverage, Domain, Parameter, Referencing};
-use edr_axes::Axis;
 use edr_base::{Items, OutOfMemory, Text};
 use std::alloc::Global;
-
-/// The values of an axis at some places.
-pub fn values_at(alloc: Global, axis: &Axis, places: &[u64]) -> Result<Vec<i64>, OutOfMemory>
-    requires { All (λ place. place < length axis.now) places.now }
-    ensures { IfOk result (λ values. values.items ≡ map (value_at axis.now) places.now) }
-{
-    let mut values = Vec::new(alloc);
-    for place in places {
-        values.push(axis.value(*place as usize))?;
-    }
-    Ok(values)
-}
-
-fn copy_parameter(alloc: Global, parameter: &Parameter) -> Result<Parameter, OutOfMemory>
-    ensures { IfOk result (λ copy. copy ≡ parameter.now) }
-{
-    Ok(Parameter {
-        id: Text::of(alloc, parameter.id.bytes())?,
-        lang: Text::of(alloc, parameter.lang.bytes())?,
-        label: Text::of(alloc, parameter.label.bytes())?,
-        unit: Text::copied(alloc, &parameter.unit)?,
-    })
-}
 
 // Copies of the parameters at some places.
 fn parameters_at(
@@ -43,7 +18,7 @@ fn parameters_at(
 {
     let mut copies = Vec::new(alloc);
     for place in places {
-        copies.push(copy_parameter(alloc, &parameters[*place as usize])?)?;
+        copies.push(parameters[*place as usize].copy(alloc)?)?;
     }
     Ok(copies)
 }

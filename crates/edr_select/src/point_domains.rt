@@ -4,23 +4,10 @@ ghost use Rattle.edr_axes.specs.Axes.{IsAxis};
 ghost use Rattle.edr_select.specs.Heads as heads;
 
 use covjson_value::Domain;
-use edr_axes::{Axis, AxisFault};
+use edr_axes::Axis;
 use edr_base::OutOfMemory;
 use std::alloc::Global;
 use std::slice;
-
-/// The axis of some values.
-pub fn axis_of(alloc: Global, values: &[i64]) -> Result<Axis, OutOfMemory>
-    requires { IsAxis values.now }
-    ensures { IfOk result (λ axis. axis ≡ values.now) }
-{
-    match Axis::of(alloc, values) {
-        Ok(axis) => Ok(axis),
-        Err(AxisFault::OutOfMemory) => Err(OutOfMemory),
-        Err(AxisFault::Empty) => unreachable!(),
-        Err(AxisFault::NotAscending(_)) => unreachable!(),
-    }
-}
 
 // The only value, or None where there isn't just one.
 fn only(values: &[i64]) -> Option<i64>
@@ -57,7 +44,7 @@ fn domain_at_time(
         }),
         None => Ok(Domain::VerticalProfile {
             t,
-            z: axis_of(alloc, levels)?,
+            z: Axis::over(alloc, levels)?,
             y,
             x,
         }),
@@ -77,7 +64,7 @@ fn domain_over_times(
     requires levels { IfSome levels (λ levels. IsAxis levels.now) }
     ensures { IfOk result (λ domain. domain ≡ heads.domain_at times.now (option_map (λ levels. levels.now) levels.entry) (y, x)) }
 {
-    let t = axis_of(alloc, times)?;
+    let t = Axis::over(alloc, times)?;
     let Some(levels) = levels else {
         return Ok(Domain::PointSeries { t, z: None, y, x });
     };
@@ -90,9 +77,9 @@ fn domain_over_times(
         }),
         None => Ok(Domain::Grid {
             t: Some(t),
-            z: Some(axis_of(alloc, levels)?),
-            y: axis_of(alloc, slice::from_ref(&y))?,
-            x: axis_of(alloc, slice::from_ref(&x))?,
+            z: Some(Axis::over(alloc, levels)?),
+            y: Axis::over(alloc, slice::from_ref(&y))?,
+            x: Axis::over(alloc, slice::from_ref(&x))?,
         }),
     }
 }

@@ -9,7 +9,6 @@ ghost use Rattle.edr_select.specs.Steps.{IsForm, planned_in};
 
 use crate::choices::Choice;
 use crate::forms::Form;
-use crate::heads::values_at;
 use crate::planned::{planned_along, planned_at};
 use crate::plans::Planned;
 use covjson_value::Referencing;
@@ -29,7 +28,7 @@ fn level_values(
 {
     match instance.levels() {
         None => Ok(None),
-        Some(axis) => Ok(Some(values_at(alloc, axis, &choice.levels)?)),
+        Some(axis) => Ok(Some(axis.values_at(alloc, &choice.levels)?)),
     }
 }
 
@@ -69,7 +68,7 @@ fn planned_apart(
     requires axes { AreAxes instance.now choice.now }
     ensures { IfOk result (λ coverages. coverages.items ≡ map (planned.planned_at referencing.now instance.now choice.now) choice.now.spots) }
 {
-    let times = values_at(alloc, instance.times(), &choice.times)?;
+    let times = instance.times().values_at(alloc, &choice.times)?;
     match level_values(alloc, instance, choice)? {
         None => planned_over(alloc, referencing, instance, choice, &times, None),
         Some(levels) => planned_over(alloc, referencing, instance, choice, &times, Some(&levels)),

@@ -1,10 +1,10 @@
 //! The refusals of a query from its names on, and what a position takes.
-ghost use Rattle.std.specs.Prelude.{◌≡◌, ◌↔◌, Some, IfOk, IfErr, IsTrue, MatchOption};
+ghost use Rattle.std.specs.Prelude.{◌≡◌, ◌↔◌, None, Some, false, IfOk, IfErr, IsTrue, MatchOption};
 ghost use Rattle.edr_query.specs.declared.shapes.Shape.TheVariants as at;
 ghost use Rattle.edr_select.specs.Checks.{refused_query, grid_of};
 ghost use Rattle.edr_select.specs.Choices.{IsSome, parameter_places};
 ghost use Rattle.edr_select.specs.Steps as steps;
-ghost use Rattle.edr_select.specs.Steps.{IsAsked, IsChoice, IsFaultOf, refused_known, refused_sizes};
+ghost use Rattle.edr_select.specs.Steps.{IsAsked, IsInstanceOf, IsChoice, IsFaultOf, refused_known, refused_sizes};
 
 use crate::checks::{has_levels_asked, has_other_crs};
 use crate::choices::{Choice, choose};
@@ -16,14 +16,14 @@ use edr_query::Query;
 use edr_wkt::Geometry;
 use std::alloc::Global;
 
-// The places of the parameters that are asked, or the refusal of a name.
-pub(crate) fn names_taken(
+/// The places of the parameters that are asked, or the refusal of a name.
+pub fn names_taken(
     alloc: Global,
     query: &Query,
     collection: &CollectionData,
     instance: &GridInstance,
 ) -> Result<Vec<u64>, PlanFault>
-    requires { IsAsked collection.now query.now instance.now }
+    requires { IsInstanceOf collection.now query.now instance.now }
     ensures places { IfOk result (λ places. places.items ≡ parameter_places query.now.parameters instance.now.parameters) }
     ensures known { IfOk result (λ places. refused_query collection.now query.now ≡ refused_known collection.now query.now) }
     ensures refused { IfErr result (IsFaultOf (refused_query collection.now query.now)) }
@@ -42,15 +42,16 @@ fn lacks_levels(query: &Query, instance: &GridInstance) -> bool
     asked && instance.levels().is_none()
 }
 
-// The refusal of a reference system or of levels, where one applies.
-pub(crate) fn refused_asking(
+/// The refusal of a reference system or of levels, where one applies.
+pub fn refused_asking(
     query: &Query,
     collection: &CollectionData,
     instance: &GridInstance,
 ) -> Option<Refusal>
-    requires { IsAsked collection.now query.now instance.now }
-    ensures { MatchOption result (refused_known collection.now query.now ≡ refused_sizes query.now (grid_of collection.now instance.now))
+    requires { IsInstanceOf collection.now query.now instance.now }
+    ensures kept { MatchOption result (refused_known collection.now query.now ≡ refused_sizes query.now (grid_of collection.now instance.now))
         (λ refusal. refused_known collection.now query.now ≡ Some refusal) }
+    ensures levels { result ≡ None → steps.lacks_levels query.now instance.now ≡ false }
 {
     if has_other_crs(query, collection) {
         return Some(Refusal::BadCrs);

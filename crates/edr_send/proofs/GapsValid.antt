@@ -1,5 +1,5 @@
 -- The document of a reply over stations of which some values aren't taken is valid, and its text is that of its pieces.
-use Rattle.std.proofs.Common.{◌≡◌, ℕ, List, length, get_or, All, Option, None, Some, sym, ◌∙◌, subst}
+use Rattle.std.proofs.Common.{◌≡◌, ℕ, List, get_or, All, Option, None, Some, sym, ◌∙◌, subst}
 use Rattle.std.specs.Prelude.{map, IfSome}
 use Rattle.std.proofs.lemmas.List.{length-map}
 use Rattle.std.proofs.lemmas.List.Elements.{All-map}

@@ -11,7 +11,8 @@ use Rattle.covjson_value.specs.declared.coverages.Document.{Document}
 use Rattle.edr_base.specs.Limits.{IsSample}
 use Rattle.covjson_value.specs.Trees.{document_text}
 use Rattle.covjson_write.specs.Laws.{DocumentOfPieces}
-use Rattle.covjson_write.specs.Pieces.{coverages_from, coverages_of, document_begin, document_end}
+use Rattle.covjson_write.specs.Pieces.{coverages_from, document_begin, document_end}
+use Rattle.covjson_value.specs.Coverages.{coverages_in}
 use Rattle.covjson_write.specs.Writers.{with_ranges}
 use Rattle.edr_chunk.specs.declared.shapes.GridShape.{GridShape}
 use Rattle.edr_chunk.specs.Grids as chunk
@@ -161,7 +162,7 @@ pub plan_text_is : DocumentOfPieces → (grid : chunk.Values) (plan : ListingVal
 plan_text_is law grid plan d is samples f =
     let told = told_of grid plan d is f in
     ap (λ (cs : List Coverage). document_begin plan.many ++ (coverages_from 0 cs ++ document_end plan.many)) (sym told.coverages_is)
-    ∙ ap (λ (m : Bool). document_begin m ++ (coverages_from 0 (coverages_of d) ++ document_end m)) (sym told.many_is)
+    ∙ ap (λ (m : Bool). document_begin m ++ (coverages_from 0 (coverages_in d) ++ document_end m)) (sym told.many_is)
     ∙ sym (law d (document_valid grid plan d is samples f))
 
 -- it is written from all its values

@@ -7,10 +7,10 @@ use Rattle.std.proofs.lemmas.List.Elements.{All-nil, All-map}
 use Rattle.covjson_value.specs.declared.coverages.Coverage.{Coverage}
 use Rattle.covjson_value.specs.declared.coverages.Document.{Document}
 use Rattle.edr_base.specs.Limits.{IsSample}
-use Rattle.covjson_value.specs.Coverages.{IsRange, IsValid}
+use Rattle.covjson_value.specs.Coverages.{IsRange, IsValid, coverages_in}
 use Rattle.covjson_value.specs.Trees.{document_text}
 use Rattle.covjson_write.specs.Laws.{DocumentOfPieces}
-use Rattle.covjson_write.specs.Pieces.{coverages_from, coverages_of, document_begin, document_end}
+use Rattle.covjson_write.specs.Pieces.{coverages_from, document_begin, document_end}
 use Rattle.edr_station.specs.Stations.{StationValue, StationsValue, IsStation, AreStations, nowhere}
 use Rattle.edr_station.specs.Blocks.{series_at}
 use Rattle.edr_edition.specs.Stores.{Subject}
@@ -70,5 +70,5 @@ series_text_is law collection reply d stand is of f =
     let coverages : List Coverage = map (series_coverage collection.stations reply.parameters) reply.series in
     let told = told_by reply.many coverages d (λ one. length-map reply.series (series_coverage collection.stations reply.parameters) ∙ is.alone one) f in
     ap (λ (cs : List Coverage). document_begin reply.many ++ (coverages_from 0 cs ++ document_end reply.many)) (sym told.coverages_is)
-    ∙ ap (λ (m : Bool). document_begin m ++ (coverages_from 0 (coverages_of d) ++ document_end m)) (sym told.many_is)
+    ∙ ap (λ (m : Bool). document_begin m ++ (coverages_from 0 (coverages_in d) ++ document_end m)) (sym told.many_is)
     ∙ sym (law d (told.valid (coverages_valid collection stand reply.parameters reply.series is.series of)))

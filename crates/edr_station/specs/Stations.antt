@@ -1,5 +1,5 @@
 -- The stations of a collection (OGC 19-086r6, locations).
-use Rattle.std.specs.Prelude.{◌≡◌, ℕ, ◌*◌, ℤ, pos, ◌≤◌, List, [], length, All, IfSome, IsUtf8, Option, None, Some}
+use Rattle.std.specs.Prelude.{◌≡◌, ℕ, ◌*◌, ℤ, pos, List, [], length, All, IfSome, IsUtf8, Option, None, Some}
 use Rattle.std.specs.List.{slice_index_or}
 use Rattle.edr_base.specs.Limits.{IsCoordinate}
 use Rattle.edr_base.specs.Names.{IsName}

@@ -5,7 +5,7 @@ ghost use Rattle.form_urlencoded.specs.Form.{append_pair};
 ghost use Rattle.edr_wkt.specs.Spelling.{joined, spelled};
 ghost use Rattle.edr_query.specs.declared.parameters.Parameter.TheVariants as p;
 ghost use Rattle.edr_query.specs.declared.shapes.Shape.TheVariants.{Radius, Corridor};
-ghost use Rattle.edr_query.specs.Distances.{numbers_with};
+ghost use Rattle.edr_query.specs.Boxes.{numbers_with};
 ghost use Rattle.edr_query.specs.Spelling.{metres_unit};
 ghost use Rattle.edr_target.specs.Forms.{with_pair, with_place};
 

@@ -5,7 +5,7 @@ ghost use Rattle.std.specs.List.{flat_map};
 ghost use Rattle.edr_axes.specs.Times.{IsSideTime, IsTimes};
 ghost use Rattle.edr_axes.specs.declared.levels.Levels.TheVariants.{Series};
 ghost use Rattle.edr_wkt.specs.Spelling.{joined};
-ghost use Rattle.edr_query.specs.Distances.{numbers_with};
+ghost use Rattle.edr_query.specs.Boxes.{numbers_with};
 ghost use Rattle.edr_query.specs.Spelling.{side_text, times_text, levels_text};
 
 use edr_axes::{Levels, Times, write_instant};

@@ -4,6 +4,7 @@
 mod areas;
 mod bodies;
 mod checks;
+mod copying;
 mod faults;
 mod geometry;
 mod headings;

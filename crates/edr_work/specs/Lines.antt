@@ -13,7 +13,8 @@ use Rattle.edr_query.specs.Values.{QueryValue}
 use Rattle.edr_query.specs.Targets.{IsTarget}
 use Rattle.edr_query.specs.declared.pages.Page.TheVariants.{Ask}
 use Rattle.edr_select.specs.Refusals.{refused}
-use Rattle.edr_select.specs.Documents.{document, coverages_in}
+use Rattle.edr_select.specs.Documents.{document}
+use Rattle.covjson_value.specs.Coverages.{coverages_in}
 use Rattle.edr_select.specs.Selections.{needed}
 
 -- ---- the targets: a cube, a node, a station, and a corridor along a row

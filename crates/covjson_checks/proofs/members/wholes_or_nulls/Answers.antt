@@ -1,6 +1,6 @@
-use Rattle.std.proofs.Common.{rules, arith, ◌≡◌, ◌<◌, ◌++◌, [], ◌∷◌, length, get_or, Ok, Err, inl}
+use Rattle.std.proofs.Common.{rules, arith, ◌≡◌, ◌<◌, ◌++◌, [], ◌∷◌, length, get_or, inl}
 use Rattle.std.proofs.lemmas.Result.{err_from_is_err_and}
-use Rattle.serde_json.specs.View.{view, items_view}
+use Rattle.serde_json.specs.View.{items_view}
 use Rattle.covjson_checks.specs.Answers.{each}
 use Rattle.covjson_checks.specs.Members.{whole_or_null}
 use Rattle.covjson_checks.specs.CheckLaws.{each_more, each_stops}

@@ -2,7 +2,7 @@ use Rattle.std.proofs.Common.{refl, ap, sym, subst, inr, List, ℕ, ℤ, Some, N
 use Rattle.std.specs.declared.option.Option.{Option}
 use Rattle.edr_axes.specs.Levels.{IsLevelsText, HasNoLevels}
 use Rattle.edr_query.specs.Parameters.{MaySay}
-use Rattle.edr_query.specs.Distances.{IsBoxText}
+use Rattle.edr_query.specs.Boxes.{IsBoxText}
 use Rattle.edr_query.specs.Reads.{IsBoxOf}
 use Rattle.edr_query.proofs.CoordsLemmas.{a_box, no_box, no_levels_no_box}
 use Rattle.edr_query.proofs.coords.read_bbox.Goals as goal

@@ -1,6 +1,5 @@
 use Rattle.std.proofs.lemmas.Result.{err_from_is_err_and}
 use Rattle.edr_base.specs.declared.refusals.Refusal.TheVariants.{BadFormat, MissingParameter}
-use Rattle.edr_query.specs.Targets.{LacksRequired, LacksHeight}
 use Rattle.edr_query.specs.Reads.{IsComplete}
 use Rattle.edr_query.proofs.RefusalLemmas.{more, stopped}
 use Rattle.edr_query.proofs.steps.check_complete.Goals as goal

@@ -1,5 +1,5 @@
 use Rattle.std.proofs.Common.{refl, inr, subst, List, ℕ}
-use Rattle.edr_query.specs.Distances.{HasNoDistance}
+use Rattle.edr_axes.specs.Distances.{HasNoDistance}
 use Rattle.edr_query.proofs.steps.read_metres.Goals as goal
 
 pub returns-in-None : goal.returns-in-None

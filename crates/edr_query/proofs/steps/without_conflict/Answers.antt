@@ -12,5 +12,5 @@ returns-then-conflicts c =
 
 pub returns : goal.returns
 returns c =
-    all_said c.wkt_is_one.ensures c.times_are_unique.ensures c.levels_are_unique.ensures c.args.page c.args.parameters.now c.args.said
+    all_said c.wkt_is_one.ensures c.times_are_unique.ensures c.levels_are_unique.ensures c.distances_are_unique.ensures c.args.page c.args.parameters.now c.args.said
     c.requires.passed c.requires.said (sym c.conflicts.ensures ∙ c.if-conflicts.false)

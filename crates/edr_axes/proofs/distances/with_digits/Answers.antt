@@ -1,6 +1,6 @@
 use Rattle.std.proofs.Common.{ℕ, ◌+◌, ◌*◌, ◌-◌, drop, get_or, refl, arith}
-use Rattle.edr_query.proofs.DistanceLemmas.{next_digit, after-grows}
-use Rattle.edr_query.proofs.distances.with_digits.Goals as goal
+use Rattle.edr_axes.proofs.DistanceLemmas.{next_digit, after-grows}
+use Rattle.edr_axes.proofs.distances.with_digits.Goals as goal
 
 pub returns-then-more-gt-DISTANCE_LIMIT : goal.returns-then-more-gt-DISTANCE_LIMIT
 returns-then-more-gt-DISTANCE_LIMIT c =

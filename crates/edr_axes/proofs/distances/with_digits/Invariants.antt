@@ -1,7 +1,7 @@
 use Rattle.std.proofs.Common.{◌≡◌, ◌≤◌, drop}
 use Rattle.std.specs.Str.Parse.{digits_value_after}
 use Rattle.edr_base.specs.Limits.{distance_limit}
-use Rattle.edr_query.proofs.distances.with_digits.Given as goal
+use Rattle.edr_axes.proofs.distances.with_digits.Given as goal
 
 -- the digits that are left, behind the number so far, write what all write
 abbrev pub invariant-loop-digit : goal.invariant-loop-digit

@@ -1,5 +1,5 @@
 use Rattle.std.proofs.Common.{◌≡◌, take}
-use Rattle.edr_query.proofs.copying.copy_rings.Given as goal
+use Rattle.edr_wkt.proofs.copying.copy_rings.Given as goal
 
 abbrev pub invariant-loop-ring : goal.invariant-loop-ring
 invariant-loop-ring l = l.copies.items ≡ take l.ring-index l.rings

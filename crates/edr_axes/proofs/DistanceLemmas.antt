@@ -16,8 +16,8 @@ use Rattle.std.proofs.Math.Nat.{mul-le-mul_left}
 use Rattle.std.specs.Int.{IsInRange}
 use Rattle.edr_base.specs.Limits.{distance_limit}
 use Rattle.edr_base.specs.CutLaws.{Contains-between, cut_unique}
-use Rattle.edr_query.specs.Distances.{IsUnit, IsDecimal, IsDistance, HasNoDistance}
-use Rattle.edr_query.specs.Metres.{HasNoUnit, AreDigits, AreZeros, IsSize, HasNoSize}
+use Rattle.edr_axes.specs.Distances.{IsUnit, IsDecimal, IsDistance, HasNoDistance}
+use Rattle.edr_axes.specs.Metres.{HasNoUnit, AreDigits, AreZeros, IsSize, HasNoSize}
 
 -- ---- numbers
 

@@ -1,5 +1,5 @@
 use Rattle.std.proofs.Common.{◌≡◌, take}
-use Rattle.edr_query.proofs.copying.copy_polygons.Given as goal
+use Rattle.edr_wkt.proofs.copying.copy_polygons.Given as goal
 
 abbrev pub invariant-loop-polygon : goal.invariant-loop-polygon
 invariant-loop-polygon l = l.copies.items ≡ take l.polygon-index l.polygons

@@ -2,10 +2,10 @@
 ghost use Rattle.std.specs.Prelude.{◌≡◌, ◌⊎◌, ◌≤◌, ◌<◌, ◌^◌, ◌*◌, pos, IsTrue, ◌↔◌, MatchOption, Contains};
 ghost use Rattle.std.specs.Str.Parse.{AllDigits, digits_value_after};
 ghost use Rattle.edr_base.specs.Limits.{distance_limit};
-ghost use Rattle.edr_query.specs.Distances.{IsUnit, IsDecimal, IsDistance, HasNoDistance};
-ghost use Rattle.edr_query.specs.Metres.{HasNoUnit, AreDigits, AreZeros, IsSize, HasNoSize};
+ghost use Rattle.edr_axes.specs.Distances.{DistancesAreUnique, IsUnit, IsDecimal, IsDistance, HasNoDistance};
+ghost use Rattle.edr_axes.specs.Metres.{HasNoUnit, AreDigits, AreZeros, IsSize, HasNoSize};
 
-use edr_base::cut_at;
+use edr_base::{are_digits, cut_at};
 
 /// A distance is at most so many metres.
 pub const DISTANCE_LIMIT: u64 = 400_000_000;
@@ -32,12 +32,6 @@ fn parts_of(number: &[u8]) -> (&[u8], &[u8])
         Some(parts) => parts,
         None => (number, &[]),
     }
-}
-
-fn are_digits(text: &[u8]) -> bool
-    ensures { IsTrue result ↔ AreDigits text.now }
-{
-    text.iter().all(|byte| byte.is_ascii_digit())
 }
 
 fn are_zeros(text: &[u8]) -> bool
@@ -127,3 +121,8 @@ pub fn read_distance(number: &[u8], unit: &[u8]) -> Option<i64>
     let size = size_of(whole, fraction, places)?;
     Some(size as i64)
 }
+
+/// A number and a unit are one distance at most.
+pub fn distances_are_unique()
+    ensures { DistancesAreUnique }
+{}

@@ -3,9 +3,9 @@ use Rattle.std.proofs.lemmas.List.{take-append-drop}
 use Rattle.std.specs.Str.Parse.{digits_value_after}
 use Rattle.edr_base.specs.Limits.{distance_limit}
 use Rattle.edr_base.specs.TestLaws.{holds, fails}
-use Rattle.edr_query.specs.Metres.{AreZeros}
-use Rattle.edr_query.proofs.DistanceLemmas.{rest_of, too_large_whole, too_large_moved, size_answer}
-use Rattle.edr_query.proofs.distances.size_of.Goals as goal
+use Rattle.edr_axes.specs.Metres.{AreZeros}
+use Rattle.edr_axes.proofs.DistanceLemmas.{rest_of, too_large_whole, too_large_moved, size_answer}
+use Rattle.edr_axes.proofs.distances.size_of.Goals as goal
 
 pub returns-then-not-are_zeros : goal.returns-then-not-are_zeros
 returns-then-not-are_zeros c =

@@ -4,7 +4,7 @@ use Rattle.std.specs.Char.{is_ascii_digit}
 use Rattle.std.specs.List.{AllPass}
 use Rattle.std.specs.Str.Parse.{digits_value}
 use Rattle.edr_base.specs.Limits.{distance_limit}
-use Rattle.edr_query.specs.Distances.{IsUnit}
+use Rattle.edr_axes.specs.Distances.{IsUnit}
 
 abbrev pub HasNoUnit : List ℕ → Type 0
 HasNoUnit text = (metres : ℕ) → ¬ (IsUnit text metres)

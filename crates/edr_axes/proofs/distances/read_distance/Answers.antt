@@ -2,10 +2,10 @@ use Rattle.std.proofs.Common.{rules, ◌<◌, ℤ, length, sym, subst, arith, w6
 use Rattle.std.proofs.lemmas.Bool.Decides.{nat_tests}
 use Rattle.std.proofs.lemmas.Int.{to_z_pos}
 use Rattle.edr_base.specs.TestLaws.{holds, fails}
-use Rattle.edr_query.specs.Distances.{IsDistance}
-use Rattle.edr_query.specs.Metres.{AreDigits}
-use Rattle.edr_query.proofs.DistanceLemmas.{no_unit, no_size, no_digits, a_distance}
-use Rattle.edr_query.proofs.distances.read_distance.Goals as goal
+use Rattle.edr_axes.specs.Distances.{IsDistance}
+use Rattle.edr_axes.specs.Metres.{AreDigits}
+use Rattle.edr_axes.proofs.DistanceLemmas.{no_unit, no_size, no_digits, a_distance}
+use Rattle.edr_axes.proofs.distances.read_distance.Goals as goal
 
 pub returns-in_err-places : goal.returns-in_err-places
 returns-in_err-places c = rw c.from_residual.ensures (no_unit c.args.number.now c.args.unit.now c.in_err-places.ensures)

@@ -1,0 +1,69 @@
+//! Numbers of digits, and copies of texts.
+use edr_base::{OutOfMemory, Text, are_digits, value_of_digits};
+use std::alloc::Global;
+use std::rt::HostRuntime;
+
+// A line for each text: the text, and the number that its digits write, or why it has none.
+const DIGITS: &str = "\
+0 => 0
+7 => 7
+007 => 7
+1234567890 => 1234567890
+18446744073709551615 => 18446744073709551615
+00018446744073709551615 => 18446744073709551615
+18446744073709551616 => too large
+18446744073709551625 => too large
+99999999999999999999999 => too large
++7 => no digits
+-7 => no digits
+7. => no digits
+7 7 => no digits
+/ => no digits
+: => no digits
+";
+
+// Whether this is the answer to a text.
+fn is_answered(text: &[u8], answer: &str) -> bool {
+    if !are_digits(text) {
+        return answer == "no digits";
+    }
+    match value_of_digits(text) {
+        Some(value) => answer.parse::<u64>() == Ok(value),
+        None => answer == "too large",
+    }
+}
+
+// The first line that isn't answered so; none is empty.
+fn first_wrong(lines: &str) -> &str {
+    for line in lines.lines() {
+        let (text, answer) = line.split_once(" => ").unwrap_or((line, ""));
+        if !is_answered(text.as_bytes(), answer) {
+            return line;
+        }
+    }
+    ""
+}
+
+// Whether the copy of a text that is given has these bytes.
+fn copy_has(alloc: Global, text: &Option<Text>, bytes: &[u8]) -> Result<bool, OutOfMemory> {
+    match Text::copied(alloc, text)? {
+        Some(copy) => Ok(copy.bytes() == bytes),
+        None => Ok(false),
+    }
+}
+
+#[test]
+fn digits_write_numbers(rt: HostRuntime) {
+    assert_eq!(rt; first_wrong(DIGITS), "");
+    assert!(rt; are_digits(b""));
+}
+
+#[test]
+fn texts_are_copied(rt: HostRuntime) -> Result<(), OutOfMemory> {
+    let alloc = rt.alloc();
+    let text = Some(Text::of(alloc, b"a text")?);
+    assert!(rt; copy_has(alloc, &text, b"a text")?);
+    assert!(rt; !copy_has(alloc, &text, b"a tex")?);
+    assert!(rt; !copy_has(alloc, &None, b"")?);
+    Ok(())
+}
