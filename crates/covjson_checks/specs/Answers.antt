@@ -18,8 +18,8 @@ abbrev pub onto : {T : Type 0} → List T → Answer (List T) → Answer (List T
 onto front answer = and_then answer (λ rest. Ok (front ++ rest))
 
 -- the result, seen by `seen`, is the answer
-abbrev pub Gives : {T U : Type 0} → (T → U) → Result T CovFault → Answer U → Type 0
-Gives seen result answer = IsAnswer seen result answer
+abbrev pub GivesAnswer : {T U : Type 0} → (T → U) → Result T CovFault → Answer U → Type 0
+GivesAnswer seen result answer = IsAnswer seen result answer
 
 -- the same, unless memory was wanting
 abbrev pub GivesUnlessMemory : {T U : Type 0} → (T → U) → Result T CovFault → Answer U → Type 0

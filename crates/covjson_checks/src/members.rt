@@ -2,7 +2,7 @@
 ghost use Rattle.std.specs.Prelude.{◌≡◌, ◌<◌, ◌^◌, is_some, option_map};
 ghost use Rattle.serde_json.specs.View.{view, items_view, members_view, number_view};
 ghost use Rattle.serde_json.specs.Find.{get};
-ghost use Rattle.covjson_checks.specs.Answers.{Gives, GivesUnlessMemory, each};
+ghost use Rattle.covjson_checks.specs.Answers.{GivesAnswer, GivesUnlessMemory, each};
 ghost use Rattle.edr_base.specs.FirstThatApplies.{or_fault};
 ghost use Rattle.edr_json.specs.Trees.{whole_of};
 ghost use Rattle.covjson_checks.specs.Members as members;
@@ -25,7 +25,7 @@ pub enum Wanted {
 
 /// The member of a name, or Missing.
 pub fn need<'a>(tree: &'a Value, name: &str, member: Member) -> Result<&'a Value, CovFault>
-    ensures { Gives (λ v. view v.now) result (members.need name.now member (view tree.now)) }
+    ensures { GivesAnswer (λ v. view v.now) result (members.need name.now member (view tree.now)) }
 {
     match tree.get(name) {
         Some(found) => Ok(found),
@@ -35,7 +35,7 @@ pub fn need<'a>(tree: &'a Value, name: &str, member: Member) -> Result<&'a Value
 
 /// The member of a name, or WrongType.
 pub fn part<'a>(tree: &'a Value, name: &str, member: Member) -> Result<&'a Value, CovFault>
-    ensures { Gives (λ v. view v.now) result (members.part name.now member (view tree.now)) }
+    ensures { GivesAnswer (λ v. view v.now) result (members.part name.now member (view tree.now)) }
 {
     match tree.get(name) {
         Some(found) => Ok(found),
@@ -45,7 +45,7 @@ pub fn part<'a>(tree: &'a Value, name: &str, member: Member) -> Result<&'a Value
 
 /// What was found of a member, or Missing.
 pub fn found_or_missing(found: Option<&Value>, member: Member) -> Result<&Value, CovFault>
-    ensures { Gives (λ v. view v.now) result (or_fault (option_map (λ v. view v.now) found.entry) (CovFault.Missing member)) }
+    ensures { GivesAnswer (λ v. view v.now) result (or_fault (option_map (λ v. view v.now) found.entry) (CovFault.Missing member)) }
 {
     match found {
         Some(value) => Ok(value),
@@ -65,7 +65,7 @@ pub fn lent<'a>(tree: &'a Value, collection: &'a Value, name: &str) -> Option<&'
 
 /// The members of an object, or WrongType.
 pub fn object_at(tree: &Value, member: Member) -> Result<&Map<String, Value>, CovFault>
-    ensures { Gives (λ m. members_view m.now.entries) result (members.object_at member (view tree.now)) }
+    ensures { GivesAnswer (λ m. members_view m.now.entries) result (members.object_at member (view tree.now)) }
 {
     match tree.as_object() {
         Some(found) => Ok(found),
@@ -75,7 +75,7 @@ pub fn object_at(tree: &Value, member: Member) -> Result<&Map<String, Value>, Co
 
 /// The items of a list, or WrongType.
 pub fn list_at(tree: &Value, member: Member) -> Result<&Vec<Value>, CovFault>
-    ensures { Gives (λ v. items_view v.now.items) result (members.list_at member (view tree.now)) }
+    ensures { GivesAnswer (λ v. items_view v.now.items) result (members.list_at member (view tree.now)) }
 {
     match tree.as_array() {
         Some(found) => Ok(found),
@@ -85,7 +85,7 @@ pub fn list_at(tree: &Value, member: Member) -> Result<&Vec<Value>, CovFault>
 
 /// A text, or WrongType.
 pub fn text_at(tree: &Value, member: Member) -> Result<&str, CovFault>
-    ensures { Gives (λ s. s.now) result (members.text_at member (view tree.now)) }
+    ensures { GivesAnswer (λ s. s.now) result (members.text_at member (view tree.now)) }
 {
     match tree.as_str() {
         Some(found) => Ok(found),
@@ -95,7 +95,7 @@ pub fn text_at(tree: &Value, member: Member) -> Result<&str, CovFault>
 
 /// A number, or WrongType.
 pub fn number_at(tree: &Value, member: Member) -> Result<&Number, CovFault>
-    ensures { Gives (λ n. number_view n.now) result (members.number_at member (view tree.now)) }
+    ensures { GivesAnswer (λ n. number_view n.now) result (members.number_at member (view tree.now)) }
 {
     match tree.as_number() {
         Some(number) => Ok(number),

@@ -1,7 +1,7 @@
 //! Axes of a domain (OGC 21-069r2, Axis objects).
 ghost use Rattle.std.specs.Prelude.{◌≡◌, IfOk, false};
 ghost use Rattle.serde_json.specs.View.{view, items_view};
-ghost use Rattle.covjson_checks.specs.Answers.{Gives, GivesUnlessMemory};
+ghost use Rattle.covjson_checks.specs.Answers.{GivesAnswer, GivesUnlessMemory};
 ghost use Rattle.covjson_domains.specs.AxisAnswers.{times_from};
 ghost use Rattle.covjson_domains.specs.DomainTypes.{axis_name, member_of, presence};
 ghost use Rattle.covjson_domains.specs.AxisAnswers as axes;
@@ -49,7 +49,7 @@ fn has_some(items: &Vec<Value>) -> bool
 
 /// The items of the member `values`, of which there are some: WrongType.
 pub fn value_items(axis: &Value, member: Member) -> Result<&Vec<Value>, CovFault>
-    ensures { Gives (λ v. items_view v.now.items) result (axes.value_items member (view axis.now)) }
+    ensures { GivesAnswer (λ v. items_view v.now.items) result (axes.value_items member (view axis.now)) }
 {
     let list = part(axis, "values", member)?;
     let items = list_at(list, member)?;

@@ -65,33 +65,42 @@ pub fn type_named(name: &str) -> Option<DomainType>
 pub fn presence_of(kind: DomainType, name: AxisName) -> Presence
     ensures { result ≡ presence kind name }
 {
-    match name {
-        AxisName::T => match kind {
-            DomainType::Grid => Presence::Optional,
-            DomainType::PointSeries => Presence::Required,
-            DomainType::Point | DomainType::VerticalProfile | DomainType::MultiPoint =>
-                Presence::OptionalSingle,
-            DomainType::Trajectory => Presence::Absent,
+    match kind {
+        DomainType::Grid => match name {
+            AxisName::T => Presence::Optional,
+            AxisName::Z => Presence::Optional,
+            AxisName::Y | AxisName::X => Presence::Required,
+            AxisName::Composite => Presence::Absent,
         },
-        AxisName::Z => match kind {
-            DomainType::Grid => Presence::Optional,
-            DomainType::VerticalProfile => Presence::Required,
-            DomainType::Point | DomainType::PointSeries | DomainType::Trajectory =>
-                Presence::OptionalSingle,
-            DomainType::MultiPoint => Presence::Absent,
+        DomainType::Point => match name {
+            AxisName::T => Presence::OptionalSingle,
+            AxisName::Z => Presence::OptionalSingle,
+            AxisName::Y | AxisName::X => Presence::Single,
+            AxisName::Composite => Presence::Absent,
         },
-        AxisName::Y | AxisName::X => match kind {
-            DomainType::Grid => Presence::Required,
-            DomainType::Point | DomainType::PointSeries | DomainType::VerticalProfile =>
-                Presence::Single,
-            DomainType::MultiPoint | DomainType::Trajectory => Presence::Absent,
+        DomainType::PointSeries => match name {
+            AxisName::T => Presence::Required,
+            AxisName::Z => Presence::OptionalSingle,
+            AxisName::Y | AxisName::X => Presence::Single,
+            AxisName::Composite => Presence::Absent,
         },
-        AxisName::Composite => match kind {
-            DomainType::MultiPoint | DomainType::Trajectory => Presence::Required,
-            DomainType::Grid
-            | DomainType::Point
-            | DomainType::PointSeries
-            | DomainType::VerticalProfile => Presence::Absent,
+        DomainType::VerticalProfile => match name {
+            AxisName::T => Presence::OptionalSingle,
+            AxisName::Z => Presence::Required,
+            AxisName::Y | AxisName::X => Presence::Single,
+            AxisName::Composite => Presence::Absent,
+        },
+        DomainType::MultiPoint => match name {
+            AxisName::T => Presence::OptionalSingle,
+            AxisName::Z => Presence::Absent,
+            AxisName::Y | AxisName::X => Presence::Absent,
+            AxisName::Composite => Presence::Required,
+        },
+        DomainType::Trajectory => match name {
+            AxisName::T => Presence::Absent,
+            AxisName::Z => Presence::OptionalSingle,
+            AxisName::Y | AxisName::X => Presence::Absent,
+            AxisName::Composite => Presence::Required,
         },
     }
 }

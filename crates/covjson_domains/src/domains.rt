@@ -2,7 +2,7 @@
 ghost use Rattle.std.specs.Prelude.{◌≡◌, ◌≢◌, IfOk, IfErr, option_map, IsSome};
 ghost use Rattle.serde_json.specs.View.{view};
 ghost use Rattle.covjson_value.specs.Coverages.{HasAxes, HasTuples};
-ghost use Rattle.covjson_checks.specs.Answers.{Gives, GivesUnlessMemory};
+ghost use Rattle.covjson_checks.specs.Answers.{GivesAnswer, GivesUnlessMemory};
 ghost use Rattle.covjson_checks.specs.declared.turned.ReadDomain.{ReadDomain};
 ghost use Rattle.covjson_domains.specs.Domains.{StandsForDomain};
 ghost use Rattle.covjson_domains.specs.DomainRows.{DomainRows};
@@ -51,7 +51,7 @@ fn type_at(alloc: Global, found: Option<&Value>) -> Result<DomainType, CovFault>
 
 // The axes of a domain of a type, and no others: Missing, WrongType.
 fn axes_at(tree: &Value, kind: DomainType) -> Result<&Value, CovFault>
-    ensures { Gives (λ v. view v.now) result (domains.axes_at kind (view tree.now)) }
+    ensures { GivesAnswer (λ v. view v.now) result (domains.axes_at kind (view tree.now)) }
 {
     let axes = need(tree, "axes", Member::Axes)?;
     let members = object_at(axes, Member::Axes)?;

@@ -2,7 +2,7 @@
 ghost use Rattle.std.specs.Prelude.{◌≡◌, ◌≤◌, ◌<◌, ◌^◌, ◌+ℤ◌, ◌-ℤ◌, ◌*◌, ◌*ℤ◌, IfOk, pos, unsigned_abs, true};
 ghost use Rattle.serde_json.specs.View.{view, number_view};
 ghost use Rattle.edr_base.specs.Limits.{coordinate_limit, node_limit, IsCoordinate};
-ghost use Rattle.covjson_checks.specs.Answers.{Gives, GivesUnlessMemory};
+ghost use Rattle.covjson_checks.specs.Answers.{GivesAnswer, GivesUnlessMemory};
 ghost use Rattle.covjson_checks.specs.Members as members;
 ghost use Rattle.covjson_domains.specs.AxisAnswers as axes;
 ghost use Rattle.covjson_domains.specs.SpanAnswers as spans;
@@ -14,7 +14,7 @@ use std::alloc::Global;
 
 // A member that is a number: WrongType.
 fn number_in<'a>(axis: &'a Value, key: &str, member: Member) -> Result<&'a Number, CovFault>
-    ensures { Gives (λ n. number_view n.now) result (axes.number_in key.now member (view axis.now)) }
+    ensures { GivesAnswer (λ n. number_view n.now) result (axes.number_in key.now member (view axis.now)) }
 {
     let found = part(axis, key, member)?;
     number_at(found, member)

@@ -4,7 +4,7 @@ ghost use Rattle.serde_json.specs.View.{view, items_view};
 ghost use Rattle.serde_json.specs.Find.{as_array};
 ghost use Rattle.covjson_value.specs.declared.domains.CoordinateName.TheVariants.{T};
 ghost use Rattle.covjson_value.specs.Domains.{coordinate};
-ghost use Rattle.covjson_checks.specs.Answers.{Gives, GivesUnlessMemory};
+ghost use Rattle.covjson_checks.specs.Answers.{GivesAnswer, GivesUnlessMemory};
 ghost use Rattle.covjson_domains.specs.TupleAnswers.{tuples_from, tuples_of_items};
 ghost use Rattle.covjson_domains.specs.TupleAnswers as tuples;
 

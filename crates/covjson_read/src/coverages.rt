@@ -4,7 +4,7 @@ ghost use Rattle.serde_json.specs.Data.{null};
 ghost use Rattle.serde_json.specs.View.{view};
 ghost use Rattle.serde_json.specs.Find.{get, as_str};
 ghost use Rattle.covjson_value.specs.Coverages.{HasAxes, HasTuples, IsValid};
-ghost use Rattle.covjson_checks.specs.Answers.{Gives, GivesUnlessMemory};
+ghost use Rattle.covjson_checks.specs.Answers.{GivesAnswer, GivesUnlessMemory};
 ghost use Rattle.covjson_value.specs.declared.coverages.Coverage.{Coverage};
 ghost use Rattle.covjson_read.specs.CoverageAnswers.{over_domain};
 ghost use Rattle.covjson_read.specs.CoverageParts.{with_domain};
@@ -37,7 +37,7 @@ fn id_of(alloc: Global, tree: &Value) -> Result<Option<Text>, CovFault>
 
 // An object of type Coverage: WrongType, Missing.
 fn is_coverage(tree: &Value) -> Result<&Value, CovFault>
-    ensures { Gives (λ v. view v.now) result (answers.is_coverage (view tree.now)) }
+    ensures { GivesAnswer (λ v. view v.now) result (answers.is_coverage (view tree.now)) }
 {
     let _members = object_at(tree, Member::Coverages)?;
     let _kind = need(tree, "type", Member::Kind)?;
@@ -49,7 +49,7 @@ fn is_coverage(tree: &Value) -> Result<&Value, CovFault>
 
 // The domain of a coverage, an object: Missing, WrongType.
 fn domain_at(tree: &Value) -> Result<&Value, CovFault>
-    ensures { Gives (λ v. view v.now) result (answers.domain_at (view tree.now)) }
+    ensures { GivesAnswer (λ v. view v.now) result (answers.domain_at (view tree.now)) }
 {
     let domain = need(tree, "domain", Member::Domain)?;
     let _members = object_at(domain, Member::Domain)?;

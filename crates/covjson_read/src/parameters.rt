@@ -3,7 +3,7 @@ ghost use Rattle.std.specs.Prelude.{◌≡◌, option_map, IfOk, codes, None};
 ghost use Rattle.serde_json.specs.View.{view, members_view};
 ghost use Rattle.serde_json.specs.Find.{get};
 ghost use Rattle.covjson_value.specs.Coverages.{IsParameter};
-ghost use Rattle.covjson_checks.specs.Answers.{Gives, GivesUnlessMemory};
+ghost use Rattle.covjson_checks.specs.Answers.{GivesAnswer, GivesUnlessMemory};
 ghost use Rattle.edr_base.specs.Names.{IsName};
 ghost use Rattle.covjson_read.specs.NameTests.{is_name};
 ghost use Rattle.covjson_read.specs.ParameterAnswers as parameters;
@@ -49,7 +49,7 @@ fn said_in<'a>(label: &'a Value, members: &'a Map<String, Value>) -> Option<(&'a
 
 // The language and the text of a label.
 fn label_at<'a>(tree: &'a Value, member: Member) -> Result<(&'a str, &'a str), CovFault>
-    ensures { Gives (λ p. (p.0.now, p.1.now)) result (parameters.label_at member (view tree.now)) }
+    ensures { GivesAnswer (λ p. (p.0.now, p.1.now)) result (parameters.label_at member (view tree.now)) }
 {
     let label = part(tree, "label", member)?;
     let members = object_at(label, member)?;
@@ -64,7 +64,7 @@ fn label_at<'a>(tree: &'a Value, member: Member) -> Result<(&'a str, &'a str), C
 }
 
 fn parameter_label(tree: &Value) -> Result<(&str, &str), CovFault>
-    ensures { Gives (λ p. (p.0.now, p.1.now)) result (parameters.parameter_label (view tree.now)) }
+    ensures { GivesAnswer (λ p. (p.0.now, p.1.now)) result (parameters.parameter_label (view tree.now)) }
 {
     let property = need(tree, "observedProperty", Member::ObservedProperty)?;
     if property.get("categories").is_some() {
@@ -74,7 +74,7 @@ fn parameter_label(tree: &Value) -> Result<(&str, &str), CovFault>
 }
 
 fn unit_label(unit: &Value) -> Result<&str, CovFault>
-    ensures { Gives (λ s. s.now) result (parameters.unit_label (view unit.now)) }
+    ensures { GivesAnswer (λ s. s.now) result (parameters.unit_label (view unit.now)) }
 {
     let (_, text) = label_at(unit, Member::Unit)?;
     Ok(text)
@@ -82,7 +82,7 @@ fn unit_label(unit: &Value) -> Result<&str, CovFault>
 
 // The text of a unit: its symbol, or the value of its symbol, else its label.
 fn unit_text(unit: &Value) -> Result<&str, CovFault>
-    ensures { Gives (λ s. s.now) result (parameters.unit_by_symbol (view unit.now) (get (codes "symbol") (view unit.now))) }
+    ensures { GivesAnswer (λ s. s.now) result (parameters.unit_by_symbol (view unit.now) (get (codes "symbol") (view unit.now))) }
 {
     let Some(symbol) = unit.get("symbol") else {
         return unit_label(unit);
@@ -98,7 +98,7 @@ fn unit_text(unit: &Value) -> Result<&str, CovFault>
 }
 
 fn parameter_unit(tree: &Value) -> Result<Option<&str>, CovFault>
-    ensures { Gives (λ o. option_map (λ s. s.now) o) result (parameters.parameter_unit (view tree.now)) }
+    ensures { GivesAnswer (λ o. option_map (λ s. s.now) o) result (parameters.parameter_unit (view tree.now)) }
 {
     let Some(unit) = tree.get("unit") else {
         return Ok(None);
@@ -145,7 +145,7 @@ fn all_named_objects(members: &Map<String, Value>) -> bool
 /// The parameters, which were found in the coverage or elsewhere: an object of objects by names, each of which is as it has
 /// to be. Missing, WrongType.
 pub fn parameters_of(found: Option<&Value>) -> Result<&Value, CovFault>
-    ensures { Gives (λ v. view v.now) result (parameters.parameters_of (option_map (λ v. view v.now) found.entry)) }
+    ensures { GivesAnswer (λ v. view v.now) result (parameters.parameters_of (option_map (λ v. view v.now) found.entry)) }
 {
     let found = found_or_missing(found, Member::Parameters)?;
     let members = object_at(found, Member::Parameters)?;

@@ -1,4 +1,4 @@
--- For private clauses: members as they are put, one after another.
+-- For private clauses, and `put_if` for `put_given`: members as they are put, one after another.
 use Rattle.std.specs.Prelude.{ℕ, ℤ, codes, List, []}
 use Rattle.std.specs.declared.option.Option.{Option}
 use Rattle.std.specs.Prelude.{None, Some}

@@ -17,7 +17,6 @@ mod validity;
 pub use axis_names::{AxisName, axis_by_name, axis_key};
 pub use axis_trees::is_spanned;
 pub use coverages::{Coverage, Document, NdArray, Parameter, Referencing};
-pub use domain_trees::domain_tree;
 pub use domains::{CoordinateName, Domain};
 pub use laws::{
     document_texts_read_back, texts_read_back, texts_tell_coverages, texts_tell_documents,

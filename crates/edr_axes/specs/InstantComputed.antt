@@ -1,4 +1,4 @@
--- For private clauses: the instant that a text is, as it is computed, piece by piece, each with the bytes after it.
+-- For private clauses, and for the calls between the readers of CoverageJSON: the instant that a text is, as it is computed, piece by piece, each with the bytes after it.
 use Rattle.std.specs.Prelude.{◌≡◌, ◌↔◌, ℕ, ◌+◌, ◌-◌, ◌*◌, ◌==◌, nat_le, ℤ, pos, neg_ℤ, ◌+ℤ◌, ◌-ℤ◌, ◌*ℤ◌, int_le, Bool, ◌&&◌, ◌||◌, if◌then◌else◌, List, [], ◌∷◌, Option, Some, None, option_map, option_and_then}
 use Rattle.jiff_core.specs.Calendar.{days_in_month, days_from_civil}
 use Rattle.edr_base.specs.Limits.{earliest_time, latest_time}

@@ -1,4 +1,4 @@
-//! Axes of coverages, times as text, and the times and levels that a request selects.
+//! Axes of coverages, times as text, the times and levels that a request selects, and distances.
 #![tactic(auto)]
 
 mod axis;
@@ -9,7 +9,7 @@ mod reading_instants;
 mod times;
 
 pub use axis::{Axis, AxisFault, bounds_split_axes, nearest_is_one, nearest_is_there};
-pub use distances::{DISTANCE_LIMIT, distances_are_unique, read_distance};
+pub use distances::{distances_are_unique, read_distance};
 pub use instants::{texts_tell_times, times_are_written, write_instant};
 pub use levels::{LevelFault, Levels, levels_are_unique, read_levels};
 pub use reading_instants::{

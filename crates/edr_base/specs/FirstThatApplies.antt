@@ -32,7 +32,7 @@ Then {V} {F} Rows Next answer = ((found : V) × Rows (Ok found) × Next found an
 abbrev pub Gives : {T F : Type 0} → T → Result T F → Type 0
 Gives value answer = answer ≡ Ok value
 
--- ---- the same as a computation, for private clauses
+-- ---- the same as a computation, for private clauses and for the calls between the readers of CoverageJSON
 
 -- a value, or the first fault
 abbrev pub Answer : Type 0 → Type 0 → Type 0

@@ -12,6 +12,8 @@ held_of below name =
 abbrev pub lent_beside : Beside → ℕ → Beside
 lent_beside below name = record below { held = held_of below name }
 
+-- ---- laws
+
 -- which reference the uppermost is
 name_of : List LentSink → ℕ
 name_of [] = 0

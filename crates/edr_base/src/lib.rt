@@ -30,8 +30,8 @@ pub use digits::{are_digits, value_of_digits};
 pub use fault_plan::FaultPlan;
 pub use lent::Lent;
 pub use limits::{
-    COORDINATE_LIMIT, EARLIEST_TIME, FEED_LIMIT, LATEST_TIME, LINE_LIMIT, NAME_LIMIT, NODE_LIMIT,
-    POSITION_LIMIT, SAMPLE_LIMIT,
+    BUFFER_SIZE, COORDINATE_LIMIT, EARLIEST_TIME, FEED_LIMIT, LATEST_TIME, LINE_LIMIT, NAME_LIMIT,
+    NODE_LIMIT, POSITION_LIMIT, SAMPLE_LIMIT,
 };
 pub use memory_files::MemoryFiles;
 pub use memory_link::MemoryLink;

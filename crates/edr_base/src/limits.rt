@@ -26,3 +26,6 @@ pub const LINE_LIMIT: usize = 16_777_216;
 
 /// A feed has at most so many bytes.
 pub const FEED_LIMIT: usize = 1_073_741_824;
+
+/// A reader takes at most so many bytes at once.
+pub const BUFFER_SIZE: usize = 16_384;

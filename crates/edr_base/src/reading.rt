@@ -4,6 +4,7 @@ ghost use Rattle.edr_base.specs.declared.reading.ReadStop.TheVariants.{ReadFault
 ghost use Rattle.edr_base.specs.Outside.{Rose};
 ghost use Rattle.edr_base.specs.Calls.{SourceLent, ReadsAll, ReadsMore, ReadsAtMost, buffer_size};
 
+use crate::limits::BUFFER_SIZE;
 use crate::outside::{Failed, Source};
 use std::alloc::{AllocError, Global};
 
@@ -47,7 +48,7 @@ pub fn read_all<S: Source>(alloc: Global, source: &mut S, limit: usize) -> Resul
     ensures cause { IsErrOf result ReadStop.ReadFault → Rose (S.faults source.old) (S.faults source.new) }
 {
     let mut bytes = Vec::new(alloc);
-    let mut buffer = [0u8; 16384];
+    let mut buffer = [0u8; BUFFER_SIZE];
     while bytes.len() <= limit {
         let count = source.read(&mut buffer)?;
         if count == 0 {

@@ -1,4 +1,4 @@
--- From the least to the greatest: spans of coordinates, times and levels, and what an extent tells by them.
+-- From the least to the greatest: spans of coordinates, times and levels, and what an extent tells by them; for private clauses.
 use Rattle.std.specs.Prelude.{ℕ, ℤ, List, [], ◌∷◌, Option, None, Some, option_map, codes}
 use Rattle.serde_json.specs.Data.{Data, string, object, no_members, member}
 use Rattle.edr_axes.specs.Instants.{IsTime}

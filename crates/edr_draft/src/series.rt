@@ -30,10 +30,7 @@ fn axis_of_one(alloc: Global, value: Option<i64>) -> Result<Option<Axis>, OutOfM
     let Some(value) = value else {
         return Ok(None);
     };
-    match Axis::of(alloc, slice::from_ref(&value)) {
-        Ok(axis) => Ok(Some(axis)),
-        Err(_) => Err(OutOfMemory),
-    }
+    Ok(Some(Axis::over(alloc, slice::from_ref(&value))?))
 }
 
 // Where and when a series is.

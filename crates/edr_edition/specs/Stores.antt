@@ -98,8 +98,6 @@ abbrev pub IsBlockOf : Held → ℕ → List (Option ℤ) → Type 0
 IsBlockOf (of_grid instance) number values = ⊥
 IsBlockOf (of_stations parameters stations) number values = IsBlock (stations_of parameters stations) number values
 
--- ---- for private clauses
-
 -- what a store holds: its instance, or where it has none the stations of its collection
 abbrev pub held_by : CollectionValue → Option InstanceValue → Held
 held_by collection None = of_stations collection.parameters collection.stations

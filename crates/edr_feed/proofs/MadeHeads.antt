@@ -1,5 +1,5 @@
 -- The coverages of the made feed are valid.
-use Rattle.std.proofs.Common.{◌≡◌, ℕ, zero, suc, ◌+◌, ◌-◌, ◌*◌, ◌%◌, ◌<◌, ◌≤◌, ◌==◌, if◌then◌else◌, Bool, true, false, codes, List, [], ◌∷◌, length, All, IfSome, IsUtf8, ℤ, pos, ◌<ℤ◌, ◌≤ℤ◌, None, Some, refl, sym, subst, ap, ◌∙◌, arith}
+use Rattle.std.proofs.Common.{◌≡◌, ℕ, zero, suc, ◌+◌, ◌-◌, ◌*◌, ◌%◌, ◌<◌, ◌≤◌, ◌==◌, if◌then◌else◌, Bool, true, false, codes, List, [], ◌∷◌, length, All, IfSome, IsUtf8, ℤ, pos, None, Some, refl, sym, subst, ap, ◌∙◌, arith}
 use Rattle.std.specs.declared.option.Option.{Option}
 use Rattle.std.specs.List.{flat_map, range_with_len}
 use Rattle.std.specs.List.Sorted.{IsStrictlySortedBy}
@@ -15,8 +15,7 @@ use Rattle.std.proofs.lemmas.List.{length-append}
 use Rattle.std.proofs.lemmas.List.Elements.{All-nil, All-cons, All-append, All-map}
 use Rattle.std.proofs.lemmas.List.FromFn.{length-range_with_len, get_or-range_with_len, length-map-range_with_len, get_or-map-range_with_len}
 use Rattle.edr_base.specs.Names.{IsName}
-use Rattle.edr_axes.specs.Axes.{value_at, IsAxis, IsFirstFall}
-use Rattle.edr_axes.specs.AxisLaws.{ascending_far}
+use Rattle.edr_axes.specs.Axes.{value_at, IsAxis}
 use Rattle.edr_axes.specs.Instants.{IsTime}
 use Rattle.covjson_value.specs.declared.domains.CoordinateName.{CoordinateName}
 use Rattle.covjson_value.specs.declared.domains.CoordinateName.TheVariants.{T, Z, Y, X}
@@ -50,20 +49,6 @@ spaced_is_axis first step count rises some = record {
       rw (spaced_at first step count k (omega arith)) (rw (spaced_at first step count (k + 1) behind)
       (lt_z_yes (lt→ltb (first + step * k) (first + step * (k + 1)) (omega (arith, mul-add step k 1)))));
 }
-
-pub some_spaced : (values : List ℤ) (first step count : ℕ) → 0 < count → values ≡ spaced first step count → values ≡ [] → ⊥
-some_spaced values first step count some are none =
-    let long : length values ≡ count = ap length are ∙ spaced_long first step count in
-    let short : length values ≡ 0 = ap length none in
-    omega (arith, long, short)
-
-pub never_falls : (values : List ℤ) (place : ℕ) → IsAxis values → IsFirstFall values place → ⊥
-never_falls values place axis fall =
-    not_both (value_at values place) (value_at values (place - 1)) fall.falls
-    (ascending_far values axis.ascending (place - 1) place (omega (arith, fall.inside.0)) fall.inside.1)
-  where
-    not_both : (a b : ℤ) → a ≤ℤ b → b <ℤ a → ⊥
-    not_both a b h l = omega (arith, ints, h, l)
 
 spaced_within : (P : ℤ → Type 0) (first step count : ℕ) → ((k : ℕ) → k < count → P (pos (first + step * k))) → All P (spaced first step count)
 unfolding spaced

@@ -12,7 +12,7 @@ ghost use Rattle.edr_feed.specs.Refusals.{refusal_of, line_of};
 use crate::faults::FeedFault;
 use crate::forms::trees_have_one_form;
 use crate::reading::{Reading, begin, end, read_on};
-use edr_base::{Items, Source};
+use edr_base::{BUFFER_SIZE, Items, Source};
 use edr_draft::changes_have_one_outcome;
 use edr_edition::Edition;
 use edr_json::texts_have_one_tree;
@@ -36,7 +36,7 @@ fn read_whole<S: Source>(alloc: Global, source: &mut S) -> Result<Reading, FeedF
     ensures cause { IsErrOf result FeedFault.ReadFault → Rose (S.faults source.old) (S.faults source.new) }
 {
     let mut now = begin(alloc);
-    let mut buffer = [0u8; 16384];
+    let mut buffer = [0u8; BUFFER_SIZE];
     loop {
         let count = source.read(&mut buffer)?;
         if count == 0 {

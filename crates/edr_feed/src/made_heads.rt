@@ -4,7 +4,7 @@ ghost use Rattle.edr_feed.specs.Made.{spaced, coverage_over, grid_domain, series
 ghost use Rattle.edr_feed.specs.MadeParts.{parameter_over};
 
 use covjson_value::{Coverage, Domain, Parameter, Referencing};
-use edr_axes::{Axis, AxisFault};
+use edr_axes::Axis;
 use edr_base::{Items, OutOfMemory, Text};
 use std::alloc::Global;
 
@@ -36,12 +36,7 @@ fn axis(alloc: Global, first: u32, step: u16, count: u32) -> Result<Axis, OutOfM
     ensures { IfOk result (λ axis. axis ≡ spaced first step count) }
 {
     let numbers = numbers(alloc, first, step, count)?;
-    match Axis::of(alloc, &numbers) {
-        Ok(axis) => Ok(axis),
-        Err(AxisFault::OutOfMemory) => Err(OutOfMemory),
-        Err(AxisFault::Empty) => unreachable!(),
-        Err(AxisFault::NotAscending(_)) => unreachable!(),
-    }
+    Axis::over(alloc, &numbers)
 }
 
 // A parameter whose label is its id.

@@ -1,4 +1,4 @@
--- What a sink that sends chunks keeps. Of the bytes of the sink inside, the last came from it: the chunks of `n` full pieces,
+-- What a sink that sends chunks keeps; for private clauses. Of the bytes of the sink inside, the last came from it: the chunks of `n` full pieces,
 -- and the first `b` bytes of the chunk of the piece `p` that it holds. `body_known` and `bottom_known` are what the layer's
 -- `written` and `bottom` are; what they mean is said without these parts, by `EndsBody` and `BeginsBody` in ChunkedSinks, and
 -- of whole calls in ChunkedSinkLaws.

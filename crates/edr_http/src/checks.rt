@@ -57,7 +57,8 @@ fn brings_body(field: &(Text, Text)) -> bool
         || (is_named(field, b"content-length") && !are_zeros(field.1.bytes()))
 }
 
-fn is_blank(byte: u8) -> bool
+// Whether a byte is a space or a tab.
+fn is_space_or_tab(byte: u8) -> bool
     ensures { result ≡ is_ows byte }
 {
     byte == b' ' || byte == b'\t'
@@ -70,7 +71,7 @@ fn skip_blanks(text: &[u8]) -> &[u8]
 {
     let mut rest = text;
     while let Some((first, behind)) = rest.split_first() {
-        if !is_blank(*first) {
+        if !is_space_or_tab(*first) {
             return rest;
         }
         rest = behind;
@@ -85,7 +86,7 @@ fn drop_blanks(text: &[u8]) -> &[u8]
 {
     let mut rest = text;
     while let Some((last, before)) = rest.split_last() {
-        if !is_blank(*last) {
+        if !is_space_or_tab(*last) {
             return rest;
         }
         rest = before;

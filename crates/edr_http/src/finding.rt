@@ -1,6 +1,7 @@
 //! Looking for a head at the front of some bytes.
 ghost use Rattle.std.specs.Prelude.{◌≡◌, take};
 ghost use Rattle.edr_http.specs.Finding.{Tells, Looks};
+ghost use Rattle.edr_http.specs.Heads.{head_limit};
 
 use httparse::Status;
 use httparse::spans::{HeaderSpan, RequestSpans, parse_request};
@@ -27,7 +28,7 @@ pub(crate) enum Found {
 
 /// The first bytes, in which a head has to be.
 pub(crate) fn window(bytes: &[u8]) -> &[u8]
-    ensures { result.now ≡ take 16384 bytes.now }
+    ensures { result.now ≡ take head_limit bytes.now }
 {
     if bytes.len() > HEAD_LIMIT {
         &bytes[..HEAD_LIMIT]

@@ -22,7 +22,7 @@ use Rattle.edr_select.specs.PlaceLaws.{found_place}
 use Rattle.edr_select.specs.Refusals.{applies_to_subject}
 use Rattle.edr_select.specs.Samples.{Stored, id_at, stored_at, grid_samples}
 use Rattle.edr_select.specs.Selections.{is_asked, takes, wants, picked}
-use Rattle.edr_select.specs.Steps.{IsInstanceOf, refused_sizes, refused_large}
+use Rattle.edr_select.specs.Steps.{IsAskedOf, refused_sizes, refused_large}
 use Rattle.edr_lines.specs.Asked.{IsAskedAlong}
 use Rattle.edr_lines.proofs.LineGrids.{grid_from}
 
@@ -54,7 +54,7 @@ some_picked [] = refl
 some_picked (x ∷ picks) = refl
 
 -- what is asked is asked of an instance of grids
-pub of_asked : (c : CollectionValue) (q : QueryValue) (i : InstanceValue) → IsAskedAlong c q i → IsInstanceOf c q i
+pub of_asked : (c : CollectionValue) (q : QueryValue) (i : InstanceValue) → IsAskedAlong c q i → IsAskedOf c q i
 of_asked c q i asked = record { is_collection = asked.is_collection; kind = asked.kind; instance_is = asked.instance_is }
 
 module _ (c : CollectionValue) (q : QueryValue) (i : InstanceValue) (asked : IsAskedAlong c q i) where

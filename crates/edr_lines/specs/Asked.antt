@@ -1,4 +1,4 @@
--- What is known of a query along a line from step to step of its planning; for private clauses.
+-- What is known of a query along a line from step to step of its planning; for the calls that plan, and private clauses.
 use Rattle.std.specs.Prelude.{⊤, ◌≡◌, Some}
 use Rattle.edr_edition.specs.declared.kinds.Kind.TheVariants.{Grid}
 use Rattle.edr_edition.specs.Values.{InstanceValue, CollectionValue}

@@ -1,4 +1,4 @@
--- The truth values of the nodes of a stack, and where a box sets them; for private clauses.
+-- The truth values of the nodes of a stack, and where a box sets them; for the calls that plan, and private clauses.
 use Rattle.std.specs.Prelude.{◌≡◌, ℕ, ◌+◌, ◌-◌, ◌*◌, ◌<◌, ◌≤◌, ◌^◌, ◌==◌, nat_le, Bool, true, false, ◌&&◌, ◌||◌, List, length}
 use Rattle.std.specs.List.{slice_index_or}
 use Rattle.edr_base.specs.Limits.{node_limit}

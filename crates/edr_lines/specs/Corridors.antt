@@ -1,5 +1,5 @@
--- What a corridor takes of the nodes of some axes: its segments, and the times and levels that are asked beside them; for private
--- clauses.
+-- What a corridor takes of the nodes of some axes: its segments, and the times and levels that are asked beside them; for the calls
+-- that plan, and private clauses.
 use Rattle.std.specs.Prelude.{⊤, ◌≡◌, ℕ, ◌<◌, Bool, false, ◌&&◌, ◌||◌, ℤ, List, length, Option, Some}
 use Rattle.std.specs.List.{list_any, range_with_len, slice_index_or}
 use Rattle.edr_axes.specs.Axes.{value_at}

@@ -1,4 +1,4 @@
--- What is planned for queries along lines; for private clauses.
+-- What is planned for queries along lines; for the calls that plan, and private clauses.
 use Rattle.std.specs.Prelude.{◌≢◌, ℕ, ◌*◌, ◌≤◌, [], List, map, length, Some, option_map}
 use Rattle.std.specs.List.{range_with_len}
 use Rattle.edr_base.specs.Limits.{node_limit}

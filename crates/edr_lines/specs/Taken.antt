@@ -1,4 +1,4 @@
--- Which nodes of some axes are taken, by their places: of a time, a level, a row and a column; for private clauses.
+-- Which nodes of some axes are taken, by their places: of a time, a level, a row and a column; for the calls that plan, and private clauses.
 use Rattle.std.specs.Prelude.{◌≡◌, ℕ, ◌+◌, ◌-◌, ◌*◌, ◌<◌, ◌≤◌, Bool, true, false, ◌||◌, length}
 use Rattle.std.specs.List.{filter, list_any, range_with_len, slice_index_or}
 use Rattle.edr_corridor.specs.Boxes.{GridAxes, level_count}

@@ -4,6 +4,10 @@ use Rattle.std.specs.Char.{is_ascii_digit}
 use Rattle.std.specs.List.{list_all}
 use Rattle.std.specs.Str.Parse.{digits_value}
 
--- 1 to 20 digits of a number that 64 bits hold
+-- a number has at most so many digits
+abbrev pub digit_limit : ℕ
+digit_limit = 20
+
+-- some digits, no more than that, of a number that 64 bits hold
 abbrev pub is_number : List ℕ → Bool
-is_number word = nat_le 1 (length word) && nat_le (length word) 20 && list_all is_ascii_digit word && nat_lt (digits_value 10 word) (2 ^ 64)
+is_number word = nat_le 1 (length word) && nat_le (length word) digit_limit && list_all is_ascii_digit word && nat_lt (digits_value 10 word) (2 ^ 64)

@@ -1,4 +1,4 @@
--- For private clauses: what the calls that read a path answer.
+-- For private clauses, and `HasNoAddress` for `read_address`: what the calls that read a path answer.
 use Rattle.std.specs.Prelude.{ℕ, ◌==◌, bytes_eq, if◌then◌else◌, List, [], ◌∷◌, ◌++◌, codes, map, Option, None, Some}
 use Rattle.std.specs.List.{slice_split}
 use Rattle.percent_encoding.specs.Percent.{percent_decode}

@@ -3,6 +3,7 @@ ghost use Rattle.std.specs.Prelude.{◌≡◌, ◌≤◌, ◌+◌, ◌-◌, ℕ,
 ghost use Rattle.std.specs.Io.KnownBytes.{prepend_known};
 ghost use Rattle.edr_base.specs.Outside.{Rose};
 ghost use Rattle.edr_base.specs.Calls.{SourceLent, ReadsAtMost};
+ghost use Rattle.edr_http.specs.Heads.{head_limit};
 ghost use Rattle.edr_reply.specs.Messages.{body_limit};
 ghost use Rattle.edr_reply.specs.BrokenParts.{BreaksChunk, BreaksChunks};
 ghost use Rattle.edr_reply.specs.Taking.{TakesSome, TakesChunk, TakesChunks, IsCutChunk, IsCutChunks, at_place, latest_place, ChunkBreaks, ChunksBreak, most_of_chunk, most_of_body};
@@ -71,7 +72,7 @@ pub(crate) fn take_chunks<S: Source>(
     place: u64,
 ) -> Result<(), MessageFault>
     requires empty { length body.old.items ≡ 0 }
-    requires early { place ≤ 16384 }
+    requires early { place ≤ head_limit }
     ensures taken { OnOk result (TakesChunks body.new.items (prepend_known held.old (S.left source.old)) (prepend_known held.new (S.left source.new))) }
     ensures broken { (at : ℕ) → result ≡ Err (MessageFault.Broken at)
         → ChunksBreak place at (prepend_known held.old (S.left source.old)) (prepend_known held.new (S.left source.new)) }

@@ -1,5 +1,6 @@
 //! The head at the front of some bytes.
 ghost use Rattle.std.specs.Prelude.{◌≡◌, ◌≤◌, length, All, take};
+ghost use Rattle.edr_base.specs.Calls.{buffer_size};
 ghost use Rattle.httparse.specs.Grammar.{ResponseHead};
 ghost use Rattle.httparse.specs.Spans.{IsResponseWithin, IsResponseAt};
 ghost use Rattle.edr_reply.specs.Finding.{Opens, TellsHead};
@@ -46,7 +47,7 @@ fn opening_of(bytes: &[u8], fields: &[HeaderSpan], spans: ResponseSpans) -> Open
 
 /// Looks for a head of HTTP/1.1 at the front of some bytes.
 pub(crate) fn find_head(bytes: &[u8]) -> FoundHead
-    requires { length bytes.now ≤ 16384 }
+    requires { length bytes.now ≤ buffer_size }
     ensures { TellsHead bytes.now result }
 {
     let mut fields = [EMPTY_HEADER_SPAN; FIELD_LIMIT];

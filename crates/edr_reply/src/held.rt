@@ -2,10 +2,10 @@
 ghost use Rattle.std.specs.Prelude.{◌≡◌, ◌≤◌, ◌<◌, ◌+◌, ◌-◌, ℕ, List, [], ◌++◌, length, take, drop, slice_range, IfOk, OnOk, OnErr, IsErrOf};
 ghost use Rattle.std.specs.Io.KnownBytes.{prepend_known, IsAtEnd};
 ghost use Rattle.edr_base.specs.Outside.{Rose};
-ghost use Rattle.edr_base.specs.Calls.{SourceLent, Reads};
+ghost use Rattle.edr_base.specs.Calls.{SourceLent, Reads, buffer_size};
 ghost use Rattle.edr_reply.specs.declared.held.PartFault.TheVariants.{ReadFault, OutOfMemory as PartWantsMemory};
 
-use edr_base::{Failed, Source};
+use edr_base::{BUFFER_SIZE, Failed, Source};
 use std::alloc::AllocError;
 use std::marker::Model;
 
@@ -40,19 +40,20 @@ impl From<AllocError> for PartFault {
 /// nothing moves where the first are taken.
 #[derive(Debug, Drop)]
 pub(crate) struct Held {
-    memory: [u8; 16384],
+    memory: [u8; BUFFER_SIZE],
     start: usize,
     end: usize,
 }
 
 impl Model for Held {
     ghost use Rattle.std.specs.Prelude.{ℕ, List, slice_range, ◌≤◌};
+    ghost use Rattle.edr_base.specs.Calls.{buffer_size};
 
     ghost Value = { List ℕ };
 
     ghost view = { λ held. slice_range held.memory held.start held.end };
 
-    ghost invariant = { λ held. (held.start ≤ held.end) × (held.end ≤ 16384) };
+    ghost invariant = { λ held. (held.start ≤ held.end) × (held.end ≤ buffer_size) };
 }
 
 // Moves some bytes to the front.
@@ -86,7 +87,7 @@ impl Held {
         ensures { result ≡ [] }
     {
         Held {
-            memory: [0; 16384],
+            memory: [0; BUFFER_SIZE],
             start: 0,
             end: 0,
         }
@@ -95,14 +96,14 @@ impl Held {
     /// The bytes.
     pub(crate) fn bytes(&self) -> &[u8]
         ensures same { result.now ≡ self.now }
-        ensures few { length result.now ≤ 16384 }
+        ensures few { length result.now ≤ buffer_size }
     {
         &self.memory[self.start..self.end]
     }
 
     /// They are at most 16,384.
     pub(crate) fn fits(&self)
-        ensures { length self.now ≤ 16384 }
+        ensures { length self.now ≤ buffer_size }
     {
         let _ = self.bytes();
     }
@@ -118,10 +119,10 @@ impl Held {
 
 /// Reads more bytes behind those that are held; `Lacking` is the end of the input.
 pub(crate) fn read_on<S: Source>(source: &mut S, held: &mut Held) -> Result<(), PartFault>
-    requires { length held.old < 16384 }
+    requires { length held.old < buffer_size }
     ensures rest { prepend_known held.new (S.left source.new) ≡ prepend_known held.old (S.left source.old) }
     ensures more { OnOk result (length held.old < length held.new) }
-    ensures few { length held.new ≤ 16384 }
+    ensures few { length held.new ≤ buffer_size }
     ensures ended { IsErrOf result PartFault.Lacking → IsAtEnd (S.left source.new) }
     ensures kept { OnErr result (held.new ≡ held.old) }
     ensures memory { ¬ (IsErrOf result PartFault.OutOfMemory) }

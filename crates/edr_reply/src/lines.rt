@@ -1,5 +1,6 @@
 //! Lines at the front of some bytes: those that give the size of a chunk, and line ends.
 ghost use Rattle.std.specs.Prelude.{◌≤◌, length};
+ghost use Rattle.edr_base.specs.Calls.{buffer_size};
 ghost use Rattle.edr_reply.specs.Finding.{TellsLine, TellsEnd};
 
 use edr_base::without_front;
@@ -29,7 +30,7 @@ pub(crate) enum FoundLine {
 /// Looks for a line at the front of some bytes that gives a size of at most `room` bytes.
 #[tactic(auto, using(crate::proofs::FrontLemmas::line_never, crate::proofs::FrontLemmas::line_invalid, crate::proofs::FrontLemmas::line_none, crate::proofs::FrontLemmas::line_beyond))]
 pub(crate) fn find_line(bytes: &[u8], room: u64) -> FoundLine
-    requires { length bytes.now ≤ 16384 }
+    requires { length bytes.now ≤ buffer_size }
     ensures { TellsLine room bytes.now result }
 {
     match parse_chunk_size(bytes) {

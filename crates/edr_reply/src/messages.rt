@@ -3,6 +3,7 @@ ghost use Rattle.std.specs.Prelude.{◌≡◌, ◌≤◌, ◌+◌, ℕ, IfOk, If
 ghost use Rattle.std.specs.Io.KnownBytes.{prepend_known};
 ghost use Rattle.edr_base.specs.Outside.{Rose};
 ghost use Rattle.edr_base.specs.Calls.{SourceLent, ReadsAtMost};
+ghost use Rattle.edr_http.specs.Heads.{head_limit};
 ghost use Rattle.edr_http.specs.Heads.{Told};
 ghost use Rattle.edr_reply.specs.Messages.{IsBody, TakesMessage, HasNoMessage, BreaksOff, most_beyond, most_read};
 ghost use Rattle.edr_reply.specs.BrokenParts.{IsFirstBreak};
@@ -50,7 +51,7 @@ fn take_body<S: Source>(
     place: u64,
 ) -> Result<Vec<u8>, MessageFault>
     requires few { FramingFits framing }
-    requires early { place ≤ 16384 }
+    requires early { place ≤ head_limit }
     ensures body { IfOk result (λ body. Told (λ bytes rest. IsBody framing bytes body.items rest) (prepend_known held.old (S.left source.old)) (prepend_known held.new (S.left source.new))) }
     ensures broken { (at : ℕ) → result ≡ Err (MessageFault.Broken at)
         → BodyBreaks framing place at (prepend_known held.old (S.left source.old)) (prepend_known held.new (S.left source.new)) }

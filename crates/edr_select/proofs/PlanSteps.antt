@@ -17,7 +17,7 @@ use Rattle.edr_select.specs.Heads.{is_some_stored}
 use Rattle.edr_select.specs.Documents.{document, values_in}
 use Rattle.edr_select.specs.Checks.{of_data, refused_data, refused_query, grid_of}
 use Rattle.edr_select.specs.Choices.{Chosen, chosen, IsSome}
-use Rattle.edr_select.specs.Steps.{IsAsked, IsInstanceOf, refused_known, refused_sizes, refused_large, lacks_levels}
+use Rattle.edr_select.specs.Steps.{IsAsked, IsAskedOf, refused_known, refused_sizes, refused_large, lacks_levels}
 use Rattle.edr_select.specs.ListLaws.{all_member}
 use Rattle.edr_select.specs.NamedLaws.{named_member, subject_found}
 use Rattle.edr_select.proofs.Instances.{grid_from}
@@ -32,10 +32,10 @@ passes : (b : Bool) (refusal : Refusal) (rest : Option Refusal) → b ≡ false 
 passes b refusal rest e = ap (λ b. cond b (Some refusal) rest) e
 
 -- what is asked is asked of such an instance
-pub of_asked : (c : CollectionValue) (q : QueryValue) (i : InstanceValue) → IsAsked c q i → IsInstanceOf c q i
+pub of_asked : (c : CollectionValue) (q : QueryValue) (i : InstanceValue) → IsAsked c q i → IsAskedOf c q i
 of_asked c q i asked = record { is_collection = asked.is_collection; kind = asked.kind; instance_is = asked.instance_is }
 
-module _ (c : CollectionValue) (q : QueryValue) (i : InstanceValue) (asked : IsInstanceOf c q i) where
+module _ (c : CollectionValue) (q : QueryValue) (i : InstanceValue) (asked : IsAskedOf c q i) where
   abbrev s : Subject
   s = grid_of c i
 

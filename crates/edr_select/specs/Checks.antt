@@ -1,4 +1,4 @@
--- The refusals of a query, what remains of them from step to step; for private clauses.
+-- The refusals of a query, what remains of them from step to step; for the calls that plan, and private clauses.
 use Rattle.std.specs.Prelude.{List, [], ◌∷◌, Option}
 use Rattle.std.specs.List.{find}
 use Rattle.edr_base.specs.declared.refusals.Refusal.{Refusal}

@@ -1,4 +1,4 @@
--- The places on the axes of a grid that a query takes, of the kinds that take each time, level and place by itself; for private clauses.
+-- The places on the axes of a grid that a query takes, of the kinds that take each time, level and place by itself; for the calls that plan, and private clauses.
 use Rattle.std.specs.Prelude.{⊤, ◌≢◌, ℕ, ◌*◌, ◌/◌, ◌%◌, ◌==◌, ℤ, Bool, false, ◌&&◌, List, [], length, map, Option, None, Some, option_map}
 use Rattle.std.specs.List.{filter, flat_map, list_any, range_with_len}
 use Rattle.edr_base.specs.declared.places.Position.{Position}

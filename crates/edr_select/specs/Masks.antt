@@ -1,4 +1,4 @@
--- Which nodes of a plane a shape takes, as a box with a truth value a node; for private clauses.
+-- Which nodes of a plane a shape takes, as a box with a truth value a node; for the calls that plan, and private clauses.
 use Rattle.std.specs.Prelude.{◌≡◌, ⊤, ℕ, ◌+◌, ◌-◌, ◌*◌, ◌<◌, ◌≤◌, min, max, Bool, true, false, ℤ, ◌<ℤ◌, ◌≤ℤ◌, List, [], ◌∷◌, length, map, take, drop}
 use Rattle.std.specs.List.{All, AllByRecursion, list_any, slice_index_or}
 use Rattle.edr_base.specs.declared.places.Position.{Position}

@@ -1,4 +1,4 @@
--- What is planned for the places that a position takes; for private clauses.
+-- What is planned for the places that a position takes; for the calls that plan, and private clauses.
 use Rattle.std.specs.Prelude.{ℕ, ◌<◌, ◌*◌, ◌^◌, ℤ, pos, true, false, List, [], map, length, All, IfSome, Option, None, Some}
 use Rattle.std.specs.List.{slice_index_or}
 use Rattle.edr_axes.specs.Axes.{value_at, IsAxis}

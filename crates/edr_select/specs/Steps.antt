@@ -1,4 +1,4 @@
--- What is known of a query from step to step of its planning; for private clauses.
+-- What is known of a query from step to step of its planning; for the calls that plan, and private clauses.
 use Rattle.std.specs.Prelude.{⊤, ◌≡◌, ℕ, ◌*◌, Bool, true, false, not, ◌&&◌, List, [], ◌∷◌, length, map, Option, None, Some, is_some}
 use Rattle.std.specs.List.{find}
 use Rattle.edr_base.specs.declared.refusals.Refusal.{Refusal}
@@ -27,7 +27,7 @@ use Rattle.edr_select.specs.Listings.{PlannedValue}
 use Rattle.edr_select.specs.Plans.{PlanValue, StandsFor}
 
 -- the instance of a collection of grids that a query is asked of
-pub record IsInstanceOf (collection : CollectionValue) (q : QueryValue) (instance : InstanceValue) : Type 0 where
+pub record IsAskedOf (collection : CollectionValue) (q : QueryValue) (instance : InstanceValue) : Type 0 where
   pub is_collection : IsCollection collection
   pub kind : collection.kind ≡ Grid
   pub instance_is : instance_named q.instance collection.instances ≡ Some instance

@@ -4,7 +4,7 @@ ghost use Rattle.edr_query.specs.declared.shapes.Shape.TheVariants as at;
 ghost use Rattle.edr_select.specs.Checks.{refused_query, grid_of};
 ghost use Rattle.edr_select.specs.Choices.{IsSome, parameter_places};
 ghost use Rattle.edr_select.specs.Steps as steps;
-ghost use Rattle.edr_select.specs.Steps.{IsAsked, IsInstanceOf, IsChoice, IsFaultOf, refused_known, refused_sizes};
+ghost use Rattle.edr_select.specs.Steps.{IsAsked, IsAskedOf, IsChoice, IsFaultOf, refused_known, refused_sizes};
 
 use crate::checks::{has_levels_asked, has_other_crs};
 use crate::choices::{Choice, choose};
@@ -23,7 +23,7 @@ pub fn names_taken(
     collection: &CollectionData,
     instance: &GridInstance,
 ) -> Result<Vec<u64>, PlanFault>
-    requires { IsInstanceOf collection.now query.now instance.now }
+    requires { IsAskedOf collection.now query.now instance.now }
     ensures places { IfOk result (λ places. places.items ≡ parameter_places query.now.parameters instance.now.parameters) }
     ensures known { IfOk result (λ places. refused_query collection.now query.now ≡ refused_known collection.now query.now) }
     ensures refused { IfErr result (IsFaultOf (refused_query collection.now query.now)) }
@@ -48,7 +48,7 @@ pub fn refused_asking(
     collection: &CollectionData,
     instance: &GridInstance,
 ) -> Option<Refusal>
-    requires { IsInstanceOf collection.now query.now instance.now }
+    requires { IsAskedOf collection.now query.now instance.now }
     ensures kept { MatchOption result (refused_known collection.now query.now ≡ refused_sizes query.now (grid_of collection.now instance.now))
         (λ refusal. refused_known collection.now query.now ≡ Some refusal) }
     ensures levels { result ≡ None → steps.lacks_levels query.now instance.now ≡ false }
