@@ -77,16 +77,16 @@ at_most_too a b bound h within = grind (arith, ints)
 pub at_most_parted : (values : List ℤ) (bound : ℤ) → IsAscending values → IsPartitionedBy (λ value. int_le value bound) values
 at_most_parted values bound steps = passing_parted values (λ value. int_le value bound) steps (λ a b h within. at_most_too a b bound h within)
 
-test_below : (a bound : ℤ) → a <ℤ bound → int_lt a bound ≡ true
+pub test_below : (a bound : ℤ) → a <ℤ bound → int_lt a bound ≡ true
 test_below a bound h = grind (arith, ints)
 
 below_test : (a bound : ℤ) → int_lt a bound ≡ true → a <ℤ bound
 below_test a bound h = grind (arith, ints)
 
-test_at_most : (a bound : ℤ) → a ≤ℤ bound → int_le a bound ≡ true
+pub test_at_most : (a bound : ℤ) → a ≤ℤ bound → int_le a bound ≡ true
 test_at_most a bound h = grind (arith, ints)
 
-at_most_test : (a bound : ℤ) → int_le a bound ≡ true → a ≤ℤ bound
+pub at_most_test : (a bound : ℤ) → int_le a bound ≡ true → a ≤ℤ bound
 at_most_test a bound h = grind (arith, ints)
 
 -- those below a bound stand first, and so do those that are at most it

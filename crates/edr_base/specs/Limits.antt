@@ -1,5 +1,5 @@
 -- The limits of the product, each by its name.
-use Rattle.std.specs.Prelude.{ℕ, ◌≤◌, ℤ, pos, neg_ℤ, unsigned_abs}
+use Rattle.std.specs.Prelude.{ℕ, ◌≤◌, ℤ, ◌≤ℤ◌, pos, neg_ℤ, unsigned_abs}
 
 -- the size of a coordinate or a level, in metres
 abbrev pub coordinate_limit : ℕ
@@ -12,6 +12,11 @@ IsCoordinate value = unsigned_abs value ≤ coordinate_limit
 -- a distance, a width or a height, in metres
 abbrev pub distance_limit : ℕ
 distance_limit = 400_000_000
+
+-- whole metres of a distance, a width or a height
+pub record IsMetres (metres : ℤ) : Type 0 where
+  pub least : pos 0 ≤ℤ metres
+  pub greatest : metres ≤ℤ pos distance_limit
 
 -- 0000-01-01T00:00:00Z and 9999-12-31T23:59:59Z, in seconds since 1970-01-01T00:00:00Z
 abbrev pub earliest_time : ℤ

@@ -3,6 +3,7 @@ use Rattle.std.specs.Prelude.{◌≢◌, ℕ, ◌≤◌, ◌==◌, ◌||◌, Boo
 use Rattle.std.specs.declared.cmp.Ordering.{Ordering}
 use Rattle.std.specs.Ordering.{nat_cmp}
 use Rattle.std.specs.Cmp.Lexicographic.{slice_cmp}
+use Rattle.std.specs.List.Sorted.{IsStrictlySortedBy}
 use Rattle.edr_base.specs.Limits.{name_limit}
 
 -- a space, a tab, a line feed or a carriage return
@@ -23,3 +24,7 @@ pub record IsName (text : List ℕ) : Type 0 where
 -- texts are compared byte by byte, and then by their lengths
 abbrev pub order : List ℕ → List ℕ → Ordering
 order = slice_cmp nat_cmp
+
+-- each text is below those after it
+abbrev pub Ascend : List (List ℕ) → Type 0
+Ascend = IsStrictlySortedBy order

@@ -3,6 +3,7 @@ use Rattle.std.specs.Prelude.{◌≡◌, ℕ, ℤ, ◌+◌, ◌*◌, ◌-◌, �
 use Rattle.std.specs.List.{slice_index_or, range_with_len, flat_map}
 use Rattle.edr_chunk.specs.declared.shapes.GridShape.{GridShape}
 use Rattle.edr_chunk.specs.declared.shapes.GridPlace.{GridPlace}
+use Rattle.edr_chunk.specs.RowMajor.{place_in_row}
 use Rattle.edr_chunk.specs.Places.{Within, count, number, IsShape}
 use Rattle.edr_chunk.specs.AllPlaces.{at}
 use Rattle.edr_chunk.specs.Samples.{HasSample}
@@ -32,7 +33,7 @@ cut_values shape values tile =
 
 -- where a place's value stands in its tile, and what kept tiles have at a place
 abbrev pub inner : GridShape → GridPlace → ℕ
-inner shape place = (place.y % tile_side) * (min (shape.columns - place.x / tile_side * tile_side) tile_side) + place.x % tile_side
+inner shape place = place_in_row (place.y % tile_side) (min (shape.columns - place.x / tile_side * tile_side) tile_side) (place.x % tile_side)
 
 abbrev pub stored : GridShape → List (List (Option ℤ)) → GridPlace → Option ℤ
 stored shape kept place = slice_index_or (slice_index_or kept (tile_of shape place) []) (inner shape place) None

@@ -2,10 +2,14 @@
 use Rattle.std.specs.Prelude.{◌≡◌, ℕ, ◌+◌, ◌*◌, ◌<◌, ◌≤◌, List, [], ◌∷◌}
 use Rattle.std.specs.List.{AllByRecursion}
 
+-- the number of a place in a row of so many places, behind a number of rows that stand before
+abbrev pub place_in_row : ℕ → ℕ → ℕ → ℕ
+place_in_row rows length place = rows * length + place
+
 -- the number of a place on each of some axes, behind a number of rows that stand before
 abbrev pub row_major : {A : Type 0} → (A → ℕ) → (A → ℕ) → List A → ℕ → ℕ
 row_major length_of place_on [] number = number
-row_major length_of place_on (axis ∷ axes) number = row_major length_of place_on axes (number * length_of axis + place_on axis)
+row_major length_of place_on (axis ∷ axes) number = row_major length_of place_on axes (place_in_row number (length_of axis) (place_on axis))
 
 -- how many places some axes have
 abbrev pub places_along : {A : Type 0} → (A → ℕ) → List A → ℕ

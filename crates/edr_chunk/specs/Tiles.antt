@@ -3,6 +3,7 @@ use Rattle.std.specs.Prelude.{◌≡◌, ℕ, ℤ, ◌+◌, ◌*◌, ◌-◌, �
 use Rattle.std.specs.List.{slice_index_or}
 use Rattle.edr_chunk.specs.declared.shapes.GridShape.{GridShape}
 use Rattle.edr_chunk.specs.declared.shapes.GridPlace.{GridPlace}
+use Rattle.edr_chunk.specs.RowMajor.{place_in_row}
 use Rattle.edr_chunk.specs.Places.{Within, count, number}
 use Rattle.edr_chunk.specs.Grids.{Values, value}
 
@@ -64,15 +65,19 @@ pub record TileValue : Type 0 where
   pub width : ℕ
   pub values : List (Option ℤ)
 
--- a node, told by its row and its column of the grid, lies in a tile
+-- where the value of a node stands, which is told by its row and its column of the grid
+abbrev pub place_in_tile : TileValue → ℕ → ℕ → ℕ
+place_in_tile tile row column = place_in_row (row - tile.row) tile.width (column - tile.column)
+
+-- a node lies in a tile
 abbrev pub LiesIn : TileValue → ℕ → ℕ → Type 0
 LiesIn tile row column =
     (tile.row ≤ row) × (tile.column ≤ column) × (column < tile.column + tile.width)
-    × ((row - tile.row) * tile.width + (column - tile.column) < length tile.values)
+    × (place_in_tile tile row column < length tile.values)
 
 -- the tile's value at that node
 abbrev pub value_in : TileValue → ℕ → ℕ → Option ℤ
-value_in tile row column = slice_index_or tile.values ((row - tile.row) * tile.width + (column - tile.column)) None
+value_in tile row column = slice_index_or tile.values (place_in_tile tile row column) None
 
 -- what the tile of a number is: it stands at the place of that number among the tiles, begins at the row and the column of
 -- the first node there, is as wide as the grid has columns there, has one value for each of its nodes and no more, and each
@@ -86,6 +91,6 @@ pub record IsTile (grid : Values) (tile : ℕ) (opened : TileValue) : Type 0 whe
   pub width : opened.width ≡ tile_width grid.shape corner
   pub long : length opened.values ≡ tile_height grid.shape corner * opened.width
   pub each : (down right : ℕ) → down < tile_height grid.shape corner → right < tile_width grid.shape corner
-      → slice_index_or opened.values (down * opened.width + right) None ≡ value grid (node_at corner down right)
+      → slice_index_or opened.values (place_in_row down opened.width right) None ≡ value grid (node_at corner down right)
   pub lies : (place : GridPlace) → Within grid.shape place → tile_of grid.shape place ≡ tile → LiesIn opened place.y place.x
   pub same : (place : GridPlace) → Within grid.shape place → tile_of grid.shape place ≡ tile → value_in opened place.y place.x ≡ value grid place

@@ -8,8 +8,7 @@ use Rattle.std.proofs.lemmas.Int.{ints, by_lt_z}
 use Rattle.jiff_core.proofs.SignedLemmas.{signed_arith, one_part, back_small}
 use Rattle.edr_axes.specs.Axes.{value_at, SplitsValues}
 use Rattle.edr_geometry.specs.Planar.{between, is_among}
-use Rattle.edr_base.specs.Limits.{IsCoordinate}
-use Rattle.edr_geometry.specs.Limits.{IsDistance}
+use Rattle.edr_base.specs.Limits.{IsCoordinate, IsMetres}
 use Rattle.edr_corridor.specs.declared.bands.Band.{Band}
 use Rattle.edr_corridor.specs.declared.segment.Segment.{Segment}
 use Rattle.edr_corridor.specs.Segments.{within_half, takes_height}
@@ -59,7 +58,7 @@ back z small = back_small w64 z (omega (arith, small))
 pub coordinate_back : (z : ℤ) → IsCoordinate z → read z ≡ z
 coordinate_back z h = back z (omega (arith, h))
 
-pub distance_back : (z : ℤ) → IsDistance z → read z ≡ z
+pub distance_back : (z : ℤ) → IsMetres z → read z ≡ z
 distance_back z h = back z (omega (arith, signed_arith, h.least, h.greatest, one_part z))
 
 -- ---- a band about two numbers
@@ -106,7 +105,7 @@ pub about_both : (one other whole low high : ℤ) → low ≡ int_min one other 
 about_both one other whole low high low_is high_is = λ v.
     ap₂ (λ l h. int_le (pos 2 *ℤ l -ℤ whole) (pos 2 *ℤ v) && int_le (pos 2 *ℤ v) (pos 2 *ℤ h +ℤ whole)) low_is high_is ∙ half_ends one other whole v
 
-pub about_back : (band : Band) (one other whole : ℤ) → IsCoordinate one → IsCoordinate other → IsDistance whole → IsAbout band (read one) (read other) (read whole) → IsAbout band one other whole
+pub about_back : (band : Band) (one other whole : ℤ) → IsCoordinate one → IsCoordinate other → IsMetres whole → IsAbout band (read one) (read other) (read whole) → IsAbout band one other whole
 about_back band one other whole one_in other_in whole_in h =
     subst (λ w. IsAbout band one other w) (distance_back whole whole_in)
     (subst (λ b. IsAbout band one b (read whole)) (coordinate_back other other_in)
@@ -126,7 +125,7 @@ among_both one other low high v low_is high_is = ap₂ (λ l h. between l h v) l
 
 -- ---- the tests of a band, and its least and its greatest number
 
-module _ (end whole v : ℤ) (end_in : IsCoordinate end) (whole_in : IsDistance whole) where
+module _ (end whole v : ℤ) (end_in : IsCoordinate end) (whole_in : IsMetres whole) where
   end_back : read end ≡ end
   end_back = coordinate_back end end_in
 

@@ -8,8 +8,7 @@ use Rattle.edr_base.specs.declared.places.Spot.{Spot}
 use Rattle.edr_axes.specs.Axes.{value_at}
 use Rattle.edr_geometry.specs.Planar.{spot_of, near_segment}
 use Rattle.edr_geometry.specs.Masks.{spot_at, row_of}
-use Rattle.edr_base.specs.Limits.{IsCoordinate}
-use Rattle.edr_geometry.specs.Limits.{IsDistance}
+use Rattle.edr_base.specs.Limits.{IsCoordinate, IsMetres}
 use Rattle.edr_corridor.specs.declared.bands.Band.{Band}
 use Rattle.edr_corridor.specs.declared.segment.Segment.{Segment}
 use Rattle.edr_corridor.specs.Segments.{within_half}
@@ -185,7 +184,7 @@ module _ (segment : Segment) (ys xs : List ℤ) (top bottom left right : ℕ) (w
       (none_masked (has_spot segment) ys xs (in_rows segment) (in_columns segment) top bottom left right rows columns (far_from_rows segment wide) (far_from_columns segment wide) none)
 
 -- the mask of a row is the test of each of its places
-pub mask_of : (segment : Segment) (xs : List ℤ) (start end : Spot) (y : ℤ) (mask : List Bool) → start ≡ spot_of segment.start → end ≡ spot_of segment.end → IsDistance segment.rule.width → IsCoordinate y
+pub mask_of : (segment : Segment) (xs : List ℤ) (start end : Spot) (y : ℤ) (mask : List Bool) → start ≡ spot_of segment.start → end ≡ spot_of segment.end → IsMetres segment.rule.width → IsCoordinate y
     → mask ≡ row_of (λ p. near_segment p start end (read segment.rule.width)) (read y) xs → mask ≡ map (λ x. has_spot segment y x) xs
 mask_of segment xs start end y mask start_is end_is width_in y_in h =
     h ∙ (ap (λ w. row_of (λ p. near_segment p start end w) (read y) xs) (distance_back segment.rule.width width_in)

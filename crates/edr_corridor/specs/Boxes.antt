@@ -1,8 +1,8 @@
 -- What a segment takes of the nodes of a grid: ranges of times and levels, and masks of rows.
-use Rattle.std.specs.Prelude.{◌≡◌, ℕ, ◌+◌, ◌-◌, ◌<◌, ◌≤◌, nat_lt, nat_le, ℤ, Bool, true, false, ◌&&◌, List, [], length, Option, None, Some, option_map}
+use Rattle.std.specs.Prelude.{◌≡◌, ℕ, ◌+◌, ◌-◌, ◌<◌, ◌≤◌, nat_lt, nat_le, ℤ, Bool, true, false, ◌&&◌, List, [], length, Option, Some, option_map}
 use Rattle.std.specs.List.{All, slice_index_or}
 use Rattle.edr_base.specs.declared.places.Position.{Position}
-use Rattle.edr_axes.specs.Axes.{value_at}
+use Rattle.edr_axes.specs.Axes.{axis_length, value_at}
 use Rattle.edr_geometry.specs.Masks.{spot_at}
 use Rattle.edr_corridor.specs.declared.boxes.SegmentBox.{SegmentBox}
 use Rattle.edr_corridor.specs.Values.{SegmentsValue}
@@ -15,11 +15,6 @@ pub record GridAxes : Type 0 where
   pub ys : List ℤ
   pub xs : List ℤ
 
--- how many levels there are; without an axis of levels each node stands at the one without a level
-abbrev pub level_count : Option (List ℤ) → ℕ
-level_count None = 1
-level_count (Some zs) = length zs
-
 -- the level at a place, where there is an axis of levels
 abbrev pub level_at : Option (List ℤ) → ℕ → Option ℤ
 level_at zs z = option_map (λ values. value_at values z) zs
@@ -27,7 +22,7 @@ level_at zs z = option_map (λ values. value_at values z) zs
 -- places on the axes, of which each is a node
 pub record IsNode (axes : GridAxes) (t z y x : ℕ) : Type 0 where
   pub t_in : t < length axes.ts
-  pub z_in : z < level_count axes.zs
+  pub z_in : z < axis_length axes.zs
   pub y_in : y < length axes.ys
   pub x_in : x < length axes.xs
 
@@ -61,7 +56,7 @@ TakesNodes s number axes box = (t z y x : ℕ) → IsNode axes t z y x → box_t
 -- ranges and masks lie on the axes
 pub record LiesOn (axes : GridAxes) (box : SegmentBox) : Type 0 where
   pub times : (box.times.0 ≤ box.times.1) × (box.times.1 ≤ length axes.ts)
-  pub levels : (box.levels.0 ≤ box.levels.1) × (box.levels.1 ≤ level_count axes.zs)
+  pub levels : (box.levels.0 ≤ box.levels.1) × (box.levels.1 ≤ axis_length axes.zs)
   pub rows : box.first_row + length box.rows.items ≤ length axes.ys
   pub columns : All (λ row. box.first_column + length row ≤ length axes.xs) box.rows.items
 

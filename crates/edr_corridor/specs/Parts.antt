@@ -4,8 +4,8 @@ use Rattle.std.specs.List.{All}
 use Rattle.edr_base.specs.declared.places.Position.{Position}
 use Rattle.edr_wkt.specs.Faults.{IsInRange}
 use Rattle.edr_axes.specs.Axes.{value_at}
-use Rattle.edr_base.specs.Limits.{IsCoordinate}
-use Rattle.edr_geometry.specs.Limits.{IsDistance, IsSpot}
+use Rattle.edr_base.specs.Limits.{IsCoordinate, IsMetres}
+use Rattle.edr_geometry.specs.Limits.{IsSpot}
 use Rattle.edr_geometry.specs.Masks.{spot_at}
 use Rattle.edr_geometry.specs.Planar.{spot_of, near_segment}
 use Rattle.edr_corridor.specs.declared.bands.Band.{Band}
@@ -22,7 +22,7 @@ use Rattle.edr_corridor.specs.Boxes.{is_masked}
 pub record IsBand (band : Band) : Type 0 where
   pub low_in : IsCoordinate band.low
   pub high_in : IsCoordinate band.high
-  pub whole_in : IsDistance band.whole
+  pub whole_in : IsMetres band.whole
 
 -- at most half the whole below the low number and above the high one
 abbrev pub band_has : Band → ℤ → Bool
@@ -42,9 +42,9 @@ has_level (Some band) (Some level) = band_has band level
 
 -- numbers within the limits, and a height where one is needed
 pub record IsRule (rule : Rule) : Type 0 where
-  pub width_in : IsDistance rule.width
+  pub width_in : IsMetres rule.width
   pub level_in : IfSome rule.level IsCoordinate
-  pub height_in : IfSome rule.height IsDistance
+  pub height_in : IfSome rule.height IsMetres
   pub height_about_z : rule.has_z ≡ true → IsSome rule.height
   pub height_about_level : IsSome rule.level → IsSome rule.height
 

@@ -3,8 +3,7 @@ use Rattle.std.specs.Prelude.{◌≡◌, ◌≤◌, ℤ, Bool, true, ◌||◌, L
 use Rattle.std.specs.List.{All}
 use Rattle.edr_base.specs.declared.places.Position.{Position}
 use Rattle.edr_wkt.specs.Faults.{IsInRange}
-use Rattle.edr_base.specs.Limits.{IsCoordinate}
-use Rattle.edr_geometry.specs.Limits.{IsDistance}
+use Rattle.edr_base.specs.Limits.{IsCoordinate, IsMetres}
 
 -- a line, and what a corridor asks of each of its segments
 pub record SegmentsValue : Type 0 where
@@ -19,9 +18,9 @@ pub record SegmentsValue : Type 0 where
 pub record IsSegments (s : SegmentsValue) : Type 0 where
   pub some : 2 ≤ length s.line
   pub line_in : All IsInRange s.line
-  pub width_in : IsDistance s.width
+  pub width_in : IsMetres s.width
   pub level_in : IfSome s.level IsCoordinate
-  pub height_in : IfSome s.height IsDistance
+  pub height_in : IfSome s.height IsMetres
   pub height_about_z : s.has_z ≡ true → IsSome s.height
   pub height_about_level : IsSome s.level → IsSome s.height
 

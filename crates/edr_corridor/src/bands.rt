@@ -1,9 +1,8 @@
 //! Numbers about a range, and their places on an axis.
-ghost use Rattle.std.specs.Prelude.{◌≡◌, ◌≤◌, ◌<◌, ℕ, ℤ, pos, ◌-ℤ◌, ◌+ℤ◌, ◌*ℤ◌, int_le, length};
+ghost use Rattle.std.specs.Prelude.{◌≡◌, ◌≤◌, ◌<◌, ◌+◌, ◌/◌, ℕ, ℤ, pos, ◌-ℤ◌, ◌+ℤ◌, ◌*ℤ◌, int_le, length};
 ghost use Rattle.std.specs.Int.RustNames.{unsigned_abs};
 ghost use Rattle.edr_axes.specs.Axes.{value_at};
-ghost use Rattle.edr_base.specs.Limits.{IsCoordinate};
-ghost use Rattle.edr_geometry.specs.Limits.{IsDistance};
+ghost use Rattle.edr_base.specs.Limits.{IsCoordinate, IsMetres, coordinate_limit, distance_limit};
 ghost use Rattle.edr_geometry.specs.Planar.{between};
 ghost use Rattle.edr_corridor.specs.Boxes.{lies_in};
 ghost use Rattle.edr_corridor.specs.Parts.{IsBand, IsAbout, band_has};
@@ -33,7 +32,7 @@ impl Band {
     pub fn about(one: i64, other: i64, whole: i64) -> Band
         requires one_in { IsCoordinate one }
         requires other_in { IsCoordinate other }
-        requires whole_in { IsDistance whole }
+        requires whole_in { IsMetres whole }
         ensures band { IsBand result }
         ensures has { IsAbout result one other whole }
     {
@@ -74,7 +73,7 @@ impl Band {
     // The least number that it has.
     fn least(&self) -> i64
         requires { IsBand self.now }
-        ensures small { unsigned_abs result ≤ 300_000_000 }
+        ensures small { unsigned_abs result ≤ coordinate_limit + distance_limit / 2 }
         ensures least { (v : ℤ) → int_le result v ≡ int_le (pos 2 *ℤ self.now.low -ℤ self.now.whole) (pos 2 *ℤ v) }
     {
         self.low - self.whole / 2
@@ -83,7 +82,7 @@ impl Band {
     // The greatest number that it has.
     fn greatest(&self) -> i64
         requires { IsBand self.now }
-        ensures small { unsigned_abs result ≤ 300_000_000 }
+        ensures small { unsigned_abs result ≤ coordinate_limit + distance_limit / 2 }
         ensures greatest { (v : ℤ) → int_le v result ≡ int_le (pos 2 *ℤ v) (pos 2 *ℤ self.now.high +ℤ self.now.whole) }
     {
         self.high + self.whole / 2

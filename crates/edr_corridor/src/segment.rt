@@ -1,9 +1,9 @@
 //! One segment of a line: the times, levels and places that it takes.
 ghost use Rattle.std.specs.Prelude.{◌≡◌, ◌≤◌, ◌<◌, ◌&&◌, ℕ, ℤ, Option, Some, None, true, IfSome, IsSome, length, option_map};
 ghost use Rattle.edr_base.specs.declared.places.Spot.{Spot};
-ghost use Rattle.edr_axes.specs.Axes.{value_at};
+ghost use Rattle.edr_axes.specs.Axes.{value_at, axis_length};
 ghost use Rattle.edr_geometry.specs.Planar as plane;
-ghost use Rattle.edr_corridor.specs.Boxes.{lies_in, level_at, level_count};
+ghost use Rattle.edr_corridor.specs.Boxes.{lies_in, level_at};
 ghost use Rattle.edr_corridor.specs.Parts.{IsSegment, IsPlacedNode, IsBand, IsAbout, needs_level, has_level, has_time, has_height, has_spot};
 
 use crate::bands::{Band, places_between};
@@ -129,9 +129,9 @@ impl Segment {
     pub fn levels_on(&self, zs: Option<&Axis>) -> (usize, usize)
         requires segment { IsSegment self.now }
         requires levels { needs_level self.now.rule ≡ true → IsSome zs }
-        ensures inside { (result.0 ≤ result.1) × (result.1 ≤ level_count (option_map (λ zs. zs.now) zs.entry)) }
+        ensures inside { (result.0 ≤ result.1) × (result.1 ≤ axis_length (option_map (λ zs. zs.now) zs.entry)) }
         ensures without { zs.entry ≡ None → result ≡ (0, 1) }
-        ensures lies { (z : ℕ) → z < level_count (option_map (λ zs. zs.now) zs.entry) → lies_in result z ≡ has_height self.now (level_at (option_map (λ zs. zs.now) zs.entry) z) }
+        ensures lies { (z : ℕ) → z < axis_length (option_map (λ zs. zs.now) zs.entry) → lies_in result z ≡ has_height self.now (level_at (option_map (λ zs. zs.now) zs.entry) z) }
     {
         let Some(zs) = zs else {
             return (0, 1);

@@ -2,8 +2,7 @@
 ghost use Rattle.std.specs.Prelude.{◌≡◌, ◌+◌, ◌<◌, ◌≤◌, ◌&&◌, nat_lt, None, true, length, option_map, IfOk, IfSome, IsSome};
 ghost use Rattle.std.specs.List.{All};
 ghost use Rattle.edr_wkt.specs.Faults.{IsInRange};
-ghost use Rattle.edr_base.specs.Limits.{IsCoordinate};
-ghost use Rattle.edr_geometry.specs.Limits.{IsDistance};
+ghost use Rattle.edr_base.specs.Limits.{IsCoordinate, IsMetres};
 ghost use Rattle.edr_geometry.specs.Masks.{spot_at};
 ghost use Rattle.edr_corridor.specs.Values.{needs_level};
 ghost use Rattle.edr_corridor.specs.Segments as segments;
@@ -78,9 +77,9 @@ impl Segments {
     ) -> Result<Segments, OutOfMemory>
         requires some { 2 ≤ length line.now }
         requires line_in { All IsInRange line.now }
-        requires width_in { IsDistance width }
+        requires width_in { IsMetres width }
         requires level_in { IfSome level IsCoordinate }
-        requires height_in { IfSome height IsDistance }
+        requires height_in { IfSome height IsMetres }
         requires height_about_z { has_z ≡ true → IsSome height }
         requires height_about_level { IsSome level → IsSome height }
         ensures { IfOk result (λ s. s ≡ record { line = line.now; has_z = has_z; has_m = has_m; width = width; level = level; height = height }) }

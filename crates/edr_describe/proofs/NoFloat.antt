@@ -10,11 +10,11 @@ use Rattle.edr_station.specs.Stations.{StationValue}
 use Rattle.edr_edition.specs.declared.kinds.Kind.{Kind}
 use Rattle.edr_edition.specs.declared.kinds.Kind.TheVariants.{Grid, Station}
 use Rattle.edr_edition.specs.Values.{InstanceValue, CollectionValue, EditionValue, instance_id}
-use Rattle.edr_edition.specs.Stores.{Held, of_grid, held_in}
+use Rattle.edr_edition.specs.Stores.{Held, of_grid, held_in, collection_in}
 use Rattle.edr_query.specs.declared.pages.Page.{Page}
 use Rattle.edr_query.specs.declared.pages.Page.TheVariants.{Landing, Conformance, Collections, Collection, Instances, Instance, Locations, Ask}
 use Rattle.edr_describe.specs.Extents.{Coordinates, coordinates_of, time_data, interval_data, box_of, spatial_data, vertical_data, extent_data}
-use Rattle.edr_describe.specs.Descriptions.{queries_of, parameters_of_held, page_object, data_page, collection_page, instance_page, collections_page, instances_page, point_data, feature_data, locations_page, collection_in, page_of_instance, description}
+use Rattle.edr_describe.specs.Descriptions.{queries_of, parameters_of_held, page_object, data_page, collection_page, instance_page, collections_page, instances_page, point_data, feature_data, locations_page, page_of_instance, description}
 
 integers-NoFloat : (values : List ℤ) → NoFloat (array_of integer values)
 integers-NoFloat values = items_of-NoFloat integer integer-NoFloat values
@@ -86,10 +86,10 @@ each-NoFloat : (edition : EditionValue) (page : Page) → IfSome (description ed
 each-NoFloat edition Landing = refl
 each-NoFloat edition Conformance = refl
 each-NoFloat edition Collections = collections-NoFloat edition.collections
-each-NoFloat edition (Collection c) = mapped collection_page collection-NoFloat (collection_in edition c)
-each-NoFloat edition (Instances c) = mapped instances_page instances-NoFloat (collection_in edition c)
-each-NoFloat edition (Instance c i) = of_instance i (collection_in edition c)
-each-NoFloat edition (Locations c) = mapped locations_page locations-NoFloat (collection_in edition c)
+each-NoFloat edition (Collection c) = mapped collection_page collection-NoFloat (collection_in edition.collections c)
+each-NoFloat edition (Instances c) = mapped instances_page instances-NoFloat (collection_in edition.collections c)
+each-NoFloat edition (Instance c i) = of_instance i (collection_in edition.collections c)
+each-NoFloat edition (Locations c) = mapped locations_page locations-NoFloat (collection_in edition.collections c)
 each-NoFloat edition (Ask query) = tt
 
 pub description_no_float : (edition : EditionValue) (page : Page) (tree : Data) → description edition page ≡ Some tree → has_float tree ≡ false

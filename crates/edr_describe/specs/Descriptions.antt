@@ -7,8 +7,8 @@ use Rattle.edr_ids.specs.Ids.{item_of}
 use Rattle.edr_station.specs.Stations.{StationValue}
 use Rattle.edr_edition.specs.declared.kinds.Kind.{Kind}
 use Rattle.edr_edition.specs.declared.kinds.Kind.TheVariants.{Grid, Station}
-use Rattle.edr_edition.specs.Values.{InstanceValue, CollectionValue, EditionValue, instance_id, collection_id}
-use Rattle.edr_edition.specs.Stores.{Held, of_grid, held_in}
+use Rattle.edr_edition.specs.Values.{InstanceValue, CollectionValue, EditionValue, instance_id}
+use Rattle.edr_edition.specs.Stores.{Held, of_grid, held_in, collection_in}
 use Rattle.edr_query.specs.declared.addresses.QueryKind.{QueryKind}
 use Rattle.edr_query.specs.declared.addresses.QueryKind.TheVariants.{Position, Radius, Area, Cube, Trajectory, Corridor}
 use Rattle.edr_query.specs.declared.addresses.Address.TheVariants as to
@@ -117,9 +117,6 @@ conformance_page = object (member (codes "conformsTo") (array no_items) no_membe
 
 -- ---- all pages
 
-abbrev pub collection_in : EditionValue → List ℕ → Option CollectionValue
-collection_in edition id = item_of collection_id id edition.collections
-
 abbrev pub page_of_instance : List ℕ → CollectionValue → Option Data
 page_of_instance i collection = option_map (instance_page collection) (item_of instance_id i collection.instances)
 
@@ -128,8 +125,8 @@ abbrev pub description : EditionValue → Page → Option Data
 description edition Landing = Some landing_page
 description edition Conformance = Some conformance_page
 description edition Collections = Some (collections_page edition.collections)
-description edition (Collection c) = option_map collection_page (collection_in edition c)
-description edition (Instances c) = option_map instances_page (collection_in edition c)
-description edition (Instance c i) = option_and_then (page_of_instance i) (collection_in edition c)
-description edition (Locations c) = option_map locations_page (collection_in edition c)
+description edition (Collection c) = option_map collection_page (collection_in edition.collections c)
+description edition (Instances c) = option_map instances_page (collection_in edition.collections c)
+description edition (Instance c i) = option_and_then (page_of_instance i) (collection_in edition.collections c)
+description edition (Locations c) = option_map locations_page (collection_in edition.collections c)
 description edition (Ask query) = None

@@ -1,11 +1,12 @@
 //! Descriptions.
-ghost use Rattle.std.specs.Prelude.{◌≡◌, ⊤, false, None, Some, IfOk, IfErr};
+ghost use Rattle.std.specs.Prelude.{◌≡◌, false, None, Some, IfOk, IfErr};
 ghost use Rattle.serde_json.specs.View.{view};
 ghost use Rattle.serde_json.specs.Written.{compact_text, has_float};
 ghost use Rattle.edr_query.specs.declared.pages.Page.TheVariants.{Collection, Instances, Instance, Locations};
 ghost use Rattle.edr_base.specs.declared.refusals.Refusal.TheVariants.{UnknownCollection};
 ghost use Rattle.edr_describe.specs.declared.describing.DescribeFault.TheVariants as why;
-ghost use Rattle.edr_describe.specs.Descriptions.{landing_page, conformance_page, collection_in};
+ghost use Rattle.edr_describe.specs.Descriptions.{landing_page, conformance_page};
+ghost use Rattle.edr_edition.specs.Stores.{collection_in};
 ghost use Rattle.edr_describe.specs.Describing.{IsDescription, MatchDescription, landing_links, IsTreeOf, IsFaultOf};
 
 use crate::leaves::{only_member, pair_of};
@@ -64,8 +65,8 @@ fn conformance_tree(alloc: Global) -> Result<Value, OutOfMemory>
 
 // The collection of an id.
 fn found<'a>(edition: &'a Edition, id: &[u8]) -> Result<&'a CollectionData, DescribeFault>
-    ensures found { IfOk result (λ collection. collection_in edition.now id.now ≡ Some collection.now) }
-    ensures none { IfErr result (λ fault. (collection_in edition.now id.now ≡ None) × (fault ≡ why.Refused UnknownCollection)) }
+    ensures found { IfOk result (λ collection. collection_in edition.now.collections id.now ≡ Some collection.now) }
+    ensures none { IfErr result (λ fault. (collection_in edition.now.collections id.now ≡ None) × (fault ≡ why.Refused UnknownCollection)) }
 {
     match edition.collection(id) {
         Some(collection) => Ok(collection),

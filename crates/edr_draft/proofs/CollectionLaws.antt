@@ -20,7 +20,8 @@ use Rattle.edr_draft.specs.declared.changes.ChangeFault.{ChangeFault}
 use Rattle.edr_draft.specs.declared.changes.ChangeFault.TheVariants.{WrongKind}
 use Rattle.edr_edition.specs.Editions.{IsCollection, AreCollections}
 use Rattle.edr_edition.specs.Collections.{empty_collection, without_instance, without_station}
-use Rattle.edr_draft.specs.Changes.{IsChange, collection_in, with_grid, with_series, bare_collection, with_changed, made, as_instance, as_station, AppliesToSet, AppliesToDrop, AppliesToDropStation, Applies}
+use Rattle.edr_draft.specs.Changes.{IsChange, with_grid, with_series, bare_collection, with_changed, made, as_instance, as_station, AppliesToSet, AppliesToDrop, AppliesToDropStation, Applies}
+use Rattle.edr_edition.specs.Stores.{collection_in}
 use Rattle.edr_draft.specs.Series.{IsTimedSeries, station_of}
 use Rattle.edr_draft.specs.Steps.{IsMade}
 use Rattle.edr_edition.specs.CollectionLaws.{set_instance_keeps, take_instance_keeps, set_station_keeps, take_station_keeps, empty_is_collection}

@@ -14,7 +14,8 @@ use Rattle.edr_edition.specs.Values.{CollectionValue, instance_id, collection_id
 use Rattle.edr_edition.specs.Editions.{IsCollection, AreCollections}
 use Rattle.edr_station.specs.Stations.{station_id}
 use Rattle.edr_edition.specs.Collections.{empty_collection, without_instance, without_station}
-use Rattle.edr_draft.specs.Changes.{IsChange, collection_in, with_grid, with_series, bare_collection, with_changed, made, rank, Setting, as_instance, as_station, AppliesToSet, AppliesToDrop, AppliesToDropStation, Applies, Changes, IsRefused}
+use Rattle.edr_draft.specs.Changes.{IsChange, with_grid, with_series, bare_collection, with_changed, made, rank, Setting, as_instance, as_station, AppliesToSet, AppliesToDrop, AppliesToDropStation, Applies, Changes, IsRefused}
+use Rattle.edr_edition.specs.Stores.{collection_in}
 use Rattle.edr_draft.specs.Outcomes.{HasOneOutcome, collection_of, KeepsOthers}
 use Rattle.edr_draft.proofs.ParameterLaws.{first_difference_once}
 use Rattle.edr_draft.proofs.FaultLaws.{Decided, set_decided}

@@ -11,7 +11,8 @@ use Rattle.edr_edition.specs.Values.{CollectionValue, instance_id}
 use Rattle.edr_draft.specs.declared.changes.Change.TheVariants.{Collection, DropCollection}
 use Rattle.edr_draft.specs.declared.changes.ChangeFault.{ChangeFault}
 use Rattle.edr_draft.specs.declared.changes.ChangeFault.TheVariants.{SameCollection, UnknownCollection, WrongKind, UnknownInstance, UnknownStation, NoTimes, CrsDiffers, TooManyNodes, ParametersDiffer, LevelsDiffer, OutOfMemory}
-use Rattle.edr_draft.specs.Changes.{collection_in, rank, Setting, AppliesToSet, AppliesToDrop, AppliesToDropStation, Applies, IsRefused}
+use Rattle.edr_draft.specs.Changes.{rank, Setting, AppliesToSet, AppliesToDrop, AppliesToDropStation, Applies, IsRefused}
+use Rattle.edr_edition.specs.Stores.{collection_in}
 use Rattle.edr_draft.proofs.FaultLaws.{Decided, kind_or_not}
 
 -- ---- ranks

@@ -13,14 +13,15 @@ use Rattle.covjson_value.specs.declared.domains.Domain.{Domain}
 use Rattle.covjson_value.specs.declared.domains.Domain.TheVariants.{Grid, Point, PointSeries, VerticalProfile, MultiPoint, Trajectory}
 use Rattle.covjson_value.specs.declared.coverages.NdArray.{NdArray}
 use Rattle.covjson_value.specs.declared.coverages.Coverage.{Coverage}
-use Rattle.covjson_value.specs.Domains.{axis_of, has_axis, tuples_of, axis_length, count_of}
+use Rattle.covjson_value.specs.Domains.{axis_of, has_axis, tuples_of, count_of}
+use Rattle.edr_axes.specs.Axes.{axis_length}
 use Rattle.covjson_value.specs.Samples.{values_or_none}
 use Rattle.covjson_value.specs.Coverages.{IsAxisValue, IsNamedAxis, IsRange, IsValid}
 use Rattle.covjson_value.specs.CountLaws.{count_is}
 use Rattle.edr_chunk.specs.Samples.{AreSamples}
 use Rattle.edr_ids.specs.Ids.{without_id}
 use Rattle.edr_station.specs.Stations as station
-use Rattle.edr_station.specs.Stations.{StationValue, IsAxisWithin, IsStation, station_id, levels_along, values_along}
+use Rattle.edr_station.specs.Stations.{StationValue, IsAxisWithin, IsStation, station_id, values_along}
 use Rattle.edr_station.specs.declared.inputs.StationInput.{StationInput}
 use Rattle.edr_station.specs.Inputs as inputs
 use Rattle.edr_station.specs.Inputs.{IsInput, HasCounts}
@@ -54,7 +55,7 @@ one_place (VerticalProfile t z y x) place times = cc
 one_place (MultiPoint t has_z spots) place times = cc
 one_place (Trajectory z has_z steps) place times = cc
 
-levels_same : (axis : Option (List ℤ)) → levels_along axis ≡ axis_length axis
+levels_same : (axis : Option (List ℤ)) → axis_length axis ≡ axis_length axis
 levels_same None = refl
 levels_same (Some zs) = refl
 

@@ -15,7 +15,8 @@ use Rattle.edr_station.specs.Stations.{station_id}
 use Rattle.edr_edition.specs.Values.{InstanceValue, CollectionValue, instance_id, collection_id}
 use Rattle.edr_edition.specs.Instances.{instance_of}
 use Rattle.edr_edition.specs.Collections.{empty_collection, without_instance, without_station}
-use Rattle.edr_draft.specs.Changes.{collection_in, with_grid, with_series, bare_collection, with_changed, made, rank, as_instance, as_station, AppliesToSet, AppliesToDrop, AppliesToDropStation, Applies, IsRefused}
+use Rattle.edr_draft.specs.Changes.{with_grid, with_series, bare_collection, with_changed, made, rank, as_instance, as_station, AppliesToSet, AppliesToDrop, AppliesToDropStation, Applies, IsRefused}
+use Rattle.edr_edition.specs.Stores.{collection_in}
 use Rattle.edr_draft.specs.Steps.{Finds, IsMade}
 use Rattle.edr_draft.proofs.RefusalLaws.{same_refuses, none_to_add, unknown_refuses, none_to_drop, set_unknown_first, drop_unknown, drop_wrong_kind, drop_unknown_instance, drop_no_fault, drop_station_unknown, drop_station_wrong_kind, drop_unknown_station, drop_station_no_fault}
 

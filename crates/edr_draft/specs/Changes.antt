@@ -16,6 +16,7 @@ use Rattle.edr_edition.specs.declared.kinds.Kind.TheVariants.{Grid as Grids, Sta
 use Rattle.edr_edition.specs.Values.{CollectionValue, instance_id, collection_id}
 use Rattle.edr_edition.specs.Instances.{instance_of}
 use Rattle.edr_edition.specs.Collections.{empty_collection, with_instance, without_instance, with_station, without_station}
+use Rattle.edr_edition.specs.Stores.{collection_in}
 use Rattle.edr_draft.specs.declared.changes.Change.{Change}
 use Rattle.edr_draft.specs.declared.changes.Change.TheVariants.{Collection, Grid, Station, DropCollection, DropInstance, DropStation, Bare}
 use Rattle.edr_draft.specs.declared.changes.ChangeFault.{ChangeFault}
@@ -32,10 +33,6 @@ IsChange (DropCollection collection) = IsName collection
 IsChange (DropInstance collection instance) = IsName collection × IsName instance
 IsChange (DropStation collection id) = IsName collection × IsName id
 IsChange (Bare coverage) = IsValid coverage
-
--- the collection of an id, where there is one
-abbrev pub collection_in : List CollectionValue → List ℕ → Option CollectionValue
-collection_in collections id = item_of collection_id id collections
 
 -- ---- what a change makes
 

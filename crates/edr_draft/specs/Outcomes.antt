@@ -6,7 +6,8 @@ use Rattle.edr_draft.specs.declared.changes.ChangeFault.{ChangeFault}
 use Rattle.edr_draft.specs.declared.changes.ChangeFault.TheVariants.{OutOfMemory}
 use Rattle.edr_edition.specs.Values.{CollectionValue}
 use Rattle.edr_edition.specs.Editions.{AreCollections}
-use Rattle.edr_draft.specs.Changes.{IsChange, collection_in, Changes, IsRefused}
+use Rattle.edr_draft.specs.Changes.{IsChange, Changes, IsRefused}
+use Rattle.edr_edition.specs.Stores.{collection_in}
 
 -- a change gives some collections or is refused by a fault; never both, never two of them, and never for want of memory
 pub record HasOneOutcome (collections : List CollectionValue) (change : Change) : Type 0 where

@@ -6,7 +6,8 @@ ghost use Rattle.edr_ids.specs.Ids.{with_item};
 ghost use Rattle.edr_draft.specs.declared.changes.Change.TheVariants.{Collection, Grid, Station, DropCollection, DropInstance, DropStation, Bare};
 ghost use Rattle.edr_edition.specs.Values.{collection_id};
 ghost use Rattle.edr_edition.specs.Editions.{AreCollections};
-ghost use Rattle.edr_draft.specs.Changes.{as_instance, as_station, AppliesToSet, collection_in, with_grid, with_series, bare_collection};
+ghost use Rattle.edr_draft.specs.Changes.{as_instance, as_station, AppliesToSet, with_grid, with_series, bare_collection};
+ghost use Rattle.edr_edition.specs.Stores.{collection_in};
 ghost use Rattle.edr_draft.specs.Steps.{Finds, Fits, IsMade};
 
 use crate::changes::ChangeFault;

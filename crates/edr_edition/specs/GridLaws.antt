@@ -8,7 +8,8 @@ use Rattle.covjson_value.specs.declared.domains.Domain.{Domain}
 use Rattle.covjson_value.specs.declared.domains.Domain.TheVariants.{Grid, Point, PointSeries, VerticalProfile, MultiPoint, Trajectory}
 use Rattle.covjson_value.specs.declared.coverages.NdArray.{NdArray}
 use Rattle.covjson_value.specs.declared.coverages.Coverage.{Coverage}
-use Rattle.covjson_value.specs.Domains.{axis_of, axis_length, has_axis, is_grid}
+use Rattle.covjson_value.specs.Domains.{axis_of, has_axis, is_grid}
+use Rattle.edr_axes.specs.Axes.{axis_length}
 use Rattle.covjson_value.specs.Samples.{values_or_none}
 use Rattle.covjson_value.specs.Coverages.{IsNamedAxis}
 use Rattle.edr_chunk.specs.declared.shapes.GridShape.{GridShape}

@@ -7,22 +7,24 @@ use Rattle.covjson_value.specs.declared.domains.Domain.{Domain}
 use Rattle.covjson_value.specs.declared.domains.Domain.TheVariants.{Grid, Point, PointSeries, VerticalProfile, MultiPoint, Trajectory}
 use Rattle.covjson_value.specs.declared.coverages.NdArray.{NdArray}
 use Rattle.covjson_value.specs.declared.coverages.Coverage.{Coverage}
-use Rattle.covjson_value.specs.Domains.{axis_length, axis_of, tuples_of, is_grid, count_of}
+use Rattle.covjson_value.specs.Domains.{axis_of, tuples_of, is_grid, count_of}
+use Rattle.edr_axes.specs.Axes.{axis_length}
 use Rattle.covjson_value.specs.Coverages.{IsNamedAxis}
 use Rattle.covjson_value.specs.CountLaws.{count_is}
 use Rattle.edr_chunk.specs.declared.shapes.GridShape.{GridShape}
 use Rattle.edr_chunk.specs.Places.{IsShape, nodes}
 use Rattle.edr_edition.specs.Instances.{IsTimedGrid, shape_of, FillsNodes}
+use Rattle.edr_base.specs.Limits.{node_limit}
 
 -- ---- lengths whose product is small
 
 pub record AreSmall (t z y x : ℕ) : Type 0 where
-  pub times : t ≤ 4_000_000
-  pub levels : z ≤ 4_000_000
-  pub rows : y ≤ 4_000_000
-  pub columns : x ≤ 4_000_000
+  pub times : t ≤ node_limit
+  pub levels : z ≤ node_limit
+  pub rows : y ≤ node_limit
+  pub columns : x ≤ node_limit
 
-are_small : (times levels rows columns : ℕ) → 1 ≤ times → 1 ≤ levels → 1 ≤ rows → 1 ≤ columns → ((times * levels) * rows) * columns ≤ 4_000_000 → AreSmall times levels rows columns
+are_small : (times levels rows columns : ℕ) → 1 ≤ times → 1 ≤ levels → 1 ≤ rows → 1 ≤ columns → ((times * levels) * rows) * columns ≤ node_limit → AreSmall times levels rows columns
 are_small times levels rows columns t z y x few =
     let plane : times * levels ≤ (times * levels) * rows = le-mul_of_pos_right (times * levels) y in
     let cube : (times * levels) * rows ≤ ((times * levels) * rows) * columns = le-mul_of_pos_right ((times * levels) * rows) x in
@@ -69,7 +71,7 @@ timed_shape coverage grid = record {
   levels = some_length Z (axis_of coverage.domain Z) (grid.valid.axes Z);
   rows = some_length Y (axis_of coverage.domain Y) (grid.valid.axes Y);
   columns = some_length X (axis_of coverage.domain X) (grid.valid.axes X);
-  few = subst (λ n. n ≤ 4_000_000) (count_nodes coverage grid) grid.few;
+  few = subst (λ n. n ≤ node_limit) (count_nodes coverage grid) grid.few;
 }
 
 -- each range has a sample, or none, for each node

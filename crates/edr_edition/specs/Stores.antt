@@ -45,9 +45,13 @@ held_in collection Station instance = Some (of_stations collection.parameters co
 abbrev pub subject_in : Option (List ℕ) → CollectionValue → Option Subject
 subject_in instance collection = option_map (λ held. record { collection = collection; held = held }) (held_in collection collection.kind instance)
 
+-- the collection of an id, where there is one
+abbrev pub collection_in : List CollectionValue → List ℕ → Option CollectionValue
+collection_in collections id = item_of collection_id id collections
+
 -- what an edition has by the id of a collection, and of an instance where one is named
 abbrev pub subject_of : EditionValue → List ℕ → Option (List ℕ) → Option Subject
-subject_of edition collection instance = option_and_then (subject_in instance) (item_of collection_id collection edition.collections)
+subject_of edition collection instance = option_and_then (subject_in instance) (collection_in edition.collections collection)
 
 -- the collection has what is held
 abbrev pub IsHeldBy : CollectionValue → Held → Type 0

@@ -1,6 +1,6 @@
 //! Blocks that are numbered and opened.
 ghost use Rattle.std.specs.Prelude.{◌≡◌};
-ghost use Rattle.edr_station.specs.Stations.{levels_along};
+ghost use Rattle.edr_axes.specs.Axes.{axis_length};
 
 use crate::words::{sample_at, stations_of};
 use edr_chunk::Reads;
@@ -73,7 +73,7 @@ fn four_of(text: &str) -> Option<Four> {
 
 // How many levels a station has, and 1 where it has none.
 fn levels_in(station: &Station) -> usize
-    ensures { result ≡ levels_along station.now.zs }
+    ensures { result ≡ axis_length station.now.zs }
 {
     match station.levels() {
         Some(levels) => levels.len(),

@@ -1,7 +1,7 @@
 -- The limits of the numbers in the plane.
-use Rattle.std.specs.Prelude.{ℤ, pos, ◌≤ℤ◌, Bool, List}
+use Rattle.std.specs.Prelude.{Bool, List}
 use Rattle.std.specs.List.{All}
-use Rattle.edr_base.specs.Limits.{distance_limit, IsCoordinate}
+use Rattle.edr_base.specs.Limits.{IsCoordinate}
 use Rattle.edr_base.specs.declared.places.Position.{Position}
 use Rattle.edr_base.specs.declared.places.Spot.{Spot}
 use Rattle.edr_wkt.specs.Faults.{IsGeometry}
@@ -13,11 +13,6 @@ use Rattle.edr_geometry.specs.Planar.{spot_of}
 pub record IsSpot (s : Spot) : Type 0 where
   pub x : IsCoordinate s.x
   pub y : IsCoordinate s.y
-
--- a radius or a width, in metres
-pub record IsDistance (d : ℤ) : Type 0 where
-  pub least : pos 0 ≤ℤ d
-  pub greatest : d ≤ℤ pos distance_limit
 
 -- a position in the plane
 abbrev pub IsPlaced : Position → Type 0

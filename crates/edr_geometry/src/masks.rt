@@ -1,8 +1,8 @@
 //! Masks: which places of a row lie in polygons, in a disc, near a segment.
 ghost use Rattle.std.specs.Prelude.{◌≡◌, IfOk, OnOk, ℕ, ◌+◌, ◌<◌, length, ◌||◌, false, MatchOption, slice_index_or};
 ghost use Rattle.std.specs.List.{All, flat_map};
-ghost use Rattle.edr_base.specs.Limits.{IsCoordinate};
-ghost use Rattle.edr_geometry.specs.Limits.{IsSpot, IsDistance, IsPlacedPolygon, IsPlacedRing};
+ghost use Rattle.edr_base.specs.Limits.{IsCoordinate, IsMetres};
+ghost use Rattle.edr_geometry.specs.Limits.{IsSpot, IsPlacedPolygon, IsPlacedRing};
 ghost use Rattle.edr_geometry.specs.Planar as plane;
 ghost use Rattle.edr_geometry.specs.Rows.{IsRow, Joins, in_polygon_at, is_set_in, odd_behind, odd_crossed, on_edges};
 ghost use Rattle.edr_geometry.specs.Masks.{row_of, IsSet, NoneSet};
@@ -133,7 +133,7 @@ impl RowMask {
         xs: &Axis,
     ) -> Result<RowMask, OutOfMemory>
         requires centre_in { IsSpot centre }
-        requires radius_in { IsDistance radius }
+        requires radius_in { IsMetres radius }
         requires y_in { IsCoordinate y }
         requires xs_in { All IsCoordinate xs.now }
         ensures { IfOk result (λ mask. mask ≡ row_of (λ p. plane.in_disc p centre radius) y xs.now) }
@@ -158,7 +158,7 @@ impl RowMask {
     ) -> Result<RowMask, OutOfMemory>
         requires a_in { IsSpot a }
         requires b_in { IsSpot b }
-        requires width_in { IsDistance width }
+        requires width_in { IsMetres width }
         requires y_in { IsCoordinate y }
         requires xs_in { All IsCoordinate xs.now }
         ensures { IfOk result (λ mask. mask ≡ row_of (λ p. plane.near_segment p a b width) y xs.now) }

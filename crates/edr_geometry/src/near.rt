@@ -1,7 +1,8 @@
 //! Places near a segment, in whole numbers.
-ghost use Rattle.std.specs.Prelude.{◌≡◌, ◌≤◌, ℤ, ◌+ℤ◌, ◌*ℤ◌, ◌<ℤ◌, ◌&&◌, int_le, int_lt, pos};
+ghost use Rattle.std.specs.Prelude.{◌≡◌, ◌≤◌, ◌+◌, ℤ, ◌+ℤ◌, ◌*ℤ◌, ◌<ℤ◌, ◌&&◌, int_le, int_lt, pos};
 ghost use Rattle.std.specs.Int.RustNames.{unsigned_abs};
-ghost use Rattle.edr_geometry.specs.Limits.{IsSpot, IsDistance};
+ghost use Rattle.edr_geometry.specs.Limits.{IsSpot};
+ghost use Rattle.edr_base.specs.Limits.{IsMetres, coordinate_limit, distance_limit};
 ghost use Rattle.edr_geometry.specs.Ways.{IsSegment, IsLeftOf};
 ghost use Rattle.edr_geometry.specs.Planar as plane;
 
@@ -100,7 +101,7 @@ impl Segment {
     /// An x such that no place left of it is near the segment.
     pub fn least_x(&self) -> i64
         requires { IsSegment self.now }
-        ensures small { unsigned_abs result ≤ 500_000_000 }
+        ensures small { unsigned_abs result ≤ coordinate_limit + distance_limit }
         ensures left { (x : ℤ) → x <ℤ result → IsLeftOf x self.now }
     {
         if self.a.x < self.b.x {
@@ -153,7 +154,7 @@ pub fn near_segment(p: Spot, a: Spot, b: Spot, width: i64) -> bool
     requires p_in { IsSpot p }
     requires a_in { IsSpot a }
     requires b_in { IsSpot b }
-    requires width_in { IsDistance width }
+    requires width_in { IsMetres width }
     ensures { result ≡ plane.near_segment p a b width }
 {
     Segment { a, b, width }.is_near(&p)

@@ -1,7 +1,8 @@
 //! Tests of one place in the plane, in whole numbers (OGC 06-103r4, section 6.1).
 ghost use Rattle.std.specs.Prelude.{◌≡◌, ◌-ℤ◌, ◌*ℤ◌, ◌+ℤ◌, pos, ◌&&◌, ◌||◌, int_lt};
 ghost use Rattle.std.specs.Ordering.{int_eq};
-ghost use Rattle.edr_geometry.specs.Limits.{IsSpot, IsDistance};
+ghost use Rattle.edr_geometry.specs.Limits.{IsSpot};
+ghost use Rattle.edr_base.specs.Limits.{IsMetres};
 ghost use Rattle.edr_geometry.specs.Ways.{IsWay};
 ghost use Rattle.edr_geometry.specs.Planar as plane;
 ghost use Rattle.edr_geometry.specs.Rows as rows;
@@ -228,7 +229,7 @@ pub fn is_touched(p: &Spot, a: &Spot, b: &Spot) -> bool
 pub fn in_disc(p: Spot, centre: Spot, radius: i64) -> bool
     requires p_in { IsSpot p }
     requires centre_in { IsSpot centre }
-    requires radius_in { IsDistance radius }
+    requires radius_in { IsMetres radius }
     ensures { result ≡ plane.in_disc p centre radius }
 {
     let square = radius * radius;

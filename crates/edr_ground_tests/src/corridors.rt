@@ -2,8 +2,7 @@
 ghost use Rattle.std.specs.Prelude.{◌≡◌, true, IfSome, IsSome};
 ghost use Rattle.std.specs.List.{All};
 ghost use Rattle.edr_wkt.specs.Faults.{IsGeometry};
-ghost use Rattle.edr_base.specs.Limits.{IsCoordinate};
-ghost use Rattle.edr_geometry.specs.Limits.{IsDistance};
+ghost use Rattle.edr_base.specs.Limits.{IsCoordinate, IsMetres};
 ghost use Rattle.edr_corridor.specs.Values.{needs_level};
 
 use crate::words::{axis_of, coordinate, distance, is_marked};
@@ -95,7 +94,7 @@ fn level_if(text: &str) -> Option<i64>
 
 // A height, where there is one.
 fn height_if(text: &str) -> Option<i64>
-    ensures { IfSome result IsDistance }
+    ensures { IfSome result IsMetres }
 {
     if text == "-" { None } else { distance(text) }
 }
@@ -156,9 +155,9 @@ fn segments_along(
     zs: Option<&Axis>,
 ) -> Option<Segments>
     requires geometry { IsGeometry geometry.now }
-    requires width_in { IsDistance width }
+    requires width_in { IsMetres width }
     requires level_in { IfSome level IsCoordinate }
-    requires height_in { IfSome height IsDistance }
+    requires height_in { IfSome height IsMetres }
     ensures { IfSome result (λ segments. needs_level segments ≡ true → IsSome zs.entry) }
 {
     let Geometry::Line {

@@ -1,9 +1,9 @@
 //! Places that people can draw: a line for each case, cut here. `#` is a place that is taken, `.` one that isn't.
-ghost use Rattle.std.specs.Prelude.{◌≡◌, IfSome, length, ◌+◌, ◌<◌};
+ghost use Rattle.std.specs.Prelude.{IfSome, length, ◌+◌, ◌<◌};
 ghost use Rattle.std.specs.List.{All};
 ghost use Rattle.edr_wkt.specs.Faults.{IsGeometry};
-ghost use Rattle.edr_base.specs.Limits.{IsCoordinate};
-ghost use Rattle.edr_geometry.specs.Limits.{IsSpot, IsDistance, IsPlacedPolygon};
+ghost use Rattle.edr_base.specs.Limits.{IsCoordinate, IsMetres};
+ghost use Rattle.edr_geometry.specs.Limits.{IsSpot, IsPlacedPolygon};
 
 use crate::words::{axis_of, coordinate, coordinates, distance, is_marked};
 use edr_axes::Axis;
@@ -128,7 +128,7 @@ struct Disc {
 // A disc: its radius and its centre.
 fn disc_of(alloc: Global, text: &str) -> Option<Disc>
     ensures centre { IfSome result (λ disc. IsSpot disc.centre) }
-    ensures radius { IfSome result (λ disc. IsDistance disc.radius) }
+    ensures radius { IfSome result (λ disc. IsMetres disc.radius) }
 {
     let (first, rest) = text.split_once(' ')?;
     let radius = distance(first)?;
@@ -152,7 +152,7 @@ struct Segment {
 fn segment_of(alloc: Global, text: &str) -> Option<Segment>
     ensures a { IfSome result (λ segment. IsSpot segment.a) }
     ensures b { IfSome result (λ segment. IsSpot segment.b) }
-    ensures width { IfSome result (λ segment. IsDistance segment.width) }
+    ensures width { IfSome result (λ segment. IsMetres segment.width) }
 {
     let (first, rest) = text.split_once(' ')?;
     let width = distance(first)?;

@@ -1,8 +1,7 @@
 //! Numbers, axes and pictures that are words, for tests.
 ghost use Rattle.std.specs.Prelude.{IfSome};
 ghost use Rattle.std.specs.List.{All};
-ghost use Rattle.edr_base.specs.Limits.{IsCoordinate};
-ghost use Rattle.edr_geometry.specs.Limits.{IsDistance};
+ghost use Rattle.edr_base.specs.Limits.{IsCoordinate, IsMetres};
 
 use edr_axes::Axis;
 use edr_base::COORDINATE_LIMIT;
@@ -20,7 +19,7 @@ pub(crate) fn coordinate(text: &str) -> Option<i64>
 
 // A radius, a width or a height in metres.
 pub(crate) fn distance(text: &str) -> Option<i64>
-    ensures { IfSome result IsDistance }
+    ensures { IfSome result IsMetres }
 {
     match text.parse::<i64>() {
         Ok(number) if 0 <= number && number <= 400_000_000 => Some(number),

@@ -32,7 +32,8 @@ use Rattle.edr_query.specs.Parameters.{Pair, value_of, is_required, MaySay, MayS
 use Rattle.edr_axes.specs.Distances.{IsDistance}
 use Rattle.edr_query.specs.Boxes.{IsBoxText, numbers_with}
 use Rattle.edr_query.specs.Values.{QueryValue}
-use Rattle.edr_query.specs.Queries.{IsGeometryText, takes, has_z, has_m, has_levels, are_several, conflicts, around, along, inside, shape_of, IsTaken, IsMetres, IsBox, IsHeight, IsShape, IsInstanceOf, IsLevelsAsked, coords_of, within_of, box_of, width_of, height_of, IsQuery}
+use Rattle.edr_query.specs.Queries.{IsGeometryText, takes, has_z, has_m, has_levels, are_several, conflicts, around, along, inside, shape_of, IsTaken, IsBox, IsHeight, IsShape, IsInstanceOf, IsLevelsAsked, coords_of, within_of, box_of, width_of, height_of, IsQuery}
+use Rattle.edr_base.specs.Limits.{IsMetres}
 use Rattle.edr_query.specs.Targets.{Applies, HasWrongGeometry, IsMissing}
 use Rattle.edr_query.specs.Reads.{IsAllSaid}
 use Rattle.edr_query.proofs.ListLemmas.{true_false, not_true, some_same, none_some}
@@ -137,7 +138,7 @@ pub metres_in : (n u : List ℕ) (d : ℤ) → IsDistance n u d → IsMetres d
 metres_in n u d is =
     let w = is.within in
     let P : ℤ → Type 0 = IsMetres in
-    subst P (sym is.metres_is) (record { from = omega (arith, ints); to = omega (arith, ints, w) })
+    subst P (sym is.metres_is) (record { least = omega (arith, ints); greatest = omega (arith, ints, w) })
 
 good_metres : (a b : Option (List ℕ)) (d : Option ℤ) → MaySayBoth IsDistance a b d → IfSome d IsMetres
 good_metres a b None said = tt

@@ -31,7 +31,8 @@ use Rattle.edr_query.specs.Parameters.{Pair, pairs_in, value_of, MaySay, MaySayB
 use Rattle.edr_axes.specs.Distances.{DistancesAreUnique, IsDistance}
 use Rattle.edr_query.specs.Boxes.{IsBoxText}
 use Rattle.edr_query.specs.Values.{QueryValue}
-use Rattle.edr_query.specs.Queries.{IsGeometryText, IsSaid, shape_of, IsPlaced, Says, names_in, AreNames, IsMetres, IsBox, IsShape, IsInstanceOf, IsLevelsAsked, coords_of, within_of, box_of, width_of, height_of, said_of, IsQuery}
+use Rattle.edr_query.specs.Queries.{IsGeometryText, IsSaid, shape_of, IsPlaced, Says, names_in, AreNames, IsBox, IsShape, IsInstanceOf, IsLevelsAsked, coords_of, within_of, box_of, width_of, height_of, said_of, IsQuery}
+use Rattle.edr_base.specs.Limits.{IsMetres}
 use Rattle.edr_query.specs.Targets.{Applies, HasBadFormat, LacksHeight, HasWrongGeometry}
 use Rattle.edr_query.specs.Reads.{has_required, is_along_z, IsAllSaid}
 use Rattle.edr_query.specs.Spelling.{times_text, levels_text, box_text, metres_unit, pairs_of, address_at, address_of, query_text, spell, WrittenQueriesReadBack}

@@ -8,7 +8,7 @@ use Rattle.std.proofs.lemmas.Int.{ints}
 use Rattle.std.proofs.lemmas.List.Elements.{recursion_from_All}
 use Rattle.std.specs.declared.option.Option.{Option}
 use Rattle.std.proofs.lemmas.Str.{IsUtf8-append, IsUtf8-nil}
-use Rattle.edr_base.specs.Limits.{earliest_time, latest_time}
+use Rattle.edr_base.specs.Limits.{earliest_time, latest_time, IsMetres}
 use Rattle.edr_base.specs.declared.places.Position.{Position as Place}
 use Rattle.edr_axes.specs.declared.times.Times.{Times}
 use Rattle.edr_axes.specs.declared.times.Times.TheVariants as some_times
@@ -32,7 +32,7 @@ use Rattle.edr_query.specs.declared.shapes.BoundingBox.{BoundingBox}
 use Rattle.edr_query.specs.Paths.{kind_text, IsPart}
 use Rattle.edr_query.specs.Parameters.{name_of}
 use Rattle.edr_query.specs.Boxes.{numbers_with, numbers_of}
-use Rattle.edr_query.specs.Queries.{IsMetres, IsBox, AreNames}
+use Rattle.edr_query.specs.Queries.{IsBox, AreNames}
 use Rattle.edr_query.specs.Spelling.{side_text, times_text, levels_text, box_text}
 use Rattle.edr_query.proofs.SpelledNames.{plain, byte_utf8, number_utf8, joined_utf8}
 
@@ -197,8 +197,8 @@ unfolding small
 unit_utf8 = text_utf8 (codes "m") refl
 
 pub metres_utf8 : (d : ℤ) → IsMetres d → IsUtf8 (signed_decimal d)
-metres_utf8 (pos n) m = let h = m.to in number_utf8 (pos n) (omega (arith, ints, h))
-metres_utf8 (negsuc n) m = let h = m.from in absurd (omega (arith, ints, h))
+metres_utf8 (pos n) m = let h = m.greatest in number_utf8 (pos n) (omega (arith, ints, h))
+metres_utf8 (negsuc n) m = let h = m.least in absurd (omega (arith, ints, h))
 
 numbers_in : (box : BoundingBox) (l : Option (ℤ × ℤ)) → IsBox box → IfSome l (λ range. IsLevel range.0 × IsLevel range.1) → AllByRecursion IsLevel (numbers_with box.lo box.hi l)
 numbers_in box None is h = (is.lo_in.0, (is.lo_in.1, (is.hi_in.0, (is.hi_in.1, tt))))

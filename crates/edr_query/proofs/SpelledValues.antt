@@ -8,7 +8,7 @@ use Rattle.std.specs.declared.option.Option.{Option}
 use Rattle.std.proofs.lemmas.Fmt.{decimal_is_IsNumeral}
 use Rattle.std.proofs.lemmas.Int.{ints}
 use Rattle.std.proofs.lemmas.List.Elements.{recursion_from_All}
-use Rattle.edr_base.specs.Limits.{distance_limit}
+use Rattle.edr_base.specs.Limits.{distance_limit, IsMetres}
 use Rattle.edr_base.specs.Numbers.{IsWhole}
 use Rattle.edr_base.specs.NumberLaws.{numeral-decimal}
 use Rattle.edr_axes.specs.declared.times.Times.{Times}
@@ -22,7 +22,7 @@ use Rattle.edr_wkt.specs.Spelling.{joined}
 use Rattle.edr_query.specs.declared.shapes.BoundingBox.{BoundingBox}
 use Rattle.edr_axes.specs.Distances.{IsUnit, IsDistance}
 use Rattle.edr_query.specs.Boxes.{IsBoxText, numbers_with}
-use Rattle.edr_query.specs.Queries.{IsMetres, IsBox, IsLevelsAsked}
+use Rattle.edr_query.specs.Queries.{IsBox, IsLevelsAsked}
 use Rattle.edr_query.specs.Spelling.{side_text, times_text, levels_text, box_text}
 
 -- ---- numbers
@@ -60,8 +60,8 @@ distance_at n small =
     }
 
 pub distance_back : (d : ℤ) → IsMetres d → IsDistance (signed_decimal d) (codes "m") d
-distance_back (pos n) m = let h = m.to in distance_at n (omega (arith, ints, h))
-distance_back (negsuc n) m = let h = m.from in absurd (omega (arith, ints, h))
+distance_back (pos n) m = let h = m.greatest in distance_at n (omega (arith, ints, h))
+distance_back (negsuc n) m = let h = m.least in absurd (omega (arith, ints, h))
 
 box_at : (box : BoundingBox) (l : Option (ℤ × ℤ)) → IsBox box → IfSome l (λ range. IsLevel range.0 × IsLevel range.1) → AreLevelTexts (joined signed_decimal (numbers_with box.lo box.hi l)) (numbers_with box.lo box.hi l)
 box_at box None is h = levels_back_list box.lo.x (box.lo.y ∷ box.hi.x ∷ box.hi.y ∷ []) (is.lo_in.0, (is.lo_in.1, (is.hi_in.0, (is.hi_in.1, tt))))

@@ -1,7 +1,7 @@
 -- What the parameters of a target say, the query that they make, and what every query is.
-use Rattle.std.specs.Prelude.{◌≡◌, ◌≢◌, ◌≤ℤ◌, ⊤, ℕ, ◌==◌, ℤ, pos, Bool, true, false, not, ◌&&◌, ◌||◌, bytes_eq, if◌then◌else◌, List, [], ◌∷◌, ◌++◌, Contains, Option, None, Some, option_map, is_some, IfSome, IsUtf8}
+use Rattle.std.specs.Prelude.{◌≡◌, ◌≢◌, ⊤, ℕ, ◌==◌, ℤ, Bool, true, false, not, ◌&&◌, ◌||◌, bytes_eq, if◌then◌else◌, List, [], ◌∷◌, ◌++◌, Contains, Option, None, Some, option_map, is_some, IfSome, IsUtf8}
 use Rattle.std.specs.List.{AllByRecursion, list_any, slice_split}
-use Rattle.edr_base.specs.Limits.{distance_limit}
+use Rattle.edr_base.specs.Limits.{IsMetres}
 use Rattle.edr_axes.specs.declared.levels.Levels.{Levels}
 use Rattle.edr_axes.specs.declared.levels.Levels.TheVariants as some_levels
 use Rattle.edr_axes.specs.Times.{IsTimes, IsTimesText}
@@ -135,11 +135,6 @@ pub record Says (address : Address) (pairs : List Pair) (query : QueryValue) : T
 -- a geometry that queries of the kind take, within the limits
 abbrev pub IsTaken : QueryKind → Geometry → Type 0
 IsTaken kind geometry = IsGeometry geometry × (takes kind geometry ≡ true)
-
--- whole metres within the limit
-pub record IsMetres (metres : ℤ) : Type 0 where
-  pub from : pos 0 ≤ℤ metres
-  pub to : metres ≤ℤ pos distance_limit
 
 -- a box within the limits, in order
 pub record IsBox (box : BoundingBox) : Type 0 where

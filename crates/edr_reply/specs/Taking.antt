@@ -6,6 +6,7 @@ use Rattle.std.specs.Io.KnownBytes.{prepend_known, IsAtEnd}
 use Rattle.httparse.specs.Grammar.{ResponseHead, print_response, ChunkLine, print_chunk_line, chunk_size}
 use Rattle.edr_base.specs.Calls.{ReadsAtMost}
 use Rattle.edr_http.specs.Chunks.{crlf}
+use Rattle.edr_http.specs.Heads.{head_limit}
 use Rattle.edr_reply.specs.declared.framing.Framing.{Framing}
 use Rattle.edr_reply.specs.declared.framing.Framing.TheVariants.{Chunked, Sized, TooLong, ToEnd}
 use Rattle.edr_reply.specs.declared.heads.Opening.{Opening}
@@ -14,7 +15,7 @@ use Rattle.edr_reply.specs.declared.held.PartFault.{PartFault}
 use Rattle.edr_reply.specs.declared.held.PartFault.TheVariants as part
 use Rattle.edr_reply.specs.declared.messages.MessageFault.{MessageFault}
 use Rattle.edr_reply.specs.declared.messages.MessageFault.TheVariants as message
-use Rattle.edr_reply.specs.Messages.{IsHead, IsSizeLine, Chunk, IsChunk, AreChunks, print_chunk, print_chunks, joined, IsChunkedBody, body_limit}
+use Rattle.edr_reply.specs.Messages.{IsHead, IsSizeLine, Chunk, IsChunk, AreChunks, print_chunk, print_chunks, joined, IsChunkedBody, body_limit, size_line_limit}
 use Rattle.edr_reply.specs.BrokenParts.{BreaksChunk, BreaksChunks, BreaksBody}
 use Rattle.edr_reply.specs.Finding.{Opens}
 
@@ -77,11 +78,11 @@ at_place part.OutOfMemory place = message.OutOfMemory
 
 -- the greatest place behind the chunks of so many bytes: a chunk has a byte, a line end and its line
 abbrev pub latest_place : ℕ → ℕ
-latest_place size = 16_384 + size * 16_387
+latest_place size = head_limit + size * (size_line_limit + 3)
 
 -- what is read of a chunk at most where it isn't taken
 abbrev pub most_of_chunk : ℕ
-most_of_chunk = 16_384 + body_limit + 2
+most_of_chunk = size_line_limit + body_limit + 2
 
 -- the chunk that stands at a place breaks off at another; at most so many bytes were read
 pub record ChunkBreaks (place at room : ℕ) (old new : Option (List ℕ)) : Type 0 where

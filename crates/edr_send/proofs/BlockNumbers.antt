@@ -9,7 +9,8 @@ use Rattle.std.proofs.lemmas.Nat.{div_below, mod_below, div-add-mod'}
 use Rattle.std.proofs.lemmas.List.{take-take, take-append-drop, length-map, map-append, get_or-map, get_or_default}
 use Rattle.std.proofs.lemmas.List.Elements.{All-map, All-weaker, All-from_get_or, All-get_or}
 use Rattle.std.proofs.lemmas.List.Sums.{sum_by_more_le}
-use Rattle.edr_station.specs.Stations.{StationValue, StationsValue, levels_along, values_along, nowhere}
+use Rattle.edr_station.specs.Stations.{StationValue, StationsValue, values_along, nowhere}
+use Rattle.edr_axes.specs.Axes.{axis_length}
 use Rattle.edr_station.specs.Blocks.{blocks_of, StationPlace, place_at, Within, place_in_series, series_at, block_of, IsBlock}
 use Rattle.edr_edition.specs.Stores.{Held, of_grid, of_stations, HasBlock, IsBlockOf}
 use Rattle.edr_select.specs.Samples.{ascending_once}
@@ -185,7 +186,7 @@ module _ (collection : StationsValue) where
 
     module _ (p cell : ℕ) (inside : p < collection.parameters) (low : cell < values_along (station_of collection series)) where
       abbrev levels : ℕ
-      levels = levels_along (station_of collection series).zs
+      levels = axis_length (station_of collection series).zs
 
       some_levels : 0 < levels
       some_levels = elim (cases_lt 0 levels) [

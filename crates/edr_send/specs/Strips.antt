@@ -1,6 +1,7 @@
 -- Strips: the rows of a frame in one row of tiles, whose values are read tile by tile; for private clauses.
 use Rattle.std.specs.Prelude.{◌≡◌, ℕ, ◌+◌, ◌-◌, ◌*◌, ◌≤◌, min, max, Bool, if◌then◌else◌, ℤ, List, [], ◌∷◌, length, Option, None}
 use Rattle.std.specs.List.{list_any, range_with_len, slice_index_or}
+use Rattle.edr_chunk.specs.RowMajor.{place_in_row}
 use Rattle.edr_chunk.specs.declared.shapes.GridShape.{GridShape}
 use Rattle.edr_chunk.specs.AllPlaces.{at}
 use Rattle.edr_chunk.specs.Tiles.{tile_side, tile_of}
@@ -30,7 +31,7 @@ some_taken frame from to left right = list_any (λ y. list_any (is_set frame y) 
 
 -- of the values of the rows from one on, that of a node
 abbrev pub shown : FrameValue → ℕ → List (Option ℤ) → ℕ → ℕ → Option ℤ
-shown frame from values y x = slice_index_or values ((y - from) * frame.columns + (x - frame.column)) None
+shown frame from values y x = slice_index_or values (place_in_row (y - from) frame.columns (x - frame.column)) None
 
 -- ---- tiles
 

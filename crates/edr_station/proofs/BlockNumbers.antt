@@ -7,7 +7,8 @@ use Rattle.std.proofs.lemmas.Nat.{mul-add-lt, same_from_place, div_below, div-ad
 use Rattle.std.proofs.lemmas.Bool.{cases_order}
 use Rattle.std.proofs.lemmas.List.{get_or-take, get_or-drop, length-take}
 use Rattle.std.proofs.lemmas.List.Sums.{sum_by-cons, sum_by-append, sum_by_more, sum_by-take-le}
-use Rattle.edr_station.specs.Stations.{StationValue, StationsValue, AreStations, levels_along, values_along, nowhere, station_at}
+use Rattle.edr_station.specs.Stations.{StationValue, StationsValue, AreStations, values_along, nowhere, station_at}
+use Rattle.edr_axes.specs.Axes.{axis_length}
 use Rattle.edr_station.specs.Blocks.{blocks_of, blocks, first_block, StationPlace, Within, place_in_series, series_at, value, block_of, place_in_block, cut_block, IsBlock}
 use Rattle.edr_station.specs.Shelves.{blocks_in, IsFound}
 
@@ -84,10 +85,10 @@ module _ (parameters : ℕ) (stations : List StationValue) (station parameter bl
 
 -- ---- the place of a value
 
-pub in_series : (s : StationValue) (time level : ℕ) → time < length s.ts → level < levels_along s.zs → place_in_series s time level < values_along s
-in_series s time level t l = omega (arith, mul-add-lt time (levels_along s.zs) level (length s.ts) t l, mul_comm (length s.ts) (levels_along s.zs))
+pub in_series : (s : StationValue) (time level : ℕ) → time < length s.ts → level < axis_length s.zs → place_in_series s time level < values_along s
+in_series s time level t l = omega (arith, mul-add-lt time (axis_length s.zs) level (length s.ts) t l, mul_comm (length s.ts) (axis_length s.zs))
 
-pub in_blocks : (s : StationValue) (time level : ℕ) → time < length s.ts → level < levels_along s.zs → place_in_series s time level / 256 < blocks_of s
+pub in_blocks : (s : StationValue) (time level : ℕ) → time < length s.ts → level < axis_length s.zs → place_in_series s time level / 256 < blocks_of s
 in_blocks s time level t l = omega (arith, in_series s time level t l)
 
 -- ---- what the block of a number is

@@ -2,7 +2,9 @@
 -- parameter and block, ascending from 0.
 use Rattle.std.specs.Prelude.{◌≡◌, ℕ, ◌+◌, ◌*◌, ◌-◌, ◌/◌, ◌%◌, ◌<◌, min, ℤ, List, [], length, take, drop, Option, None, sum_by}
 use Rattle.std.specs.List.{slice_index_or}
-use Rattle.edr_station.specs.Stations.{StationValue, StationsValue, levels_along, values_along, station_at}
+use Rattle.edr_station.specs.Stations.{StationValue, StationsValue, values_along, station_at}
+use Rattle.edr_axes.specs.Axes.{axis_length}
+use Rattle.edr_chunk.specs.RowMajor.{place_in_row}
 
 -- how many values a block has at most
 abbrev pub block_length : ℕ
@@ -39,11 +41,11 @@ pub record Within (collection : StationsValue) (place : StationPlace) : Type 0 w
   pub station : place.station < length collection.stations
   pub parameter : place.parameter < collection.parameters
   pub time : place.time < length (station_at collection.stations place.station).ts
-  pub level : place.level < levels_along (station_at collection.stations place.station).zs
+  pub level : place.level < axis_length (station_at collection.stations place.station).zs
 
 -- where the value of a time and a level stands among those of a parameter
 abbrev pub place_in_series : StationValue → ℕ → ℕ → ℕ
-place_in_series s time level = time * levels_along s.zs + level
+place_in_series s time level = place_in_row time (axis_length s.zs) level
 
 -- the values of a parameter of a station
 abbrev pub series_at : StationValue → ℕ → List (Option ℤ)

@@ -1,9 +1,9 @@
 -- The stations of a collection (OGC 19-086r6, locations).
-use Rattle.std.specs.Prelude.{◌≡◌, ℕ, ◌*◌, ℤ, pos, List, [], length, All, IfSome, IsUtf8, Option, None, Some}
+use Rattle.std.specs.Prelude.{◌≡◌, ℕ, ◌*◌, ℤ, pos, List, [], length, All, IfSome, IsUtf8, Option, None}
 use Rattle.std.specs.List.{slice_index_or}
 use Rattle.edr_base.specs.Limits.{IsCoordinate}
 use Rattle.edr_base.specs.Names.{IsName}
-use Rattle.edr_axes.specs.Axes.{IsAxis}
+use Rattle.edr_axes.specs.Axes.{axis_length, IsAxis}
 use Rattle.edr_axes.specs.Instants.{IsTime}
 use Rattle.edr_chunk.specs.Samples.{AreSamples}
 use Rattle.edr_ids.specs.Ids.{AscendBy}
@@ -21,14 +21,9 @@ pub record StationValue : Type 0 where
 abbrev pub station_id : StationValue → List ℕ
 station_id s = s.id
 
--- how many levels there are, and 1 where there is no axis of levels
-abbrev pub levels_along : Option (List ℤ) → ℕ
-levels_along None = 1
-levels_along (Some zs) = length zs
-
 -- how many values each parameter of a station has: one for each time and level
 abbrev pub values_along : StationValue → ℕ
-values_along s = length s.ts * levels_along s.zs
+values_along s = length s.ts * axis_length s.zs
 
 -- an axis whose values are within the limits
 pub record IsAxisWithin (IsValue : ℤ → Type 0) (values : List ℤ) : Type 0 where

@@ -4,7 +4,8 @@ ghost use Rattle.std.specs.Arc.{arc_value};
 ghost use Rattle.std.specs.List.{flat_map};
 ghost use Rattle.edr_base.specs.Names.{IsName};
 ghost use Rattle.edr_chunk.specs.Samples.{AreSamples};
-ghost use Rattle.edr_station.specs.Stations.{IsPlaced, HasSeries, IsStation, levels_along, values_along};
+ghost use Rattle.edr_station.specs.Stations.{IsPlaced, HasSeries, IsStation, values_along};
+ghost use Rattle.edr_axes.specs.Axes.{axis_length};
 ghost use Rattle.edr_station.specs.Blocks.{blocks_of, cut_block, place_in_series, series_at};
 ghost use Rattle.edr_station.specs.Inputs.{station_of};
 ghost use Rattle.edr_station.specs.Tallies.{tally_of, and_of};
@@ -91,7 +92,7 @@ fn joined(alloc: Global, first: &[u8], second: &[u8]) -> Result<Text, OutOfMemor
 
 // How many levels there are, and 1 where there is no axis of levels.
 fn levels_in(levels: &Option<Axis>) -> usize
-    ensures { result ≡ levels_along levels.now }
+    ensures { result ≡ axis_length levels.now }
 {
     match levels {
         Some(levels) => levels.len(),
@@ -308,7 +309,7 @@ impl Station {
     // Where the value of a time and a level stands among those of a parameter.
     pub(crate) fn place_in_series(&self, time: usize, level: usize) -> usize
         requires time { time < length self.now.ts }
-        requires level { level < levels_along self.now.zs }
+        requires level { level < axis_length self.now.zs }
         ensures place { result ≡ place_in_series self.now time level }
         ensures inside { result < values_along self.now }
     {

@@ -2,7 +2,8 @@ use Rattle.std.proofs.Common.{◌≢◌, subst}
 use Rattle.edr_base.specs.FirstThatApplies.{IsLeast, NoneApplies}
 use Rattle.edr_draft.specs.declared.changes.Change.TheVariants.{Grid}
 use Rattle.edr_draft.specs.declared.changes.ChangeFault.TheVariants.{OutOfMemory}
-use Rattle.edr_draft.specs.Changes.{rank, as_instance, collection_in, AppliesToSet}
+use Rattle.edr_draft.specs.Changes.{rank, as_instance, AppliesToSet}
+use Rattle.edr_edition.specs.Stores.{collection_in}
 use Rattle.edr_draft.specs.Steps.{Fits}
 use Rattle.edr_draft.proofs.StepLaws.{becomes_with_grid, still_made}
 use Rattle.edr_draft.proofs.steps.set_instance.Goals as goal

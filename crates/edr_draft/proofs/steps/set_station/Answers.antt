@@ -4,7 +4,8 @@ use Rattle.edr_ids.specs.Ids.{with_item}
 use Rattle.edr_edition.specs.Values.{collection_id}
 use Rattle.edr_draft.specs.declared.changes.Change.TheVariants.{Station}
 use Rattle.edr_draft.specs.declared.changes.ChangeFault.TheVariants.{OutOfMemory}
-use Rattle.edr_draft.specs.Changes.{rank, as_station, collection_in, AppliesToSet}
+use Rattle.edr_draft.specs.Changes.{rank, as_station, AppliesToSet}
+use Rattle.edr_edition.specs.Stores.{collection_in}
 use Rattle.edr_draft.specs.Steps.{Fits}
 use Rattle.edr_draft.proofs.StepLaws.{becomes_with_series, still_made}
 use Rattle.edr_draft.proofs.steps.set_station.Goals as goal

@@ -1,5 +1,5 @@
 use Rattle.std.proofs.Common.{◌≡◌, arith, rules}
-use Rattle.covjson_value.specs.Domains.{axis_length}
+use Rattle.edr_axes.specs.Axes.{axis_length}
 use Rattle.edr_edition.specs.ShapeLaws.{small_sides}
 use Rattle.edr_edition.proofs.instances.shape_of.Goals as goal
 use Rattle.edr_edition.proofs.instances.shape_of.Goals.{in-Some, in-None}
