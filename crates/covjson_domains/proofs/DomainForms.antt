@@ -16,7 +16,8 @@ use Rattle.covjson_domains.specs.declared.domain_types.DomainType.{DomainType}
 use Rattle.covjson_domains.specs.declared.domain_types.DomainType.TheVariants.{Grid, Point, PointSeries, VerticalProfile, MultiPoint, Trajectory}
 use Rattle.covjson_domains.specs.declared.domain_types.Presence.{Presence}
 use Rattle.covjson_domains.specs.declared.domain_types.Presence.TheVariants.{Absent, Optional, Required, OptionalSingle, Single}
-use Rattle.covjson_domains.specs.DomainTypes.{presence, axis_name}
+use Rattle.covjson_domains.specs.DomainTypes.{presence}
+use Rattle.covjson_value.specs.AxisNames.{axis_name}
 use Rattle.covjson_domains.specs.DomainAnswers.{axis_in, values_of, value_of, value_in, domain_formed}
 use Rattle.covjson_domains.proofs.AxisLaws.{only_value}
 use Rattle.covjson_domains.proofs.DomainTypes.{kind_of, Fits}

@@ -15,8 +15,8 @@ use Rattle.covjson_value.specs.declared.domains.CoordinateName.TheVariants.{T, Z
 use Rattle.covjson_value.specs.declared.axis_names.AxisName.{AxisName}
 use Rattle.covjson_value.specs.declared.axis_names.AxisName.TheVariants as axis
 use Rattle.covjson_value.specs.declared.domains.Domain.{Domain}
-use Rattle.covjson_value.specs.AxisNames.{axis_key}
-use Rattle.covjson_value.specs.Domains.{coordinate_key, axis_of, tuples_of, coordinates_of}
+use Rattle.covjson_value.specs.AxisNames.{axis_key, axis_name}
+use Rattle.covjson_value.specs.Domains.{axis_of, tuples_of, coordinates_of}
 use Rattle.covjson_value.specs.Coverages.{IsTuple, IsNamedAxis, HasAxes, AreTuples, HasTuples}
 use Rattle.covjson_checks.specs.declared.turned.Turned.{Turned}
 use Rattle.covjson_checks.specs.declared.turned.ReadDomain.{ReadDomain}
@@ -27,7 +27,7 @@ use Rattle.covjson_checks.specs.CheckLaws.{object_ok}
 use Rattle.covjson_checks.specs.Turns.{is_turned}
 use Rattle.covjson_domains.specs.declared.domains.ReadAxes.{ReadAxes}
 use Rattle.covjson_domains.specs.declared.domain_types.DomainType.{DomainType}
-use Rattle.covjson_domains.specs.DomainTypes.{type_key, presence, axis_name, IsAllowed, IsAxisOf}
+use Rattle.covjson_domains.specs.DomainTypes.{type_key, presence, IsAllowed, IsAxisOf}
 use Rattle.covjson_domains.specs.Axes.{HasSameAxis}
 use Rattle.covjson_domains.specs.Tuples.{StandsForTuple, HasSameTuples}
 use Rattle.covjson_domains.specs.Domains.{StandsForDomain}
@@ -80,12 +80,12 @@ only_there kind members keys name none = no_other kind name members keys (λ h. 
 
 -- what was read of the axes of a type
 pub record AreRead (kind : DomainType) (members : Members) (r : ReadAxes) : Type 0 where
-  pub each : (name : CoordinateName) → IsRead (presence kind (axis_name name)) name (get (coordinate_key name) (object members)) (read_at r name)
-  pub composite : IsReadComposite (presence kind axis.Composite) (tuple_kind kind (is_some r.z)) (get (codes "composite") (object members)) r.composite
+  pub each : (name : CoordinateName) → IsRead (presence kind (axis_name name)) name (get (axis_key (axis_name name)) (object members)) (read_at r name)
+  pub composite : IsReadComposite (presence kind axis.Composite) (tuple_kind kind (is_some r.z)) (get (axis_key axis.Composite) (object members)) r.composite
 
 -- each name's
 abbrev EachRead : DomainType → Members → ReadAxes → CoordinateName → Type 0
-EachRead kind members r name = IsRead (presence kind (axis_name name)) name (get (coordinate_key name) (object members)) (read_at r name)
+EachRead kind members r name = IsRead (presence kind (axis_name name)) name (get (axis_key (axis_name name)) (object members)) (read_at r name)
 
 each_read : (kind : DomainType) (members : Members) (r : ReadAxes) → EachRead kind members r T → EachRead kind members r Z → EachRead kind members r Y → EachRead kind members r X
     → (name : CoordinateName) → EachRead kind members r name
@@ -107,11 +107,11 @@ axes_are_read instants kind members keys r h =
     let same : made ≡ r = let e = c.2 in cc in
     let read : AreRead kind members made = record {
       each = each_read kind members made
-          (axis_if_stands instants (presence kind axis.T) T (get (coordinate_key T) axes) t.0 (only_there kind members keys axis.T) t.1)
-          (axis_if_stands instants (presence kind axis.Z) Z (get (coordinate_key Z) axes) z.0 (only_there kind members keys axis.Z) z.1)
-          (axis_if_stands instants (presence kind axis.Y) Y (get (coordinate_key Y) axes) y.0 (only_there kind members keys axis.Y) y.1)
-          (axis_if_stands instants (presence kind axis.X) X (get (coordinate_key X) axes) x.0 (only_there kind members keys axis.X) x.1);
-      composite = composite_if_stands instants (presence kind axis.Composite) (tuple_kind kind (is_some z.0)) (get (codes "composite") axes) c.0 c.1;
+          (axis_if_stands instants (presence kind axis.T) T (get (axis_key (axis_name T)) axes) t.0 (only_there kind members keys axis.T) t.1)
+          (axis_if_stands instants (presence kind axis.Z) Z (get (axis_key (axis_name Z)) axes) z.0 (only_there kind members keys axis.Z) z.1)
+          (axis_if_stands instants (presence kind axis.Y) Y (get (axis_key (axis_name Y)) axes) y.0 (only_there kind members keys axis.Y) y.1)
+          (axis_if_stands instants (presence kind axis.X) X (get (axis_key (axis_name X)) axes) x.0 (only_there kind members keys axis.X) x.1);
+      composite = composite_if_stands instants (presence kind axis.Composite) (tuple_kind kind (is_some z.0)) (get (axis_key axis.Composite) axes) c.0 c.1;
     } in
     subst (AreRead kind members) same read
 
@@ -124,9 +124,9 @@ turned_at r X = refl
 
 -- the axis of a name stands in the tree
 same_formed : (kind : DomainType) (members : Members) (r : ReadAxes) → AreRead kind members r → (name : CoordinateName)
-    → HasSameAxis name (get (coordinate_key name) (object members)) (is_turned (turned_in r) name) (axis_of (domain_formed kind r) name)
+    → HasSameAxis name (get (axis_key (axis_name name)) (object members)) (is_turned (turned_in r) name) (axis_of (domain_formed kind r) name)
 same_formed kind members r read name =
-    let found = get (coordinate_key name) (object members) in
+    let found = get (axis_key (axis_name name)) (object members) in
     let values = formed_axes kind r (λ other. (read.each other).fits) name in
     let P : Bool → Type 0 = λ turned. HasSameAxis name found turned (axis_in (read_at r name)) in
     let Q : Option (List ℤ) → Type 0 = λ vs. HasSameAxis name found (is_turned (turned_in r) name) vs in
@@ -141,8 +141,8 @@ formed_stands found tree kind r is axes are read = record {
   axes = are.axes_at;
   no_others = all_axes kind are.members are.keys;
   same_axes = same_formed kind are.members r read;
-  same_tuples = formed_tuples kind (get (codes "composite") (object are.members)) r read.composite (only_there kind are.members are.keys axis.Composite);
-  once = formed_once kind (get (codes "composite") (object are.members)) r read.composite;
+  same_tuples = formed_tuples kind (get (axis_key axis.Composite) (object are.members)) r read.composite (only_there kind are.members are.keys axis.Composite);
+  once = formed_once kind (get (axis_key axis.Composite) (object are.members)) r read.composite;
 }
 
 -- the tree stands for the domain that is the answer
@@ -161,11 +161,11 @@ domain_stands instants found tree r h =
 
 -- an axis of a coordinate that a domain's type hasn't isn't in the tree
 absent_at : (found : Option Data) (tree : Data) (turned : Turned) (d : Domain) (s : StandsForDomain found tree turned d) (name : CoordinateName)
-    → ¬ (IsAllowed (presence (kind_of d) (axis_name name))) → get (coordinate_key name) (object s.members) ≡ None
+    → ¬ (IsAllowed (presence (kind_of d) (axis_name name))) → get (axis_key (axis_name name)) (object s.members) ≡ None
 absent_at found tree turned d s name absent =
     let wanted = presence (kind_of d) (axis_name name) in
     let none : axis_of d name ≡ None = (domain_fits d name).absent (false_from_ne_true (is_allowed wanted) (λ e. absent ((allowed_decides wanted).0 e))) in
-    none_there name (get (coordinate_key name) (object s.members)) (is_turned turned name) (axis_of d name) (s.same_axes name) none
+    none_there name (get (axis_key (axis_name name)) (object s.members)) (is_turned turned name) (axis_of d name) (s.same_axes name) none
 
 -- no axis that its type hasn't is
 absent_axis : (found : Option Data) (tree : Data) (turned : Turned) (d : Domain) (s : StandsForDomain found tree turned d) (name : AxisName)
@@ -174,18 +174,18 @@ absent_axis found tree turned d s axis.T absent = absent_at found tree turned d 
 absent_axis found tree turned d s axis.Z absent = absent_at found tree turned d s Z absent
 absent_axis found tree turned d s axis.Y absent = absent_at found tree turned d s Y absent
 absent_axis found tree turned d s axis.X absent = absent_at found tree turned d s X absent
-absent_axis found tree turned d s axis.Composite absent = composite_absent d (get (codes "composite") (object s.members)) s.same_tuples absent
+absent_axis found tree turned d s axis.Composite absent = composite_absent d (get (axis_key axis.Composite) (object s.members)) s.same_tuples absent
 
 -- each axis of a domain for which the tree stands is read
 axis_answer : InstantsAreRead → (found : Option Data) (tree : Data) (turned : Turned) (d : Domain) (s : StandsForDomain found tree turned d) (name : CoordinateName)
     → axis_by (presence (kind_of d) (axis_name name)) name (object s.members) ≡ Ok (read_as (is_turned turned name) (axis_of d name))
 axis_answer instants found tree turned d s name =
-    axis_if_answers instants (presence (kind_of d) (axis_name name)) name (get (coordinate_key name) (object s.members)) (is_turned turned name) (axis_of d name) (s.same_axes name) (domain_fits d name)
+    axis_if_answers instants (presence (kind_of d) (axis_name name)) name (get (axis_key (axis_name name)) (object s.members)) (is_turned turned name) (axis_of d name) (s.same_axes name) (domain_fits d name)
 
 -- which of its axes are turned
 turned_back : (found : Option Data) (tree : Data) (turned : Turned) (d : Domain) (s : StandsForDomain found tree turned d) → turned_in (axes_as turned d) ≡ turned
 turned_back found tree turned d s =
-    let same = λ (name : CoordinateName). same_turned name (get (coordinate_key name) (object s.members)) (is_turned turned name) (axis_of d name) (s.same_axes name) in
+    let same = λ (name : CoordinateName). same_turned name (get (axis_key (axis_name name)) (object s.members)) (is_turned turned name) (axis_of d name) (s.same_axes name) in
     λ i. record { t = same T i; z = same Z i; y = same Y i; x = same X i }
 
 -- the domain for which the tree stands is the answer
@@ -197,7 +197,7 @@ domain_answers instants found tree r s =
     let axes = object s.members in
     let read = axes_as turned d in
     let keys = all_left kind s.members s.no_others (absent_axis found tree turned d s) in
-    let composite = composite_answers instants turned d (get (codes "composite") axes) s.same_tuples (s.once Z) in
+    let composite = composite_answers instants turned d (get (axis_key axis.Composite) axes) s.same_tuples (s.once Z) in
     let answer : axes_read kind axes ≡ Ok read =
     and_then_given (axis_by (presence kind axis.T) T axes) _ read.t _ (axis_answer instants found tree turned d s T)
     (and_then_given (axis_by (presence kind axis.Z) Z axes) _ read.z _ (axis_answer instants found tree turned d s Z)
@@ -220,7 +220,7 @@ axis_of_same name (Some axis) turned (Some values) h = record { ascending = h.as
 
 -- so each axis of the domain is
 pub domain_axes : (found : Option Data) (tree : Data) (turned : Turned) (domain : Domain) → StandsForDomain found tree turned domain → HasAxes domain
-domain_axes found tree turned domain s name = axis_of_same name (get (coordinate_key name) (object s.members)) (is_turned turned name) (axis_of domain name) (s.same_axes name)
+domain_axes found tree turned domain s name = axis_of_same name (get (axis_key (axis_name name)) (object s.members)) (is_turned turned name) (axis_of domain name) (s.same_axes name)
 
 -- each tuple that stands in the tree is one of these coordinates
 each_tuple : (names : List CoordinateName) (ds : Items) (tuples : List Position) → EachStands (StandsForTuple names) ds tuples → All (IsTuple names) tuples
@@ -238,4 +238,4 @@ tuples_of_same names (Some axis) (Some tuples) h counted = record { some = h.som
 -- so those of the domain are
 pub domain_tuples : (found : Option Data) (tree : Data) (turned : Turned) (domain : Domain) → StandsForDomain found tree turned domain → AreCounted domain → HasTuples domain
 domain_tuples found tree turned domain s counted =
-    record { tuples = tuples_of_same (coordinates_of domain) (get (codes "composite") (object s.members)) (tuples_of domain) s.same_tuples counted; once = s.once }
+    record { tuples = tuples_of_same (coordinates_of domain) (get (axis_key axis.Composite) (object s.members)) (tuples_of domain) s.same_tuples counted; once = s.once }

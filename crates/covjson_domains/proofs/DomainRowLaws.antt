@@ -10,8 +10,7 @@ use Rattle.edr_json.specs.TreeLaws.{as_str_some}
 use Rattle.covjson_value.specs.declared.domains.CoordinateName.{CoordinateName}
 use Rattle.covjson_value.specs.declared.domains.CoordinateName.TheVariants.{T, Z, Y, X}
 use Rattle.covjson_value.specs.declared.axis_names.AxisName.TheVariants as axis
-use Rattle.covjson_value.specs.AxisNames.{axis_key}
-use Rattle.covjson_value.specs.Domains.{coordinate_key}
+use Rattle.covjson_value.specs.AxisNames.{axis_key, axis_name}
 use Rattle.covjson_value.specs.Coverages.{HasAxes, HasTuples}
 use Rattle.covjson_checks.specs.declared.turned.ReadDomain.{ReadDomain}
 use Rattle.covjson_checks.specs.declared.faults.Member.TheVariants.{DomainType as TypeMember, Axes, Composite as CompositeAxis}
@@ -139,7 +138,7 @@ read_there wanted name (Some axis) (Some r) h = refl
 composite_read : InstantsAreRead → (kind : DomainType) (axes : Data) → HasOnlyAxes kind axes → (z : Option ReadAxis) → axis_by (presence kind axis.Z) Z axes ≡ Ok z
     → HaveAnswer (CompositeRows kind axes) (told (composite_by (presence kind axis.Composite) (tuple_kind kind (is_some z)) axes))
 composite_read instants kind axes only z h =
-    let level = get (coordinate_key Z) axes in
+    let level = get (axis_key (axis_name Z)) axes in
     let has = composite_rows instants kind level (get (axis_key axis.Composite) axes) (no_composite kind axes only) in
     let same = read_there (presence kind axis.Z) Z level z h in
     subst (λ (there : Bool). HaveAnswer (CompositeRows kind axes) (told (composite_by (presence kind axis.Composite) (tuple_kind kind there) axes))) (sym same) has
@@ -196,10 +195,10 @@ AxesRows found tree kind axes =
 rows_of_axes : InstantsAreRead → (found : Option Data) (tree : Data) (kind : DomainType) (axes : Data) → IsFound found tree kind axes
     → HaveAnswer (AxesRows found tree kind axes) (and_then (axes_read kind axes) (λ read. Ok (formed kind read)))
 rows_of_axes instants found tree kind axes is =
-    told_within (NamedRows kind axes T) _ (axis_by (presence kind axis.T) T axes) _ _ (axis_if_rows instants (presence kind axis.T) T (get (coordinate_key T) axes)) (λ t is_t.
-    told_within (NamedRows kind axes Z) _ (axis_by (presence kind axis.Z) Z axes) _ _ (axis_if_rows instants (presence kind axis.Z) Z (get (coordinate_key Z) axes)) (λ z is_z.
-    told_within (NamedRows kind axes Y) _ (axis_by (presence kind axis.Y) Y axes) _ _ (axis_if_rows instants (presence kind axis.Y) Y (get (coordinate_key Y) axes)) (λ y is_y.
-    told_within (NamedRows kind axes X) _ (axis_by (presence kind axis.X) X axes) _ _ (axis_if_rows instants (presence kind axis.X) X (get (coordinate_key X) axes)) (λ x is_x.
+    told_within (NamedRows kind axes T) _ (axis_by (presence kind axis.T) T axes) _ _ (axis_if_rows instants (presence kind axis.T) T (get (axis_key (axis_name T)) axes)) (λ t is_t.
+    told_within (NamedRows kind axes Z) _ (axis_by (presence kind axis.Z) Z axes) _ _ (axis_if_rows instants (presence kind axis.Z) Z (get (axis_key (axis_name Z)) axes)) (λ z is_z.
+    told_within (NamedRows kind axes Y) _ (axis_by (presence kind axis.Y) Y axes) _ _ (axis_if_rows instants (presence kind axis.Y) Y (get (axis_key (axis_name Y)) axes)) (λ y is_y.
+    told_within (NamedRows kind axes X) _ (axis_by (presence kind axis.X) X axes) _ _ (axis_if_rows instants (presence kind axis.X) X (get (axis_key (axis_name X)) axes)) (λ x is_x.
     told_within (CompositeRows kind axes) _ (composite_by (presence kind axis.Composite) (tuple_kind kind (is_some z)) axes) _ _ (composite_read instants kind axes is.only z is_z) (λ composite is_composite.
     let r : ReadAxes = record { t = t; z = z; y = y; x = x; composite = composite } in
     let read : axes_read kind axes ≡ Ok r =

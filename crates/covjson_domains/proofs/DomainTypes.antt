@@ -18,7 +18,8 @@ use Rattle.covjson_domains.specs.declared.domain_types.DomainType.{DomainType}
 use Rattle.covjson_domains.specs.declared.domain_types.DomainType.TheVariants.{Grid, Point, PointSeries, VerticalProfile, MultiPoint, Trajectory}
 use Rattle.covjson_domains.specs.declared.domain_types.Presence.{Presence}
 use Rattle.covjson_domains.specs.declared.domain_types.Presence.TheVariants.{Absent, Optional, Required, OptionalSingle, Single}
-use Rattle.covjson_domains.specs.DomainTypes.{type_key, presence, axis_name, IsAllowed, IsNeeded, IsSingle}
+use Rattle.covjson_domains.specs.DomainTypes.{type_key, presence, IsAllowed, IsNeeded, IsSingle}
+use Rattle.covjson_value.specs.AxisNames.{axis_name}
 use Rattle.covjson_domains.specs.TypeAnswers.{type_named, is_allowed, is_needed, is_single}
 use Rattle.covjson_domains.specs.DomainAnswers.{type_at}
 

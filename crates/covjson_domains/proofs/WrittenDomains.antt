@@ -7,12 +7,12 @@ use Rattle.edr_axes.specs.InstantGrammar.{WrittenTimesAreInstants}
 use Rattle.edr_json.specs.Trees.{names_of}
 use Rattle.covjson_value.specs.declared.axis_names.AxisName.{AxisName}
 use Rattle.covjson_value.specs.declared.axis_names.AxisName.TheVariants as axis
-use Rattle.covjson_value.specs.AxisNames.{axis_key}
+use Rattle.covjson_value.specs.AxisNames.{axis_key, axis_name}
 use Rattle.covjson_value.specs.declared.domains.CoordinateName.{CoordinateName}
 use Rattle.covjson_value.specs.declared.domains.CoordinateName.TheVariants.{T, Z, Y, X}
 use Rattle.covjson_value.specs.declared.domains.Domain.{Domain}
 use Rattle.covjson_value.specs.declared.coverages.Referencing.{Referencing}
-use Rattle.covjson_value.specs.Domains.{coordinate_key, axis_of, tuples_of, coordinates_of}
+use Rattle.covjson_value.specs.Domains.{axis_of, tuples_of, coordinates_of}
 use Rattle.covjson_value.specs.Coverages.{HasAxes, HasTuples}
 use Rattle.covjson_value.specs.Trees.{member_if, axis_data, composite_data, domain_type, domain_data}
 use Rattle.covjson_domains.specs.Axes.{HasSameAxis}
@@ -119,7 +119,7 @@ abbrev members_of : Domain → Members
 members_of domain = members (tuples_given domain) (axis_given domain T) (axis_given domain X) (axis_given domain Y) (axis_given domain Z)
 
 -- the axis of each name is found as it is written
-axis_found : (domain : Domain) (name : CoordinateName) → get_member (coordinate_key name) (members_of domain) ≡ axis_given domain name
+axis_found : (domain : Domain) (name : CoordinateName) → get_member (axis_key (axis_name name)) (members_of domain) ≡ axis_given domain name
 axis_found domain T = t_found (tuples_given domain) (axis_given domain T) (axis_given domain X) (axis_given domain Y) (axis_given domain Z)
 axis_found domain Z = z_found (tuples_given domain) (axis_given domain T) (axis_given domain X) (axis_given domain Y) (axis_given domain Z)
 axis_found domain Y = y_found (tuples_given domain) (axis_given domain T) (axis_given domain X) (axis_given domain Y) (axis_given domain Z)
@@ -133,11 +133,11 @@ never_turned Y = refl
 never_turned X = refl
 
 -- each axis of the domain is in the tree
-axes_written : WrittenTimesAreInstants → (domain : Domain) → HasAxes domain → (name : CoordinateName) → HasSameAxis name (get (coordinate_key name) (object (members_of domain))) (is_turned unturned name) (axis_of domain name)
+axes_written : WrittenTimesAreInstants → (domain : Domain) → HasAxes domain → (name : CoordinateName) → HasSameAxis name (get (axis_key (axis_name name)) (object (members_of domain))) (is_turned unturned name) (axis_of domain name)
 axes_written instants domain h name =
     let same = same_axis_written instants name (axis_of domain name) (h name) in
     let P : Option Data → Type 0 = λ found. HasSameAxis name found false (axis_of domain name) in
-    let Q : Bool → Type 0 = λ turned. HasSameAxis name (get (coordinate_key name) (object (members_of domain))) turned (axis_of domain name) in
+    let Q : Bool → Type 0 = λ turned. HasSameAxis name (get (axis_key (axis_name name)) (object (members_of domain))) turned (axis_of domain name) in
     subst Q (sym (never_turned name)) (subst P (sym (axis_found domain name)) same)
 
 -- a domain is written by its type, with its axes and no others

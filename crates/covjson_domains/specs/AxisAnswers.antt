@@ -5,7 +5,7 @@ use Rattle.serde_json.specs.Find.{get}
 use Rattle.covjson_value.specs.declared.domains.CoordinateName.{CoordinateName}
 use Rattle.covjson_value.specs.declared.domains.CoordinateName.TheVariants.{T, Z, Y, X}
 use Rattle.edr_base.specs.Limits.{coordinate_limit, node_limit}
-use Rattle.covjson_value.specs.Domains.{coordinate_key}
+use Rattle.covjson_value.specs.AxisNames.{axis_key, axis_name}
 use Rattle.covjson_domains.specs.declared.axes.ReadAxis.{ReadAxis}
 use Rattle.covjson_domains.specs.declared.domain_types.Presence.{Presence}
 use Rattle.covjson_domains.specs.DomainTypes.{member_of}
@@ -148,7 +148,7 @@ axis_if wanted name (Some axis) =
 
 -- the axis of a name among the axes
 abbrev pub axis_by : Presence → CoordinateName → Data → Answer (Option ReadAxis)
-axis_by wanted name axes = axis_if wanted name (get (coordinate_key name) axes)
+axis_by wanted name axes = axis_if wanted name (get (axis_key (axis_name name)) axes)
 
 -- what has to be there is
 abbrev pub IfNeeded : {V : Type 0} → Presence → Option V → Type 0

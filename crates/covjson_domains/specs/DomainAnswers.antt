@@ -9,6 +9,7 @@ use Rattle.covjson_value.specs.declared.axis_names.AxisName.TheVariants as axis
 use Rattle.covjson_value.specs.declared.domains.Domain.{Domain}
 use Rattle.covjson_value.specs.declared.domains.Domain.TheVariants as domain
 use Rattle.covjson_value.specs.Domains as domains
+use Rattle.covjson_value.specs.AxisNames.{axis_key}
 use Rattle.covjson_checks.specs.declared.turned.Turned.{Turned}
 use Rattle.covjson_checks.specs.declared.turned.ReadDomain.{ReadDomain}
 use Rattle.covjson_checks.specs.declared.faults.Member.TheVariants.{DomainType as TypeMember, Axes, Composite}
@@ -59,7 +60,7 @@ composite_if wanted kind None = and_then (left_out wanted Composite) (λ _. Ok N
 composite_if wanted kind (Some axis) = and_then (tuples_read kind axis) (λ read. Ok (Some read))
 
 abbrev pub composite_by : Presence → TupleKind → Data → Answer (Option ReadTuples)
-composite_by wanted kind axes = composite_if wanted kind (get (codes "composite") axes)
+composite_by wanted kind axes = composite_if wanted kind (get (axis_key axis.Composite) axes)
 
 abbrev pub axes_read : DomainType → Data → Answer ReadAxes
 axes_read kind axes =

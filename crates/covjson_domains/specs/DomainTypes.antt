@@ -74,13 +74,6 @@ IsSingle Required = ⊥
 IsSingle OptionalSingle = ⊤
 IsSingle Single = ⊤
 
--- the axis that has the name of a coordinate
-abbrev pub axis_name : CoordinateName → AxisName
-axis_name coordinates.T = T
-axis_name coordinates.Z = Z
-axis_name coordinates.Y = Y
-axis_name coordinates.X = X
-
 -- the name of an axis that a domain of a type may have
 abbrev pub IsAxisOf : DomainType → List ℕ → Type 0
 IsAxisOf kind key = (name : AxisName) × (key ≡ axis_key name) × IsAllowed (presence kind name)

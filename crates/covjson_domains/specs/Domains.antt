@@ -5,9 +5,10 @@ use Rattle.serde_json.specs.Find.{get}
 use Rattle.covjson_value.specs.declared.domains.CoordinateName.{CoordinateName}
 use Rattle.covjson_value.specs.declared.axis_names.AxisName.{AxisName}
 use Rattle.covjson_value.specs.declared.domains.Domain.{Domain}
-use Rattle.covjson_value.specs.Domains.{coordinate_key, axis_of, tuples_of, coordinates_of, is_among}
+use Rattle.covjson_value.specs.Domains.{axis_of, tuples_of, coordinates_of, is_among}
 use Rattle.covjson_value.specs.Trees.{domain_type}
-use Rattle.covjson_value.specs.AxisNames.{axis_key}
+use Rattle.covjson_value.specs.AxisNames.{axis_key, axis_name}
+use Rattle.covjson_value.specs.declared.axis_names.AxisName.TheVariants.{Composite}
 use Rattle.edr_json.specs.Trees.{names_of}
 use Rattle.covjson_checks.specs.declared.turned.Turned.{Turned}
 use Rattle.covjson_domains.specs.Axes.{HasSameAxis}
@@ -24,6 +25,6 @@ pub record StandsForDomain (kind : Option Data) (tree : Data) (turned : Turned) 
   pub members : Members
   pub axes : get (codes "axes") tree ≡ Some (object members)
   pub no_others : All IsAxisKey (names_of members)
-  pub same_axes : (name : CoordinateName) → HasSameAxis name (get (coordinate_key name) (object members)) (is_turned turned name) (axis_of domain name)
-  pub same_tuples : HasSameTuples (coordinates_of domain) (get (codes "composite") (object members)) (tuples_of domain)
+  pub same_axes : (name : CoordinateName) → HasSameAxis name (get (axis_key (axis_name name)) (object members)) (is_turned turned name) (axis_of domain name)
+  pub same_tuples : HasSameTuples (coordinates_of domain) (get (axis_key Composite) (object members)) (tuples_of domain)
   pub once : (name : CoordinateName) → is_among name (coordinates_of domain) ≡ true → IsNone (axis_of domain name)

@@ -3,16 +3,17 @@ ghost use Rattle.std.specs.Prelude.{◌≡◌, IfOk, false};
 ghost use Rattle.serde_json.specs.View.{view, items_view};
 ghost use Rattle.covjson_checks.specs.Answers.{GivesAnswer, GivesUnlessMemory};
 ghost use Rattle.covjson_domains.specs.AxisAnswers.{times_from};
-ghost use Rattle.covjson_domains.specs.DomainTypes.{axis_name, member_of, presence};
+ghost use Rattle.covjson_domains.specs.DomainTypes.{member_of, presence};
+ghost use Rattle.covjson_value.specs.AxisNames.{axis_name};
 ghost use Rattle.covjson_domains.specs.AxisAnswers as axes;
 ghost use Rattle.covjson_domains.specs.AxisAnswers.{IfNeeded};
 
-use crate::domain_types::{DomainType, Presence, axis_name, is_single, left_out, presence_of};
+use crate::domain_types::{DomainType, Presence, is_single, left_out, presence_of};
 use crate::spans::spanned;
 use covjson_checks::{
     CovFault, Member, Wanted, list_at, need_form, need_wholes, object_at, part, text_at, wholes,
 };
-use covjson_value::CoordinateName;
+use covjson_value::{CoordinateName, axis_key, axis_name};
 use edr_axes::{Axis, AxisFault, instants_are_read, read_instant};
 use edr_base::COORDINATE_LIMIT;
 use serde_json::Value;
@@ -189,7 +190,7 @@ pub fn axis_by(
     ensures needed { IfOk result (λ r. IfNeeded (presence kind (axis_name name)) r) }
 {
     let wanted = presence_of(kind, axis_name(name));
-    match tree.get(name.letter()) {
+    match tree.get(axis_key(axis_name(name))) {
         Some(axis) => {
             let read = axis_read(alloc, axis, name)?;
             need_count(&read, name, wanted)?;

@@ -1,11 +1,11 @@
 //! The domain types (OGC 21-069r2, Domain types), and which axes a domain of each has.
 ghost use Rattle.std.specs.Prelude.{◌≡◌};
 ghost use Rattle.serde_json.specs.View.{members_view};
-ghost use Rattle.covjson_domains.specs.DomainTypes.{axis_name, presence};
+ghost use Rattle.covjson_domains.specs.DomainTypes.{presence};
 ghost use Rattle.covjson_domains.specs.TypeAnswers as types;
 
 use covjson_checks::{CovFault, Member};
-use covjson_value::{AxisName, CoordinateName, axis_by_name};
+use covjson_value::{AxisName, axis_by_name};
 use serde_json::{Map, Value};
 
 /// The type of a domain (OGC 21-069r2, Domain types).
@@ -102,18 +102,6 @@ pub fn presence_of(kind: DomainType, name: AxisName) -> Presence
             AxisName::Y | AxisName::X => Presence::Absent,
             AxisName::Composite => Presence::Required,
         },
-    }
-}
-
-/// The axis that has the name of a coordinate.
-pub fn axis_name(name: CoordinateName) -> AxisName
-    ensures { result ≡ axis_name name }
-{
-    match name {
-        CoordinateName::T => AxisName::T,
-        CoordinateName::Z => AxisName::Z,
-        CoordinateName::Y => AxisName::Y,
-        CoordinateName::X => AxisName::X,
     }
 }
 

@@ -17,7 +17,7 @@ use covjson_checks::{
     CovFault, Member, ReadDomain, Turned, found_or_missing, need, object_at, text_at,
     unsupported_domain,
 };
-use covjson_value::{AxisName, CoordinateName, Domain};
+use covjson_value::{AxisName, CoordinateName, Domain, axis_key};
 use edr_axes::{Axis, instants_are_read};
 use serde_json::Value;
 use std::alloc::Global;
@@ -92,7 +92,7 @@ fn composite_by(
     ensures needed { IfOk result (λ r. IfNeeded wanted r) }
     ensures counted { IfOk result (λ r. CompositeCounted r) }
 {
-    match axes.get("composite") {
+    match axes.get(axis_key(AxisName::Composite)) {
         Some(axis) => {
             let read = tuples_read(alloc, axis, kind)?;
             Ok(Some(read))

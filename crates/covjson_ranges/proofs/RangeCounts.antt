@@ -4,12 +4,12 @@ use Rattle.std.specs.Prelude.{IfSome, option_map}
 use Rattle.std.proofs.Math.Nat.{mul-le-mul}
 use Rattle.std.proofs.lemmas.Int.{ints}
 use Rattle.edr_base.specs.Limits.{coordinate_limit, earliest_time, latest_time, IsCoordinate}
-use Rattle.edr_axes.specs.Axes.{value_at, IsAscending, IsAxis}
+use Rattle.edr_axes.specs.Axes.{value_at, IsAscending, IsAxis, axis_length}
 use Rattle.covjson_value.specs.declared.domains.CoordinateName.{CoordinateName}
 use Rattle.covjson_value.specs.declared.domains.CoordinateName.TheVariants.{T as Times, Z as Levels, Y as Rows, X as Columns}
 use Rattle.covjson_value.specs.declared.domains.Domain.{Domain}
 use Rattle.covjson_value.specs.declared.domains.Domain.TheVariants.{Grid, Point, PointSeries, VerticalProfile, MultiPoint, Trajectory}
-use Rattle.covjson_value.specs.Domains.{axis_of, axis_length, single}
+use Rattle.covjson_value.specs.Domains.{axis_of, single}
 use Rattle.covjson_value.specs.Coverages.{IsNamedAxis, HasAxes, HasTuples}
 use Rattle.covjson_value.specs.declared.axis_names.AxisName.TheVariants.{T, Z, Y, X, Composite}
 use Rattle.covjson_ranges.specs.Ranges.{length_of}

@@ -1,15 +1,16 @@
 -- The axes of the ranges that are written of a domain.
-use Rattle.std.proofs.Common.{◌≡◌, ℕ, ◌==◌, ◌<◌, ◌||◌, ℤ, Bool, true, false, not, true≢false, if◌then◌else◌, is_some, List, [], ◌∷◌, length, map, codes, Option, Some, None, refl, sym, ap, ap₂, ◌∙◌, arith}
+use Rattle.std.proofs.Common.{◌≡◌, ℕ, ◌==◌, ◌<◌, ◌||◌, ℤ, Bool, true, false, not, true≢false, if◌then◌else◌, is_some, List, [], ◌∷◌, length, map, Option, Some, None, refl, sym, ap, ap₂, ◌∙◌, arith}
 use Rattle.std.proofs.lemmas.Bool.Decides.{nat_tests}
 use Rattle.edr_base.specs.declared.places.Position.{Position}
 use Rattle.covjson_value.specs.declared.domains.CoordinateName.{CoordinateName}
 use Rattle.covjson_value.specs.declared.domains.CoordinateName.TheVariants.{T as Times, Z as Levels, Y as Rows, X as Columns}
 use Rattle.covjson_value.specs.declared.domains.Domain.{Domain}
-use Rattle.covjson_value.specs.Domains.{AxisLength, coordinate_key, axis_of, tuples_of, axis_before, composite_alone, axis_length, is_grid, long_axis, range_axis_of, range_tuples_of, range_axes}
+use Rattle.covjson_value.specs.Domains.{AxisLength, axis_of, tuples_of, axis_before, composite_alone, is_grid, long_axis, range_axis_of, range_tuples_of, range_axes}
+use Rattle.edr_axes.specs.Axes.{axis_length}
 use Rattle.covjson_value.specs.declared.axis_names.AxisName.{AxisName}
 use Rattle.covjson_value.specs.declared.axis_names.AxisName.TheVariants.{T, Z, Y, X, Composite}
 use Rattle.covjson_ranges.specs.declared.places.Places.{Places}
-use Rattle.covjson_value.specs.AxisNames.{axis_key}
+use Rattle.covjson_value.specs.AxisNames.{axis_key, axis_name}
 use Rattle.covjson_ranges.specs.Ranges.{length_of, has_range_axis, AreRangeAxes, AreInside, number_of, tree_number}
 use Rattle.covjson_ranges.specs.Orders.{IsUnturned}
 use Rattle.covjson_checks.specs.Turns.{unturned}
@@ -44,7 +45,7 @@ abbrev AreWritten : Domain → List AxisLength → List AxisName → Type 0
 AreWritten domain axes names = axes ≡ map (written_axis domain) names
 
 -- one axis more, where it is kept
-kept_before : (domain : Domain) (key : CoordinateName) (name : AxisName) (b : Bool) (values : List ℤ) (axes : List AxisLength) (names : List AxisName) → coordinate_key key ≡ axis_key name → length values ≡ length_of domain name
+kept_before : (domain : Domain) (key : CoordinateName) (name : AxisName) (b : Bool) (values : List ℤ) (axes : List AxisLength) (names : List AxisName) → axis_key (axis_name key) ≡ axis_key name → length values ≡ length_of domain name
     → AreWritten domain axes names → AreWritten domain (axis_before key (if b then Some values else None) axes) (keep (is_some {T = List ℤ} (if b then Some values else None)) name names)
 kept_before domain key name true values axes names same count rest =
     let make : List ℕ → List AxisLength = λ key. record { key = key; count = length values } ∷ axes in
@@ -52,7 +53,7 @@ kept_before domain key name true values axes names same count rest =
 kept_before domain key name false values axes names same count rest = rest
 
 -- one axis more, where the domain has it
-axis_before_written : (domain : Domain) (key : CoordinateName) (name : AxisName) (each : Bool) (axis : Option (List ℤ)) (axes : List AxisLength) (names : List AxisName) → coordinate_key key ≡ axis_key name → axis_length axis ≡ length_of domain name
+axis_before_written : (domain : Domain) (key : CoordinateName) (name : AxisName) (each : Bool) (axis : Option (List ℤ)) (axes : List AxisLength) (names : List AxisName) → axis_key (axis_name key) ≡ axis_key name → axis_length axis ≡ length_of domain name
     → AreWritten domain axes names → AreWritten domain (axis_before key (long_axis each axis) axes) (keep (is_some (long_axis each axis)) name names)
 axis_before_written domain key name each None axes names same count rest = rest
 axis_before_written domain key name each (Some values) axes names same count rest =
@@ -61,7 +62,7 @@ axis_before_written domain key name each (Some values) axes names same count res
 -- the axis of tuples, where it is kept
 kept_alone : (domain : Domain) (b : Bool) (tuples : List Position) → length tuples ≡ length_of domain Composite
     → AreWritten domain (composite_alone (if b then Some tuples else None)) (keep (is_some {T = List Position} (if b then Some tuples else None)) Composite [])
-kept_alone domain true tuples count = same_axis (codes "composite") (length tuples) (length_of domain Composite) [] [] count refl
+kept_alone domain true tuples count = same_axis (axis_key Composite) (length tuples) (length_of domain Composite) [] [] count refl
 kept_alone domain false tuples count = refl
 
 -- the axis of tuples, where the domain has it

@@ -9,6 +9,7 @@ use Rattle.covjson_ranges.specs.declared.places.Places.{Places}
 use Rattle.covjson_value.specs.declared.axis_names.AxisName.{AxisName}
 use Rattle.covjson_value.specs.declared.axis_names.AxisName.TheVariants.{T, Z, Y, X, Composite}
 use Rattle.covjson_ranges.specs.Ranges.{length_of, is_range_turned, tree_number}
+use Rattle.edr_chunk.specs.RowMajor.{place_in_row}
 
 -- the numbers below a bound, ascending
 abbrev pub below : ℕ → List ℕ
@@ -60,5 +61,5 @@ pub record AreRows (domain : Domain) (turned : Turned) (names : List AxisName) (
   pub back : (number place : ℕ) → place < row.length → row.turned ≡ true
       → place * row.step ≤ tree_number domain turned names (places_at domain (number * row.length))
   pub steps : (number place : ℕ) → place < row.length
-      → tree_number domain turned names (places_at domain (number * row.length + place))
+      → tree_number domain turned names (places_at domain (place_in_row number row.length place))
       ≡ in_row row (tree_number domain turned names (places_at domain (number * row.length))) place

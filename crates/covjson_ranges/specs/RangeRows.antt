@@ -17,16 +17,12 @@ use Rattle.covjson_ranges.specs.Ranges.{StandsForSample, StandsForLength, Lists,
 -- it is an object of the type NdArray
 abbrev pub KindRows : Data → Result ⊤ CovFault → Type 0
 KindRows d =
-    Find (λ members. d ≡ object members) (WrongType Ranges) (λ members.
-    Check (IsNdArray d) (UnsupportedRange (text_or_empty (get (codes "type") d)))
-    (Gives tt))
+    Find (λ members. d ≡ object members) (WrongType Ranges) (λ _. Check (IsNdArray d) (UnsupportedRange (text_or_empty (get (codes "type") d))) (Gives tt))
 
 -- its dataType is integer
 abbrev pub DataTypeRows : Data → Result ⊤ CovFault → Type 0
 DataTypeRows d =
-    Find (λ kind. get (codes "dataType") d ≡ Some kind) (Missing DataType) (λ kind.
-    Check (HasIntegers d) (UnsupportedRange (text_or_empty (Some kind)))
-    (Gives tt))
+    Find (λ kind. get (codes "dataType") d ≡ Some kind) (Missing DataType) (λ kind. Check (HasIntegers d) (UnsupportedRange (text_or_empty (Some kind))) (Gives tt))
 
 -- axisNames is a list of distinct axes of the domain that has each axis of several values
 abbrev pub NamesRows : Domain → Option Data → Result (List AxisName) CovFault → Type 0
@@ -52,9 +48,7 @@ LengthsRow lengths found answer =
 abbrev pub ShapeRows : Domain → List AxisName → Option Data → Result ⊤ CovFault → Type 0
 ShapeRows domain names None = Check (IsOnePlace domain) (Missing Shape) (Gives tt)
 ShapeRows domain names (Some d) =
-    Find (Lists StandsForLength d) (WrongType Shape) (λ found.
-    Check (length found ≡ length names) (WrongCount Shape (length names) (length found))
-    (LengthsRow (map (length_of domain) names) found))
+    Find (Lists StandsForLength d) (WrongType Shape) (λ found. Check (length found ≡ length names) (WrongCount Shape (length names) (length found)) (LengthsRow (map (length_of domain) names) found))
 
 -- a number, or null
 abbrev pub StandsForNumber : Data → Option Num → Type 0
@@ -64,13 +58,7 @@ StandsForNumber d (Some n) = d ≡ number n
 -- values has so many items, each null or a whole number within the limit of samples
 abbrev pub ValuesRows : ℕ → Option Data → Result (List (Option ℤ)) CovFault → Type 0
 ValuesRows wanted values =
-    Find (λ list. values ≡ Some list) (Missing Values) (λ list.
-    Find (λ items. list ≡ array items) (WrongType Values) (λ items.
-    Check (count_items items ≡ wanted) (WrongCount Values wanted (count_items items)) (
-    Find (EachStands StandsForNumber items) (WrongType Values) (λ numbers.
-    Find (EachStands StandsForSample items) (NotWhole Values) (λ samples.
-    Check (AreSamples samples) (OutOfRange Values) (
-    Gives samples))))))
+    Find (λ list. values ≡ Some list) (Missing Values) (λ list. Find (λ items. list ≡ array items) (WrongType Values) (λ items. Check (count_items items ≡ wanted) (WrongCount Values wanted (count_items items)) (Find (EachStands StandsForNumber items) (WrongType Values) (λ _. Find (EachStands StandsForSample items) (NotWhole Values) (λ samples. Check (AreSamples samples) (OutOfRange Values) (Gives samples))))))
 
 -- the range with these samples in the domain's order
 abbrev pub GivesInOrder : ReadDomain → List AxisName → List (Option ℤ) → Result NdArray CovFault → Type 0

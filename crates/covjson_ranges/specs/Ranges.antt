@@ -12,7 +12,8 @@ use Rattle.covjson_value.specs.declared.axis_names.AxisName.{AxisName}
 use Rattle.covjson_value.specs.declared.axis_names.AxisName.TheVariants.{T, Z, Y, X, Composite}
 use Rattle.covjson_value.specs.AxisNames.{axis_key}
 use Rattle.edr_base.specs.Limits.{IsSample}
-use Rattle.covjson_value.specs.Domains.{axis_of, tuples_of, has_axis, axis_length, count_of}
+use Rattle.covjson_value.specs.Domains.{axis_of, tuples_of, has_axis, count_of}
+use Rattle.edr_axes.specs.Axes.{axis_length}
 use Rattle.covjson_checks.specs.declared.turned.Turned.{Turned}
 use Rattle.covjson_ranges.specs.declared.places.Places.{Places}
 

@@ -1,8 +1,8 @@
 //! Places on the axes of a domain, and the numbers of values in row-major order.
 ghost use Rattle.std.specs.Prelude.{◌≡◌, ◌<◌, ◌^◌};
-ghost use Rattle.covjson_value.specs.Domains.{axis_of, axis_length, count_of};
+ghost use Rattle.covjson_value.specs.Domains.{axis_of, count_of};
+ghost use Rattle.edr_axes.specs.Axes.{axis_length};
 ghost use Rattle.covjson_ranges.specs.Ranges.{AreInside, AreRangeAxes};
-ghost use Rattle.covjson_value.specs.AxisNames.{axis_key};
 ghost use Rattle.covjson_ranges.specs.Ranges as ranges;
 ghost use Rattle.covjson_ranges.specs.Orders as orders;
 

@@ -9,6 +9,8 @@ use Rattle.edr_json.specs.TreeLaws.{as_array_some}
 use Rattle.covjson_read.specs.Systems.{IsConnection, HoldsName, IsPlane, IsOtherCalendar, IsVertical, system_text}
 use Rattle.covjson_read.specs.SystemAnswers.{has_text_if_list, holds, is_connection, is_plane, is_other_calendar, is_vertical}
 use Rattle.covjson_read.proofs.ItemTests.{Tells, has_tells, has_passes}
+use Rattle.covjson_value.specs.declared.domains.CoordinateName.TheVariants.{X, Y, Z}
+use Rattle.covjson_value.specs.Domains.{coordinate_key}
 
 -- what is there
 some_of : {A : Type 0} (o : Option A) → is_some o ≡ true → (a : A) × (o ≡ Some a)
@@ -49,9 +51,9 @@ holds_passes name entry is = ap (λ (o : Option Data). has_text_if_list name (op
 pub planes : Tells is_plane IsPlane
 planes = record {
   tells = λ entry h.
-      let p = and_parts (holds (codes "x") entry) (holds (codes "y") entry) h in
-      (holds_tells (codes "x") entry p.0, holds_tells (codes "y") entry p.1);
-  passes = λ entry is. and_from (holds (codes "x") entry) (holds (codes "y") entry) (holds_passes (codes "x") entry is.0) (holds_passes (codes "y") entry is.1);
+      let p = and_parts (holds (coordinate_key X) entry) (holds (coordinate_key Y) entry) h in
+      (holds_tells (coordinate_key X) entry p.0, holds_tells (coordinate_key Y) entry p.1);
+  passes = λ entry is. and_from (holds (coordinate_key X) entry) (holds (coordinate_key Y) entry) (holds_passes (coordinate_key X) entry is.0) (holds_passes (coordinate_key Y) entry is.1);
 }
 
 -- ---- types and calendars
@@ -85,9 +87,9 @@ pub verticals : Tells is_vertical IsVertical
 verticals = record {
   tells = λ entry h.
       let kind = system_text (codes "type") entry in
-      let p = and_parts (bytes_eq kind (codes "VerticalCRS")) (holds (codes "z") entry) h in
-      ((bytes_eq-Decides kind (codes "VerticalCRS")).0 p.0, holds_tells (codes "z") entry p.1);
+      let p = and_parts (bytes_eq kind (codes "VerticalCRS")) (holds (coordinate_key Z) entry) h in
+      ((bytes_eq-Decides kind (codes "VerticalCRS")).0 p.0, holds_tells (coordinate_key Z) entry p.1);
   passes = λ entry is.
       let kind = system_text (codes "type") entry in
-      and_from (bytes_eq kind (codes "VerticalCRS")) (holds (codes "z") entry) ((bytes_eq-Decides kind (codes "VerticalCRS")).1 is.0) (holds_passes (codes "z") entry is.1);
+      and_from (bytes_eq kind (codes "VerticalCRS")) (holds (coordinate_key Z) entry) ((bytes_eq-Decides kind (codes "VerticalCRS")).1 is.0) (holds_passes (coordinate_key Z) entry is.1);
 }

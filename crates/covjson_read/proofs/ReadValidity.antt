@@ -24,6 +24,8 @@ use Rattle.covjson_value.specs.declared.coverages.Coverage.{Coverage}
 use Rattle.covjson_value.specs.declared.coverages.Document.{Document}
 use Rattle.covjson_value.specs.declared.coverages.Document.TheVariants.{One, Many}
 use Rattle.covjson_value.specs.Coverages.{IsNamedAxis, IsTuple, AreTuples, IsParameter, IsReferencing, ids_of, IsRange, IsValid, IsValidDocument}
+use Rattle.covjson_value.specs.AxisNames.{axis_key}
+use Rattle.covjson_value.specs.declared.axis_names.AxisName.TheVariants.{Composite}
 use Rattle.covjson_checks.specs.declared.turned.Turned.{Turned}
 use Rattle.covjson_checks.specs.Members.{either, lent}
 use Rattle.covjson_domains.specs.Axes.{HasSameAxis}
@@ -191,7 +193,7 @@ coverages_valid valid collection tree coverage lends own s =
     record {
       id = subst (λ (id : Option (List ℕ)). IfSome id IsUtf8) (sym s.id) (found_text (get (codes "id") tree) (found_tree (codes "id") tree own));
       axes = λ name. axis_valid name _ _ _ (d.same_axes name);
-      tuples = record { tuples = tuples_valid _ _ _ (found_tree (codes "composite") (object d.members) axes) d.same_tuples; once = d.once };
+      tuples = record { tuples = tuples_valid _ _ _ (found_tree (axis_key Composite) (object d.members) axes) d.same_tuples; once = d.once };
       referencing = referencing_valid _ _ coverage.referencing (lent_tree (codes "referencing") s.domain collection domain lends) s.referencing_stands;
       vertical = only_with_levels _ s.referencing_stands.entries coverage.referencing.vertical s.referencing_stands.vertical;
       some = omega (arith, r.some, counted, ids, named);

@@ -50,9 +50,7 @@ SystemRows has_z found =
 -- the parameter of a name
 abbrev pub ParameterRows : List ℕ → Data → Result Parameter CovFault → Type 0
 ParameterRows id d =
-    Find (λ property. get (codes "observedProperty") d ≡ Some property) (Missing ObservedProperty) (λ property.
-    Check (get (codes "categories") property ≡ None) (WrongType ObservedProperty) (
-    Find (λ (said : List ℕ × List ℕ). StandsForLabel property said.0 said.1) (WrongType ObservedProperty) (λ said.
+    Find (λ property. get (codes "observedProperty") d ≡ Some property) (Missing ObservedProperty) (λ property. Check (get (codes "categories") property ≡ None) (WrongType ObservedProperty) (Find (λ (said : List ℕ × List ℕ). StandsForLabel property said.0 said.1) (WrongType ObservedProperty) (λ said.
     Find (StandsForUnit (get (codes "unit") d)) (WrongType Unit) (λ unit.
     Gives (record { id = id; lang = said.0; label = said.1; unit = unit })))))
 

@@ -3,6 +3,8 @@ use Rattle.std.specs.Prelude.{ℕ, List, codes, Bool, true, false, not, bytes_eq
 use Rattle.serde_json.specs.Data.{Data, Items, no_items, item}
 use Rattle.serde_json.specs.Find.{get, as_array, as_str}
 use Rattle.covjson_value.specs.declared.coverages.Referencing.{Referencing}
+use Rattle.covjson_value.specs.declared.domains.CoordinateName.TheVariants.{X, Y, Z}
+use Rattle.covjson_value.specs.Domains.{coordinate_key}
 use Rattle.covjson_checks.specs.declared.faults.Member.TheVariants.{Referencing as SystemsMember}
 use Rattle.covjson_checks.specs.declared.faults.CovFault.TheVariants.{Missing, WrongType, UnsupportedSystem}
 use Rattle.covjson_checks.specs.Answers.{Answer}
@@ -44,7 +46,7 @@ is_connection entry = is_some (get (codes "coordinates") entry) && is_some (get 
 
 -- an entry of both coordinates of the plane
 abbrev pub is_plane : Data → Bool
-is_plane entry = holds (codes "x") entry && holds (codes "y") entry
+is_plane entry = holds (coordinate_key X) entry && holds (coordinate_key Y) entry
 
 -- an entry of times in another calendar
 abbrev pub is_other_calendar : Data → Bool
@@ -52,7 +54,7 @@ is_other_calendar entry = bytes_eq (system_text (codes "type") entry) (codes "Te
 
 -- an entry of levels
 abbrev pub is_vertical : Data → Bool
-is_vertical entry = bytes_eq (system_text (codes "type") entry) (codes "VerticalCRS") && holds (codes "z") entry
+is_vertical entry = bytes_eq (system_text (codes "type") entry) (codes "VerticalCRS") && holds (coordinate_key Z) entry
 
 -- the name of the system of levels, where there are levels
 abbrev pub vertical_name : Bool → Items → Option (List ℕ)

@@ -5,6 +5,8 @@ use Rattle.serde_json.specs.Find.{get, as_str}
 use Rattle.edr_json.specs.Trees.{text_or_empty}
 use Rattle.covjson_checks.specs.Places.{IsAmong, EachItem, NoItem, IsFirst}
 use Rattle.covjson_value.specs.declared.coverages.Referencing.{Referencing}
+use Rattle.covjson_value.specs.declared.domains.CoordinateName.TheVariants.{X, Y, Z}
+use Rattle.covjson_value.specs.Domains.{coordinate_key}
 
 -- ---- entries
 
@@ -29,7 +31,7 @@ system_name entry = option_and_then as_str (option_and_then (get (codes "id")) (
 
 -- an entry of both coordinates of the plane
 abbrev pub IsPlane : Data → Type 0
-IsPlane entry = HoldsName (codes "x") entry × HoldsName (codes "y") entry
+IsPlane entry = HoldsName (coordinate_key X) entry × HoldsName (coordinate_key Y) entry
 
 -- an entry of times in another calendar than the Gregorian
 abbrev pub IsOtherCalendar : Data → Type 0
@@ -37,7 +39,7 @@ IsOtherCalendar entry = (system_text (codes "type") entry ≡ codes "TemporalRS"
 
 -- an entry of levels
 abbrev pub IsVertical : Data → Type 0
-IsVertical entry = (system_text (codes "type") entry ≡ codes "VerticalCRS") × HoldsName (codes "z") entry
+IsVertical entry = (system_text (codes "type") entry ≡ codes "VerticalCRS") × HoldsName (coordinate_key Z) entry
 
 -- ---- the systems of a domain
 

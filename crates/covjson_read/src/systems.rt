@@ -1,7 +1,6 @@
 //! The reference systems of a domain (OGC 21-069r2, reference system objects).
 ghost use Rattle.std.specs.Prelude.{◌≡◌, IfOk, IsSome, option_map, true};
 ghost use Rattle.serde_json.specs.View.{view, items_view};
-ghost use Rattle.serde_json.specs.Find.{as_str};
 ghost use Rattle.covjson_value.specs.Coverages.{IsReferencing};
 ghost use Rattle.covjson_checks.specs.Answers.{GivesUnlessMemory};
 ghost use Rattle.covjson_read.specs.Systems as systems;
@@ -10,8 +9,8 @@ ghost use Rattle.covjson_read.specs.SystemAnswers as answers;
 use covjson_checks::{
     CovFault, Member, found_or_missing, list_at, text_of, text_where_given, unsupported_system,
 };
-use covjson_value::Referencing;
-use edr_json::{is_text, text_or_empty};
+use covjson_value::{CoordinateName, Referencing};
+use edr_json::{is_text, text_in, text_or_empty};
 use serde_json::Value;
 use std::alloc::Global;
 
@@ -69,7 +68,7 @@ fn system_text<'a>(entry: &'a Value, name: &str) -> &'a str
 fn is_plane(entry: &Value) -> bool
     ensures { result ≡ answers.is_plane (view entry.now) }
 {
-    holds(entry, "x") && holds(entry, "y")
+    holds(entry, CoordinateName::X.letter()) && holds(entry, CoordinateName::Y.letter())
 }
 
 // The first entry of both coordinates of the plane.
@@ -105,7 +104,7 @@ fn first_other_calendar(entries: &Vec<Value>) -> Option<&Value>
 fn is_vertical(entry: &Value) -> bool
     ensures { result ≡ answers.is_vertical (view entry.now) }
 {
-    system_text(entry, "type") == "VerticalCRS" && holds(entry, "z")
+    system_text(entry, "type") == "VerticalCRS" && holds(entry, CoordinateName::Z.letter())
 }
 
 // The first entry of levels.
@@ -125,10 +124,7 @@ fn system_name(entry: &Value) -> Option<&str>
     ensures { option_map (λ s. s.now) result ≡ systems.system_name (view entry.now) }
 {
     match entry.get("system") {
-        Some(system) => match system.get("id") {
-            Some(id) => id.as_str(),
-            None => None,
-        },
+        Some(system) => text_in(system, "id"),
         None => None,
     }
 }

@@ -5,6 +5,7 @@ use covjson_checks::CovFault;
 use covjson_read::{coverage_of, read_document};
 use covjson_value::{Document, document_tree};
 use edr_base::Text;
+use edr_json::read_tree;
 use serde_json::Value;
 use std::alloc::Global;
 use std::rt::HostRuntime;
@@ -465,7 +466,7 @@ fn is_no_coverage(alloc: Global, tree: &Value, answer: &str) -> bool {
 }
 
 fn is_refused(alloc: Global, text: &str, answer: &str) -> bool {
-    match Value::from_str(alloc, text) {
+    match read_tree(alloc, text.as_bytes()) {
         Ok(tree) => is_no_coverage(alloc, &tree, answer),
         Err(_) => false,
     }

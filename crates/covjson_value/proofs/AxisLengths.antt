@@ -9,8 +9,9 @@ use Rattle.edr_axes.specs.Axes.{value_at, IsAscending, IsAxis}
 use Rattle.covjson_value.specs.declared.domains.CoordinateName.{CoordinateName}
 use Rattle.covjson_value.specs.declared.domains.CoordinateName.TheVariants.{T, Z, Y, X}
 use Rattle.covjson_value.specs.declared.domains.Domain.{Domain}
-use Rattle.covjson_value.specs.Domains.{AxisLength, coordinate_key, axis_of, tuples_of, coordinates_of, axis_before, composite_alone, is_grid, long_axis, range_axes, range_axis_of, range_tuples_of}
+use Rattle.covjson_value.specs.Domains.{AxisLength, axis_of, tuples_of, coordinates_of, axis_before, composite_alone, is_grid, long_axis, range_axes, range_axis_of, range_tuples_of}
 use Rattle.covjson_value.specs.Coverages.{IsNamedAxis, HasAxes, AreTuples, HasTuples}
+use Rattle.covjson_value.specs.AxisNames.{axis_key, axis_name}
 
 rises : (values : List ℤ) → IsAscending values → (place : ℕ) → place < length values → (value_at values 0 +ℤ pos place) ≤ℤ value_at values place
 rises values ascends zero inside = omega (arith, ints)
@@ -55,7 +56,7 @@ pub record IsCounted (axis : AxisLength) : Type 0 where
   pub key : are_ascii axis.key ≡ true
   pub count : axis.count < 2 ^ 64
 
-key_ascii : (name : CoordinateName) → are_ascii (coordinate_key name) ≡ true
+key_ascii : (name : CoordinateName) → are_ascii (axis_key (axis_name name)) ≡ true
 key_ascii T = refl
 key_ascii Z = refl
 key_ascii Y = refl

@@ -6,7 +6,8 @@ use Rattle.edr_base.specs.declared.places.Position.{Position}
 use Rattle.covjson_value.specs.declared.domains.CoordinateName.{CoordinateName}
 use Rattle.covjson_value.specs.declared.domains.CoordinateName.TheVariants.{T, Z, Y, X}
 use Rattle.covjson_value.specs.declared.domains.Domain.{Domain}
-use Rattle.covjson_value.specs.Domains.{AxisLength, axis_of, tuples_of, axis_before, composite_alone, axis_length, places, count_of}
+use Rattle.covjson_value.specs.Domains.{AxisLength, axis_of, tuples_of, axis_before, composite_alone, places, count_of}
+use Rattle.edr_axes.specs.Axes.{axis_length}
 
 places_before : (name : CoordinateName) (axis : Option (List ℤ)) (axes : List AxisLength) → places (axis_before name axis axes) ≡ axis_length axis * places axes
 places_before name None axes = omega arith

@@ -1,6 +1,8 @@
 //! The names of axes.
 ghost use Rattle.std.specs.Prelude.{◌≡◌};
-ghost use Rattle.covjson_value.specs.AxisNames.{axis_by_name, axis_key};
+ghost use Rattle.covjson_value.specs.AxisNames.{axis_by_name, axis_key, axis_name};
+
+use crate::domains::CoordinateName;
 
 /// The name of an axis (OGC 21-069r2, Domain objects and NdArray objects).
 #[derive(Clone, Copy, Debug, PartialEq, Eq)]
@@ -46,5 +48,17 @@ pub fn axis_by_name(name: &str) -> Option<AxisName>
         Some(AxisName::Composite)
     } else {
         None
+    }
+}
+
+/// The axis that has the name of a coordinate.
+pub fn axis_name(name: CoordinateName) -> AxisName
+    ensures { result ≡ axis_name name }
+{
+    match name {
+        CoordinateName::T => AxisName::T,
+        CoordinateName::Z => AxisName::Z,
+        CoordinateName::Y => AxisName::Y,
+        CoordinateName::X => AxisName::X,
     }
 }

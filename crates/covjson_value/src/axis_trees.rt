@@ -3,13 +3,13 @@ ghost use Rattle.std.specs.Prelude.{◌≡◌, IfOk, OnOk, IfSome, All, option_m
 ghost use Rattle.serde_json.specs.View.{view, members_view};
 ghost use Rattle.covjson_value.specs.Domains.{coordinate_key, axis_of, tuples_of, coordinates_of};
 ghost use Rattle.covjson_value.specs.Domains as domains;
-ghost use Rattle.covjson_value.specs.AxisNames.{axis_key};
+ghost use Rattle.covjson_value.specs.AxisNames.{axis_key, axis_name};
 ghost use Rattle.covjson_value.specs.declared.axis_names.AxisName.TheVariants.{Composite};
 ghost use Rattle.covjson_value.specs.Coverages.{IsAxisValue, IsNamedAxis, HasAxes, HasTuples};
 ghost use Rattle.covjson_value.specs.Trees.{array_of, axis_value_data, list_data, is_spanned, axis_data, keys_data, tuple_data, composite_data, axes_data};
 ghost use Rattle.covjson_value.specs.Puts.{put_if};
 
-use crate::axis_names::{AxisName, axis_key};
+use crate::axis_names::{AxisName, axis_key, axis_name};
 use crate::domains::{CoordinateName, Domain};
 use crate::leaves::{only_member, put_text, time_tree};
 use crate::regular_axes::{is_regular, span_tree};
@@ -18,7 +18,7 @@ use serde_json::{Map, Value};
 use std::alloc::Global;
 
 impl CoordinateName {
-    /// The letter that the axis has in CoverageJSON: `t`, `z`, `y` or `x`. It takes no memory.
+    /// The identifier of the coordinate in CoverageJSON: `t`, `z`, `y` or `x`. It takes no memory.
     pub fn letter(self) -> &'static str
         ensures { result.now ≡ coordinate_key self }
     {
@@ -165,11 +165,11 @@ fn put_axis(
 ) -> Result<(), OutOfMemory>
     requires { IfSome (axis_of domain.now name) (IsNamedAxis name) }
     ensures { OnOk result (members_view members.new.entries
-        ≡ put_if (coordinate_key name) (option_map (axis_data name) (axis_of domain.now name)) (members_view members.old.entries)) }
+        ≡ put_if (axis_key (axis_name name)) (option_map (axis_data name) (axis_of domain.now name)) (members_view members.old.entries)) }
 {
     if let Some(values) = domain.axis(name) {
         let axis = axis_tree(alloc, name, values)?;
-        serde_json::put(members, alloc, name.letter(), axis)?;
+        serde_json::put(members, alloc, axis_key(axis_name(name)), axis)?;
     }
     Ok(())
 }

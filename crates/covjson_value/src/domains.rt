@@ -1,9 +1,9 @@
 //! Domains of coverages and their axes.
 ghost use Rattle.std.specs.Prelude.{◌≡◌, ◌≤◌, ◌<◌, ◌^◌, option_map, IfSome, MatchOption};
-ghost use Rattle.covjson_value.specs.Domains.{axis_of, tuples_of, coordinates_of, is_among, has_coordinate, single, axis_length, count_of, is_grid, range_axis_of, range_tuples_of};
+ghost use Rattle.covjson_value.specs.Domains.{axis_of, tuples_of, coordinates_of, is_among, has_coordinate, single, count_of, is_grid, range_axis_of, range_tuples_of};
+ghost use Rattle.edr_axes.specs.Axes.{axis_length, IsAxis};
 ghost use Rattle.covjson_value.specs.Trees.{domain_type};
 ghost use Rattle.covjson_value.specs.declared.domains.CoordinateName.TheVariants.{T, Z, Y, X};
-ghost use Rattle.edr_axes.specs.Axes.{IsAxis};
 
 use edr_axes::Axis;
 use edr_base::{Items, Position};

@@ -14,7 +14,7 @@ mod regular_axes;
 mod trees;
 mod validity;
 
-pub use axis_names::{AxisName, axis_by_name, axis_key};
+pub use axis_names::{AxisName, axis_by_name, axis_key, axis_name};
 pub use axis_trees::is_spanned;
 pub use coverages::{Coverage, Document, NdArray, Parameter, Referencing};
 pub use domains::{CoordinateName, Domain};

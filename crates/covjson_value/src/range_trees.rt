@@ -6,7 +6,7 @@ ghost use Rattle.covjson_value.specs.Domains.{composite_alone, range_axis_of, ra
 ghost use Rattle.covjson_value.specs.Trees.{array_if_some, name_data, length_data, range_data, ranges_data};
 ghost use Rattle.covjson_value.specs.Puts.{axis_alone};
 
-use crate::axis_names::{AxisName, axis_key};
+use crate::axis_names::{AxisName, axis_key, axis_name};
 use crate::coverages::{NdArray, Parameter};
 use crate::domains::{CoordinateName, Domain};
 use crate::leaves::{put_given, put_text, samples_tree, text_of};
@@ -25,7 +25,7 @@ fn push_name(
         ≡ map view names.old.items ++ map name_data (axis_alone name (range_axis_of domain.now name))) }
 {
     if domain.range_axis(name).is_some() {
-        names.push(Value::try_from_str(alloc, name.letter())?)?;
+        names.push(Value::try_from_str(alloc, axis_key(axis_name(name)))?)?;
     }
     Ok(())
 }

@@ -22,8 +22,8 @@ use Rattle.covjson_value.specs.declared.domains.Domain.{Domain}
 use Rattle.covjson_value.specs.declared.domains.Domain.TheVariants.{Grid, Point, PointSeries, VerticalProfile, MultiPoint, Trajectory}
 use Rattle.covjson_value.specs.declared.coverages.Parameter.{Parameter}
 use Rattle.covjson_value.specs.declared.coverages.Referencing.{Referencing}
-use Rattle.covjson_value.specs.AxisNames.{axis_key}
-use Rattle.covjson_value.specs.Domains.{AxisLength, coordinate_key, axis_of, tuples_of, coordinates_of, has_axis, has_coordinate, axis_before, composite_alone, range_axis_of, range_tuples_of, range_axes}
+use Rattle.covjson_value.specs.AxisNames.{axis_key, axis_name}
+use Rattle.covjson_value.specs.Domains.{AxisLength, axis_of, tuples_of, coordinates_of, has_axis, has_coordinate, axis_before, composite_alone, range_axis_of, range_tuples_of, range_axes}
 use Rattle.covjson_value.specs.Trees.{member_if, item_if, array_of, integer, axis_value_data, list_data, span_data, axis_data, keys_data, tuple_data, composite_data, axes_data, text_if_some, horizontal_data, vertical_data, temporal_data, referencing_data, domain_type, domain_data, parameter_data, named_parameter, parameters_data, members_in_order}
 use Rattle.covjson_write.specs.Pieces.{list_text}
 use Rattle.covjson_write.specs.HeadTexts.{with_commas, member_text, name_member, later_if, unit_member, keyed_parameter, item_before, item_text, end_if}
@@ -182,7 +182,7 @@ axis_before_others false key data_of (Some value) rest = sym (append_assoc (quot
 axis_before_others true key data_of (Some value) rest = ap (λ t. 44 ∷ t) (sym (append_assoc (quoted key) (58 ∷ compact_text (data_of value)) (members_text true rest)))
 
 abbrev pub axis_text : Domain → Bool → CoordinateName → List ℕ
-axis_text domain later name = member_text later (coordinate_key name) (option_map (axis_data name) (axis_of domain name))
+axis_text domain later name = member_text later (axis_key (axis_name name)) (option_map (axis_data name) (axis_of domain name))
 
 -- whether members stand before an axis
 abbrev before_times : Domain → Bool
@@ -203,13 +203,13 @@ axes_parts : (domain : Domain) → compact_text (axes_data domain)
 axes_parts domain =
     ap (λ t. 123 ∷ t) (axis_before_others false (axis_key Composite) (composite_data (coordinates_of domain)) (tuples_of domain) _
     ∙ ap (λ t. member_text false (axis_key Composite) (option_map (composite_data (coordinates_of domain)) (tuples_of domain)) ++ t)
-    (axis_before_others (before_times domain) (coordinate_key T) (axis_data T) (axis_of domain T) _
+    (axis_before_others (before_times domain) (axis_key (axis_name T)) (axis_data T) (axis_of domain T) _
     ∙ ap (λ t. axis_text domain (before_times domain) T ++ t)
-    (axis_before_others (before_columns domain) (coordinate_key X) (axis_data X) (axis_of domain X) _
+    (axis_before_others (before_columns domain) (axis_key (axis_name X)) (axis_data X) (axis_of domain X) _
     ∙ ap (λ t. axis_text domain (before_columns domain) X ++ t)
-    (axis_before_others (before_rows domain) (coordinate_key Y) (axis_data Y) (axis_of domain Y) _
+    (axis_before_others (before_rows domain) (axis_key (axis_name Y)) (axis_data Y) (axis_of domain Y) _
     ∙ ap (λ t. axis_text domain (before_rows domain) Y ++ t)
-    (axis_before_others (before_levels domain) (coordinate_key Z) (axis_data Z) (axis_of domain Z) _)))))
+    (axis_before_others (before_levels domain) (axis_key (axis_name Z)) (axis_data Z) (axis_of domain Z) _)))))
 
 -- all axes were put between braces
 pub axes_put : (domain : Domain) (start one two three four five six new : List ℕ) (times columns rows levels : Bool)
@@ -409,13 +409,13 @@ list_begun before behind (d ∷ ds) =
 
 axis_begun : (data_of : AxisLength → Data) (later next : Bool) (begin end : List ℕ) (name : CoordinateName) (axis : Option (List ℤ)) (rest : List AxisLength) → next ≡ (later || is_some axis)
     → begun later begin (map data_of (axis_before name axis rest)) end
-    ≡ item_text later begin (option_map (λ (values : List ℤ). compact_text (data_of (record { key = coordinate_key name; count = length values }))) axis) ++ begun next begin (map data_of rest) end
+    ≡ item_text later begin (option_map (λ (values : List ℤ). compact_text (data_of (record { key = axis_key (axis_name name); count = length values }))) axis) ++ begun next begin (map data_of rest) end
 axis_begun data_of false next begin end name None rest is = ap (λ b. begun b begin (map data_of rest) end) (sym is)
 axis_begun data_of true next begin end name None rest is = ap (λ b. begun b begin (map data_of rest) end) (sym is)
 axis_begun data_of false next begin end name (Some values) rest is =
-    let text : List ℕ = compact_text (data_of (record { key = coordinate_key name; count = length values })) in
+    let text : List ℕ = compact_text (data_of (record { key = axis_key (axis_name name); count = length values })) in
     ap (λ b. begin ++ (text ++ begun b begin (map data_of rest) end)) (sym is) ∙ sym (append_assoc begin text (begun next begin (map data_of rest) end))
-axis_begun data_of true next begin end name (Some values) rest is = ap (λ b. 44 ∷ (compact_text (data_of (record { key = coordinate_key name; count = length values })) ++ begun b begin (map data_of rest) end)) (sym is)
+axis_begun data_of true next begin end name (Some values) rest is = ap (λ b. 44 ∷ (compact_text (data_of (record { key = axis_key (axis_name name); count = length values })) ++ begun b begin (map data_of rest) end)) (sym is)
 
 tuples_begun : (data_of : AxisLength → Data) (later next : Bool) (begin end : List ℕ) (tuples : Option (List Position)) → next ≡ (later || is_some tuples)
     → begun later begin (map data_of (composite_alone tuples)) end
@@ -429,7 +429,7 @@ tuples_begun data_of true next begin end (Some values) is = ap (λ b. 44 ∷ (co
 
 abbrev axis_item : (AxisLength → Data) → List ℕ → Domain → Bool → CoordinateName → List ℕ
 axis_item data_of begin domain later name =
-    item_text later begin (option_map (λ (values : List ℤ). compact_text (data_of (record { key = coordinate_key name; count = length values }))) (range_axis_of domain name))
+    item_text later begin (option_map (λ (values : List ℤ). compact_text (data_of (record { key = axis_key (axis_name name); count = length values }))) (range_axis_of domain name))
 
 abbrev tuples_item : (AxisLength → Data) → List ℕ → Domain → Bool → List ℕ
 tuples_item data_of begin domain later =

@@ -2,14 +2,14 @@
 ghost use Rattle.std.specs.Prelude.{◌≡◌, ◌++◌, ◌||◌, IfOk, OnOk, codes, map, option_map, is_some, []};
 ghost use Rattle.json.specs.Print.{quoted};
 ghost use Rattle.covjson_value.specs.declared.axis_names.AxisName.TheVariants.{Composite};
-ghost use Rattle.covjson_value.specs.AxisNames.{axis_key};
-ghost use Rattle.covjson_value.specs.Domains.{coordinate_key, range_axis_of, range_tuples_of, range_axes};
+ghost use Rattle.covjson_value.specs.AxisNames.{axis_key, axis_name};
+ghost use Rattle.covjson_value.specs.Domains.{range_axis_of, range_tuples_of, range_axes};
 ghost use Rattle.covjson_value.specs.Trees.{name_data, length_data};
 ghost use Rattle.covjson_write.specs.Pieces.{list_text, array_begin};
 ghost use Rattle.covjson_write.specs.HeadTexts.{item_before, item_text, end_if, length_text};
 
-use crate::leaves::{push_number, quoted_name};
-use covjson_value::{CoordinateName, Domain};
+use crate::leaves::{push_number, quoted_axis};
+use covjson_value::{CoordinateName, Domain, axis_name};
 use edr_base::{OutOfMemory, Text};
 use std::alloc::Global;
 
@@ -33,14 +33,14 @@ fn push_name(
     name: CoordinateName,
 ) -> Result<bool, OutOfMemory>
     ensures text { OnOk result (text.new.items ≡ text.old.items
-        ++ item_text later (codes "\"axisNames\":[") (option_map (λ _. quoted (coordinate_key name)) (range_axis_of domain.now name))) }
+        ++ item_text later (codes "\"axisNames\":[") (option_map (λ _. quoted (axis_key (axis_name name))) (range_axis_of domain.now name))) }
     ensures later { IfOk result (λ more. more ≡ later || is_some (range_axis_of domain.now name)) }
 {
     if domain.range_axis(name).is_none() {
         return Ok(later);
     }
     push_before(text, later, b"\"axisNames\":[")?;
-    text.extend_from_slice(quoted_name(name))?;
+    text.extend_from_slice(quoted_axis(axis_name(name)))?;
     Ok(true)
 }
 

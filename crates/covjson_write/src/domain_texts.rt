@@ -2,17 +2,17 @@
 ghost use Rattle.std.specs.Prelude.{◌≡◌, ◌++◌, ◌||◌, OnOk, IfOk, IfSome, All, false, is_some, option_map};
 ghost use Rattle.serde_json.specs.Written.{compact_text};
 ghost use Rattle.covjson_value.specs.Domains as domains;
-ghost use Rattle.covjson_value.specs.Domains.{coordinate_key, axis_of, tuples_of, coordinates_of, has_axis};
-ghost use Rattle.covjson_value.specs.AxisNames.{axis_key};
+ghost use Rattle.covjson_value.specs.Domains.{axis_of, tuples_of, coordinates_of, has_axis};
+ghost use Rattle.covjson_value.specs.AxisNames.{axis_key, axis_name};
 ghost use Rattle.covjson_value.specs.declared.axis_names.AxisName.TheVariants.{Composite};
 ghost use Rattle.covjson_value.specs.Coverages.{IsAxisValue, IsNamedAxis, HasAxes, HasTuples, IsReferencing};
 ghost use Rattle.covjson_value.specs.Trees.{array_of, axis_value_data, list_data, is_spanned, axis_data, keys_data, tuple_data, composite_data, axes_data, domain_data};
 ghost use Rattle.covjson_write.specs.HeadTexts.{member_text};
 
-use crate::leaves::{push_comma, push_integer, push_time, quoted_name};
+use crate::leaves::{push_comma, push_integer, push_time, quoted_axis, quoted_name};
 use crate::regular_axes::push_span;
 use crate::system_texts::push_referencing;
-use covjson_value::{CoordinateName, Domain, Referencing, is_spanned};
+use covjson_value::{CoordinateName, Domain, Referencing, axis_name, is_spanned};
 use edr_base::{OutOfMemory, Position};
 use std::alloc::Global;
 
@@ -74,14 +74,14 @@ fn push_axis(
 ) -> Result<bool, OutOfMemory>
     requires { IfSome (axis_of domain.now name) (IsNamedAxis name) }
     ensures text { OnOk result (text.new.items ≡ text.old.items
-        ++ member_text later (coordinate_key name) (option_map (axis_data name) (axis_of domain.now name))) }
+        ++ member_text later (axis_key (axis_name name)) (option_map (axis_data name) (axis_of domain.now name))) }
     ensures later { IfOk result (λ more. more ≡ later || has_axis domain.now name) }
 {
     let Some(values) = domain.axis(name) else {
         return Ok(later);
     };
     push_comma(text, later)?;
-    text.extend_from_slice(quoted_name(name))?;
+    text.extend_from_slice(quoted_axis(axis_name(name)))?;
     text.push(b':')?;
     push_values(text, name, values)?;
     Ok(true)

@@ -6,8 +6,9 @@ ghost use Rattle.serde_json.specs.Written.{compact_text, comma_if};
 ghost use Rattle.edr_axes.specs.Instants.{IsTime, instant_text};
 ghost use Rattle.covjson_value.specs.Domains.{coordinate_key};
 ghost use Rattle.covjson_value.specs.Trees.{integer};
+ghost use Rattle.covjson_value.specs.AxisNames.{axis_key};
 
-use covjson_value::{CoordinateName, text_of};
+use covjson_value::{AxisName, CoordinateName, text_of};
 use edr_axes::{times_are_written, write_instant};
 use edr_base::OutOfMemory;
 use itoa::Buffer;
@@ -99,7 +100,7 @@ pub fn push_time(text: &mut Vec<u8>, time: i64) -> Result<(), OutOfMemory>
     push_plain(text, &write_instant(time))
 }
 
-/// The name of an axis, in quotes.
+/// The identifier of a coordinate, in quotes.
 #[tactic(auto, unfolding(json::proofs::OnLiterals::json_on_literals))]
 pub fn quoted_name(name: CoordinateName) -> &'static [u8]
     ensures { result.now ≡ quoted (coordinate_key name) }
@@ -109,5 +110,19 @@ pub fn quoted_name(name: CoordinateName) -> &'static [u8]
         CoordinateName::Z => b"\"z\"",
         CoordinateName::Y => b"\"y\"",
         CoordinateName::X => b"\"x\"",
+    }
+}
+
+/// The name of an axis, in quotes.
+#[tactic(auto, unfolding(json::proofs::OnLiterals::json_on_literals))]
+pub fn quoted_axis(name: AxisName) -> &'static [u8]
+    ensures { result.now ≡ quoted (axis_key name) }
+{
+    match name {
+        AxisName::T => b"\"t\"",
+        AxisName::Z => b"\"z\"",
+        AxisName::Y => b"\"y\"",
+        AxisName::X => b"\"x\"",
+        AxisName::Composite => b"\"composite\"",
     }
 }

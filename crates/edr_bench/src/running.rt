@@ -11,6 +11,7 @@ use covjson_read::read_document;
 use covjson_value::{Document, document_tree};
 use covjson_write::write_whole;
 use edr_base::{Items, OutOfMemory, Position, Source, read_all};
+use edr_json::read_tree;
 use edr_wkt::{Geometry, Polygon, WktFault, read_wkt};
 use serde_json::Value;
 use std::alloc::Global;
@@ -122,7 +123,7 @@ fn read_rounds(alloc: Global, text: &[u8], rounds: u32) -> Result<usize, BenchFa
 fn parse_rounds(alloc: Global, text: &[u8], rounds: u32) -> Result<usize, BenchFault> {
     let mut count = 0;
     for _ in 0..rounds {
-        let tree = Value::from_slice(alloc, text).map_err(|_| BenchFault::NotValid)?;
+        let tree = read_tree(alloc, text).map_err(|_| BenchFault::NotValid)?;
         match tree.as_object() {
             Some(members) => count = members.len(),
             None => count = 0,

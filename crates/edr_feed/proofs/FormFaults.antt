@@ -14,7 +14,8 @@ use Rattle.edr_feed.specs.declared.entries.Entry.{Entry}
 use Rattle.edr_feed.specs.declared.entries.Entry.TheVariants.{Change, Publish}
 use Rattle.edr_feed.specs.Forms.{IsObjectOf, HasJust, IsCollection, IsGrid, IsStation, IsDropCollection, IsDropInstance, IsDropStation, IsBare, HasForm, HoldsCoverage, HasOutline}
 use Rattle.edr_feed.specs.Faults.{of_cov}
-use Rattle.edr_feed.specs.FormParts.{has_members, HasText, HasTextIfGiven, HasKind, collection_members, IsNoEntry, line_of}
+use Rattle.edr_feed.specs.FormParts.{HasText, HasTextIfGiven, HasKind, collection_members, IsNoEntry, line_of}
+use Rattle.edr_json.specs.Trees.{has_members}
 use Rattle.edr_feed.proofs.FormLemmas.{text_is, same_given, just_found, just_counts}
 use Rattle.edr_feed.proofs.FormOutlines.{collection_outline, drop_outline, Drops, DropsInstance, DropsStation, DropInstanceParts, DropStationParts}
 

@@ -12,7 +12,8 @@ use Rattle.edr_draft.specs.declared.changes.Change.TheVariants.{Collection, Grid
 use Rattle.edr_feed.specs.declared.entries.Entry.{Entry}
 use Rattle.edr_feed.specs.declared.entries.Entry.TheVariants.{Change, Publish}
 use Rattle.edr_feed.specs.Forms.{IsObjectOf, kind_word, IsCollection, IsGrid, IsStation, IsDropCollection, IsDropInstance, IsDropStation, HasJust, IsBare, HasForm, HoldsCoverage, TreesHaveOneForm, TreesHoldOneCoverage}
-use Rattle.edr_feed.specs.FormParts.{has_members, HasText, line_of}
+use Rattle.edr_feed.specs.FormParts.{HasText, line_of}
+use Rattle.edr_json.specs.Trees.{has_members}
 use Rattle.edr_feed.proofs.FormLemmas.{text_is, same_text, same_given, same_tree, counts_same, just_is, just_lacks}
 use Rattle.edr_feed.proofs.FormOutlines.{AddsCollection, collection_form, SetsGrid, grid_form, grid_holds, SetsStation, station_form, station_holds, Drops, drop_form, publish_form}
 

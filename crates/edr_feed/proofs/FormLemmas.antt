@@ -1,23 +1,15 @@
 -- Texts of members, and lines of one member.
 use Rattle.std.proofs.Common.{◌≡◌, ℕ, suc, Bool, true, false, true≢false, not, ◌&&◌, List, [], ◌∷◌, length, bytes_eq, Option, None, Some, inl, inr, refl, sym, ap, ◌∙◌, subst, arith, option_map, option_and_then, eqb-true}
-use Rattle.std.specs.Prelude.{String}
-use Rattle.std.specs.declared.alloc.Global.{Global}
 use Rattle.std.proofs.lemmas.Slice.Eq.{bytes_eq-Decides}
 use Rattle.std.proofs.lemmas.List.Sorted.{IsPermutation-refl, length_permutation}
 use Rattle.serde_json.specs.Data.{Data, null, boolean, number, string, array, object, Members, no_members, member}
 use Rattle.serde_json.specs.Find.{get, as_str}
-use Rattle.serde_json.specs.View.{members_view}
-use Rattle.serde_json.specs.declared.value.Value.{Value}
 use Rattle.edr_feed.specs.declared.faults.LineFault.{LineFault}
 use Rattle.edr_feed.specs.declared.faults.LineFault.TheVariants.{LineTooLong, NotJson, NotFeedLine, Cov, Change, OutOfMemory}
 use Rattle.edr_feed.specs.Forms.{named_values, IsObjectOf, HasJust, HasOutline}
-use Rattle.edr_feed.specs.FormParts.{count_members, is_count, has_members, HasText, HasTextIfGiven, Lacks, IsNoEntry, line_of}
+use Rattle.edr_feed.specs.FormParts.{HasText, HasTextIfGiven, Lacks, IsNoEntry, line_of}
+use Rattle.edr_json.specs.Trees.{count_members, is_count, has_members}
 use Rattle.edr_feed.proofs.FormMembers.{Among, moved, object_is, object_counts, object_finds, object_lacks}
-
--- as many members as entries
-pub count_members_view : (ms : List (String Global × Value)) → count_members (members_view ms) ≡ length ms
-count_members_view [] = refl
-count_members_view (m ∷ ms) = ap suc (count_members_view ms)
 
 -- ---- texts
 

@@ -14,7 +14,7 @@ use Rattle.std.proofs.lemmas.List.Elements.{All-from_recursion, recursion_from_A
 use Rattle.std.proofs.lemmas.List.Sorted.{IsPermutation-refl, IsPermutation-sym, IsPermutation-cons, IsPermutation-trans, IsPermutation-middle, All-permutation, length_permutation}
 use Rattle.serde_json.specs.Data.{Data, null, boolean, number, string, array, object, Members, no_members, member}
 use Rattle.serde_json.specs.Find.{get, get_member}
-use Rattle.edr_feed.specs.FormParts.{count_members, has_members}
+use Rattle.edr_json.specs.Trees.{count_members, has_members}
 use Rattle.edr_feed.specs.Forms.{named_values, IsObjectOf}
 
 -- ---- lists of members

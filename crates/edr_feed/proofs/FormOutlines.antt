@@ -9,7 +9,8 @@ use Rattle.edr_draft.specs.declared.changes.Change.TheVariants.{Collection, Grid
 use Rattle.edr_feed.specs.declared.entries.Entry.{Entry}
 use Rattle.edr_feed.specs.declared.entries.Entry.TheVariants.{Change, Publish}
 use Rattle.edr_feed.specs.Forms.{IsObjectOf, kind_word, IsCollection, IsGrid, IsStation, IsDropCollection, IsDropInstance, IsDropStation, HoldsGrid, HoldsStation, HasForm, HoldsCoverage, HasOutline}
-use Rattle.edr_feed.specs.FormParts.{has_members, HasText, HasName, HasTextIfGiven, HasKind, collection_members, line_of}
+use Rattle.edr_feed.specs.FormParts.{HasText, HasName, HasTextIfGiven, HasKind, collection_members, line_of}
+use Rattle.edr_json.specs.Trees.{has_members}
 use Rattle.edr_feed.proofs.FormMembers.{Named, object_is, object_counts, object_finds, object_lacks}
 use Rattle.edr_feed.proofs.FormLemmas.{text_is, is_text, just_line, just_value, just_other}
 

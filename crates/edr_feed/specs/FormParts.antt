@@ -1,7 +1,8 @@
 -- What is found in the tree of a line, part by part; for private clauses.
-use Rattle.std.specs.Prelude.{◌≡◌, ℕ, suc, ◌==◌, Bool, false, codes, List, ⊤, Result, Err, MatchResult, Option, None, Some, option_map, option_and_then}
-use Rattle.serde_json.specs.Data.{Data, null, string, object, Members, no_members, member}
-use Rattle.serde_json.specs.Find.{get, as_object, as_str}
+use Rattle.std.specs.Prelude.{◌≡◌, ℕ, suc, codes, List, ⊤, Result, Err, MatchResult, Option, None, Some, option_map}
+use Rattle.serde_json.specs.Data.{Data, null, string, object, no_members, member}
+use Rattle.serde_json.specs.Find.{get}
+use Rattle.edr_json.specs.Trees.{text_in}
 use Rattle.covjson_read.specs.Rows.{CoverageRows}
 use Rattle.covjson_read.specs.Standing.{Stands}
 use Rattle.covjson_checks.specs.declared.faults.CovFault.{CovFault}
@@ -16,22 +17,6 @@ use Rattle.edr_edition.specs.declared.kinds.Kind.{Kind}
 use Rattle.edr_feed.specs.Forms.{HasForm, HasOutline, HoldsCoverage, kind_word}
 
 -- ---- members
-
-abbrev pub count_members : Members → ℕ
-count_members no_members = 0
-count_members (member name d members) = suc (count_members members)
-
-abbrev pub is_count : ℕ → Option Members → Bool
-is_count n None = false
-is_count n (Some members) = count_members members == n
-
--- an object of that many members
-abbrev pub has_members : ℕ → Data → Bool
-has_members n d = is_count n (as_object d)
-
--- the text of a member
-abbrev pub text_in : List ℕ → Data → Option (List ℕ)
-text_in key d = option_and_then as_str (get key d)
 
 abbrev pub HasText : List ℕ → Data → List ℕ → Type 0
 HasText key d text = text_in key d ≡ Some text

@@ -1,6 +1,7 @@
 //! The forms of a line, as trees of JSON.
-ghost use Rattle.std.specs.Prelude.{◌≡◌, ◌≢◌, ◌↔◌, codes, IfOk, IfSome, IsTrue, IsUtf8, true, option_map};
+ghost use Rattle.std.specs.Prelude.{◌≡◌, ◌↔◌, codes, IfOk, IfSome, IsTrue, IsUtf8, true};
 ghost use Rattle.serde_json.specs.View.{view};
+ghost use Rattle.edr_json.specs.Trees as trees;
 ghost use Rattle.edr_feed.specs.FormParts as parts;
 ghost use Rattle.edr_feed.specs.FormParts.{HasText, HasName, HasTextIfGiven, HasKind, Finds, ReadsEntry, IsEntry, line_of};
 ghost use Rattle.edr_feed.specs.Forms.{IsBare, TreesHaveOneForm, TreesHoldOneCoverage};
@@ -11,28 +12,9 @@ use covjson_read::{coverage_of, trees_stand_for_one};
 use edr_base::{Text, is_name};
 use edr_draft::Change;
 use edr_edition::Kind;
+use edr_json::{has_members, text_in};
 use serde_json::Value;
 use std::alloc::Global;
-
-// Whether the tree is an object of so many members.
-fn has_members(tree: &Value, count: usize) -> bool
-    ensures { result ≡ parts.has_members count (view tree.now) }
-{
-    match tree.as_object() {
-        Some(members) => members.len() == count,
-        None => false,
-    }
-}
-
-// The text of a member.
-fn text_in<'a>(tree: &'a Value, key: &str) -> Option<&'a str>
-    ensures { option_map (λ s. s.now) result ≡ parts.text_in key.now (view tree.now) }
-{
-    match tree.get(key) {
-        Some(found) => found.as_str(),
-        None => None,
-    }
-}
 
 // Whether a member is that text.
 fn has_text(tree: &Value, key: &str, wanted: &str) -> bool
@@ -202,7 +184,7 @@ fn publish_entry(tree: &Value) -> Result<Entry, LineFault>
 
 // By the one member that there is.
 fn member_entry(alloc: Global, tree: &Value) -> Result<Entry, LineFault>
-    requires one { parts.has_members 1 (view tree.now) ≡ true }
+    requires one { trees.has_members 1 (view tree.now) ≡ true }
     requires not_bare { ¬ (IsBare (view tree.now)) }
     ensures reads { ReadsEntry (view tree.now) result }
     ensures is { IfOk result IsEntry }

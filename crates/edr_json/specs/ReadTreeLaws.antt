@@ -4,12 +4,12 @@ use Rattle.std.proofs.Common.{◌≡◌, ℕ, zero, suc, List, IsUtf8, Option, S
 use Rattle.std.proofs.lemmas.Str.{IsUtf8-nil}
 use Rattle.std.specs.declared.cmp.Ordering.{Ordering}
 use Rattle.std.specs.declared.cmp.Ordering.TheVariants.{Less, Equal, Greater}
-use Rattle.std.specs.Ordering.{nat_cmp, match_ordering}
-use Rattle.std.specs.Cmp.Lexicographic.{slice_cmp}
+use Rattle.std.specs.Ordering.{match_ordering}
 use Rattle.serde_json.specs.Data.{Data, null, boolean, number, string, array, object, Items, no_items, item, Members, no_members, member}
 use Rattle.serde_json.specs.Find.{get, get_member, as_str}
 use Rattle.edr_json.specs.Trees.{text_or_empty, item_at}
 use Rattle.edr_json.specs.ReadTrees.{IsTree, AreTrees, NameTrees}
+use Rattle.edr_base.specs.Names.{order}
 
 -- a member that is found is the one here, or one of the rest
 found_by : (P : Data → Type 0) (o : Ordering) (here : Data) (rest : Option Data) (d : Data) → P here → (rest ≡ Some d → P d) → match_ordering o rest (Some here) rest ≡ Some d → P d
@@ -21,7 +21,7 @@ found_by P Greater here rest d is later h = later h
 pub named_tree : (key : List ℕ) (members : Members) (d : Data) → NameTrees members → get_member key members ≡ Some d → IsTree d
 named_tree key no_members d trees h = cc
 named_tree key (member name e members) d trees h =
-    found_by IsTree (slice_cmp nat_cmp key name) e (get_member key members) d trees.1 (named_tree key members d trees.2) h
+    found_by IsTree (order key name) e (get_member key members) d trees.1 (named_tree key members d trees.2) h
 
 pub tree_at : (key : List ℕ) (tree d : Data) → IsTree tree → get key tree ≡ Some d → IsTree d
 tree_at key null d is h = cc

@@ -1,14 +1,13 @@
 -- What is known of every tree that was read from a text (RFC 8259).
 use Rattle.std.specs.Prelude.{⊤, ℕ, ◌<◌, ◌^◌, List, length, IsUtf8}
-use Rattle.std.specs.List.Sorted.{IsStrictlySortedBy}
-use Rattle.edr_base.specs.Names.{order}
+use Rattle.edr_base.specs.Names.{Ascend}
 use Rattle.serde_json.specs.Data.{Data, null, boolean, number, string, array, object, Items, no_items, item, Members, no_members, member}
 use Rattle.edr_json.specs.Trees.{names_of, count_items}
 use Rattle.edr_json.specs.Json.{IsJson}
 
 -- the name of each member is below those after it, byte by byte
 abbrev pub NamesAscend : Members → Type 0
-NamesAscend members = IsStrictlySortedBy order (names_of members)
+NamesAscend members = Ascend (names_of members)
 
 -- its texts are UTF-8, the names of members too; the names of each object ascend, and the items of each list can be counted
 abbrev mutual

@@ -1,12 +1,14 @@
 -- Laws of trees of JSON.
-use Rattle.std.proofs.Common.{◌≡◌, ℕ, ◌≤◌, ◌<◌, ◌+◌, ◌++◌, ℤ, List, [], ◌∷◌, length, map, get_or, drop, All, Option, Some, None, refl, append_assoc, append-nil}
+use Rattle.std.proofs.Common.{◌≡◌, ℕ, suc, ◌≤◌, ◌<◌, ◌+◌, ◌++◌, ℤ, List, [], ◌∷◌, length, map, get_or, drop, All, Option, Some, None, refl, ap, append_assoc, append-nil}
 use Rattle.std.proofs.lemmas.List.{drop_more, drop_all}
 use Rattle.std.proofs.lemmas.List.Elements.{All-head, All-tail}
 use Rattle.serde_json.specs.Data.{Data, null, boolean, number, string, array, object, Items, Members, Num}
 use Rattle.serde_json.specs.Find.{get, as_array, as_object, as_str, as_number, as_integer}
-use Rattle.serde_json.specs.View.{view, items_view, items_of}
+use Rattle.serde_json.specs.View.{view, items_view, members_view, items_of}
 use Rattle.serde_json.specs.declared.value.Value.{Value}
-use Rattle.edr_json.specs.Trees.{EachStands, text_or_empty, whole_of}
+use Rattle.std.specs.Prelude.{String}
+use Rattle.std.specs.declared.alloc.Global.{Global}
+use Rattle.edr_json.specs.Trees.{EachStands, count_members, text_or_empty, whole_of}
 
 -- what is taken for a list is one
 pub as_array_some : (d : Data) (ds : Items) → as_array d ≡ Some ds → d ≡ array ds
@@ -68,6 +70,11 @@ member_of_object key (number n) v h = cc
 member_of_object key (string s) v h = cc
 member_of_object key (array ds) v h = cc
 member_of_object key (object ms) v h = (ms, refl)
+
+-- as many members as entries
+pub count_members_view : (ms : List (String Global × Value)) → count_members (members_view ms) ≡ length ms
+count_members_view [] = refl
+count_members_view (m ∷ ms) = ap suc (count_members_view ms)
 
 -- a whole number is a number
 pub whole_is_number : (d : Data) (v : ℤ) → whole_of d ≡ Some v → (n : Num) × (as_number d ≡ Some n) × (as_integer n ≡ Some v)

@@ -1,7 +1,7 @@
 -- What is asked of trees of JSON (RFC 8259) everywhere.
-use Rattle.std.specs.Prelude.{◌≡◌, ℕ, suc, zero, ℤ, ⊤, Bool, false, bytes_eq, codes, List, [], ◌∷◌, Option, None, Some, option_and_then}
+use Rattle.std.specs.Prelude.{◌≡◌, ℕ, suc, zero, ◌==◌, ℤ, ⊤, Bool, false, bytes_eq, codes, List, [], ◌∷◌, Option, None, Some, option_and_then}
 use Rattle.serde_json.specs.Data.{Data, null, boolean, number, string, array, object, Items, no_items, item, Members, no_members, member}
-use Rattle.serde_json.specs.Find.{as_number, as_integer, as_u64}
+use Rattle.serde_json.specs.Find.{get, as_object, as_str, as_number, as_integer, as_u64}
 
 -- the text of what was found, or the empty text
 abbrev pub text_or_empty : Option Data → List ℕ
@@ -12,6 +12,22 @@ text_or_empty (Some (number n)) = codes ""
 text_or_empty (Some (string s)) = s
 text_or_empty (Some (array ds)) = codes ""
 text_or_empty (Some (object ms)) = codes ""
+
+-- the text of the member of a name, where it is one
+abbrev pub text_in : List ℕ → Data → Option (List ℕ)
+text_in name d = option_and_then as_str (get name d)
+
+abbrev pub count_members : Members → ℕ
+count_members no_members = 0
+count_members (member name d members) = suc (count_members members)
+
+abbrev pub is_count : ℕ → Option Members → Bool
+is_count n None = false
+is_count n (Some members) = count_members members == n
+
+-- an object of that many members
+abbrev pub has_members : ℕ → Data → Bool
+has_members n d = is_count n (as_object d)
 
 -- the number that is held as a whole number of 64 bits
 abbrev pub whole_of : Data → Option ℤ

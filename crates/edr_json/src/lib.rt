@@ -5,4 +5,4 @@ mod reading;
 mod trees;
 
 pub use reading::{JsonFault, read_tree, texts_have_one_tree, texts_have_trees};
-pub use trees::{is_text, text_or_empty, whole_of};
+pub use trees::{has_members, is_text, text_in, text_or_empty, whole_of};

@@ -1,8 +1,8 @@
-//! What is asked of trees of JSON everywhere: texts of members, and whole numbers.
-ghost use Rattle.std.specs.Prelude.{◌≡◌};
+//! What is asked of trees of JSON everywhere: members and their texts, and whole numbers.
+ghost use Rattle.std.specs.Prelude.{◌≡◌, option_map};
 ghost use Rattle.serde_json.specs.View.{view};
 ghost use Rattle.serde_json.specs.Find.{get, as_str};
-ghost use Rattle.edr_json.specs.Trees.{text_or_empty, whole_of, is_text};
+ghost use Rattle.edr_json.specs.Trees.{text_or_empty, text_in, has_members, whole_of, is_text};
 
 use serde_json::Value;
 
@@ -16,6 +16,26 @@ pub fn text_or_empty<'a>(tree: &'a Value, name: &str) -> &'a str
             None => "",
         },
         None => "",
+    }
+}
+
+/// The text of the member of a name, where it is one.
+pub fn text_in<'a>(tree: &'a Value, name: &str) -> Option<&'a str>
+    ensures { option_map (λ s. s.now) result ≡ text_in name.now (view tree.now) }
+{
+    match tree.get(name) {
+        Some(found) => found.as_str(),
+        None => None,
+    }
+}
+
+/// Whether the tree is an object of so many members.
+pub fn has_members(tree: &Value, count: usize) -> bool
+    ensures { result ≡ has_members count (view tree.now) }
+{
+    match tree.as_object() {
+        Some(members) => members.len() == count,
+        None => false,
     }
 }
 

@@ -1,7 +1,8 @@
 use Rattle.std.proofs.Common.{sym, ◌∙◌, ap, codes}
 use Rattle.std.proofs.lemmas.Result.{err_from_is_err_and}
 use Rattle.serde_json.specs.View.{view}
-use Rattle.edr_feed.specs.FormParts.{has_members, HasText, HasName, HasTextIfGiven, HasKind, line_of}
+use Rattle.edr_feed.specs.FormParts.{HasText, HasName, HasTextIfGiven, HasKind, line_of}
+use Rattle.edr_json.specs.Trees.{has_members}
 use Rattle.edr_feed.proofs.FormLemmas.{just_line, no_entry_by}
 use Rattle.edr_feed.proofs.FormOutlines.{collection_outline, collection_whole}
 use Rattle.edr_feed.proofs.FormFaults.{collection_counts}

@@ -1,8 +1,8 @@
 use Rattle.std.proofs.Common.{rules, ◌≡◌, ◌==◌, Some, ap}
 use Rattle.serde_json.specs.View.{view, members_view}
 use Rattle.serde_json.specs.Find.{as_object}
-use Rattle.edr_feed.proofs.FormLemmas.{count_members_view}
-use Rattle.edr_feed.proofs.forms.has_members.Goals as goal
+use Rattle.edr_json.specs.TreeLaws.{count_members_view}
+use Rattle.edr_json.proofs.trees.has_members.Goals as goal
 
 pub returns-in-Some : goal.returns-in-Some
 returns-in-Some c =
