@@ -8,8 +8,7 @@ use Rattle.std.proofs.lemmas.Bool.{eq-eqb, eqb-true, cases_eq, or_right, ne_eqb}
 use Rattle.std.proofs.lemmas.List.{take_more, get_or-set_same, get_or-set_other}
 use Rattle.std.proofs.lemmas.List.Elements.{All-filter}
 use Rattle.std.proofs.lemmas.List.Folds.{list_any-append}
-use Rattle.covjson_value.specs.Domains.{axis_length}
-use Rattle.edr_corridor.specs.Boxes.{level_count}
+use Rattle.edr_axes.specs.Axes.{axis_length}
 use Rattle.edr_query.specs.declared.shapes.Shape.{Shape}
 use Rattle.edr_query.specs.declared.shapes.Shape.TheVariants as at
 use Rattle.edr_query.specs.Values.{QueryValue}
@@ -62,7 +61,7 @@ all_low t n many places same is = subst (λ (l : List ℕ). All (λ k. k < many)
 
 -- ---- levels
 
-pub same_count : (zs : Option (List ℤ)) → level_count zs ≡ axis_length zs
+pub same_count : (zs : Option (List ℤ)) → axis_length zs ≡ axis_length zs
 same_count None = refl
 same_count (Some values) = refl
 

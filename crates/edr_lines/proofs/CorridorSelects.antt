@@ -3,12 +3,11 @@ use Rattle.std.proofs.Common.{◌≡◌, Bool, true, false, refl, ap, ap₂, sym
 use Rattle.std.specs.declared.option.Option.{Option}
 use Rattle.std.specs.Prelude.{◌&&◌, ◌||◌, List}
 use Rattle.std.specs.List.{slice_index_or}
-use Rattle.edr_axes.specs.Axes.{value_at}
+use Rattle.edr_axes.specs.Axes.{value_at, axis_length}
 use Rattle.edr_wkt.specs.declared.geometry.Geometry.{Geometry}
-use Rattle.covjson_value.specs.Domains.{axis_length}
 use Rattle.edr_corridor.specs.Values.{SegmentsValue}
 use Rattle.edr_corridor.specs.Segments as segments
-use Rattle.edr_corridor.specs.Boxes.{level_count, level_at, wants_node}
+use Rattle.edr_corridor.specs.Boxes.{level_at, wants_node}
 use Rattle.edr_corridor.specs.BoxLaws.{is_about, CorridorsAreCut}
 use Rattle.edr_edition.specs.Values.{InstanceValue}
 use Rattle.edr_edition.specs.Stores.{Subject}
@@ -33,7 +32,7 @@ turn_round false true true = refl
 turn_round false true false = refl
 turn_round false false l = refl
 
-same_count : (zs : Option (List ℤ)) → level_count zs ≡ axis_length zs
+same_count : (zs : Option (List ℤ)) → axis_length zs ≡ axis_length zs
 same_count None = refl
 same_count (Some values) = refl
 

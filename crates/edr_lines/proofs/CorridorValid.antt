@@ -4,10 +4,10 @@ use Rattle.std.specs.declared.option.Option.{Option}
 use Rattle.std.specs.Prelude.{◌||◌, map}
 use Rattle.std.specs.List.{range_with_len}
 use Rattle.std.proofs.lemmas.List.FromFn.{length-map-range_with_len, get_or-map-range_with_len}
-use Rattle.edr_axes.specs.Axes.{value_at}
+use Rattle.edr_axes.specs.Axes.{value_at, axis_length}
 use Rattle.edr_wkt.specs.declared.geometry.Geometry.{Geometry}
 use Rattle.covjson_value.specs.Coverages.{IsValidDocument}
-use Rattle.edr_corridor.specs.Boxes.{level_count, level_at}
+use Rattle.edr_corridor.specs.Boxes.{level_at}
 use Rattle.edr_corridor.specs.BoxLaws.{is_about, CorridorsAreCut}
 use Rattle.edr_edition.specs.Values.{InstanceValue, CollectionValue}
 use Rattle.edr_edition.specs.Stores.{Subject}
@@ -52,15 +52,15 @@ module _ (q : QueryValue) (i : InstanceValue) (line : Geometry) (width : ℤ) (h
   corridor_over = record {
     segments = segments_of q line width height;
     times = map time_asked (range_with_len 0 (length i.ts));
-    levels = map level_asked (range_with_len 0 (level_count i.zs));
+    levels = map level_asked (range_with_len 0 (axis_length i.zs));
   }
 
   over_is : IsCorridorOf q line width height (axes_of i) corridor_over
   over_is = record {
     segments = refl;
-    along = record { times = length-map-range_with_len time_asked 0 (length i.ts); levels = length-map-range_with_len level_asked 0 (level_count i.zs) };
+    along = record { times = length-map-range_with_len time_asked 0 (length i.ts); levels = length-map-range_with_len level_asked 0 (axis_length i.zs) };
     times = λ t below. get_or-map-range_with_len time_asked 0 (length i.ts) t t false below (zero-add t);
-    levels = λ z below. get_or-map-range_with_len level_asked 0 (level_count i.zs) z z false below (zero-add z);
+    levels = λ z below. get_or-map-range_with_len level_asked 0 (axis_length i.zs) z z false below (zero-add z);
   }
 
 module _ (cut : CorridorsAreCut) (c : CollectionValue) (q : QueryValue) (i : InstanceValue) (asked : IsAskedAlong c q i) (line : Geometry) (width : ℤ) (height : Option ℤ)

@@ -5,12 +5,11 @@ use Rattle.std.specs.Prelude.{map, ◌⊎◌}
 use Rattle.std.specs.List.{flat_map, filter, slice_index_or}
 use Rattle.std.proofs.lemmas.List.{length-map, get_or_default}
 use Rattle.edr_base.specs.Limits.{node_limit}
-use Rattle.edr_axes.specs.Axes.{IsAxis}
+use Rattle.edr_axes.specs.Axes.{IsAxis, axis_length}
 use Rattle.covjson_value.specs.declared.domains.CoordinateName.TheVariants.{Z}
 use Rattle.covjson_value.specs.Coverages.{IsNamedAxis}
 use Rattle.edr_chunk.specs.declared.shapes.GridShape.{GridShape}
 use Rattle.edr_chunk.specs.Places.{IsShape}
-use Rattle.covjson_value.specs.Domains.{axis_length}
 use Rattle.edr_edition.specs.Values.{InstanceValue}
 use Rattle.edr_edition.specs.Instances.{HasGrid}
 use Rattle.edr_select.specs.GridLaws.{IsGrid}

@@ -5,13 +5,12 @@ use Rattle.std.specs.Prelude.{map, ◌⊎◌, ◌&&◌, ◌||◌, not, is_some}
 use Rattle.std.specs.List.{filter, flat_map}
 use Rattle.std.proofs.lemmas.Bool.{false≢true}
 use Rattle.std.proofs.lemmas.List.Folds.{flat_map-map}
-use Rattle.edr_axes.specs.Axes.{value_at, IsAxis}
+use Rattle.edr_axes.specs.Axes.{value_at, IsAxis, axis_length}
 use Rattle.edr_axes.specs.declared.levels.Levels.{Levels}
 use Rattle.edr_axes.specs.declared.times.Times.{Times}
 use Rattle.edr_wkt.specs.declared.geometry.Geometry.{Geometry}
 use Rattle.edr_wkt.specs.Geometries.{line_of}
 use Rattle.edr_wkt.specs.Wkt.{has_z_of}
-use Rattle.covjson_value.specs.Domains.{axis_length}
 use Rattle.covjson_value.specs.Samples.{Node}
 use Rattle.edr_edition.specs.Values.{InstanceValue}
 use Rattle.edr_edition.specs.Instances.{HasGrid}

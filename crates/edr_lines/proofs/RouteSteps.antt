@@ -6,8 +6,7 @@ use Rattle.std.specs.List.{filter}
 use Rattle.std.proofs.lemmas.Bool.{and_parts, and_from}
 use Rattle.std.proofs.lemmas.Slice.Eq.{bytes_eq-Decides}
 use Rattle.edr_base.specs.declared.places.Position.{Position}
-use Rattle.edr_axes.specs.Axes.{value_at, IsAxis}
-use Rattle.covjson_value.specs.Domains.{axis_length}
+use Rattle.edr_axes.specs.Axes.{value_at, IsAxis, axis_length}
 use Rattle.covjson_value.specs.Samples.{Node, node, same_node}
 use Rattle.edr_chunk.specs.declared.shapes.GridPlace.{GridPlace}
 use Rattle.edr_chunk.specs.Places.{Within}

@@ -3,10 +3,9 @@ use Rattle.std.proofs.Common.{◌≡◌, ◌≢◌, ℕ, ◌<◌, Bool, true, fa
 use Rattle.std.specs.declared.option.Option.{Option}
 use Rattle.std.specs.List.{filter, range_with_len}
 use Rattle.std.proofs.lemmas.List.Elements.{All-filter}
-use Rattle.covjson_value.specs.Domains.{axis_length}
+use Rattle.edr_axes.specs.Axes.{axis_length}
 use Rattle.edr_chunk.specs.AllPlaces.{at}
 use Rattle.edr_chunk.specs.Places.{Within}
-use Rattle.edr_corridor.specs.Boxes.{level_count}
 use Rattle.edr_edition.specs.Values.{InstanceValue}
 use Rattle.edr_select.specs.Listings.{NumbersRise}
 use Rattle.edr_select.specs.Stacks.{SidesValue, AreSides}
@@ -86,7 +85,7 @@ module _ (n : Counts) (takes : NodeTest) (sides : SidesValue) (are : AreSidesOf 
 
 -- ---- over a grid
 
-pub same_levels : (zs : Option (List ℤ)) → level_count zs ≡ axis_length zs
+pub same_levels : (zs : Option (List ℤ)) → axis_length zs ≡ axis_length zs
 same_levels None = refl
 same_levels (Some values) = refl
 
@@ -127,7 +126,7 @@ module _ (i : InstanceValue) (g : IsGrid i) (takes : NodeTest) (sides : SidesVal
       are.levels ∙ only (subst (λ (zs : List ℕ). zs ≢ []) are.levels (has_nodes n takes sides are).levels)
     where
       count : n.levels ≡ 1
-      count = ap level_count none
+      count = ap axis_length none
 
       only : filter (some_at_level n takes) (range_with_len 0 n.levels) ≢ [] → filter (some_at_level n takes) (range_with_len 0 n.levels) ≡ 0 ∷ []
       only = subst (λ (m : ℕ). filter (some_at_level n takes) (range_with_len 0 m) ≢ [] → filter (some_at_level n takes) (range_with_len 0 m) ≡ 0 ∷ []) (sym count) (kept_of_one (some_at_level n takes))

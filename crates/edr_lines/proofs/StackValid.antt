@@ -8,11 +8,11 @@ use Rattle.std.proofs.lemmas.Bool.{false≢true}
 use Rattle.std.proofs.lemmas.List.{length-map}
 use Rattle.std.proofs.lemmas.List.Elements.{All-filter}
 use Rattle.std.proofs.lemmas.List.FromFn.{length-range_with_len}
-use Rattle.edr_axes.specs.Axes.{value_at}
+use Rattle.edr_axes.specs.Axes.{value_at, axis_length}
 use Rattle.covjson_value.specs.declared.domains.CoordinateName.TheVariants.{T, Z, Y, X}
 use Rattle.covjson_value.specs.declared.domains.Domain.{Domain}
 use Rattle.covjson_value.specs.CountLaws.{count_is}
-use Rattle.covjson_value.specs.Domains.{axis_length, count_of}
+use Rattle.covjson_value.specs.Domains.{count_of}
 use Rattle.covjson_value.specs.Coverages.{IsNamedAxis, IsReferencing, HasAxes, HasTuples}
 use Rattle.covjson_write.specs.Writers.{IsHead}
 use Rattle.edr_edition.specs.Values.{InstanceValue}

@@ -5,12 +5,12 @@ use Rattle.std.specs.Prelude.{map, option_map, IfSome}
 use Rattle.std.specs.List.{filter, list_any, range_with_len}
 use Rattle.std.specs.Ordering.{int_eq}
 use Rattle.std.proofs.lemmas.Bool.Decides.{Decides-int_eq}
-use Rattle.edr_axes.specs.Axes.{value_at, IsAxis}
-use Rattle.covjson_value.specs.Domains.{axis_length}
+use Rattle.edr_axes.specs.Axes.{value_at, IsAxis, axis_length}
+use Rattle.edr_axes.specs.AxisLaws.{ascending_once}
 use Rattle.covjson_value.specs.declared.domains.Domain.TheVariants.{Grid}
 use Rattle.covjson_value.specs.Samples.{same_where_given}
 use Rattle.edr_chunk.specs.AllPlaces.{at}
-use Rattle.edr_corridor.specs.Boxes.{level_count, level_at}
+use Rattle.edr_corridor.specs.Boxes.{level_at}
 use Rattle.edr_edition.specs.Values.{InstanceValue}
 use Rattle.edr_edition.specs.Stores.{of_grid, Subject}
 use Rattle.edr_query.specs.Values.{QueryValue}
@@ -22,7 +22,7 @@ use Rattle.edr_select.specs.Samples.{id_at}
 use Rattle.edr_select.specs.Stacks.{SidesValue}
 use Rattle.edr_select.specs.ListLaws.{both, Member}
 use Rattle.edr_select.specs.KeptLaws.{kept_agree, kept_below, kept_passes, filter_by_places}
-use Rattle.edr_select.specs.GridLaws.{IsGrid, one_place}
+use Rattle.edr_select.specs.GridLaws.{IsGrid}
 use Rattle.edr_select.specs.SpanLaws.{Spans, spanned_is}
 use Rattle.edr_lines.specs.Plans.{axes_of, domain_over}
 use Rattle.edr_lines.specs.Taken.{Counts, counts_of, NodeTest, some_at_time, some_at_level, some_in_row, some_in_column, IsSpan, AreSidesOf}
@@ -42,7 +42,7 @@ module _ (s : Subject) (q : QueryValue) (i : InstanceValue) (held : s.held ≡ o
   abbrev picks : List Stored
   picks = picked s q
 
-  same_levels : (zs : Option (List ℤ)) → level_count zs ≡ axis_length zs
+  same_levels : (zs : Option (List ℤ)) → axis_length zs ≡ axis_length zs
   same_levels None = refl
   same_levels (Some values) = refl
 
@@ -63,7 +63,7 @@ module _ (s : Subject) (q : QueryValue) (i : InstanceValue) (held : s.held ≡ o
   time_test k inside =
       both (list_any (λ (x : Stored). same_where_given x.sample.at.t (Some (value_at i.ts k))) picks) (some_at_time n takes k)
       (λ h. let f = pick_of (λ (x : Stored). same_where_given x.sample.at.t (Some (value_at i.ts k))) h in
-      let same : f.place.t ≡ k = one_place i.ts g.ts.ascending f.place.t k (omega (arith, f.within.t, g.times)) inside (same_value (value_at i.ts f.place.t) (value_at i.ts k) f.passes) in
+      let same : f.place.t ≡ k = ascending_once i.ts g.ts.ascending f.place.t k (omega (arith, f.within.t, g.times)) inside (same_value (value_at i.ts f.place.t) (value_at i.ts k) f.passes) in
       ap (some_at_time n takes) (sym same)
       ∙ time_some n takes f.place.t f.place.z f.place.y f.place.x (omega (arith, f.within.t, g.times)) (omega (arith, f.within.z, g.levels, same_levels i.zs)) (omega (arith, f.within.y, g.rows)) (omega (arith, f.within.x, g.columns)) f.taken.node)
       (λ h. let a = at_time n takes k h in
@@ -91,7 +91,7 @@ module _ (s : Subject) (q : QueryValue) (i : InstanceValue) (held : s.held ≡ o
       axis = subst (λ (o : Option (List ℤ)). IfSome o IsAxis) zs g.zs
 
       count : n.levels ≡ length values
-      count = ap level_count zs
+      count = ap axis_length zs
 
       there : (k : ℕ) → level_at i.zs k ≡ Some (value_at values k)
       there k = ap (λ o. level_at o k) zs
@@ -102,7 +102,7 @@ module _ (s : Subject) (q : QueryValue) (i : InstanceValue) (held : s.held ≡ o
           (λ h. let f = pick_of (λ (x : Stored). same_where_given x.sample.at.z (Some (value_at values k))) h in
           let z_in : f.place.z < n.levels = omega (arith, f.within.z, g.levels, same_levels i.zs) in
           let level : value_at values f.place.z ≡ value_at values k = some_same (sym (there f.place.z) ∙ same_given (level_at i.zs f.place.z) (value_at values k) f.passes) in
-          let same : f.place.z ≡ k = one_place values axis.ascending f.place.z k (omega (arith, z_in, count)) inside level in
+          let same : f.place.z ≡ k = ascending_once values axis.ascending f.place.z k (omega (arith, z_in, count)) inside level in
           ap (some_at_level n takes) (sym same)
           ∙ level_some n takes f.place.t f.place.z f.place.y f.place.x (omega (arith, f.within.t, g.times)) z_in (omega (arith, f.within.y, g.rows)) (omega (arith, f.within.x, g.columns)) f.taken.node)
           (λ h. let a = at_level n takes k h in
@@ -159,4 +159,4 @@ module _ (s : Subject) (q : QueryValue) (i : InstanceValue) (held : s.held ≡ o
       levels_are : (zs : Option (List ℤ)) → i.zs ≡ zs → option_map (levels_in picks) zs ≡ option_map (λ values. map (value_at values) sides.levels) zs
       levels_are None e = refl
       levels_are (Some values) e =
-          ap Some (levels_on values e ∙ ap (map (value_at values)) (ap (λ m. filter (some_at_level n takes) (range_with_len 0 m)) (sym (ap level_count e)) ∙ sym are.levels))
+          ap Some (levels_on values e ∙ ap (map (value_at values)) (ap (λ m. filter (some_at_level n takes) (range_with_len 0 m)) (sym (ap axis_length e)) ∙ sym are.levels))

@@ -5,7 +5,7 @@ use Rattle.std.specs.Prelude.{map, is_some, unwrap_or}
 use Rattle.std.proofs.lemmas.Bool.{false≢true}
 use Rattle.std.proofs.lemmas.List.{length-map}
 use Rattle.edr_base.specs.declared.places.Position.{Position}
-use Rattle.edr_axes.specs.Axes.{value_at}
+use Rattle.edr_axes.specs.Axes.{value_at, axis_length}
 use Rattle.edr_wkt.specs.declared.geometry.Geometry.{Geometry}
 use Rattle.edr_wkt.specs.declared.geometry.Geometry.TheVariants.{Points, Line, Polygons}
 use Rattle.edr_wkt.specs.Faults.{IsGeometry}
@@ -15,7 +15,7 @@ use Rattle.covjson_value.specs.declared.domains.CoordinateName.TheVariants.{T, Z
 use Rattle.covjson_value.specs.declared.domains.Domain.TheVariants.{Trajectory}
 use Rattle.covjson_value.specs.Coverages.{IsAxisValue, IsNamedAxis, HasAxes, IsTuple, NeverFall, HasTuples, IsReferencing}
 use Rattle.covjson_value.specs.CountLaws.{count_is}
-use Rattle.covjson_value.specs.Domains.{axis_of, axis_length, coordinate, is_among, level_if, count_of}
+use Rattle.covjson_value.specs.Domains.{axis_of, coordinate, is_among, level_if, count_of}
 use Rattle.covjson_value.specs.Samples.{Node}
 use Rattle.edr_chunk.specs.declared.shapes.GridShape.{GridShape}
 use Rattle.edr_chunk.specs.Places.{Within, IsShape}

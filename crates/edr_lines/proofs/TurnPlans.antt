@@ -1,7 +1,7 @@
 -- What is planned for a turn, as the code makes it.
 use Rattle.std.proofs.Common.{◌≡◌, ◌≢◌, ℕ, ◌<◌, Bool, cond, List, [], length, ap₂, ◌∙◌, None, All}
 use Rattle.std.specs.Prelude.{map}
-use Rattle.covjson_value.specs.Domains.{axis_length}
+use Rattle.edr_axes.specs.Axes.{axis_length}
 use Rattle.covjson_value.specs.declared.coverages.Coverage.{Coverage}
 use Rattle.covjson_value.specs.declared.coverages.Parameter.{Parameter}
 use Rattle.covjson_value.specs.declared.coverages.Referencing.{Referencing}

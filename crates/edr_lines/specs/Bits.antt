@@ -2,12 +2,21 @@
 use Rattle.std.specs.Prelude.{◌≡◌, ℕ, ◌+◌, ◌-◌, ◌*◌, ◌<◌, ◌≤◌, ◌^◌, ◌==◌, nat_le, Bool, true, false, ◌&&◌, ◌||◌, List, length}
 use Rattle.std.specs.List.{slice_index_or}
 use Rattle.edr_base.specs.Limits.{node_limit}
+use Rattle.edr_chunk.specs.RowMajor.{place_in_row}
 use Rattle.edr_corridor.specs.declared.boxes.SegmentBox.{SegmentBox}
 use Rattle.edr_corridor.specs.Boxes.{lies_in}
 use Rattle.edr_select.specs.Listings.{NumbersRise}
 use Rattle.edr_select.specs.Stacks.{SidesValue, plane_size, time_at, level_at}
 use Rattle.edr_lines.specs.Taken.{NodeTest}
 use Rattle.edr_lines.specs.Boxes.{has_node}
+
+-- the truth values of sides can be counted, and there are no more rows and columns than a grid has nodes
+pub record IsSmall (sides : SidesValue) : Type 0 where
+  pub planes : length sides.times * length sides.levels * plane_size sides < 2 ^ 63
+  pub rows : sides.row + sides.rows ≤ node_limit
+  pub columns : sides.column + sides.columns ≤ node_limit
+
+-- ---- for private clauses
 
 -- the places of a mask that is set, from a column on, are those of a row of so many columns from another on
 abbrev pub RowFits : List Bool → ℕ → ℕ → ℕ → Type 0
@@ -24,7 +33,7 @@ BoxFits sides box = (y x : ℕ) → has_node box y x ≡ true → ((sides.row �
 
 -- where the truth value of a node of a plane stands
 abbrev pub node_number : SidesValue → ℕ → ℕ → ℕ
-node_number sides y x = (y - sides.row) * sides.columns + (x - sides.column)
+node_number sides y x = place_in_row (y - sides.row) sides.columns (x - sides.column)
 
 -- a node of some sides
 pub record InBox (sides : SidesValue) (y x : ℕ) : Type 0 where
@@ -40,7 +49,7 @@ pub record PlaneSet (sides : SidesValue) (test : ℕ → ℕ → Bool) (old new 
 
 -- where the truth value of a node stands among the planes of one time, of which each is told by the number of its level
 abbrev pub level_number : SidesValue → ℕ → ℕ → ℕ → ℕ
-level_number sides j y x = j * plane_size sides + node_number sides y x
+level_number sides j y x = place_in_row j (plane_size sides) (node_number sides y x)
 
 -- a test of the nodes of one time: by a level, a row and a column
 abbrev pub LevelTest : Type 0
@@ -64,7 +73,7 @@ time_size sides = length sides.levels * plane_size sides
 
 -- where the truth value of a node stands among those of all times
 abbrev pub time_number : SidesValue → ℕ → ℕ → ℕ → ℕ → ℕ
-time_number sides i j y x = i * time_size sides + level_number sides j y x
+time_number sides i j y x = place_in_row i (time_size sides) (level_number sides j y x)
 
 -- the nodes of a stack that pass were set
 pub record TimesSet (sides : SidesValue) (test : NodeTest) (old new : List Bool) : Type 0 where
@@ -96,9 +105,3 @@ TimesFit sides box = (i j : ℕ) → i < length sides.times → j < length sides
 pub record DoRise (sides : SidesValue) : Type 0 where
   pub times : NumbersRise sides.times
   pub levels : NumbersRise sides.levels
-
--- the truth values of sides can be counted, and there are no more rows and columns than a grid has nodes
-pub record IsSmall (sides : SidesValue) : Type 0 where
-  pub planes : length sides.times * length sides.levels * plane_size sides < 2 ^ 63
-  pub rows : sides.row + sides.rows ≤ node_limit
-  pub columns : sides.column + sides.columns ≤ node_limit

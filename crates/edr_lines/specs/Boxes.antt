@@ -23,10 +23,6 @@ pub record AreEnds (test : ℕ → Bool) (count first last : ℕ) : Type 0 where
   pub low : (k : ℕ) → k < count → test k ≡ true → first ≤ k
   pub high : (k : ℕ) → k < count → test k ≡ true → k ≤ last
 
--- none of them passes
-abbrev pub NoneBelow : (ℕ → Bool) → ℕ → Type 0
-NoneBelow test count = (k : ℕ) → k < count → test k ≡ false
-
 -- some node of a row, and some of a column of a plane passes
 abbrev pub some_in : (ℕ → ℕ → Bool) → ℕ → ℕ → Bool
 some_in test columns y = list_any (λ x. test y x) (range_with_len 0 columns)

@@ -9,6 +9,13 @@ use Rattle.edr_corridor.specs.Boxes.{GridAxes}
 use Rattle.edr_edition.specs.Values.{InstanceValue}
 use Rattle.edr_select.specs.Stacks.{SidesValue, stack_count}
 
+-- there are no more rows and columns than a grid has nodes
+pub record IsFew (axes : GridAxes) : Type 0 where
+  pub rows : length axes.ys ≤ node_limit
+  pub columns : length axes.xs ≤ node_limit
+
+-- ---- for private clauses
+
 -- the axes of a grid
 abbrev pub axes_of : InstanceValue → GridAxes
 axes_of i = record { ts = i.ts; zs = i.zs; ys = i.ys; xs = i.xs }
@@ -22,11 +29,6 @@ domain_over i sides =
 -- how many values some parameters have over a stack
 abbrev pub stacked_count : List ℕ → SidesValue → ℕ
 stacked_count parameters sides = length parameters * stack_count sides
-
--- there are no more rows and columns than a grid has nodes
-pub record IsFew (axes : GridAxes) : Type 0 where
-  pub rows : length axes.ys ≤ node_limit
-  pub columns : length axes.xs ≤ node_limit
 
 -- sides aren't empty
 pub record HasNodes (sides : SidesValue) : Type 0 where

@@ -5,7 +5,7 @@ use Rattle.edr_wkt.specs.declared.geometry.Geometry.{Geometry}
 use Rattle.edr_wkt.specs.Geometries.{line_of}
 use Rattle.edr_wkt.specs.Wkt.{has_z_of, has_m_of}
 use Rattle.edr_chunk.specs.Places.{Within}
-use Rattle.covjson_value.specs.Domains.{axis_length}
+use Rattle.edr_axes.specs.Axes.{axis_length}
 use Rattle.covjson_value.specs.declared.coverages.Referencing.{Referencing}
 use Rattle.covjson_value.specs.Samples.{Node}
 use Rattle.edr_edition.specs.Values.{InstanceValue}

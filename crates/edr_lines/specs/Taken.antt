@@ -1,8 +1,10 @@
 -- Which nodes of some axes are taken, by their places: of a time, a level, a row and a column; for the calls that plan, and private clauses.
-use Rattle.std.specs.Prelude.{◌≡◌, ℕ, ◌+◌, ◌-◌, ◌*◌, ◌<◌, ◌≤◌, Bool, true, false, ◌||◌, length}
+use Rattle.std.specs.Prelude.{◌≡◌, ℕ, ◌+◌, ◌-◌, ◌<◌, ◌≤◌, Bool, true, false, ◌||◌, length}
 use Rattle.std.specs.List.{filter, list_any, range_with_len, slice_index_or}
-use Rattle.edr_corridor.specs.Boxes.{GridAxes, level_count}
+use Rattle.edr_corridor.specs.Boxes.{GridAxes}
+use Rattle.edr_axes.specs.Axes.{axis_length}
 use Rattle.edr_select.specs.Stacks.{SidesValue, StackValue, plane_size, plane_number, stack_count, time_at, level_at}
+use Rattle.edr_chunk.specs.RowMajor.{place_in_row}
 
 -- how many times, levels, rows and columns there are
 pub record Counts : Type 0 where
@@ -12,14 +14,11 @@ pub record Counts : Type 0 where
   pub columns : ℕ
 
 abbrev pub counts_of : GridAxes → Counts
-counts_of axes = record { times = length axes.ts; levels = level_count axes.zs; rows = length axes.ys; columns = length axes.xs }
+counts_of axes = record { times = length axes.ts; levels = axis_length axes.zs; rows = length axes.ys; columns = length axes.xs }
 
 -- a test of nodes
 abbrev pub NodeTest : Type 0
 NodeTest = ℕ → ℕ → ℕ → ℕ → Bool
-
-abbrev pub either : NodeTest → NodeTest → NodeTest
-either takes other t z y x = takes t z y x || other t z y x
 
 -- no node passes
 abbrev pub NoneTaken : Counts → NodeTest → Type 0
@@ -60,7 +59,7 @@ pub record AreSidesOf (n : Counts) (takes : NodeTest) (sides : SidesValue) : Typ
 
 -- where the truth value of a node of a stack stands
 abbrev pub bit_number : SidesValue → ℕ → ℕ → ℕ → ℕ → ℕ
-bit_number sides i j y x = plane_number sides i j * plane_size sides + ((y - sides.row) * sides.columns + (x - sides.column))
+bit_number sides i j y x = place_in_row (plane_number sides i j) (plane_size sides) (place_in_row (y - sides.row) sides.columns (x - sides.column))
 
 -- the truth values of a stack are those of a test
 pub record HasBits (takes : NodeTest) (stack : StackValue) : Type 0 where
@@ -68,3 +67,8 @@ pub record HasBits (takes : NodeTest) (stack : StackValue) : Type 0 where
   pub bits : (i j y x : ℕ) → i < length stack.sides.times → j < length stack.sides.levels → stack.sides.row ≤ y → y < stack.sides.row + stack.sides.rows
       → stack.sides.column ≤ x → x < stack.sides.column + stack.sides.columns
       → slice_index_or stack.mask (bit_number stack.sides i j y x) false ≡ takes (time_at stack.sides i) (level_at stack.sides j) y x
+
+-- ---- for private clauses
+
+abbrev pub either : NodeTest → NodeTest → NodeTest
+either takes other t z y x = takes t z y x || other t z y x

@@ -1,10 +1,10 @@
 //! What a corridor takes: the segments of its line, and which times and levels are asked beside them.
 ghost use Rattle.std.specs.Prelude.{◌≡◌, ◌<◌, ◌||◌, ◌==◌, ℕ, true, false, Some, All, length, replicate, IfOk, IfSome};
 ghost use Rattle.std.specs.List.{slice_index_or, list_any};
-ghost use Rattle.edr_axes.specs.Axes.{value_at, IsAscending};
+ghost use Rattle.edr_axes.specs.Axes.{value_at, IsAscending, axis_length};
 ghost use Rattle.edr_wkt.specs.Geometries as geometries;
 ghost use Rattle.edr_wkt.specs.Wkt.{has_z_of, has_m_of};
-ghost use Rattle.edr_corridor.specs.Boxes.{level_count, level_at};
+ghost use Rattle.edr_corridor.specs.Boxes.{level_at};
 ghost use Rattle.edr_query.specs.Queries.{IsShape, IsTaken};
 ghost use Rattle.edr_query.specs.declared.shapes.Shape.TheVariants as at;
 ghost use Rattle.edr_query.specs.declared.addresses.QueryKind.TheVariants as kinds;
@@ -144,8 +144,8 @@ fn levels_asked(
 ) -> Result<Vec<bool>, OutOfMemory>
     requires corridor { IsCorridor query.now.shape }
     requires valid { IsShape query.now.shape }
-    ensures len { IfOk result (λ asked. length asked.items ≡ level_count axes.now.zs) }
-    ensures asked { IfOk result (λ asked. (z : ℕ) → z < level_count axes.now.zs → slice_index_or asked.items z false ≡ (has_each || takes_level query.now.levels (level_at axes.now.zs z))) }
+    ensures len { IfOk result (λ asked. length asked.items ≡ axis_length axes.now.zs) }
+    ensures asked { IfOk result (λ asked. (z : ℕ) → z < axis_length axes.now.zs → slice_index_or asked.items z false ≡ (has_each || takes_level query.now.levels (level_at axes.now.zs z))) }
 {
     if has_each {
         return are_all(alloc, axes.level_count());

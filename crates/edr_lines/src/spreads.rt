@@ -3,7 +3,7 @@ ghost use Rattle.std.specs.Prelude.{◌≡◌, ◌<◌, ◌≤◌, true, false, 
 ghost use Rattle.std.specs.List.{All};
 ghost use Rattle.edr_base.specs.Limits.{IsCoordinate};
 ghost use Rattle.edr_corridor.specs.Values.{needs_level};
-ghost use Rattle.edr_corridor.specs.Boxes as boxes;
+ghost use Rattle.edr_axes.specs.Axes.{axis_length};
 ghost use Rattle.edr_corridor.specs.Boxes.{LiesOn};
 ghost use Rattle.edr_lines.specs.Plans.{axes_of, IsFew};
 ghost use Rattle.edr_lines.specs.Taken.{NodeTest, counts_of, either};
@@ -56,7 +56,7 @@ impl<'a> Axes<'a> {
 
     // How many levels there are; without an axis of levels each node stands at the one without a level.
     pub(crate) fn level_count(&self) -> usize
-        ensures { result ≡ boxes.level_count self.now.zs }
+        ensures { result ≡ axis_length self.now.zs }
     {
         match self.zs {
             Some(axis) => axis.len(),
@@ -196,7 +196,7 @@ impl Spread {
         requires few { IsFew axes.now }
         requires along { LiesAlong axes.now corridor.now }
         requires on { LiesOn axes.now taken.now }
-        requires full { (length self.old.times ≡ length axes.now.ts) × (length self.old.levels ≡ boxes.level_count axes.now.zs) }
+        requires full { (length self.old.times ≡ length axes.now.ts) × (length self.old.levels ≡ axis_length axes.now.zs) }
         ensures { (takes : NodeTest) → IsSpreadOf (counts_of axes.now) takes self.old → IsSpreadOf (counts_of axes.now) (either takes (box_passes corridor.now taken.now)) self.new }
     {
         let Some(extent) = extent_of(axes, taken) else {

@@ -1,6 +1,6 @@
 //! Plans of the replies to queries along trajectories.
 ghost use Rattle.std.specs.Prelude.{◌≡◌, ◌≢◌, [], Contains, ◌<◌, ◌++◌, ◌||◌, nat_lt, if◌then◌else◌, All, length, map, None, IfOk, IfErr, OnOk, IfSome};
-ghost use Rattle.covjson_value.specs.Domains.{axis_length};
+ghost use Rattle.edr_axes.specs.Axes.{axis_length};
 ghost use Rattle.covjson_value.specs.declared.domains.Domain.TheVariants.{Trajectory};
 ghost use Rattle.edr_chunk.specs.Places.{Within};
 ghost use Rattle.edr_edition.specs.Instances.{HasGrid};

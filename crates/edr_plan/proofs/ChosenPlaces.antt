@@ -4,14 +4,14 @@ use Rattle.std.specs.declared.option.Option.{Option}
 use Rattle.std.specs.Prelude.{map, option_map}
 use Rattle.std.proofs.lemmas.List.{length-map, get_or-map}
 use Rattle.std.proofs.lemmas.List.Elements.{All-map}
-use Rattle.edr_axes.specs.Axes.{value_at, IsAscending, IsAxis}
+use Rattle.edr_axes.specs.Axes.{value_at, IsAscending, IsAxis, axis_length}
 use Rattle.edr_axes.specs.AxisLaws.{ascending_far}
 use Rattle.covjson_value.specs.declared.domains.CoordinateName.{CoordinateName}
 use Rattle.covjson_value.specs.declared.domains.CoordinateName.TheVariants.{T, Z, Y, X}
-use Rattle.covjson_value.specs.Domains.{axis_length, count_of}
+use Rattle.covjson_value.specs.Domains.{count_of}
 use Rattle.covjson_value.specs.Coverages.{IsAxisValue, IsNamedAxis, HasAxes}
 use Rattle.edr_base.specs.Limits.{IsCoordinate}
-use Rattle.edr_station.specs.Stations.{StationValue, IsPlaced, IsAxisWithin, levels_along}
+use Rattle.edr_station.specs.Stations.{StationValue, IsPlaced, IsAxisWithin}
 use Rattle.edr_select.specs.Listings.{NumbersRise}
 use Rattle.edr_select.specs.LevelLaws.{some_length}
 use Rattle.edr_select.specs.DomainLaws.{count_at, has_axes_at, one_value}
@@ -51,7 +51,7 @@ only_level (z ∷ other ∷ levels) inside rise some = absurd (omega (arith, ins
 times_named : (s : StationValue) → IsPlaced s → IsNamedAxis T s.ts
 times_named s h = record { ascending = h.ts.axis; within = h.ts.within }
 
-levels_named : (zs : Option (List ℤ)) (levels : List ℕ) → IfSome zs (IsAxisWithin IsCoordinate) → All (λ z. z < levels_along zs) levels → NumbersRise levels → levels ≢ []
+levels_named : (zs : Option (List ℤ)) (levels : List ℕ) → IfSome zs (IsAxisWithin IsCoordinate) → All (λ z. z < axis_length zs) levels → NumbersRise levels → levels ≢ []
     → IfSome (option_map (λ values. map (value_at values) levels) zs) (IsNamedAxis Z)
 levels_named None levels h inside rise some = tt
 levels_named (Some values) levels h inside rise some = part_is_named Z values levels (record { ascending = h.axis; within = h.within }) inside rise some
@@ -69,10 +69,10 @@ module _ (s : StationValue) (choice : ChoiceValue) (is : IsChoiceOf s choice) wh
     times_within at =
         subst (λ (ps : List ℕ). All (λ t. t < length read.ts) ps) (sym at) (subst (λ (s : StationValue). All (λ t. t < length s.ts) choice.times) (sym same) is.times_in)
 
-    pub levels_within : places ≡ choice.levels → All (λ z. z < levels_along read.zs) places
+    pub levels_within : places ≡ choice.levels → All (λ z. z < axis_length read.zs) places
     levels_within at =
-        subst (λ (ps : List ℕ). All (λ z. z < levels_along read.zs) ps) (sym at)
-        (subst (λ (s : StationValue). All (λ z. z < levels_along s.zs) choice.levels) (sym same) is.levels_in)
+        subst (λ (ps : List ℕ). All (λ z. z < axis_length read.zs) ps) (sym at)
+        (subst (λ (s : StationValue). All (λ z. z < axis_length s.zs) choice.levels) (sym same) is.levels_in)
 
   -- the times that are read at these places are an axis
   module _ (ts : List ℤ) (places : List ℕ) (same : ts ≡ s.ts) (at : places ≡ choice.times) where
@@ -87,7 +87,7 @@ module _ (s : StationValue) (choice : ChoiceValue) (is : IsChoiceOf s choice) wh
   -- and so are the levels
   module _ (zs : List ℤ) (places : List ℕ) (same : Some zs ≡ s.zs) (at : places ≡ choice.levels) where
     inside : All (λ z. z < length zs) choice.levels
-    inside = subst (λ (o : Option (List ℤ)). All (λ z. z < levels_along o) choice.levels) (sym same) is.levels_in
+    inside = subst (λ (o : Option (List ℤ)). All (λ z. z < axis_length o) choice.levels) (sym same) is.levels_in
 
     pub levels_inside : All (λ z. z < length zs) places
     levels_inside = subst (λ (ps : List ℕ). All (λ z. z < length zs) ps) (sym at) inside
@@ -101,7 +101,7 @@ module _ (s : StationValue) (choice : ChoiceValue) (is : IsChoiceOf s choice) wh
 
   pub one_level : s.zs ≡ None → choice.levels ≡ 0 ∷ []
   one_level none =
-      only_level choice.levels (subst (λ (o : Option (List ℤ)). All (λ z. z < levels_along o) choice.levels) none is.levels_in) is.levels_rise is.levels
+      only_level choice.levels (subst (λ (o : Option (List ℤ)). All (λ z. z < axis_length o) choice.levels) none is.levels_in) is.levels_rise is.levels
 
   pub domain_axes : IsPlaced s → HasAxes (domain_of s choice)
   domain_axes placed =

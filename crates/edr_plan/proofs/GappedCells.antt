@@ -6,7 +6,8 @@ use Rattle.std.specs.Prelude.{⊤, map, ◌&&◌, ◌||◌, None, Some, option_t
 use Rattle.std.specs.List.{flat_map, list_any, range_with_len}
 use Rattle.std.proofs.lemmas.Bool.{cases_lt}
 use Rattle.std.proofs.lemmas.List.Elements.{All-nil, All-cons, All-head, All-tail, All-filter}
-use Rattle.edr_station.specs.Stations.{StationValue, levels_along, values_along}
+use Rattle.edr_station.specs.Stations.{StationValue, values_along}
+use Rattle.edr_axes.specs.Axes.{axis_length}
 use Rattle.edr_query.specs.Values.{QueryValue}
 use Rattle.edr_select.specs.Gaps.{cells_taken, RiseApart}
 use Rattle.edr_select.specs.Listings.{NumbersRise}
@@ -110,18 +111,18 @@ module _ (q : QueryValue) (c : CorridorValue) (s : StationValue) where
     pub time : ℕ
     pub level : ℕ
     pub time_in : time < length s.ts
-    pub level_in : level < levels_along s.zs
+    pub level_in : level < axis_length s.zs
     pub taken : takes_at q c s time level ≡ true
 
   pub taken_at : is_taken q c s ≡ true → TakenAt
   taken_at h =
       let ft = passes_at (has_time q c s) 0 (length s.ts) h in
-      let fz = passes_at (λ z. takes_at q c s ft.place z) 0 (levels_along s.zs) ft.passes in
+      let fz = passes_at (λ z. takes_at q c s ft.place z) 0 (axis_length s.zs) ft.passes in
       record { time = ft.place; level = fz.place; time_in = omega (arith, ft.high); level_in = omega (arith, fz.high); taken = fz.passes }
 
-  module _ (t z : ℕ) (ht : t < length s.ts) (hz : z < levels_along s.zs) (taken : takes_at q c s t z ≡ true) where
+  module _ (t z : ℕ) (ht : t < length s.ts) (hz : z < axis_length s.zs) (taken : takes_at q c s t z ≡ true) where
     time_taken : has_time q c s t ≡ true
-    time_taken = any_range (λ z. takes_at q c s t z) 0 (levels_along s.zs) z (omega arith) (omega (arith, hz)) taken
+    time_taken = any_range (λ z. takes_at q c s t z) 0 (axis_length s.zs) z (omega arith) (omega (arith, hz)) taken
 
     -- its time and its level occur, and something is taken
     pub time_occurs : Contains choice.times t
@@ -129,7 +130,7 @@ module _ (q : QueryValue) (c : CorridorValue) (s : StationValue) where
 
     pub level_occurs : Contains choice.levels z
     level_occurs =
-        contains_kept (has_level q c s) (levels_along s.zs) z hz (any_range (λ t. takes_at q c s t z) 0 (length s.ts) t (omega arith) (omega (arith, ht)) taken)
+        contains_kept (has_level q c s) (axis_length s.zs) z hz (any_range (λ t. takes_at q c s t z) 0 (length s.ts) t (omega arith) (omega (arith, ht)) taken)
 
     pub is_taken_at : is_taken q c s ≡ true
     is_taken_at = any_range (has_time q c s) 0 (length s.ts) t (omega arith) (omega (arith, ht)) time_taken
@@ -137,14 +138,14 @@ module _ (q : QueryValue) (c : CorridorValue) (s : StationValue) where
   times_in : All (λ t. t < length s.ts) choice.times
   times_in = All-filter (has_time q c s) (λ t. t < length s.ts) (range_with_len 0 (length s.ts)) (all_below (length s.ts))
 
-  levels_in : All (λ z. z < levels_along s.zs) choice.levels
-  levels_in = All-filter (has_level q c s) (λ z. z < levels_along s.zs) (range_with_len 0 (levels_along s.zs)) (all_below (levels_along s.zs))
+  levels_in : All (λ z. z < axis_length s.zs) choice.levels
+  levels_in = All-filter (has_level q c s) (λ z. z < axis_length s.zs) (range_with_len 0 (axis_length s.zs)) (all_below (axis_length s.zs))
 
   times_rise : NumbersRise choice.times
   times_rise = numbers_rise (has_time q c s) 0 (length s.ts)
 
   levels_rise : NumbersRise choice.levels
-  levels_rise = numbers_rise (has_level q c s) 0 (levels_along s.zs)
+  levels_rise = numbers_rise (has_level q c s) 0 (axis_length s.zs)
 
   -- where something is taken its times and levels are a choice
   pub along_chosen : is_taken q c s ≡ true → IsChoiceOf s choice
@@ -159,22 +160,22 @@ module _ (q : QueryValue) (c : CorridorValue) (s : StationValue) where
         levels = λ none. no_member choice.levels at.level none (level_occurs at.time at.level at.time_in at.level_in at.taken);
       }
 
-  shadows : Shadows (cells_along q c s) (cells_over (levels_along s.zs) choice.times choice.levels)
-  shadows = masked_shadows (takes_at q c s) (levels_along s.zs) choice.times choice.levels
+  shadows : Shadows (cells_along q c s) (cells_over (axis_length s.zs) choice.times choice.levels)
+  shadows = masked_shadows (takes_at q c s) (axis_length s.zs) choice.times choice.levels
 
   pub along_count : length (cells_along q c s) ≡ length choice.times * length choice.levels
   along_count =
-      shadow_length (cells_along q c s) (cells_over (levels_along s.zs) choice.times choice.levels) shadows ∙ rows_count (levels_along s.zs) choice.times choice.levels
+      shadow_length (cells_along q c s) (cells_over (axis_length s.zs) choice.times choice.levels) shadows ∙ rows_count (axis_length s.zs) choice.times choice.levels
 
   pub along_rises : RiseApart (cells_along q c s)
   along_rises =
-      shadow_rises (cells_along q c s) (cells_over (levels_along s.zs) choice.times choice.levels) shadows
-      (rows_rise (levels_along s.zs) choice.times choice.levels times_rise levels_rise levels_in)
+      shadow_rises (cells_along q c s) (cells_over (axis_length s.zs) choice.times choice.levels) shadows
+      (rows_rise (axis_length s.zs) choice.times choice.levels times_rise levels_rise levels_in)
 
   pub along_below : All (λ cell. cell < values_along s) (cells_taken (cells_along q c s))
   along_below =
-      shadow_below (values_along s) (cells_along q c s) (cells_over (levels_along s.zs) choice.times choice.levels) shadows
-      (all_in_rows (levels_along s.zs) (length s.ts) choice.times choice.levels times_in levels_in)
+      shadow_below (values_along s) (cells_along q c s) (cells_over (axis_length s.zs) choice.times choice.levels) shadows
+      (all_in_rows (axis_length s.zs) (length s.ts) choice.times choice.levels times_in levels_in)
 
   -- a cell that is taken passes where the place of a time and a level that is taken does
   pub any_cell : (v : ℕ → Bool) → list_any v (cells_taken (cells_along q c s))

@@ -4,7 +4,8 @@ use Rattle.std.specs.Prelude.{map, ◌&&◌, ◌==◌}
 use Rattle.std.specs.List.{filter, list_any, range_with_len}
 use Rattle.std.proofs.lemmas.Bool.{and_parts, and_from}
 use Rattle.covjson_value.specs.declared.coverages.Parameter.{Parameter}
-use Rattle.edr_station.specs.Stations.{StationValue, station_at, levels_along}
+use Rattle.edr_station.specs.Stations.{StationValue, station_at}
+use Rattle.edr_axes.specs.Axes.{axis_length}
 use Rattle.edr_station.specs.Blocks.{blocks, blocks_of, first_block}
 use Rattle.edr_edition.specs.Values.{CollectionValue}
 use Rattle.edr_edition.specs.Editions.{IsCollection}
@@ -108,7 +109,7 @@ module _ (collection : CollectionValue) (q : QueryValue) (c : CorridorValue) (is
           station = kept_below (λ k. is_taken q c (station_at ss k)) (length ss) k fk.among;
           parameter = kept_below (λ p. is_asked q.parameters (id_at ps p)) (length ps) fp.item fp.among;
           time = kept_below (has_time q c station) (length station.ts) ft.item ft.among;
-          level = kept_below (has_level q c station) (levels_along station.zs) fz.item fz.among;
+          level = kept_below (has_level q c station) (axis_length station.zs) fz.item fz.among;
         }) (kept_passes (λ p. is_asked q.parameters (id_at ps p)) (length ps) fp.item fp.among) parts.0 parts.1
 
     same_number : list_any is_number (blocks_of_series asked (all_gapped collection q c)) ≡ list_any is_number (map chunk_of (picked s q))

@@ -6,7 +6,8 @@ use Rattle.covjson_value.specs.declared.coverages.Parameter.{Parameter}
 use Rattle.covjson_value.specs.declared.coverages.NdArray.{NdArray}
 use Rattle.covjson_value.specs.declared.coverages.Coverage.{Coverage}
 use Rattle.covjson_value.specs.Samples.{Node, nodes_of}
-use Rattle.edr_station.specs.Stations.{StationValue, station_at, levels_along}
+use Rattle.edr_station.specs.Stations.{StationValue, station_at}
+use Rattle.edr_axes.specs.Axes.{axis_length}
 use Rattle.edr_edition.specs.Values.{CollectionValue}
 use Rattle.edr_edition.specs.Editions.{IsCollection}
 use Rattle.edr_edition.specs.Stores.{Subject}
@@ -69,7 +70,7 @@ module _ (collection : CollectionValue) (q : QueryValue) (c : CorridorValue) (is
       station = inside;
       parameter = kept_below (λ p. is_asked q.parameters (id_at ps p)) (length ps) p mp;
       time = kept_below (has_time q c station) (length station.ts) t mt;
-      level = kept_below (has_level q c station) (levels_along station.zs) z mz;
+      level = kept_below (has_level q c station) (axis_length station.zs) z mz;
     }
 
     value_if : (b : Bool) → takes_at q c station t z ≡ b → found p (node_of station t z) ≡ gapped_value station p (cell_if b (cell_of station t z))

@@ -7,13 +7,13 @@ use Rattle.std.specs.List.{filter, list_any, range_with_len}
 use Rattle.std.proofs.lemmas.Bool.{and_parts, and_from}
 use Rattle.std.proofs.lemmas.Bool.Decides.{Decides-int_eq}
 use Rattle.std.proofs.lemmas.Slice.Eq.{bytes_eq-Decides}
-use Rattle.edr_axes.specs.Axes.{value_at, IsAscending}
+use Rattle.edr_axes.specs.Axes.{value_at, IsAscending, axis_length}
 use Rattle.edr_axes.specs.AxisLaws.{ascending_once}
 use Rattle.covjson_value.specs.declared.coverages.Parameter.{Parameter}
 use Rattle.covjson_value.specs.Samples.{same_where_given}
 use Rattle.edr_ids.specs.Ids.{AscendBy}
 use Rattle.edr_base.specs.Limits.{IsCoordinate}
-use Rattle.edr_station.specs.Stations.{StationValue, IsStation, IsAxisWithin, levels_along, station_id, station_at, nowhere}
+use Rattle.edr_station.specs.Stations.{StationValue, IsStation, IsAxisWithin, station_id, station_at, nowhere}
 use Rattle.edr_edition.specs.Stores.{of_stations, Subject}
 use Rattle.edr_query.specs.Values.{QueryValue}
 use Rattle.edr_select.specs.Samples.{Stored, id_at}
@@ -31,7 +31,7 @@ use Rattle.edr_plan.proofs.SelectedStations.{StationTest, SelectsBy, Pick, pick_
 
 -- some sample of a time, of a level, and of a station passes
 abbrev pub some_at_time : List StationValue → StationTest → ℕ → ℕ → Bool
-some_at_time ss takes k t = list_any (λ z. takes k t z) (range_with_len 0 (levels_along (station_at ss k).zs))
+some_at_time ss takes k t = list_any (λ z. takes k t z) (range_with_len 0 (axis_length (station_at ss k).zs))
 
 abbrev pub some_at_level : List StationValue → StationTest → ℕ → ℕ → Bool
 some_at_level ss takes k z = list_any (λ t. takes k t z) (range_with_len 0 (length (station_at ss k).ts))
@@ -42,7 +42,7 @@ some_of ss takes k = list_any (some_at_time ss takes k) (range_with_len 0 (lengt
 module _ (s : Subject) (q : QueryValue) (ps : List Parameter) (ss : List StationValue) (held : s.held ≡ of_stations ps ss) (are : All (IsStation (length ps)) ss)
     (takes : StationTest) (selects : SelectsBy s q ps ss takes) (up : AscendBy station_id ss) where
   abbrev levels_of : ℕ → List ℕ
-  levels_of k = range_with_len 0 (levels_along (station_at ss k).zs)
+  levels_of k = range_with_len 0 (axis_length (station_at ss k).zs)
 
   abbrev times_of : ℕ → List ℕ
   times_of k = range_with_len 0 (length (station_at ss k).ts)
@@ -71,7 +71,7 @@ module _ (s : Subject) (q : QueryValue) (ps : List Parameter) (ss : List Station
     -- where some parameter is asked
     module _ (some : parameter_places q.parameters ps ≢ []) where
       -- a sample of a time and a level that are taken
-      found_at : (u : Stored → Bool) (t z : ℕ) → t < length (station_at ss k).ts → z < levels_along (station_at ss k).zs → takes k t z ≡ true
+      found_at : (u : Stored → Bool) (t z : ℕ) → t < length (station_at ss k).ts → z < axis_length (station_at ss k).zs → takes k t z ≡ true
           → ((p : ℕ) → u (stored_in ps ss k p t z) ≡ true) → list_any u own ≡ true
       found_at u t z ht hz taken passes =
           let one = some_member (parameter_places q.parameters ps) some in
@@ -86,9 +86,9 @@ module _ (s : Subject) (q : QueryValue) (ps : List Parameter) (ss : List Station
           ∙ both (list_any (λ x. true) own) (some_of ss takes k)
           (λ h. let f = own_found (λ x. true) h in
           any_range (some_at_time ss takes k) 0 (length (station_at ss k).ts) f.time (omega arith) (omega (arith, f.place.time))
-          (any_range (takes k f.time) 0 (levels_along (station_at ss k).zs) f.level (omega arith) (omega (arith, f.place.level)) f.taken))
+          (any_range (takes k f.time) 0 (axis_length (station_at ss k).zs) f.level (omega arith) (omega (arith, f.place.level)) f.taken))
           (λ h. let ft = passes_at (some_at_time ss takes k) 0 (length (station_at ss k).ts) h in
-          let fz = passes_at (takes k ft.place) 0 (levels_along (station_at ss k).zs) ft.passes in
+          let fz = passes_at (takes k ft.place) 0 (axis_length (station_at ss k).zs) ft.passes in
           found_at (λ x. true) ft.place fz.place (omega (arith, ft.high)) (omega (arith, fz.high)) fz.passes (λ p. refl))
 
       same_values : (u v : ℤ) → int_eq u v ≡ true → u ≡ v
@@ -103,8 +103,8 @@ module _ (s : Subject) (q : QueryValue) (ps : List Parameter) (ss : List Station
           (λ h. let f = own_found at_time h in
           let same : f.time ≡ t = ascending_once ts (are k nowhere inside).placed.ts.axis.ascending f.time t f.place.time ht (same_values (value_at ts f.time) (value_at ts t) f.passes) in
           subst (λ (t : ℕ). some_at_time ss takes k t ≡ true) same
-          (any_range (takes k f.time) 0 (levels_along (station_at ss k).zs) f.level (omega arith) (omega (arith, f.place.level)) f.taken))
-          (λ h. let fz = passes_at (takes k t) 0 (levels_along (station_at ss k).zs) h in
+          (any_range (takes k f.time) 0 (axis_length (station_at ss k).zs) f.level (omega arith) (omega (arith, f.place.level)) f.taken))
+          (λ h. let fz = passes_at (takes k t) 0 (axis_length (station_at ss k).zs) h in
           found_at at_time t fz.place ht (omega (arith, fz.high)) fz.passes (λ p. (Decides-int_eq (value_at ts t) (value_at ts t)).1 refl))
 
       -- the times that occur
@@ -121,8 +121,8 @@ module _ (s : Subject) (q : QueryValue) (ps : List Parameter) (ss : List Station
 
       -- those of the levels, where there is an axis of them
       module _ (values : List ℤ) (zs : (station_at ss k).zs ≡ Some values) where
-        count : levels_along (station_at ss k).zs ≡ length values
-        count = ap levels_along zs
+        count : axis_length (station_at ss k).zs ≡ length values
+        count = ap axis_length zs
 
         shown : (z : ℕ) → level_at (station_at ss k).zs z ≡ Some (value_at values z)
         shown z = ap (λ (o : Option (List ℤ)). level_at o z) zs

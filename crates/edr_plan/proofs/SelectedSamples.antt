@@ -4,7 +4,8 @@ use Rattle.std.specs.Prelude.{map, ◌&&◌}
 use Rattle.std.specs.List.{filter, flat_map, list_any, range_with_len}
 use Rattle.std.proofs.lemmas.Bool.{and_parts, and_from}
 use Rattle.covjson_value.specs.declared.coverages.Parameter.{Parameter}
-use Rattle.edr_station.specs.Stations.{StationValue, IsStation, levels_along, station_at}
+use Rattle.edr_station.specs.Stations.{StationValue, IsStation, station_at}
+use Rattle.edr_axes.specs.Axes.{axis_length}
 use Rattle.edr_edition.specs.Stores.{of_stations, Subject}
 use Rattle.edr_query.specs.Values.{QueryValue}
 use Rattle.edr_select.specs.Samples.{Stored, samples_of}
@@ -19,7 +20,7 @@ pub record IsPlace (ps : List Parameter) (ss : List StationValue) (k p t z : ℕ
   pub station : k < length ss
   pub parameter : p < length ps
   pub time : t < length (station_at ss k).ts
-  pub level : z < levels_along (station_at ss k).zs
+  pub level : z < axis_length (station_at ss k).zs
 
 -- a picked sample that passes
 pub record Wanted (s : Subject) (q : QueryValue) (ps : List Parameter) (ss : List StationValue) (u : Stored → Bool) : Type 0 where
@@ -40,7 +41,7 @@ module _ (s : Subject) (q : QueryValue) (ps : List Parameter) (ss : List Station
   picks = picked s q
 
   abbrev levels_of : ℕ → List ℕ
-  levels_of k = range_with_len 0 (levels_along (station_at ss k).zs)
+  levels_of k = range_with_len 0 (axis_length (station_at ss k).zs)
 
   abbrev times_of : ℕ → List ℕ
   times_of k = range_with_len 0 (length (station_at ss k).ts)
@@ -82,7 +83,7 @@ module _ (s : Subject) (q : QueryValue) (ps : List Parameter) (ss : List Station
       let p : ℕ = fp.place in
       let ft = passes_at (any_level (wanted u) k p) 0 (length (station_at ss k).ts) fp.passes in
       let t : ℕ = ft.place in
-      let fz = passes_at (λ (z : ℕ). wanted u (stored_in ps ss k p t z)) 0 (levels_along (station_at ss k).zs) ft.passes in
+      let fz = passes_at (λ (z : ℕ). wanted u (stored_in ps ss k p t z)) 0 (axis_length (station_at ss k).zs) ft.passes in
       let parts = and_parts (wants s q (stored_in ps ss k p t fz.place)) (u (stored_in ps ss k p t fz.place)) fz.passes in
       record {
         station = k;
@@ -106,7 +107,7 @@ module _ (s : Subject) (q : QueryValue) (ps : List Parameter) (ss : List Station
       ∙ any_range (any_parameter (wanted u)) 0 (length ss) k (omega arith) (omega (arith, at.station))
       (any_range (any_time (wanted u) k) 0 (length ps) p (omega arith) (omega (arith, at.parameter))
       (any_range (any_level (wanted u) k p) 0 (length (station_at ss k).ts) t (omega arith) (omega (arith, at.time))
-      (any_range (λ z. wanted u (stored_in ps ss k p t z)) 0 (levels_along (station_at ss k).zs) z (omega arith) (omega (arith, at.level))
+      (any_range (λ z. wanted u (stored_in ps ss k p t z)) 0 (axis_length (station_at ss k).zs) z (omega arith) (omega (arith, at.level))
       (and_from _ _ wanted_here passes))))
 
   -- what holds of each sample holds of each that is picked
@@ -115,5 +116,5 @@ module _ (s : Subject) (q : QueryValue) (ps : List Parameter) (ss : List Station
       subst (λ (xs : List Stored). Each P xs) (sym picks_are)
       (each-filter P (wants s q) samples
       (each-flat_map_range P _ 0 (length ss) (λ k lk hk. each-flat_map_range P _ 0 (length ps) (λ p lp hp.
-      each-flat_map_range P _ 0 (length (station_at ss k).ts) (λ t lt ht. each-map_range P (stored_in ps ss k p t) 0 (levels_along (station_at ss k).zs) (λ z lz hz.
+      each-flat_map_range P _ 0 (length (station_at ss k).ts) (λ t lt ht. each-map_range P (stored_in ps ss k p t) 0 (axis_length (station_at ss k).zs) (λ z lz hz.
       h k p t z (record { station = omega (arith, hk); parameter = omega (arith, hp); time = omega (arith, ht); level = omega (arith, hz) })))))))

@@ -6,7 +6,8 @@ use Rattle.std.proofs.lemmas.Bool.{and_parts}
 use Rattle.std.proofs.lemmas.Grind.{flat_map-append}
 use Rattle.std.proofs.lemmas.List.{append-nil, take_more, take-append-drop}
 use Rattle.covjson_value.specs.declared.coverages.Coverage.{Coverage}
-use Rattle.edr_station.specs.Stations.{StationValue, station_at, levels_along}
+use Rattle.edr_station.specs.Stations.{StationValue, station_at}
+use Rattle.edr_axes.specs.Axes.{axis_length}
 use Rattle.edr_station.specs.Blocks.{blocks_of, block_of, first_block, place_at, Within}
 use Rattle.edr_edition.specs.Values.{CollectionValue}
 use Rattle.edr_edition.specs.Stores.{stations_of}
@@ -35,12 +36,12 @@ first_within c parameters k choice some below inside is =
       station = inside;
       parameter = some_below parameters (length c.parameters) some below;
       time = some_below choice.times (length (station_at c.stations k).ts) is.times within.times;
-      level = some_below choice.levels (levels_along (station_at c.stations k).zs) is.levels within.levels;
+      level = some_below choice.levels (axis_length (station_at c.stations k).zs) is.levels within.levels;
     }
 
 -- its block is the station's first
 pub first_is : (c : CollectionValue) (k : ℕ) → block_of (stations_of c.parameters c.stations) (place_at k 0 0 0) ≡ first_block (stations_of c.parameters c.stations) k
-first_is c k = none (first_block (stations_of c.parameters c.stations) k) (blocks_of (station_at c.stations k)) (levels_along (station_at c.stations k).zs)
+first_is c k = none (first_block (stations_of c.parameters c.stations) k) (blocks_of (station_at c.stations k)) (axis_length (station_at c.stations k).zs)
   where
     none : (first blocks levels : ℕ) → first + 0 * blocks + (0 * levels + 0) / 256 ≡ first
     none first blocks levels = omega arith

@@ -6,10 +6,9 @@ use Rattle.std.proofs.lemmas.Bool.{and_parts}
 use Rattle.std.proofs.lemmas.List.{length-map}
 use Rattle.std.proofs.lemmas.List.Elements.{All-nil, All-head, All-tail, All-append, All-map, All-filter, All-weaker}
 use Rattle.std.proofs.lemmas.List.Kept.{AllPairs-cons}
-use Rattle.edr_axes.specs.Axes.{value_at}
+use Rattle.edr_axes.specs.Axes.{value_at, axis_length}
 use Rattle.covjson_value.specs.declared.coverages.Parameter.{Parameter}
-use Rattle.covjson_value.specs.Domains.{axis_length}
-use Rattle.edr_station.specs.Stations.{StationValue, station_at, levels_along, values_along}
+use Rattle.edr_station.specs.Stations.{StationValue, station_at, values_along}
 use Rattle.edr_edition.specs.Values.{CollectionValue}
 use Rattle.edr_query.specs.Values.{QueryValue}
 use Rattle.edr_select.specs.Wanted.{takes_time, takes_level, levels_asked}
@@ -65,15 +64,15 @@ cells_over w times levels = flat_map (λ t. map (λ z. t * w + z) levels) times
 -- times and levels lie on the station's axes
 pub record IsBelow (s : StationValue) (choice : ChoiceValue) : Type 0 where
   pub times : All (λ t. t < length s.ts) choice.times
-  pub levels : All (λ z. z < levels_along s.zs) choice.levels
+  pub levels : All (λ z. z < axis_length s.zs) choice.levels
 
 pub times_below : (q : QueryValue) (s : StationValue) → All (λ t. t < length s.ts) (choice_of q s).times
 times_below q s =
     All-filter (λ t. takes_time q.times (Some (value_at s.ts t))) (λ t. t < length s.ts) (range_with_len 0 (length s.ts)) (all_below (length s.ts))
 
-pub levels_below : (q : QueryValue) (s : StationValue) → All (λ z. z < levels_along s.zs) (choice_of q s).levels
+pub levels_below : (q : QueryValue) (s : StationValue) → All (λ z. z < axis_length s.zs) (choice_of q s).levels
 levels_below q s =
-    All-filter (λ z. takes_level (levels_asked q) (level_at s.zs z)) (λ z. z < levels_along s.zs) (range_with_len 0 (axis_length s.zs))
+    All-filter (λ z. takes_level (levels_asked q) (level_at s.zs z)) (λ z. z < axis_length s.zs) (range_with_len 0 (axis_length s.zs))
     (subst (λ (n : ℕ). All (λ z. z < n) (range_with_len 0 (axis_length s.zs))) (sym (levels_are_axis s.zs)) (all_below (axis_length s.zs)))
 
 -- those of a query do
@@ -113,7 +112,7 @@ all_in_rows w h (t ∷ times) levels ht hz =
 -- so the cells of any such choice are below the number of values
 pub choice_cells_below : (s : StationValue) (choice : ChoiceValue) → IsBelow s choice
     → All (λ cell. cell < values_along s) (flat_map (λ t. map (cell_of s t) choice.levels) choice.times)
-choice_cells_below s choice below = all_in_rows (levels_along s.zs) (length s.ts) choice.times choice.levels below.times below.levels
+choice_cells_below s choice below = all_in_rows (axis_length s.zs) (length s.ts) choice.times choice.levels below.times below.levels
 
 pub cells_below : (c : CollectionValue) (q : QueryValue) (k : ℕ) → All (λ cell. cell < values_along (station_at c.stations k)) (series_of c q k).cells
 cells_below c q k =
@@ -163,7 +162,7 @@ rows_rise w (t ∷ times) levels ht hz below =
 pub cells_rise : (c : CollectionValue) (q : QueryValue) (k : ℕ) → NumbersRise (series_of c q k).cells
 cells_rise c q k =
     let s : StationValue = station_at c.stations k in
-    rows_rise (levels_along s.zs) (choice_of q s).times (choice_of q s).levels (numbers_rise (λ t. takes_time q.times (Some (value_at s.ts t))) 0 (length s.ts))
+    rows_rise (axis_length s.zs) (choice_of q s).times (choice_of q s).levels (numbers_rise (λ t. takes_time q.times (Some (value_at s.ts t))) 0 (length s.ts))
     (numbers_rise (λ z. takes_level (levels_asked q) (level_at s.zs z)) 0 (axis_length s.zs)) (levels_below q s)
 
 -- ---- they are as many as the times and levels
@@ -179,7 +178,7 @@ rows_count w (t ∷ times) levels =
 
 pub choice_cells_count : (s : StationValue) (choice : ChoiceValue)
     → length (flat_map (λ t. map (cell_of s t) choice.levels) choice.times) ≡ length choice.times * length choice.levels
-choice_cells_count s choice = rows_count (levels_along s.zs) choice.times choice.levels
+choice_cells_count s choice = rows_count (axis_length s.zs) choice.times choice.levels
 
 pub cells_count : (c : CollectionValue) (q : QueryValue) (k : ℕ)
     → length (series_of c q k).cells ≡ length (choice_of q (station_at c.stations k)).times * length (choice_of q (station_at c.stations k)).levels

@@ -12,19 +12,18 @@ use Rattle.std.proofs.lemmas.List.Elements.{filter_agree}
 use Rattle.std.proofs.lemmas.Map.Keys.{Less-from_sorted}
 use Rattle.std.proofs.lemmas.Slice.Eq.{bytes_eq-Decides}
 use Rattle.edr_axes.specs.declared.levels.Levels.{Levels}
-use Rattle.edr_axes.specs.Axes.{value_at}
+use Rattle.edr_axes.specs.Axes.{value_at, axis_length}
 use Rattle.edr_axes.specs.AxisLaws.{ascending_once}
 use Rattle.covjson_value.specs.declared.coverages.Parameter.{Parameter}
 use Rattle.covjson_value.specs.Coverages.{AscendById, ids_of}
-use Rattle.covjson_value.specs.Domains.{axis_length}
 use Rattle.covjson_value.specs.Samples.{Node, node, same_where_given, same_node, is_of}
 use Rattle.edr_base.specs.Names.{order}
 use Rattle.edr_ids.specs.Ids.{AscendBy}
 use Rattle.edr_ids.specs.ListLaws.{order_itself}
 use Rattle.edr_base.specs.Limits.{IsCoordinate}
-use Rattle.edr_station.specs.Stations.{StationValue, IsStation, IsAxisWithin, levels_along, station_id, station_at, nowhere}
+use Rattle.edr_station.specs.Stations.{StationValue, IsStation, IsAxisWithin, station_id, station_at, nowhere}
 use Rattle.edr_station.specs.Blocks.{blocks_of, first_block, series_at}
-use Rattle.edr_edition.specs.Stores.{of_stations, Subject}
+use Rattle.edr_edition.specs.Stores.{of_stations, Subject, stations_of}
 use Rattle.edr_query.specs.declared.shapes.Shape.{Shape}
 use Rattle.edr_query.specs.declared.shapes.Shape.TheVariants as at
 use Rattle.edr_query.specs.Values.{QueryValue}
@@ -36,7 +35,7 @@ use Rattle.edr_select.specs.Documents.{same_station, value_in}
 use Rattle.edr_select.specs.Choices.{parameter_places, level_places}
 use Rattle.edr_corridor.specs.Boxes.{level_at}
 use Rattle.edr_select.specs.ListLaws.{any-map, any-flat_map, any_agree, any_range, filter_product, filter-flat_map, filter_and, filter_at, flat_map_agree, flat_map-cond, map-map, map-flat_map, Each, each-map_in, each-flat_map_in, find_each, both, passing, all_member, any_member, no_member}
-use Rattle.edr_plan.specs.StationPlaces.{cell_of, collection_of, stored_in, IsOfStations, takes_station, station_times, station_levels, station_cells, station_picks, not_empty, is_taken}
+use Rattle.edr_plan.specs.StationPlaces.{cell_of, stored_in, IsOfStations, takes_station, station_times, station_levels, station_cells, station_picks, not_empty, is_taken}
 use Rattle.edr_select.specs.KeptLaws.{all_below, contains_kept, kept_below, kept_passes, filter_by_places, one_kept}
 use Rattle.edr_plan.proofs.StationSamples.{levels_are_axis, samples_by_places}
 
@@ -108,10 +107,10 @@ module _ (q : QueryValue) (ps : List Parameter) (ss : List StationValue) where
   abbrev picks_along : ℕ → ℕ → List Stored
   picks_along k p = flat_map (λ t. map (stored_in ps ss k p t) (station_levels q (station_at ss k))) (station_times q (station_at ss k))
 
-  levels_kept : (k : ℕ) → filter (λ z. takes_station q.shape (station_at ss k) && takes_z k z) (range_with_len 0 (levels_along (station_at ss k).zs))
+  levels_kept : (k : ℕ) → filter (λ z. takes_station q.shape (station_at ss k) && takes_z k z) (range_with_len 0 (axis_length (station_at ss k).zs))
       ≡ station_levels q (station_at ss k)
   levels_kept k =
-      filter_and (takes_station q.shape (station_at ss k)) (takes_z k) (range_with_len 0 (levels_along (station_at ss k).zs))
+      filter_and (takes_station q.shape (station_at ss k)) (takes_z k) (range_with_len 0 (axis_length (station_at ss k).zs))
       ∙ ap (λ n. cond (takes_station q.shape (station_at ss k)) (filter (takes_z k) (range_with_len 0 n)) []) (levels_are_axis (station_at ss k).zs)
 
   module _ (s : Subject) (held : s.held ≡ of_stations ps ss) (of : IsOfStations q.shape) where
@@ -124,21 +123,21 @@ module _ (q : QueryValue) (ps : List Parameter) (ss : List StationValue) where
 
     -- of a parameter of a station it picks nothing, or at each time and level
     picked_along : (k p : ℕ)
-        → filter (wants s q) (flat_map (λ t. map (stored_in ps ss k p t) (range_with_len 0 (levels_along (station_at ss k).zs))) (range_with_len 0 (length (station_at ss k).ts)))
+        → filter (wants s q) (flat_map (λ t. map (stored_in ps ss k p t) (range_with_len 0 (axis_length (station_at ss k).zs))) (range_with_len 0 (length (station_at ss k).ts)))
         ≡ cond (asks p) (picks_along k p) []
     picked_along k p =
-        let levels : List ℕ = range_with_len 0 (levels_along (station_at ss k).zs) in
+        let levels : List ℕ = range_with_len 0 (axis_length (station_at ss k).zs) in
         let times : List ℕ = range_with_len 0 (length (station_at ss k).ts) in
         filter_product (λ t. asks p && takes_t k t) (λ z. takes_station q.shape (station_at ss k) && takes_z k z) (stored_in ps ss k p) (wants s q) (wants_is k p) times levels
         ∙ (ap₂ (λ ts zs. flat_map (λ t. map (stored_in ps ss k p t) zs) ts) (filter_and (asks p) (takes_t k) times) (levels_kept k)
         ∙ flat_map_if (asks p) (λ t. map (stored_in ps ss k p t) (station_levels q (station_at ss k))) (filter (takes_t k) times))
 
     picked_of : (k : ℕ)
-        → filter (wants s q) (flat_map (λ p. flat_map (λ t. map (stored_in ps ss k p t) (range_with_len 0 (levels_along (station_at ss k).zs)))
+        → filter (wants s q) (flat_map (λ p. flat_map (λ t. map (stored_in ps ss k p t) (range_with_len 0 (axis_length (station_at ss k).zs)))
         (range_with_len 0 (length (station_at ss k).ts))) (range_with_len 0 (length ps)))
         ≡ station_picks q ps ss k
     picked_of k =
-        let along : ℕ → List Stored = λ p. flat_map (λ t. map (stored_in ps ss k p t) (range_with_len 0 (levels_along (station_at ss k).zs)))
+        let along : ℕ → List Stored = λ p. flat_map (λ t. map (stored_in ps ss k p t) (range_with_len 0 (axis_length (station_at ss k).zs)))
         (range_with_len 0 (length (station_at ss k).ts)) in
         filter-flat_map (wants s q) along (range_with_len 0 (length ps))
         ∙ (flat_map_agree (λ p. filter (wants s q) (along p)) (λ p. cond (asks p) (picks_along k p) []) (picked_along k) (range_with_len 0 (length ps))
@@ -149,7 +148,7 @@ module _ (q : QueryValue) (ps : List Parameter) (ss : List StationValue) where
 pub picked_by_places : (s : Subject) (q : QueryValue) (ps : List Parameter) (ss : List StationValue) → s.held ≡ of_stations ps ss → IsOfStations q.shape
     → All (IsStation (length ps)) ss → picked s q ≡ flat_map (station_picks q ps ss) (range_with_len 0 (length ss))
 picked_by_places s q ps ss held of are =
-    let along : ℕ → List Stored = λ k. flat_map (λ p. flat_map (λ t. map (stored_in ps ss k p t) (range_with_len 0 (levels_along (station_at ss k).zs)))
+    let along : ℕ → List Stored = λ k. flat_map (λ p. flat_map (λ t. map (stored_in ps ss k p t) (range_with_len 0 (axis_length (station_at ss k).zs)))
     (range_with_len 0 (length (station_at ss k).ts))) (range_with_len 0 (length ps)) in
     ap (filter (wants s q)) (ap samples_of held ∙ samples_by_places ps ss are)
     ∙ (filter-flat_map (wants s q) along (range_with_len 0 (length ss))
@@ -257,7 +256,7 @@ chunks_of_some (x ∷ xs) = refl
 module _ (q : QueryValue) (ps : List Parameter) (ss : List StationValue) where
   -- the chunk of a cell of a parameter
   abbrev chunk_at : ℕ → ℕ → ℕ → ℕ
-  chunk_at k p c = first_block (collection_of ps ss) k + p * blocks_of (station_at ss k) + c / 256
+  chunk_at k p c = first_block (stations_of ps ss) k + p * blocks_of (station_at ss k) + c / 256
 
   abbrev chunks_at : ℕ → List ℕ
   chunks_at k = flat_map (λ p. map (chunk_at k p) (station_cells q (station_at ss k))) (parameter_places q.parameters ps)
@@ -284,7 +283,7 @@ module _ (q : QueryValue) (ps : List Parameter) (ss : List StationValue) where
 pub chunks_by_places : (s : Subject) (q : QueryValue) (ps : List Parameter) (ss : List StationValue) → s.held ≡ of_stations ps ss → IsOfStations q.shape
     → All (IsStation (length ps)) ss
     → map chunk_of (picked s q)
-    ≡ flat_map (λ k. flat_map (λ p. map (λ c. first_block (collection_of ps ss) k + p * blocks_of (station_at ss k) + c / 256) (station_cells q (station_at ss k)))
+    ≡ flat_map (λ k. flat_map (λ p. map (λ c. first_block (stations_of ps ss) k + p * blocks_of (station_at ss k) + c / 256) (station_cells q (station_at ss k)))
     (parameter_places q.parameters ps)) (filter (λ k. is_taken q ps (station_at ss k)) (range_with_len 0 (length ss)))
 chunks_by_places s q ps ss held of are =
     let stations : List ℕ = range_with_len 0 (length ss) in

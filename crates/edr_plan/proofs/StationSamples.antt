@@ -6,11 +6,10 @@ use Rattle.std.specs.List.{range_with_len, flat_map, slice_index_or}
 use Rattle.std.proofs.lemmas.List.Elements.{All-head, All-tail}
 use Rattle.std.proofs.lemmas.List.Folds.{flat_map-map}
 use Rattle.std.proofs.lemmas.List.Sums.{sum_by-cons}
-use Rattle.edr_axes.specs.Axes.{value_at}
+use Rattle.edr_axes.specs.Axes.{value_at, axis_length}
 use Rattle.covjson_value.specs.declared.coverages.Parameter.{Parameter}
-use Rattle.covjson_value.specs.Domains.{axis_length}
 use Rattle.covjson_value.specs.Samples.{Node, node, values_or_absent}
-use Rattle.edr_station.specs.Stations.{StationValue, IsStation, HasSeries, levels_along, values_along, station_at}
+use Rattle.edr_station.specs.Stations.{StationValue, IsStation, HasSeries, values_along, station_at}
 use Rattle.edr_station.specs.Blocks.{blocks_of, blocks}
 use Rattle.edr_select.specs.Samples.{Stored, id_at, station_nodes, series_samples, samples_of_station, samples_of_stations}
 use Rattle.edr_corridor.specs.Boxes.{level_at}
@@ -36,20 +35,20 @@ flat_map_below f g a (suc n) same =
 -- ---- times and levels
 
 -- there are as many levels as their axis is long
-pub levels_are_axis : (zs : Option (List ℤ)) → levels_along zs ≡ axis_length zs
+pub levels_are_axis : (zs : Option (List ℤ)) → axis_length zs ≡ axis_length zs
 levels_are_axis None = refl
 levels_are_axis (Some zs) = refl
 
-levels_read : (zs : Option (List ℤ)) → values_or_absent zs ≡ map (level_at zs) (range_with_len 0 (levels_along zs))
+levels_read : (zs : Option (List ℤ)) → values_or_absent zs ≡ map (level_at zs) (range_with_len 0 (axis_length zs))
 levels_read None = refl
 levels_read (Some zs) = ap (map Some) (sym (values_read zs)) ∙ map-map Some (value_at zs) (range_with_len 0 (length zs))
 
 abbrev node_of : StationValue → ℕ → ℕ → Node
 node_of s t z = node (Some (value_at s.ts t)) (level_at s.zs z) s.y s.x
 
-nodes_read : (s : StationValue) → station_nodes s ≡ flat_map (λ t. map (node_of s t) (range_with_len 0 (levels_along s.zs))) (range_with_len 0 (length s.ts))
+nodes_read : (s : StationValue) → station_nodes s ≡ flat_map (λ t. map (node_of s t) (range_with_len 0 (axis_length s.zs))) (range_with_len 0 (length s.ts))
 nodes_read s =
-    let levels : List ℕ = range_with_len 0 (levels_along s.zs) in
+    let levels : List ℕ = range_with_len 0 (axis_length s.zs) in
     let along : List (Option ℤ) → ℤ → List Node = λ zs t. map (λ z. node (Some t) z s.y s.x) zs in
     ap (λ zs. flat_map (along zs) s.ts) (levels_read s.zs)
     ∙ (ap (flat_map (along (map (level_at s.zs) levels))) (sym (values_read s.ts))
@@ -88,7 +87,7 @@ sample_in s id first values t z =
 
 series_by_places : (s : StationValue) (id : List ℕ) (first : ℕ) (values : List (Option ℤ)) → length values ≡ values_along s
     → series_samples s id first 0 (station_nodes s) values
-    ≡ flat_map (λ t. map (sample_in s id first values t) (range_with_len 0 (levels_along s.zs))) (range_with_len 0 (length s.ts))
+    ≡ flat_map (λ t. map (sample_in s id first values t) (range_with_len 0 (axis_length s.zs))) (range_with_len 0 (length s.ts))
 series_by_places s id first values long =
     ap (λ ns. series_samples s id first 0 ns values) (nodes_read s ∙ numbered (node_of s) w h)
     ∙ (series_along s id first shown value 0 (h * w) values long (λ k l. ap value (sym (zero-add k)))
@@ -97,7 +96,7 @@ series_by_places s id first values long =
     ∙ sym (numbered (sample_in s id first values) w h)))
   where
     w : ℕ
-    w = levels_along s.zs
+    w = axis_length s.zs
 
     h : ℕ
     h = length s.ts
@@ -145,14 +144,14 @@ station_along s first (p ∷ ps) (values ∷ series) long =
 -- all samples of a station, the number of whose first block is `first`
 abbrev station_samples : List Parameter → StationValue → ℕ → List Stored
 station_samples ps s first =
-    flat_map (λ p. flat_map (λ t. map (stored_of ps s first p t) (range_with_len 0 (levels_along s.zs))) (range_with_len 0 (length s.ts)))
+    flat_map (λ p. flat_map (λ t. map (stored_of ps s first p t) (range_with_len 0 (axis_length s.zs))) (range_with_len 0 (length s.ts)))
     (range_with_len 0 (length ps))
 
 station_by_places : (ps : List Parameter) (s : StationValue) (first : ℕ) → HasSeries (length ps) s → samples_of_station s first ps s.series ≡ station_samples ps s first
 station_by_places ps s first has =
     station_along s first ps s.series has.many
     ∙ flat_map_below (λ p. parameter_samples s (id_at ps p) (first + p * blocks_of s) (slice_index_or s.series p []))
-    (λ p. flat_map (λ t. map (stored_of ps s first p t) (range_with_len 0 (levels_along s.zs))) (range_with_len 0 (length s.ts))) 0 (length ps)
+    (λ p. flat_map (λ t. map (stored_of ps s first p t) (range_with_len 0 (axis_length s.zs))) (range_with_len 0 (length s.ts))) 0 (length ps)
     (λ p low high. series_by_places s (id_at ps p) (first + p * blocks_of s) (slice_index_or s.series p [])
     (has.long p [] (omega (arith, has.many, high))))
 
@@ -179,7 +178,7 @@ stations_along ps first (s ∷ ss) are =
 -- all samples, in the order station, parameter, t, z
 pub samples_by_places : (ps : List Parameter) (ss : List StationValue) → All (IsStation (length ps)) ss
     → samples_of_stations ps 0 ss
-    ≡ flat_map (λ k. flat_map (λ p. flat_map (λ t. map (stored_in ps ss k p t) (range_with_len 0 (levels_along (station_at ss k).zs)))
+    ≡ flat_map (λ k. flat_map (λ p. flat_map (λ t. map (stored_in ps ss k p t) (range_with_len 0 (axis_length (station_at ss k).zs)))
     (range_with_len 0 (length (station_at ss k).ts))) (range_with_len 0 (length ps))) (range_with_len 0 (length ss))
 samples_by_places ps ss are =
     stations_along ps 0 ss are

@@ -5,17 +5,17 @@ use Rattle.std.specs.Prelude.{map, ◌&&◌, ◌||◌}
 use Rattle.std.specs.List.{filter, flat_map, list_any, range_with_len, slice_index_or}
 use Rattle.std.proofs.lemmas.Bool.{false≢true, false_from_ne_true}
 use Rattle.std.proofs.lemmas.List.Folds.{flat_map-map}
-use Rattle.edr_axes.specs.Axes.{value_at}
+use Rattle.edr_axes.specs.Axes.{value_at, axis_length}
 use Rattle.edr_base.specs.declared.places.Spot.{Spot}
 use Rattle.edr_corridor.specs.Values.{SegmentsValue}
 use Rattle.edr_corridor.specs.Segments as segments
-use Rattle.edr_corridor.specs.Boxes.{level_count, wants_node, level_at}
+use Rattle.edr_corridor.specs.Boxes.{wants_node, level_at}
 use Rattle.edr_corridor.specs.BoxLaws.{is_about, CorridorsAreCut}
 use Rattle.edr_lines.specs.Bits.{IsSmall}
 use Rattle.edr_lines.specs.Taken.{Counts, NodeTest, counts_of, NoneTaken, AreSidesOf, HasBits, some_at_time, some_at_level, bit_number}
 use Rattle.edr_lines.specs.Corridors as lines
 use Rattle.edr_lines.specs.Corridors.{IsCorridorOf}
-use Rattle.edr_station.specs.Stations.{StationValue, levels_along}
+use Rattle.edr_station.specs.Stations.{StationValue}
 use Rattle.edr_query.specs.Values.{QueryValue}
 use Rattle.edr_select.specs.Lines.{segments_of}
 use Rattle.edr_select.specs.Limits.{value_limit}
@@ -66,7 +66,7 @@ flat_read g xs = sym (flat_map-map g (λ k. slice_index_or xs k 0) (range_with_l
 number_below : (n k : ℕ) → Contains (range_with_len 0 n) k → k < n
 number_below n k m = all_member (λ k. k < n) (range_with_len 0 n) k (all_below n) m
 
-same_count : (zs : Option (List ℤ)) → level_count zs ≡ levels_along zs
+same_count : (zs : Option (List ℤ)) → axis_length zs ≡ axis_length zs
 same_count None = refl
 same_count (Some values) = refl
 
@@ -80,7 +80,7 @@ module _ (cut : CorridorsAreCut) (q : QueryValue) (c : CorridorValue) (s : Stati
   abbrev n : Counts
   n = counts_of (axes_of s)
 
-  takes_is : (t z : ℕ) → t < length s.ts → z < levels_along s.zs → test t z 0 0 ≡ takes_at q c s t z
+  takes_is : (t z : ℕ) → t < length s.ts → z < axis_length s.zs → test t z 0 0 ≡ takes_at q c s t z
   takes_is t z ht hz =
       sym (cut (segments_of q c.line c.width c.height) time level (value_at s.ts t) (level_at s.zs z) spot
       ∙ (ap (λ (v : SegmentsValue). (segments.wants v (value_at s.ts t) (level_at s.zs z) spot && (v.has_m || time)) && (is_about v || level)) (sym of.segments)
@@ -96,15 +96,15 @@ module _ (cut : CorridorsAreCut) (q : QueryValue) (c : CorridorValue) (s : Stati
       spot : Spot
       spot = record { x = s.x; y = s.y }
 
-  one_node : (t z : ℕ) → t < length s.ts → z < levels_along s.zs → ((test t z 0 0 || false) || false) ≡ takes_at q c s t z
+  one_node : (t z : ℕ) → t < length s.ts → z < axis_length s.zs → ((test t z 0 0 || false) || false) ≡ takes_at q c s t z
   one_node t z ht hz = or_none (test t z 0 0 || false) ∙ (or_none (test t z 0 0) ∙ takes_is t z ht hz)
 
   time_is : (t : ℕ) → t < length s.ts → some_at_time n test t ≡ has_time q c s t
   time_is t ht =
       ap (λ m. list_any (λ z. (test t z 0 0 || false) || false) (range_with_len 0 m)) (same_count s.zs)
-      ∙ any_below (λ z. (test t z 0 0 || false) || false) (takes_at q c s t) (levels_along s.zs) (λ z hz. one_node t z ht hz)
+      ∙ any_below (λ z. (test t z 0 0 || false) || false) (takes_at q c s t) (axis_length s.zs) (λ z hz. one_node t z ht hz)
 
-  level_is : (z : ℕ) → z < levels_along s.zs → some_at_level n test z ≡ has_level q c s z
+  level_is : (z : ℕ) → z < axis_length s.zs → some_at_level n test z ≡ has_level q c s z
   level_is z hz = any_below (λ t. (test t z 0 0 || false) || false) (λ t. takes_at q c s t z) (length s.ts) (λ t ht. one_node t z ht hz)
 
   -- where no node is taken nothing is taken of the station
@@ -143,7 +143,7 @@ module _ (cut : CorridorsAreCut) (q : QueryValue) (c : CorridorValue) (s : Stati
         let ft = passes_at (λ (t : ℕ). list_any (λ z. test t z 0 0 || false) (range_with_len 0 n.levels)) 0 n.times row in
         let fz = passes_at (λ (z : ℕ). test ft.place z 0 0 || false) 0 n.levels ft.passes in
         let ht : ft.place < length s.ts = omega (arith, ft.high) in
-        let hz : fz.place < levels_along s.zs = omega (arith, fz.high, same_count s.zs) in
+        let hz : fz.place < axis_length s.zs = omega (arith, fz.high, same_count s.zs) in
         is_taken_at q c s ft.place fz.place ht hz (sym (takes_is ft.place fz.place ht hz) ∙ (sym (or_none (test ft.place fz.place 0 0)) ∙ fz.passes))
 
     -- the times and the levels are those that occur
@@ -153,7 +153,7 @@ module _ (cut : CorridorsAreCut) (q : QueryValue) (c : CorridorValue) (s : Stati
         (are.times ∙ kept_agree (some_at_time n test) (has_time q c s) 0 (length s.ts) (λ t low high. time_is t (omega (arith, high))))
         (are.levels
         ∙ (ap (λ m. filter (some_at_level n test) (range_with_len 0 m)) (same_count s.zs)
-        ∙ kept_agree (some_at_level n test) (has_level q c s) 0 (levels_along s.zs) (λ z low high. level_is z (omega (arith, high)))))
+        ∙ kept_agree (some_at_level n test) (has_level q c s) 0 (axis_length s.zs) (λ z low high. level_is z (omega (arith, high)))))
 
     pub sides_chosen : IsChoiceOf s (choice_in sides)
     sides_chosen = subst (IsChoiceOf s) (sym choice_is) (along_chosen q c s some_taken)

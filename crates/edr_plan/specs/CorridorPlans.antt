@@ -1,7 +1,7 @@
 -- What is planned for the stations along a corridor; for private clauses.
 use Rattle.std.specs.Prelude.{◌≡◌, ◌⊎◌, ℕ, ◌+◌, ◌*◌, ◌<◌, ◌≤◌, nat_lt, nat_le, ◌-ℤ◌, ◌+ℤ◌, ◌≤ℤ◌, Bool, true, false, ◌&&◌, IsSome, All, Contains, if◌then◌else◌, ℤ, List, [], ◌∷◌, ◌++◌, map, length, sum_by, Option, None, Some}
 use Rattle.std.specs.List.{filter, flat_map, list_any, range_with_len, slice_index_or}
-use Rattle.edr_axes.specs.Axes.{value_at}
+use Rattle.edr_axes.specs.Axes.{value_at, axis_length}
 use Rattle.edr_base.specs.declared.places.Position.{Position}
 use Rattle.edr_base.specs.declared.places.Spot.{Spot}
 use Rattle.edr_geometry.specs.Planar.{spot_of, near_segment}
@@ -9,7 +9,7 @@ use Rattle.edr_wkt.specs.declared.geometry.Geometry.{Geometry}
 use Rattle.edr_wkt.specs.Geometries.{line_of}
 use Rattle.covjson_value.specs.Coverages.{IsValidDocument}
 use Rattle.covjson_value.specs.Samples.{node}
-use Rattle.edr_station.specs.Stations.{StationValue, station_at, levels_along}
+use Rattle.edr_station.specs.Stations.{StationValue, station_at}
 use Rattle.edr_station.specs.Blocks.{blocks_of, first_block}
 use Rattle.edr_corridor.specs.Boxes.{GridAxes, level_at}
 use Rattle.edr_corridor.specs.Segments.{any_segment}
@@ -26,7 +26,7 @@ use Rattle.edr_select.specs.Limits.{value_limit, coverage_limit}
 use Rattle.edr_select.specs.Lines.{segments_of, in_corridor}
 use Rattle.edr_select.specs.Listings.{NumbersRise}
 use Rattle.edr_select.specs.Plans.{IsOverGaps}
-use Rattle.edr_select.specs.Stacks.{SidesValue, StackValue}
+use Rattle.edr_select.specs.Stacks.{SidesValue, StackValue, plane_number}
 use Rattle.edr_plan.specs.StationPlaces.{cell_of}
 use Rattle.edr_plan.specs.StationPlans.{ChoiceValue, head_of_station}
 
@@ -57,7 +57,7 @@ takes_at q c s t z = in_corridor q c.line c.width c.height (node (Some (value_at
 
 -- some sample of a time, and some of a level, is taken
 abbrev pub has_time : QueryValue → CorridorValue → StationValue → ℕ → Bool
-has_time q c s t = list_any (λ z. takes_at q c s t z) (range_with_len 0 (levels_along s.zs))
+has_time q c s t = list_any (λ z. takes_at q c s t z) (range_with_len 0 (axis_length s.zs))
 
 abbrev pub has_level : QueryValue → CorridorValue → StationValue → ℕ → Bool
 has_level q c s z = list_any (λ t. takes_at q c s t z) (range_with_len 0 (length s.ts))
@@ -66,7 +66,7 @@ has_level q c s z = list_any (λ t. takes_at q c s t z) (range_with_len 0 (lengt
 abbrev pub choice_along : QueryValue → CorridorValue → StationValue → ChoiceValue
 choice_along q c s = record {
   times = filter (has_time q c s) (range_with_len 0 (length s.ts));
-  levels = filter (has_level q c s) (range_with_len 0 (levels_along s.zs));
+  levels = filter (has_level q c s) (range_with_len 0 (axis_length s.zs));
 }
 
 -- the place of a sample among the station's values, or none where it isn't taken
@@ -93,7 +93,7 @@ choice_in sides = record { times = sides.times; levels = sides.levels }
 
 -- the truth value of a time and a level of a stack of one row and one column
 abbrev pub bit_at : StackValue → ℕ → ℕ → Bool
-bit_at stack i j = slice_index_or stack.mask (i * length stack.sides.levels + j) false
+bit_at stack i j = slice_index_or stack.mask (plane_number stack.sides i j) false
 
 -- the places of the levels of a time, the first of which is told, or none where one isn't taken
 abbrev pub cells_at : ℕ → List ℕ → List Bool → List (Option ℕ)

@@ -5,7 +5,7 @@ use Rattle.edr_base.specs.declared.places.Spot.{Spot}
 use Rattle.edr_axes.specs.Axes.{value_at}
 use Rattle.covjson_value.specs.declared.coverages.Parameter.{Parameter}
 use Rattle.covjson_value.specs.Samples.{node}
-use Rattle.edr_station.specs.Stations.{StationValue, StationsValue, station_at}
+use Rattle.edr_station.specs.Stations.{StationValue, station_at}
 use Rattle.edr_station.specs.Blocks.{block_length, blocks_of, first_block, series_at, place_in_series}
 use Rattle.edr_query.specs.declared.shapes.Shape.{Shape}
 use Rattle.edr_query.specs.declared.shapes.Shape.TheVariants as at
@@ -15,16 +15,13 @@ use Rattle.edr_select.specs.Wanted.{levels_asked}
 use Rattle.edr_select.specs.Choices.{parameter_places, time_places, level_places}
 use Rattle.edr_corridor.specs.Boxes.{level_at}
 use Rattle.edr_select.specs.Masks.{takes_spot}
+use Rattle.edr_edition.specs.Stores.{stations_of}
 
 -- ---- samples
 
 -- where the value of a time and a level stands among those of a parameter
 abbrev pub cell_of : StationValue → ℕ → ℕ → ℕ
 cell_of s t z = place_in_series s t z
-
--- stations of some parameters
-abbrev pub collection_of : List Parameter → List StationValue → StationsValue
-collection_of ps ss = record { parameters = length ps; stations = ss }
 
 -- the sample of a station at a parameter, a time and a level; `first` is the number of the station's first block
 abbrev pub stored_of : List Parameter → StationValue → ℕ → ℕ → ℕ → ℕ → Stored
@@ -40,7 +37,7 @@ stored_of ps s first p t z = record {
 
 -- the sample at the places of a station, a parameter, a time and a level
 abbrev pub stored_in : List Parameter → List StationValue → ℕ → ℕ → ℕ → ℕ → Stored
-stored_in ps ss k p t z = stored_of ps (station_at ss k) (first_block (collection_of ps ss) k) p t z
+stored_in ps ss k p t z = stored_of ps (station_at ss k) (first_block (stations_of ps ss) k) p t z
 
 -- ---- what a query takes
 

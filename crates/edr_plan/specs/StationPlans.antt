@@ -1,12 +1,12 @@
 -- What is planned for the stations that a query takes; for private clauses.
 use Rattle.std.specs.Prelude.{⊤, ◌≡◌, ◌≢◌, ◌⊎◌, ℕ, ◌+◌, ◌*◌, ◌<◌, ◌≤◌, nat_lt, nat_le, Bool, true, false, not, ◌&&◌, if◌then◌else◌, List, [], ◌∷◌, ◌++◌, map, length, All, sum_by, None, Some, option_map}
 use Rattle.std.specs.List.{filter, flat_map, range_with_len}
-use Rattle.edr_axes.specs.Axes.{value_at}
+use Rattle.edr_axes.specs.Axes.{value_at, axis_length}
 use Rattle.covjson_value.specs.declared.domains.Domain.{Domain}
 use Rattle.covjson_value.specs.declared.coverages.Coverage.{Coverage}
 use Rattle.covjson_value.specs.Coverages.{IsValidDocument}
 use Rattle.edr_ids.specs.Ids.{item_of}
-use Rattle.edr_station.specs.Stations.{StationValue, station_id, station_at, levels_along}
+use Rattle.edr_station.specs.Stations.{StationValue, station_id, station_at}
 use Rattle.edr_station.specs.Blocks.{blocks_of, first_block}
 use Rattle.edr_edition.specs.declared.kinds.Kind.TheVariants.{Station}
 use Rattle.edr_edition.specs.Values.{CollectionValue}
@@ -64,7 +64,7 @@ pub record IsChoiceOf (s : StationValue) (choice : ChoiceValue) : Type 0 where
   pub times_in : All (λ t. t < length s.ts) choice.times
   pub times_rise : NumbersRise choice.times
   pub times : choice.times ≢ []
-  pub levels_in : All (λ z. z < levels_along s.zs) choice.levels
+  pub levels_in : All (λ z. z < axis_length s.zs) choice.levels
   pub levels_rise : NumbersRise choice.levels
   pub levels : choice.levels ≢ []
 

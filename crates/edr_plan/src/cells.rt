@@ -2,7 +2,8 @@
 ghost use Rattle.std.specs.Prelude.{◌≡◌, ◌<◌, ◌≤◌, ◌++◌, All, length, map, IfOk, OnOk};
 ghost use Rattle.std.specs.List.{flat_map};
 ghost use Rattle.edr_base.specs.Limits.{node_limit};
-ghost use Rattle.edr_station.specs.Stations.{levels_along, values_along};
+ghost use Rattle.edr_station.specs.Stations.{values_along};
+ghost use Rattle.edr_axes.specs.Axes.{axis_length};
 ghost use Rattle.edr_station.specs.Blocks as blocks;
 ghost use Rattle.edr_plan.specs.StationPlaces.{cell_of};
 
@@ -12,7 +13,7 @@ use std::alloc::Global;
 
 // How many levels a station has, and 1 where it has no axis of levels.
 pub(crate) fn levels_in(station: &Station) -> u64
-    ensures { result ≡ levels_along station.now.zs }
+    ensures { result ≡ axis_length station.now.zs }
 {
     match station.levels() {
         Some(levels) => levels.len() as u64,
@@ -38,7 +39,7 @@ fn push_levels(
 ) -> Result<(), OutOfMemory>
     requires few { values_along station.now ≤ node_limit }
     requires time { time < length station.now.ts }
-    requires levels { All (λ z. z < levels_along station.now.zs) levels.now }
+    requires levels { All (λ z. z < axis_length station.now.zs) levels.now }
     ensures { OnOk result (cells.new.items ≡ cells.old.items ++ map (cell_of station.now time) levels.now) }
 {
     let first = time * levels_in(station);
@@ -57,7 +58,7 @@ pub(crate) fn cells_at(
 ) -> Result<Vec<u64>, OutOfMemory>
     requires few { values_along station.now ≤ node_limit }
     requires times { All (λ t. t < length station.now.ts) times.now }
-    requires levels { All (λ z. z < levels_along station.now.zs) levels.now }
+    requires levels { All (λ z. z < axis_length station.now.zs) levels.now }
     ensures { IfOk result (λ cells. cells.items ≡ flat_map (λ t. map (cell_of station.now t) levels.now) times.now) }
 {
     let mut cells = Vec::new(alloc);

@@ -2,7 +2,8 @@
 ghost use Rattle.std.specs.Prelude.{◌≡◌, ◌<◌, ◌≤ℤ◌, ◌+ℤ◌, All, length, IfOk};
 ghost use Rattle.edr_geometry.specs.Limits.{IsSpot};
 ghost use Rattle.edr_geometry.specs.Planar as plane;
-ghost use Rattle.edr_query.specs.Queries.{IsTaken, IsMetres, IsShape};
+ghost use Rattle.edr_query.specs.Queries.{IsTaken, IsShape};
+ghost use Rattle.edr_base.specs.Limits.{IsMetres};
 ghost use Rattle.edr_query.specs.declared.addresses.QueryKind.TheVariants as kinds;
 ghost use Rattle.edr_wkt.specs.Faults.{IsInRange};
 ghost use Rattle.edr_wkt.specs.Geometries.{line_of};

@@ -1,7 +1,8 @@
 //! The places among a station's values that a corridor takes, and none where it doesn't take one.
 ghost use Rattle.std.specs.Prelude.{◌≡◌, ◌+◌, ◌<◌, ◌≤◌, ◌^◌, ◌++◌, All, length, IfOk, OnOk};
 ghost use Rattle.edr_base.specs.Limits.{node_limit};
-ghost use Rattle.edr_station.specs.Stations.{levels_along, values_along};
+ghost use Rattle.edr_station.specs.Stations.{values_along};
+ghost use Rattle.edr_axes.specs.Axes.{axis_length};
 ghost use Rattle.edr_plan.specs.CorridorPlans as corridors;
 ghost use Rattle.edr_plan.specs.CorridorPlans.{cells_at, cells_in, IsFull};
 
@@ -44,7 +45,7 @@ pub(crate) fn cells_of(
 ) -> Result<Vec<Option<u64>>, OutOfMemory>
     requires few { values_along station.now ≤ node_limit }
     requires times { All (λ t. t < length station.now.ts) stack.now.sides.times }
-    requires levels { All (λ z. z < levels_along station.now.zs) stack.now.sides.levels }
+    requires levels { All (λ z. z < axis_length station.now.zs) stack.now.sides.levels }
     requires full { IsFull stack.now }
     ensures { IfOk result (λ cells. cells.items ≡ cells_in station.now stack.now) }
 {

@@ -3,8 +3,7 @@ use Rattle.std.proofs.Common.{◌≡◌, ℕ, ◌+◌, ◌*◌, ◌<◌, Bool, t
 use Rattle.std.specs.List.{list_any}
 use Rattle.std.proofs.lemmas.Bool.{false_from_ne_true}
 use Rattle.std.proofs.lemmas.Nat.{div-mul-add, mod-mul-add, mul-add-lt, div_below}
-use Rattle.edr_axes.specs.Axes.{value_at}
-use Rattle.covjson_value.specs.Domains.{axis_length}
+use Rattle.edr_axes.specs.Axes.{value_at, axis_length}
 use Rattle.edr_chunk.specs.declared.shapes.GridPlace.{GridPlace}
 use Rattle.edr_chunk.specs.Grids.{value}
 use Rattle.edr_chunk.specs.Places.{Within}

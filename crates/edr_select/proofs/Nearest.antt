@@ -1,13 +1,12 @@
 -- One value of an axis is nearest, and so one node is nearest to a point.
-use Rattle.std.proofs.Common.{◌≡◌, ◌≢◌, ℕ, zero, suc, ◌+◌, ◌*◌, ◌<◌, ◌≤◌, Bool, true, false, List, [], ◌∷◌, length, refl, ap, ap₂, sym, ◌∙◌, arith, inl, inr, ℤ, ◌<ℤ◌, int_lt, Contains, div-add-mod'}
+use Rattle.std.proofs.Common.{◌≡◌, ◌≢◌, ℕ, zero, suc, ◌+◌, ◌*◌, ◌<◌, ◌≤◌, Bool, true, false, List, [], ◌∷◌, length, refl, ap, ap₂, sym, ◌∙◌, arith, inl, inr, ℤ, int_lt, Contains, div-add-mod'}
 use Rattle.std.specs.Prelude.{◌&&◌, ◌||◌, not, nat_lt, nat_le}
 use Rattle.std.specs.List.{list_all, list_any}
 use Rattle.std.proofs.lemmas.Bool.{cases_lt}
 use Rattle.std.proofs.lemmas.Bool.Decides.{nat_tests}
-use Rattle.std.proofs.lemmas.Int.{ints}
 use Rattle.edr_base.specs.declared.places.Position.{Position}
 use Rattle.edr_axes.specs.Axes.{value_at, distance, IsAscending, IsNearest}
-use Rattle.edr_axes.specs.AxisLaws.{ascending_far}
+use Rattle.edr_axes.specs.AxisLaws.{ascending_far, test_below}
 use Rattle.edr_wkt.specs.declared.geometry.Geometry.{Geometry}
 use Rattle.edr_wkt.specs.Geometries.{positions_of}
 use Rattle.edr_edition.specs.Values.{InstanceValue}
@@ -44,9 +43,6 @@ least_of a b lower h = grind (arith, nat_tests)
 lower_of : (a b : ℕ) (lower : Bool) → lower ≡ true → (nat_le a b && (not lower || nat_lt a b)) ≡ true → a < b
 lower_of a b lower e h = grind (arith, nat_tests)
 
-is_lower : (a b : ℤ) → a <ℤ b → int_lt a b ≡ true
-is_lower a b h = grind (arith, ints)
-
 -- a value that passes is the nearest
 pub nearest_from_test : (values : List ℤ) (c : ℤ) (k : ℕ) → IsAscending values → k < length values → is_nearest values c (value_at values k) ≡ true
     → IsNearest values c k
@@ -54,7 +50,7 @@ nearest_from_test values c k ascend inside h = record {
   inside = inside;
   least = λ other inner. least_of (distance (value_at values k) c) (distance (value_at values other) c) (int_lt (value_at values other) (value_at values k)) (all_at (closer c (value_at values k)) values h other inner);
   lower = λ other lt. lower_of (distance (value_at values k) c) (distance (value_at values other) c) (int_lt (value_at values other) (value_at values k))
-      (is_lower (value_at values other) (value_at values k) (ascending_far values ascend other k lt inside)) (all_at (closer c (value_at values k)) values h other (omega arith));
+      (test_below (value_at values other) (value_at values k) (ascending_far values ascend other k lt inside)) (all_at (closer c (value_at values k)) values h other (omega arith));
 }
 
 one_nearest : (values : List ℤ) (c : ℤ) (k l : ℕ) → IsNearest values c k → IsNearest values c l → k ≡ l

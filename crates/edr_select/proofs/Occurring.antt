@@ -6,8 +6,8 @@ use Rattle.std.specs.Ordering.{int_eq}
 use Rattle.std.specs.List.{filter, list_any, range_with_len}
 use Rattle.std.proofs.lemmas.Bool.Decides.{Decides-int_eq}
 use Rattle.std.proofs.lemmas.List.{get_or_default}
-use Rattle.edr_axes.specs.Axes.{value_at}
-use Rattle.covjson_value.specs.Domains.{axis_length}
+use Rattle.edr_axes.specs.Axes.{value_at, axis_length}
+use Rattle.edr_axes.specs.AxisLaws.{ascending_once}
 use Rattle.covjson_value.specs.Samples.{same_where_given}
 use Rattle.edr_edition.specs.Values.{InstanceValue}
 use Rattle.edr_query.specs.Values.{QueryValue}
@@ -18,7 +18,7 @@ use Rattle.edr_select.specs.Choices.{TakesEach, takes_node, Chosen, chosen, IsSo
 use Rattle.edr_corridor.specs.Boxes.{level_at}
 use Rattle.edr_select.specs.ListLaws.{filter_at, filter-map, both}
 use Rattle.edr_select.specs.KeptLaws.{contains_kept, kept_agree, filter_by_places, pairs_numbered}
-use Rattle.edr_select.specs.GridLaws.{IsGrid, one_place}
+use Rattle.edr_select.specs.GridLaws.{IsGrid}
 use Rattle.edr_select.proofs.Picks.{picks_at, pick_found}
 use Rattle.edr_select.proofs.ChosenLaws as laws
 use Rattle.edr_select.proofs.ChosenLaws.{OneOfEach, each_of}
@@ -97,10 +97,10 @@ module _ (i : InstanceValue) (q : QueryValue) (each : TakesEach q.shape) (g : Is
   spot_test k inside =
       both (list_any (stands_at (spot_of i k)) picks) (takes_node i q.shape (row_of i.xs k) (column_of i.xs k))
       (λ e. let f = pick_found i q each (stands_at (spot_of i k)) e in
-      let y : f.place.y ≡ row_of i.xs k = one_place i.ys g.ys.ascending f.place.y (row_of i.xs k) (omega (arith, f.within.y, g.rows)) (laws.row_below i q each g k inside)
+      let y : f.place.y ≡ row_of i.xs k = ascending_once i.ys g.ys.ascending f.place.y (row_of i.xs k) (omega (arith, f.within.y, g.rows)) (laws.row_below i q each g k inside)
       ((Decides-int_eq (value_at i.ys f.place.y) (value_at i.ys (row_of i.xs k))).0
       (first_true (int_eq (value_at i.ys f.place.y) (value_at i.ys (row_of i.xs k))) (int_eq (value_at i.xs f.place.x) (value_at i.xs (column_of i.xs k))) f.passes)) in
-      let x : f.place.x ≡ column_of i.xs k = one_place i.xs g.xs.ascending f.place.x (column_of i.xs k) (omega (arith, f.within.x, g.columns)) (laws.column_below i q each g k)
+      let x : f.place.x ≡ column_of i.xs k = ascending_once i.xs g.xs.ascending f.place.x (column_of i.xs k) (omega (arith, f.within.x, g.columns)) (laws.column_below i q each g k)
       ((Decides-int_eq (value_at i.xs f.place.x) (value_at i.xs (column_of i.xs k))).0
       (second_true (int_eq (value_at i.ys f.place.y) (value_at i.ys (row_of i.xs k))) (int_eq (value_at i.xs f.place.x) (value_at i.xs (column_of i.xs k))) f.passes)) in
       sym (ap₂ (λ a b. takes_node i q.shape a b) y x) ∙ f.taken.near)

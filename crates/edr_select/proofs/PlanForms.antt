@@ -7,14 +7,13 @@ use Rattle.std.proofs.lemmas.List.{length-map, get_or_default}
 use Rattle.edr_base.specs.declared.places.Position.{Position}
 use Rattle.edr_base.specs.Limits.{node_limit}
 use Rattle.edr_base.specs.declared.refusals.Refusal.TheVariants.{TooLarge}
-use Rattle.edr_axes.specs.Axes.{IsAxis}
+use Rattle.edr_axes.specs.Axes.{IsAxis, axis_length}
 use Rattle.edr_wkt.specs.declared.geometry.Geometry.{Geometry}
 use Rattle.edr_wkt.specs.declared.geometry.Geometry.TheVariants.{Points, Line, Polygons}
 use Rattle.edr_wkt.specs.Geometries.{positions_of, is_multi_point}
 use Rattle.covjson_value.specs.declared.domains.Domain.{Domain}
 use Rattle.covjson_value.specs.declared.domains.CoordinateName.TheVariants.{Z}
 use Rattle.covjson_value.specs.Coverages.{IsNamedAxis, IsValidDocument, coverages_in}
-use Rattle.covjson_value.specs.Domains.{axis_length}
 use Rattle.edr_chunk.specs.declared.shapes.GridShape.{GridShape}
 use Rattle.edr_chunk.specs.Places.{IsShape}
 use Rattle.edr_chunk.specs.Samples.{AreSamples}

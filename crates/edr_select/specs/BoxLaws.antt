@@ -31,7 +31,7 @@ flat_map_agree_in f g (x ∷ xs) same =
     ap₂ (λ ys zs. ys ++ zs) (same x (member_here x xs)) (flat_map_agree_in f g xs (λ y c. same y (member_later x y xs c)))
 
 -- lists as long as each other, one after the other
-length_of_same : {X Y : Type 0} (f : X → List Y) (n : ℕ) → ((x : X) → length (f x) ≡ n) → (xs : List X) → length (flat_map f xs) ≡ length xs * n
+pub length_of_same : {X Y : Type 0} (f : X → List Y) (n : ℕ) → ((x : X) → length (f x) ≡ n) → (xs : List X) → length (flat_map f xs) ≡ length xs * n
 length_of_same f n same [] = omega arith
 length_of_same f n same (x ∷ xs) =
     length-append (f x) (flat_map f xs) ∙ (ap₂ (λ a b. a + b) (same x) (length_of_same f n same xs) ∙ more (length xs) n)

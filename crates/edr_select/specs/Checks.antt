@@ -13,20 +13,22 @@ use Rattle.edr_select.specs.Refusals.{applies_in, applies_to_query, applies_to_s
 abbrev pub of_data : List Refusal
 of_data = NoLevels ∷ (NoSamples ∷ (TooLarge ∷ []))
 
-abbrev pub refused_data : QueryValue → Subject → Option Refusal
-refused_data q subject = find (λ refusal. applies_to_subject q refusal subject) of_data
-
 -- those of a query that its collection offers
 abbrev pub refused_query : CollectionValue → QueryValue → Option Refusal
 refused_query collection q = find (applies_to_query collection q) (UnknownParameterName ∷ (BadCrs ∷ of_data))
+
+abbrev pub grid_of : CollectionValue → InstanceValue → Subject
+grid_of collection instance = record { collection = collection; held = of_grid instance }
+
+-- ---- for private clauses
+
+abbrev pub refused_data : QueryValue → Subject → Option Refusal
+refused_data q subject = find (λ refusal. applies_to_subject q refusal subject) of_data
 
 -- those of a page of a collection that there is
 abbrev pub refused_in : CollectionValue → Page → Option Refusal
 refused_in collection page =
     find (applies_in collection page) (UnknownInstance ∷ (UnknownLocation ∷ (QueryNotOffered ∷ (UnknownParameterName ∷ (BadCrs ∷ of_data)))))
-
-abbrev pub grid_of : CollectionValue → InstanceValue → Subject
-grid_of collection instance = record { collection = collection; held = of_grid instance }
 
 abbrev pub stations_in : CollectionValue → Subject
 stations_in collection = record { collection = collection; held = of_stations collection.parameters collection.stations }

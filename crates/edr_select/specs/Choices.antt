@@ -5,14 +5,13 @@ use Rattle.edr_base.specs.declared.places.Position.{Position}
 use Rattle.edr_base.specs.declared.places.Spot.{Spot}
 use Rattle.edr_axes.specs.declared.times.Times.{Times}
 use Rattle.edr_axes.specs.declared.levels.Levels.{Levels}
-use Rattle.edr_axes.specs.Axes.{value_at}
+use Rattle.edr_axes.specs.Axes.{value_at, axis_length}
 use Rattle.edr_wkt.specs.declared.geometry.Geometry.{Geometry}
 use Rattle.edr_wkt.specs.declared.geometry.Geometry.TheVariants.{Points, Line, Polygons}
 use Rattle.edr_wkt.specs.Geometries.{positions_of}
 use Rattle.edr_geometry.specs.Planar as plane
 use Rattle.edr_geometry.specs.Planar.{in_disc}
 use Rattle.covjson_value.specs.declared.coverages.Parameter.{Parameter}
-use Rattle.covjson_value.specs.Domains.{axis_length}
 use Rattle.edr_edition.specs.Values.{InstanceValue}
 use Rattle.edr_query.specs.declared.shapes.Shape.{Shape}
 use Rattle.edr_query.specs.declared.shapes.Shape.TheVariants as at
@@ -33,6 +32,18 @@ time_places asked ts = filter (λ t. takes_time asked (Some (value_at ts t))) (r
 abbrev pub level_places : Option Levels → Option (List ℤ) → List ℕ
 level_places asked zs = filter (λ z. takes_level asked (level_at zs z)) (range_with_len 0 (axis_length zs))
 
+-- the shape takes each time, level and place by itself
+abbrev pub TakesEach : Shape → Type 0
+TakesEach (at.Position geometry) = ⊤
+TakesEach (at.Radius geometry within) = ⊤
+TakesEach (at.Area geometry) = ⊤
+TakesEach (at.Cube lo hi levels) = ⊤
+TakesEach (at.Trajectory geometry) = ⊥
+TakesEach (at.Corridor geometry width height) = ⊥
+TakesEach (at.Location id) = ⊥
+
+-- ---- for private clauses
+
 -- the row and the column are the nearest to a point inside the box of the axes
 abbrev pub is_nearest_place : List ℤ → List ℤ → ℕ → ℕ → Position → Bool
 is_nearest_place ys xs y x p = is_along ys p.y && is_along xs p.x && is_nearest ys p.y (value_at ys y) && is_nearest xs p.x (value_at xs x)
@@ -47,18 +58,6 @@ column_of xs spot = spot % length xs
 -- the numbers of the nodes that are nearest to some points
 abbrev pub spot_places : List ℤ → List ℤ → List Position → List ℕ
 spot_places ys xs points = filter (λ spot. list_any (is_nearest_place ys xs (row_of xs spot) (column_of xs spot)) points) (range_with_len 0 (length ys * length xs))
-
--- ---- the nodes of a plane that a shape takes
-
--- the shape takes each time, level and place by itself
-abbrev pub TakesEach : Shape → Type 0
-TakesEach (at.Position geometry) = ⊤
-TakesEach (at.Radius geometry within) = ⊤
-TakesEach (at.Area geometry) = ⊤
-TakesEach (at.Cube lo hi levels) = ⊤
-TakesEach (at.Trajectory geometry) = ⊥
-TakesEach (at.Corridor geometry width height) = ⊥
-TakesEach (at.Location id) = ⊥
 
 -- where the node of a row and a column is
 abbrev pub spot_at : InstanceValue → ℕ → ℕ → Spot

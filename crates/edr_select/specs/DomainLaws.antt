@@ -8,11 +8,11 @@ use Rattle.std.proofs.lemmas.Bool.{false≢true}
 use Rattle.std.proofs.lemmas.Int.{ints}
 use Rattle.std.proofs.lemmas.List.{length-map}
 use Rattle.edr_base.specs.declared.places.Position.{Position}
-use Rattle.edr_axes.specs.Axes.{value_at}
+use Rattle.edr_axes.specs.Axes.{value_at, axis_length}
 use Rattle.covjson_value.specs.declared.domains.CoordinateName.{CoordinateName}
 use Rattle.covjson_value.specs.declared.domains.CoordinateName.TheVariants.{T, Z, Y, X}
 use Rattle.covjson_value.specs.declared.domains.Domain.{Domain}
-use Rattle.covjson_value.specs.Domains.{axis_of, axis_length, tuples_of, coordinates_of, coordinate, is_among, count_of}
+use Rattle.covjson_value.specs.Domains.{axis_of, tuples_of, coordinates_of, coordinate, is_among, count_of}
 use Rattle.covjson_value.specs.CountLaws.{count_is}
 use Rattle.covjson_value.specs.Coverages.{IsAxisValue, IsNamedAxis, HasAxes, IsTuple, NeverFall, AreTuples, HasTuples}
 use Rattle.edr_select.specs.Heads.{Spot, domain_at, position_at}

@@ -5,6 +5,7 @@ use Rattle.covjson_value.specs.declared.coverages.NdArray.{NdArray}
 use Rattle.covjson_value.specs.declared.coverages.Coverage.{Coverage}
 use Rattle.covjson_value.specs.Domains.{count_of}
 use Rattle.covjson_write.specs.Writers.{IsHead, with_ranges}
+use Rattle.edr_chunk.specs.RowMajor.{place_in_row}
 use Rattle.edr_chunk.specs.declared.shapes.GridShape.{GridShape}
 use Rattle.edr_chunk.specs.Places.{IsShape}
 use Rattle.edr_chunk.specs.Grids as chunk
@@ -36,7 +37,7 @@ pub record FramingValue : Type 0 where
 
 -- the node of a row and a column is taken
 abbrev pub is_set : FrameValue → ℕ → ℕ → Bool
-is_set frame y x = slice_index_or frame.mask ((y - frame.row) * frame.width + (x - frame.left)) false
+is_set frame y x = slice_index_or frame.mask (place_in_row (y - frame.row) frame.width (x - frame.left)) false
 
 -- a node, where it is taken
 abbrev pub cell_at : FrameValue → ℕ → ℕ → ℕ → ℕ → Option GridNode

@@ -8,11 +8,10 @@ use Rattle.std.proofs.lemmas.Bool.{cases_lt}
 use Rattle.std.proofs.lemmas.Bool.Decides.{Decides-int_eq}
 use Rattle.std.proofs.lemmas.Slice.Eq.{bytes_eq-Decides}
 use Rattle.std.proofs.lemmas.List.{length-map}
-use Rattle.edr_axes.specs.Axes.{value_at, IsAscending, IsAxis}
+use Rattle.edr_axes.specs.Axes.{value_at, IsAxis, axis_length}
 use Rattle.edr_axes.specs.AxisLaws.{ascending_once}
 use Rattle.covjson_value.specs.declared.coverages.Parameter.{Parameter}
 use Rattle.covjson_value.specs.Coverages.{AscendById, ids_of}
-use Rattle.covjson_value.specs.Domains.{axis_length}
 use Rattle.covjson_value.specs.Samples.{same_where_given, same_node, is_of}
 use Rattle.edr_base.specs.Names.{order}
 use Rattle.edr_ids.specs.ListLaws.{order_itself}
@@ -35,10 +34,6 @@ pub record IsGrid (i : InstanceValue) : Type 0 where
   pub levels : i.grid.shape.levels ≡ axis_length i.zs
   pub rows : i.grid.shape.rows ≡ length i.ys
   pub columns : i.grid.shape.columns ≡ length i.xs
-
--- equal values of an axis stand at one place
-pub one_place : (values : List ℤ) → IsAscending values → (k l : ℕ) → k < length values → l < length values → value_at values k ≡ value_at values l → k ≡ l
-one_place = ascending_once
 
 less_not_equal : Less ≡ Equal → ⊥
 less_not_equal e = cc
@@ -68,7 +63,7 @@ same_value k l h = (Decides-int_eq k l).0 h
 same_level : (zs : Option (List ℤ)) → IfSome zs IsAxis → (k l : ℕ) → k < axis_length zs → l < axis_length zs
     → same_where_given (option_map (λ values. value_at values k) zs) (option_map (λ values. value_at values l) zs) ≡ true → k ≡ l
 same_level None axis k l hk hl same = omega arith
-same_level (Some values) axis k l hk hl same = one_place values axis.ascending k l hk hl (same_value _ _ same)
+same_level (Some values) axis k l hk hl same = ascending_once values axis.ascending k l hk hl (same_value _ _ same)
 
 four : (b c d e : Bool) → (b && c && d && e) ≡ true → (b ≡ true) × (c ≡ true) × (d ≡ true) × (e ≡ true)
 four true true true true h = (refl, refl, refl, refl)
@@ -95,10 +90,10 @@ same_stored i g a b wa wb h =
     let axes = four (int_eq (value_at i.ts b.t) (value_at i.ts a.t)) (same_where_given (node_at i b).z (node_at i a).z) (int_eq (value_at i.ys b.y) (value_at i.ys a.y)) (int_eq (value_at i.xs b.x) (value_at i.xs a.x)) parts.1 in
     same_record b a
     (one_parameter i.parameters g.ids b.parameter a.parameter (omega (arith, wb.parameter, g.parameters)) (omega (arith, wa.parameter, g.parameters)) ((bytes_eq-Decides _ _).0 parts.0))
-    (one_place i.ts g.ts.ascending b.t a.t (omega (arith, wb.t, g.times)) (omega (arith, wa.t, g.times)) (same_value _ _ axes.0))
+    (ascending_once i.ts g.ts.ascending b.t a.t (omega (arith, wb.t, g.times)) (omega (arith, wa.t, g.times)) (same_value _ _ axes.0))
     (same_level i.zs g.zs b.z a.z (omega (arith, wb.z, g.levels)) (omega (arith, wa.z, g.levels)) axes.1)
-    (one_place i.ys g.ys.ascending b.y a.y (omega (arith, wb.y, g.rows)) (omega (arith, wa.y, g.rows)) (same_value _ _ axes.2))
-    (one_place i.xs g.xs.ascending b.x a.x (omega (arith, wb.x, g.columns)) (omega (arith, wa.x, g.columns)) (same_value _ _ axes.3))
+    (ascending_once i.ys g.ys.ascending b.y a.y (omega (arith, wb.y, g.rows)) (omega (arith, wa.y, g.rows)) (same_value _ _ axes.2))
+    (ascending_once i.xs g.xs.ascending b.x a.x (omega (arith, wb.x, g.columns)) (omega (arith, wa.x, g.columns)) (same_value _ _ axes.3))
 
 same_itself : (v : Option ℤ) → same_where_given v v ≡ true
 same_itself None = refl

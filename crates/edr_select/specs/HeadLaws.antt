@@ -1,17 +1,14 @@
 -- The heads of a position's coverages are valid, and their cells are as many as their values.
-use Rattle.std.proofs.Common.{◌≡◌, ℕ, zero, suc, ◌+◌, ◌<◌, ◌<ℤ◌, Bool, true, false, cond, List, [], ◌∷◌, length, refl, subst, arith, None, IfSome, IsSome, ℤ, All, replicate}
+use Rattle.std.proofs.Common.{◌≡◌, ℕ, zero, suc, ◌<◌, Bool, true, false, List, [], length, refl, subst, None, IfSome, IsSome, ℤ, All, replicate}
 use Rattle.std.specs.declared.option.Option.{Option}
 use Rattle.std.specs.Prelude.{map, if◌then◌else◌}
 use Rattle.std.specs.List.{filter}
 use Rattle.std.specs.List.Sorted.{IsStrictlySortedBy}
-use Rattle.std.specs.Cmp.Lexicographic.{slice_cmp}
-use Rattle.std.specs.Ordering.{nat_cmp}
 use Rattle.std.proofs.lemmas.Bool.{false≢true}
 use Rattle.std.proofs.lemmas.List.{length-map, length-replicate}
 use Rattle.std.proofs.lemmas.List.Elements.{All-filter, All-map, All-replicate}
 use Rattle.std.proofs.lemmas.List.Kept.{IsStrictlySortedBy-filter}
-use Rattle.edr_axes.specs.Axes.{value_at, IsAscending, IsAxis}
-use Rattle.edr_axes.specs.AxisLaws.{ascending_far}
+use Rattle.edr_axes.specs.AxisLaws.{axis_filter}
 use Rattle.covjson_value.specs.declared.domains.CoordinateName.{CoordinateName}
 use Rattle.covjson_value.specs.declared.domains.CoordinateName.TheVariants.{Z}
 use Rattle.covjson_value.specs.declared.domains.Domain.{Domain}
@@ -21,56 +18,17 @@ use Rattle.covjson_value.specs.declared.coverages.Referencing.{Referencing}
 use Rattle.covjson_value.specs.declared.coverages.Coverage.{Coverage}
 use Rattle.covjson_value.specs.Domains.{has_coordinate, count_of}
 use Rattle.edr_base.specs.Limits.{IsSample}
+use Rattle.edr_base.specs.Names.{Ascend, order}
 use Rattle.covjson_value.specs.Coverages.{IsAxisValue, IsNamedAxis, HasAxes, HasTuples, IsParameter, IsReferencing, IsRange, AscendById, ids_of}
 use Rattle.covjson_write.specs.Writers.{IsHead}
 use Rattle.edr_edition.specs.Stores.{Subject}
 use Rattle.edr_select.specs.Selections.{is_asked}
 use Rattle.edr_select.specs.Documents.{referencing_over}
 use Rattle.edr_select.specs.Choices.{parameter_places}
-use Rattle.edr_select.specs.ListLaws.{Each, each-filter, filter-map}
+use Rattle.edr_select.specs.ListLaws.{filter-map}
 use Rattle.edr_select.specs.ParameterLaws.{parameter_at, asked_by_places}
 
 -- ---- some values of an axis are an axis
-
-abbrev Sorted : List ℤ → Type 0
-Sorted [] = Unit {0}
-Sorted (x ∷ xs) = Each (λ y. x <ℤ y) xs × Sorted xs
-
-each_from : (P : ℤ → Type 0) (xs : List ℤ) → ((k : ℕ) → k < length xs → P (value_at xs k)) → Each P xs
-each_from P [] h = tt
-each_from P (x ∷ xs) h = (h 0 (omega arith), each_from P xs (λ k l. h (suc k) (omega arith)))
-
-each_at : (P : ℤ → Type 0) (xs : List ℤ) → Each P xs → (k : ℕ) → k < length xs → P (value_at xs k)
-each_at P [] h k l = absurd (omega arith)
-each_at P (x ∷ xs) h zero l = h.0
-each_at P (x ∷ xs) h (suc k) l = each_at P xs h.1 k (omega arith)
-
-tail_ascends : (x : ℤ) (xs : List ℤ) → IsAscending (x ∷ xs) → IsAscending xs
-tail_ascends x xs h k l = subst (λ j. value_at (x ∷ xs) (suc k) <ℤ value_at (x ∷ xs) j) (next k) (h (suc k) (omega arith))
-  where
-    next : (k : ℕ) → suc k + 1 ≡ suc (k + 1)
-    next k = omega arith
-
-sorted_from : (xs : List ℤ) → IsAscending xs → Sorted xs
-sorted_from [] h = tt
-sorted_from (x ∷ xs) h = (each_from (λ y. x <ℤ y) xs (λ k l. ascending_far (x ∷ xs) h 0 (suc k) (omega arith) (omega arith)), sorted_from xs (tail_ascends x xs h))
-
-ascending_from : (xs : List ℤ) → Sorted xs → IsAscending xs
-ascending_from [] h k l = absurd (omega arith)
-ascending_from (x ∷ xs) h zero l = each_at (λ y. x <ℤ y) xs h.0 0 (omega arith)
-ascending_from (x ∷ xs) h (suc k) l = subst (λ j. value_at (x ∷ xs) (suc k) <ℤ value_at (x ∷ xs) j) (next k) (ascending_from xs h.1 k (omega arith))
-  where
-    next : (k : ℕ) → suc (k + 1) ≡ suc k + 1
-    next k = omega arith
-
-sorted_filter : (t : ℤ → Bool) (xs : List ℤ) → Sorted xs → Sorted (filter t xs)
-sorted_filter t [] h = tt
-sorted_filter t (x ∷ xs) h =
-    elim (t x) as (λ b. Sorted (cond b (x ∷ filter t xs) (filter t xs))) [ true ↦ (each-filter (λ y. x <ℤ y) t xs h.0, sorted_filter t xs h.1) | false ↦ sorted_filter t xs h.1 ]
-
--- what passes a test, where some value does
-pub axis_filter : (t : ℤ → Bool) (values : List ℤ) → IsAxis values → 0 < length (filter t values) → IsAxis (filter t values)
-axis_filter t values axis some = record { some = some; ascending = ascending_from (filter t values) (sorted_filter t values (sorted_from values axis.ascending)) }
 
 pub named_axis_filter : (name : CoordinateName) (t : ℤ → Bool) (values : List ℤ) → IsNamedAxis name values → 0 < length (filter t values)
     → IsNamedAxis name (filter t values)
@@ -89,8 +47,8 @@ asked_are names ps h =
 pub asked_ascend : (names : Option (List (List ℕ))) (ps : List Parameter) → AscendById ps → AscendById (map (parameter_at ps) (parameter_places names ps))
 asked_ascend names ps h =
     subst AscendById (asked_by_places names ps)
-    (subst (λ ids. IsStrictlySortedBy (slice_cmp nat_cmp) ids) (filter-map (is_asked names) (λ (p : Parameter). p.id) ps)
-    (IsStrictlySortedBy-filter (slice_cmp nat_cmp) (is_asked names) (ids_of ps) h))
+    (subst Ascend (filter-map (is_asked names) (λ (p : Parameter). p.id) ps)
+    (IsStrictlySortedBy-filter order (is_asked names) (ids_of ps) h))
 
 -- ---- heads
 

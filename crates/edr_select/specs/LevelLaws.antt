@@ -6,9 +6,8 @@ use Rattle.std.specs.List.{filter}
 use Rattle.std.proofs.lemmas.List.{length-map}
 use Rattle.edr_axes.specs.declared.levels.Levels.{Levels}
 use Rattle.edr_axes.specs.declared.times.Times.{Times}
-use Rattle.edr_axes.specs.Axes.{value_at}
+use Rattle.edr_axes.specs.Axes.{value_at, axis_length}
 use Rattle.covjson_value.specs.declared.domains.CoordinateName.TheVariants.{T, Z}
-use Rattle.covjson_value.specs.Domains.{axis_length}
 use Rattle.covjson_value.specs.Coverages.{IsAxisValue, IsNamedAxis}
 use Rattle.edr_select.specs.Wanted.{takes_time, takes_level}
 use Rattle.edr_select.specs.Choices.{level_places, time_places}

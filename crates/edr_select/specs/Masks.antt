@@ -21,6 +21,7 @@ use Rattle.edr_select.specs.declared.mask_rows.RowEnds.{RowEnds}
 use Rattle.edr_select.specs.Choices.{takes_node, time_places, level_places}
 use Rattle.edr_select.specs.Wanted.{levels_asked, in_areas, in_box}
 use Rattle.edr_select.specs.Framings.{FrameValue}
+use Rattle.edr_chunk.specs.RowMajor.{place_in_row}
 
 -- the shape is a disc, some polygons or a box
 abbrev pub IsArea : Shape → Type 0
@@ -31,6 +32,37 @@ IsArea (at.Cube lo hi levels) = ⊤
 IsArea (at.Trajectory geometry) = ⊥
 IsArea (at.Corridor geometry width height) = ⊥
 IsArea (at.Location id) = ⊥
+
+-- a place is taken
+abbrev pub takes_spot : Shape → Spot → Bool
+takes_spot (at.Radius geometry within) spot = list_any (λ p. in_disc spot (plane.spot_of p) within) (positions_of geometry)
+takes_spot (at.Area geometry) spot = in_areas geometry spot
+takes_spot (at.Cube lo hi levels) spot = in_box spot lo hi
+takes_spot other spot = false
+
+-- the geometry is the point of a place
+pub record IsCentre (geometry : Geometry) (centre : Spot) : Type 0 where
+  pub alone : map plane.spot_of (positions_of geometry) ≡ centre ∷ []
+  pub placed : IsSpot centre
+
+-- its rings are closed
+abbrev pub IsClosedPolygon : Polygon → Type 0
+IsClosedPolygon polygon = AllByRecursion IsClosed polygon.rings
+
+-- the geometry is some polygons, whose rings are closed
+pub record HasPolygons (geometry : Geometry) (polygons : List Polygon) : Type 0 where
+  pub in_each : (spot : Spot) → in_areas geometry spot ≡ in_polygons spot polygons
+  pub placed : All IsPlacedPolygon polygons
+  pub closed : AllByRecursion IsClosedPolygon polygons
+
+-- no place left of the left x, right of the right one, below the low y or above the high one is taken
+pub record LiesIn (shape : Shape) (reach : Reach) : Type 0 where
+  pub before : (spot : Spot) → spot.x <ℤ reach.left → takes_spot shape spot ≡ false
+  pub behind : (spot : Spot) → reach.right <ℤ spot.x → takes_spot shape spot ≡ false
+  pub below : (spot : Spot) → spot.y <ℤ reach.low → takes_spot shape spot ≡ false
+  pub above : (spot : Spot) → reach.high <ℤ spot.y → takes_spot shape spot ≡ false
+
+-- ---- for private clauses
 
 -- a box of rows and columns, and for each of its rows a truth value for each of some columns of the grid
 pub record MaskValue : Type 0 where
@@ -75,7 +107,7 @@ pub record IsMask (i : InstanceValue) (shape : Shape) (mask : MaskValue) : Type 
   pub right : mask.column + mask.columns ≤ mask.left + mask.width
   pub full : length mask.bits ≡ mask.rows * mask.width
   pub bits : (y x : ℕ) → mask.row ≤ y → y < mask.row + mask.rows → mask.left ≤ x → x < mask.left + mask.width
-      → slice_index_or mask.bits ((y - mask.row) * mask.width + (x - mask.left)) false ≡ takes_node i shape y x
+      → slice_index_or mask.bits (place_in_row (y - mask.row) mask.width (x - mask.left)) false ≡ takes_node i shape y x
   pub outside : (y x : ℕ) → y < length i.ys → x < length i.xs → takes_node i shape y x ≡ true → InBox mask y x
   pub first_row : TakesInRow i shape mask.row
   pub last_row : TakesInRow i shape (mask.row + mask.rows - 1)
@@ -95,37 +127,6 @@ frame_with i q mask = record {
   width = mask.width;
   mask = mask.bits;
 }
-
--- ---- how a mask is found
-
--- a place is taken
-abbrev pub takes_spot : Shape → Spot → Bool
-takes_spot (at.Radius geometry within) spot = list_any (λ p. in_disc spot (plane.spot_of p) within) (positions_of geometry)
-takes_spot (at.Area geometry) spot = in_areas geometry spot
-takes_spot (at.Cube lo hi levels) spot = in_box spot lo hi
-takes_spot other spot = false
-
--- the geometry is the point of a place
-pub record IsCentre (geometry : Geometry) (centre : Spot) : Type 0 where
-  pub alone : map plane.spot_of (positions_of geometry) ≡ centre ∷ []
-  pub placed : IsSpot centre
-
--- its rings are closed
-abbrev pub IsClosedPolygon : Polygon → Type 0
-IsClosedPolygon polygon = AllByRecursion IsClosed polygon.rings
-
--- the geometry is some polygons, whose rings are closed
-pub record HasPolygons (geometry : Geometry) (polygons : List Polygon) : Type 0 where
-  pub in_each : (spot : Spot) → in_areas geometry spot ≡ in_polygons spot polygons
-  pub placed : All IsPlacedPolygon polygons
-  pub closed : AllByRecursion IsClosedPolygon polygons
-
--- no place left of the left x, right of the right one, below the low y or above the high one is taken
-pub record LiesIn (shape : Shape) (reach : Reach) : Type 0 where
-  pub before : (spot : Spot) → spot.x <ℤ reach.left → takes_spot shape spot ≡ false
-  pub behind : (spot : Spot) → reach.right <ℤ spot.x → takes_spot shape spot ≡ false
-  pub below : (spot : Spot) → spot.y <ℤ reach.low → takes_spot shape spot ≡ false
-  pub above : (spot : Spot) → reach.high <ℤ spot.y → takes_spot shape spot ≡ false
 
 -- an x is from the left one to the right one, and a y from the low one to the high one
 pub record IsReached (reach : Reach) (p : Position) : Type 0 where
@@ -237,7 +238,7 @@ pub record IsMaskBefore (i : InstanceValue) (shape : Shape) (columns : ColumnsVa
   pub some_rows : 1 ≤ mask.rows
   pub some_columns : 1 ≤ mask.columns
   pub full : length mask.bits ≡ (end - mask.row) * length columns.xs
-  pub bits : (k x : ℕ) → k < end - mask.row → x < length columns.xs → slice_index_or mask.bits (k * length columns.xs + x) false ≡ takes_node i shape (mask.row + k) (columns.left + x)
+  pub bits : (k x : ℕ) → k < end - mask.row → x < length columns.xs → slice_index_or mask.bits (place_in_row k (length columns.xs) x) false ≡ takes_node i shape (mask.row + k) (columns.left + x)
   pub outside : (y x : ℕ) → y < end → x < length i.xs → takes_node i shape y x ≡ true → InBox mask y x
   pub first_row : TakesInRow i shape mask.row
   pub last_row : TakesInRow i shape (mask.row + mask.rows - 1)

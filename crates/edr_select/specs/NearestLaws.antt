@@ -1,12 +1,12 @@
 -- The nearest value of an axis: from its place to the test, and only its place passes.
-use Rattle.std.proofs.Common.{◌≡◌, ℕ, zero, suc, ◌<◌, ◌≤◌, Bool, true, false, List, [], ◌∷◌, length, refl, ap, sym, ◌∙◌, arith, inl, inr, ℤ, ◌<ℤ◌, ◌≤ℤ◌, int_lt}
+use Rattle.std.proofs.Common.{◌≡◌, ℕ, zero, suc, ◌<◌, ◌≤◌, Bool, true, false, List, [], ◌∷◌, length, refl, ap, sym, ◌∙◌, arith, inl, inr, ℤ, ◌≤ℤ◌, int_lt}
 use Rattle.std.specs.Prelude.{◌&&◌, ◌||◌, not, nat_lt, nat_le}
 use Rattle.std.specs.List.{list_all}
 use Rattle.std.proofs.lemmas.Bool.{cases_lt}
 use Rattle.std.proofs.lemmas.Bool.Decides.{nat_tests}
 use Rattle.std.proofs.lemmas.Int.{ints}
 use Rattle.edr_axes.specs.Axes.{value_at, distance, IsAscending, IsNearest}
-use Rattle.edr_axes.specs.AxisLaws.{ascending_far}
+use Rattle.edr_axes.specs.AxisLaws.{ascending_far, test_below}
 use Rattle.edr_axes.specs.AxisLaws.{nearest_is_one}
 use Rattle.edr_select.specs.Wanted.{is_nearest}
 
@@ -43,9 +43,6 @@ closer_from : (a b : ℕ) (lower : Bool) → a ≤ b → (lower ≡ true → a <
 closer_from a b true le lt = let l = lt refl in grind (arith, nat_tests)
 closer_from a b false le lt = grind (arith, nat_tests)
 
-is_lower : (a b : ℤ) → a <ℤ b → int_lt a b ≡ true
-is_lower a b h = grind (arith, ints)
-
 not_lower : (a b : ℤ) → b ≤ℤ a → int_lt a b ≡ true → ⊥
 not_lower a b h e = omega (arith, ints, h, e)
 
@@ -55,7 +52,7 @@ nearest_from_test values c k ascend inside h = record {
   inside = inside;
   least = λ other inner. least_of (distance (value_at values k) c) (distance (value_at values other) c) (int_lt (value_at values other) (value_at values k)) (all_at (closer c (value_at values k)) values h other inner);
   lower = λ other lt. lower_of (distance (value_at values k) c) (distance (value_at values other) c) (int_lt (value_at values other) (value_at values k))
-      (is_lower (value_at values other) (value_at values k) (ascending_far values ascend other k lt inside)) (all_at (closer c (value_at values k)) values h other (omega arith));
+      (test_below (value_at values other) (value_at values k) (ascending_far values ascend other k lt inside)) (all_at (closer c (value_at values k)) values h other (omega arith));
 }
 
 -- the nearest value passes

@@ -1,10 +1,9 @@
 -- What is planned for the places that a position takes; for the calls that plan, and private clauses.
 use Rattle.std.specs.Prelude.{ℕ, ◌<◌, ◌*◌, ◌^◌, ℤ, pos, true, false, List, [], map, length, All, IfSome, Option, None, Some}
 use Rattle.std.specs.List.{slice_index_or}
-use Rattle.edr_axes.specs.Axes.{value_at, IsAxis}
+use Rattle.edr_axes.specs.Axes.{value_at, IsAxis, axis_length}
 use Rattle.covjson_value.specs.declared.domains.Domain.{Domain}
 use Rattle.covjson_value.specs.declared.domains.Domain.TheVariants.{MultiPoint}
-use Rattle.covjson_value.specs.Domains.{axis_length}
 use Rattle.covjson_value.specs.declared.coverages.Parameter.{Parameter}
 use Rattle.covjson_value.specs.declared.coverages.Referencing.{Referencing}
 use Rattle.covjson_value.specs.declared.coverages.Coverage.{Coverage}
@@ -32,6 +31,8 @@ head_of referencing parameters domain = record {
   parameters = parameters;
   ranges = [];
 }
+
+-- ---- for private clauses
 
 -- what is planned for one spot, at each time and level
 abbrev pub planned_at : Referencing → InstanceValue → Chosen → ℕ → PlannedValue

@@ -10,8 +10,8 @@ use Rattle.edr_ids.specs.Ids.{item_of}
 use Rattle.edr_edition.specs.declared.kinds.Kind.{Kind}
 use Rattle.edr_edition.specs.declared.kinds.Kind.TheVariants.{Grid, Station}
 use Rattle.edr_station.specs.Stations.{StationValue, station_id}
-use Rattle.edr_edition.specs.Values.{CollectionValue, EditionValue, instance_id, collection_id}
-use Rattle.edr_edition.specs.Stores.{Held, of_grid, of_stations, Subject, instance_named, subject_in}
+use Rattle.edr_edition.specs.Values.{CollectionValue, EditionValue, instance_id}
+use Rattle.edr_edition.specs.Stores.{Held, of_grid, of_stations, Subject, instance_named, subject_in, collection_in}
 use Rattle.edr_query.specs.declared.pages.Page.{Page}
 use Rattle.edr_query.specs.declared.pages.Page.TheVariants.{Landing, Conformance, Collections, Collection, Instances, Instance, Locations, Ask}
 use Rattle.edr_query.specs.declared.shapes.Shape.{Shape}
@@ -134,7 +134,7 @@ applies_if_found page refusal (Some collection) = applies_in collection page ref
 
 -- a refusal applies to a page of an edition
 abbrev pub applies : EditionValue → Page → Refusal → Bool
-applies edition page refusal = applies_if (λ id. applies_if_found page refusal (item_of collection_id id edition.collections)) (collection_named page)
+applies edition page refusal = applies_if (λ id. applies_if_found page refusal (collection_in edition.collections id)) (collection_named page)
 
 -- the refusals of an edition, by their numbers
 abbrev pub in_order : List Refusal

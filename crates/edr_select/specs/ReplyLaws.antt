@@ -1,5 +1,5 @@
 -- Laws of replies: the documents of listings and of framings are valid, and a frame has as many cells as its sides say.
-use Rattle.std.proofs.Common.{◌≡◌, ℕ, suc, ◌+◌, ◌*◌, Bool, true, false, List, [], ◌∷◌, length, get_or, All, ℤ, Option, None, Some, refl, ap, sym, ◌∙◌, subst, arith, inl, inr, length-append}
+use Rattle.std.proofs.Common.{◌≡◌, ℕ, suc, ◌*◌, Bool, true, false, List, [], ◌∷◌, length, get_or, All, ℤ, Option, None, Some, refl, ap, sym, ◌∙◌, subst, arith, inl, inr}
 use Rattle.std.specs.Prelude.{map, IfSome}
 use Rattle.std.proofs.Math.Nat.{mul_assoc}
 use Rattle.std.specs.List.{flat_map, range_with_len}
@@ -25,6 +25,7 @@ use Rattle.edr_select.specs.declared.plans.GridNode.{GridNode}
 use Rattle.edr_select.specs.Listings.{PlannedValue, ListingValue, IsPlanned, IsListing, place_at, range_over, coverage_of, document_of, listing_document}
 use Rattle.edr_select.specs.Stacks.{StackValue, StackingValue, IsStacking, plane_at, time_at, level_at, cells_of_plane, cells_of_time, stack_cells, stack_count, stacked_range, stacked_coverage}
 use Rattle.edr_select.specs.Framings.{FrameValue, FramingValue, IsFraming, cell_at, row_cells, plane_cells, frame_cells, node_count, cell_value, framed_range, framed_coverage}
+use Rattle.edr_select.specs.BoxLaws.{length_of_same}
 
 -- ---- validity
 
@@ -114,41 +115,30 @@ document_valid grid plan d is samples f =
     let told = told_of grid plan d is f in told.valid (coverages_valid grid plan.shape plan.parameters plan.coverages samples is.coverages)
 
 -- ---- how many cells there are
-
-flat_length : {X Y : Type 0} (g : X → List Y) (n : ℕ) → ((x : X) → length (g x) ≡ n) → (xs : List X) → length (flat_map g xs) ≡ length xs * n
-flat_length g n each [] = none n
-  where
-    none : (n : ℕ) → 0 ≡ 0 * n
-    none n = omega arith
-flat_length g n each (x ∷ xs) = length-append (g x) (flat_map g xs) ∙ ap (λ (k : ℕ). k + length (flat_map g xs)) (each x) ∙ ap (λ (k : ℕ). n + k) (flat_length g n each xs) ∙ more n (length xs)
-  where
-    more : (n m : ℕ) → n + m * n ≡ suc m * n
-    more n m = omega arith
-
 row_count : (frame : FrameValue) (t z y : ℕ) → length (row_cells frame t z y) ≡ frame.columns
 row_count frame t z y = length-map (range_with_len frame.column frame.columns) (cell_at frame t z y) ∙ length-range_with_len frame.column frame.columns
 
 plane_count : (frame : FrameValue) (t z : ℕ) → length (plane_cells frame t z) ≡ frame.rows * frame.columns
 plane_count frame t z =
-    flat_length (row_cells frame t z) frame.columns (row_count frame t z) (range_with_len frame.row frame.rows) ∙ ap (λ (n : ℕ). n * frame.columns) (length-range_with_len frame.row frame.rows)
+    length_of_same (row_cells frame t z) frame.columns (row_count frame t z) (range_with_len frame.row frame.rows) ∙ ap (λ (n : ℕ). n * frame.columns) (length-range_with_len frame.row frame.rows)
 
 pub cells_count : (frame : FrameValue) → length (frame_cells frame) ≡ node_count frame
 cells_count frame =
-    flat_length (λ t. flat_map (plane_cells frame t) frame.levels) (length frame.levels * (frame.rows * frame.columns))
-    (λ t. flat_length (plane_cells frame t) (frame.rows * frame.columns) (plane_count frame t) frame.levels) frame.times
+    length_of_same (λ t. flat_map (plane_cells frame t) frame.levels) (length frame.levels * (frame.rows * frame.columns))
+    (λ t. length_of_same (plane_cells frame t) (frame.rows * frame.columns) (plane_count frame t) frame.levels) frame.times
 
 cells_of_plane_count : (stack : StackValue) (i j : ℕ) → length (cells_of_plane stack i j) ≡ stack.sides.rows * stack.sides.columns
 cells_of_plane_count stack i j = plane_count (plane_at stack i j) (time_at stack.sides i) (level_at stack.sides j)
 
 cells_of_time_count : (stack : StackValue) (i : ℕ) → length (cells_of_time stack i) ≡ length stack.sides.levels * (stack.sides.rows * stack.sides.columns)
 cells_of_time_count stack i =
-    flat_length (cells_of_plane stack i) (stack.sides.rows * stack.sides.columns) (cells_of_plane_count stack i) (range_with_len 0 (length stack.sides.levels))
+    length_of_same (cells_of_plane stack i) (stack.sides.rows * stack.sides.columns) (cells_of_plane_count stack i) (range_with_len 0 (length stack.sides.levels))
     ∙ ap (λ (n : ℕ). n * (stack.sides.rows * stack.sides.columns)) (length-range_with_len 0 (length stack.sides.levels))
 
 -- how many cells a stack has
 pub stack_cells_count : (stack : StackValue) → length (stack_cells stack) ≡ stack_count stack.sides
 stack_cells_count stack =
-    flat_length (cells_of_time stack) (length stack.sides.levels * (stack.sides.rows * stack.sides.columns)) (cells_of_time_count stack) (range_with_len 0 (length stack.sides.times))
+    length_of_same (cells_of_time stack) (length stack.sides.levels * (stack.sides.rows * stack.sides.columns)) (cells_of_time_count stack) (range_with_len 0 (length stack.sides.times))
     ∙ (ap (λ (n : ℕ). n * (length stack.sides.levels * (stack.sides.rows * stack.sides.columns))) (length-range_with_len 0 (length stack.sides.times))
     ∙ sym (mul_assoc (length stack.sides.times) (length stack.sides.levels) (stack.sides.rows * stack.sides.columns)))
 

@@ -1,12 +1,12 @@
 -- The values of an axis from the least to the greatest that occurs, by their places.
-use Rattle.std.proofs.Common.{◌≡◌, ℕ, ◌+◌, ◌-◌, ◌<◌, ◌≤◌, ◌≤ℤ◌, Bool, true, false, List, [], ◌∷◌, ◌++◌, length, refl, ap, ap₂, ◌∙◌, arith, inl, inr, zero-add, ℤ, int_le, append-nil}
+use Rattle.std.proofs.Common.{◌≡◌, ℕ, ◌+◌, ◌-◌, ◌<◌, ◌≤◌, Bool, true, false, List, [], ◌∷◌, ◌++◌, length, refl, ap, ap₂, ◌∙◌, arith, inl, inr, zero-add, ℤ, int_le, append-nil}
 use Rattle.std.specs.Prelude.{map, ◌&&◌}
 use Rattle.std.specs.List.{filter, list_any, range_with_len}
 use Rattle.std.proofs.lemmas.Bool.{cases_lt, false_from_ne_true}
 use Rattle.std.proofs.lemmas.Int.{ints}
 use Rattle.std.proofs.lemmas.List.Elements.{filter-append}
 use Rattle.edr_axes.specs.Axes.{value_at, IsAscending}
-use Rattle.edr_axes.specs.AxisLaws.{ascending_at_most, ascending_far}
+use Rattle.edr_axes.specs.AxisLaws.{ascending_at_most, ascending_far, test_at_most}
 use Rattle.edr_select.specs.ListLaws.{filter_none, range-append}
 use Rattle.edr_select.specs.KeptLaws.{kept_agree, filter_by_places}
 
@@ -53,12 +53,6 @@ pub record Spans {S : Type 0} (along : S → ℤ) (picks : List S) (values : Lis
   pub least : (t : ℤ → Bool) → t (value_at values first) ≡ true → list_any (λ s. t (along s)) picks ≡ true
   pub greatest : (t : ℤ → Bool) → t (value_at values (first + many - 1)) ≡ true → list_any (λ s. t (along s)) picks ≡ true
 
-le_of : (a b : ℤ) → int_le a b ≡ true → a ≤ℤ b
-le_of a b h = omega (arith, ints, h)
-
-of_le : (a b : ℤ) → a ≤ℤ b → int_le a b ≡ true
-of_le a b h = grind (arith, ints)
-
 -- a value that isn't above another doesn't stand behind it
 in_order : (values : List ℤ) → IsAscending values → (low high : ℕ) → low < length values → int_le (value_at values low) (value_at values high) ≡ true → low ≤ high
 in_order values ascend low high inside h =
@@ -84,9 +78,9 @@ module _ {S : Type 0} (along : S → ℤ) (picks : List S) (values : List ℤ) (
   between : (k : ℕ) → first ≤ k → k < first + many → (from_least k && to_greatest k) ≡ true
   between k low high =
       let up : from_least k ≡ true = h.least (λ v. int_le v (value_at values k))
-      (of_le (value_at values first) (value_at values k) (ascending_at_most values ascend first k low (omega (arith, high, h.inside)))) in
+      (test_at_most (value_at values first) (value_at values k) (ascending_at_most values ascend first k low (omega (arith, high, h.inside)))) in
       let down : to_greatest k ≡ true = h.greatest (λ v. int_le (value_at values k) v)
-      (of_le (value_at values k) (value_at values (first + many - 1)) (ascending_at_most values ascend k (first + many - 1) (omega (arith, high)) (omega (arith, h.some, h.inside)))) in
+      (test_at_most (value_at values k) (value_at values (first + many - 1)) (ascending_at_most values ascend k (first + many - 1) (omega (arith, high)) (omega (arith, h.some, h.inside)))) in
       ap₂ (λ a b. a && b) up down
 
   and_false : (b c : Bool) → c ≡ false → (b && c) ≡ false

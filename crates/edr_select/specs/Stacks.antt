@@ -6,6 +6,7 @@ use Rattle.covjson_value.specs.declared.coverages.Coverage.{Coverage}
 use Rattle.covjson_value.specs.Domains.{count_of}
 use Rattle.covjson_write.specs.Writers.{IsHead, with_ranges}
 use Rattle.edr_chunk.specs.declared.shapes.GridShape.{GridShape}
+use Rattle.edr_chunk.specs.RowMajor.{place_in_row}
 use Rattle.edr_chunk.specs.Places.{IsShape}
 use Rattle.edr_chunk.specs.Grids as chunk
 use Rattle.edr_select.specs.declared.plans.GridNode.{GridNode}
@@ -43,7 +44,7 @@ plane_count sides = length sides.times * length sides.levels
 
 -- the number of the plane of a time and a level, which are told by their numbers among those of the stack
 abbrev pub plane_number : SidesValue → ℕ → ℕ → ℕ
-plane_number sides i j = i * length sides.levels + j
+plane_number sides i j = place_in_row i (length sides.levels) j
 
 abbrev pub time_at : SidesValue → ℕ → ℕ
 time_at sides i = slice_index_or sides.times i 0

@@ -41,8 +41,6 @@ pub record IsAsked (collection : CollectionValue) (q : QueryValue) (instance : I
   pub shape : IsShape q.shape
   pub grid : HasGrid instance
 
--- ---- the refusals that are left
-
 -- once names are known
 abbrev pub refused_known : CollectionValue → QueryValue → Option Refusal
 refused_known collection q = find (applies_to_query collection q) (BadCrs ∷ of_data)
@@ -50,10 +48,6 @@ refused_known collection q = find (applies_to_query collection q) (BadCrs ∷ of
 -- once levels are there
 abbrev pub refused_sizes : QueryValue → Subject → Option Refusal
 refused_sizes q subject = find (λ refusal. applies_to_subject q refusal subject) (NoSamples ∷ (TooLarge ∷ []))
-
--- once something is selected
-abbrev pub refused_large : QueryValue → Subject → Option Refusal
-refused_large q subject = find (λ refusal. applies_to_subject q refusal subject) (TooLarge ∷ [])
 
 -- a fault is the refusal; want of memory is free
 abbrev pub IsFaultOf : Option Refusal → PlanFault → Type 0
@@ -63,6 +57,19 @@ IsFaultOf refused OutOfMemory = ⊤
 -- levels are asked of an instance without any
 abbrev pub lacks_levels : QueryValue → InstanceValue → Bool
 lacks_levels q instance = asks_levels q && not (is_some instance.zs)
+
+-- no refusal applies to the query, its document is valid, and the plan stands for it
+pub record IsPlanIn (collection : CollectionValue) (q : QueryValue) (instance : InstanceValue) (plan : PlanValue) : Type 0 where
+  pub none : refused_query collection q ≡ None
+  pub query_is : plan.query ≡ q
+  pub valid : IsValidDocument (document (grid_of collection instance) q)
+  pub stands : StandsFor plan (grid_of collection instance)
+
+-- ---- for private clauses
+
+-- once something is selected
+abbrev pub refused_large : QueryValue → Subject → Option Refusal
+refused_large q subject = find (λ refusal. applies_to_subject q refusal subject) (TooLarge ∷ [])
 
 -- what a query takes, where something is taken, and the refusals that are left
 pub record IsChoice (collection : CollectionValue) (q : QueryValue) (instance : InstanceValue) (choice : Chosen) : Type 0 where
@@ -97,10 +104,3 @@ abbrev pub planned_in : Referencing → InstanceValue → Chosen → Form → Li
 planned_in referencing i c (AtPoint spot) = map (planned_at referencing i c) c.spots
 planned_in referencing i c (Along t z) = planned_along referencing i c t z ∷ []
 planned_in referencing i c Apart = map (planned_at referencing i c) c.spots
-
--- no refusal applies to the query, its document is valid, and the plan stands for it
-pub record IsPlanIn (collection : CollectionValue) (q : QueryValue) (instance : InstanceValue) (plan : PlanValue) : Type 0 where
-  pub none : refused_query collection q ≡ None
-  pub query_is : plan.query ≡ q
-  pub valid : IsValidDocument (document (grid_of collection instance) q)
-  pub stands : StandsFor plan (grid_of collection instance)

@@ -1,8 +1,7 @@
 //! The parameters of an instance that a query asks for.
-ghost use Rattle.std.specs.Prelude.{◌≡◌, ◌<◌, false, true, length, Some, None, IfOk, MatchOption};
-ghost use Rattle.edr_ids.specs.Ids.{AscendBy};
+ghost use Rattle.std.specs.Prelude.{◌≡◌, ◌<◌, false, true, Some, None, IfOk, MatchOption};
 ghost use Rattle.edr_select.specs.PlacesOfIds.{IsPlaceOf};
-ghost use Rattle.covjson_value.specs.Coverages.{ids_of};
+ghost use Rattle.covjson_value.specs.Coverages.{ids_of, AscendById};
 ghost use Rattle.edr_edition.specs.Values.{parameter_id};
 ghost use Rattle.edr_select.specs.Refusals.{names_other};
 ghost use Rattle.edr_select.specs.Choices.{parameter_places};
@@ -14,7 +13,7 @@ use std::alloc::Global;
 
 // `Ok` with the place of the parameter of an id, or `Err` with the place where it would stand.
 fn place_of(parameters: &[Parameter], id: &[u8]) -> Result<usize, usize>
-    requires { AscendBy parameter_id parameters.now }
+    requires { AscendById parameters.now }
     ensures { IsPlaceOf parameter_id id.now parameters.now result }
 {
     parameters.binary_search_by(|parameter| parameter.id.bytes().cmp(id))
@@ -26,7 +25,7 @@ fn places_of_names(
     names: &[Text],
     parameters: &[Parameter],
 ) -> Result<Option<Vec<u64>>, OutOfMemory>
-    requires { AscendBy parameter_id parameters.now }
+    requires { AscendById parameters.now }
     ensures { IfOk result (λ found. MatchOption found (names_other (Some names.now) (ids_of parameters.now) ≡ true)
         (λ places. (names_other (Some names.now) (ids_of parameters.now) ≡ false) × (places.items ≡ parameter_places (Some names.now) parameters.now))) }
 {
@@ -46,7 +45,7 @@ pub fn parameters_taken(
     names: &Option<Items<Text>>,
     parameters: &[Parameter],
 ) -> Result<Option<Vec<u64>>, OutOfMemory>
-    requires { AscendBy parameter_id parameters.now }
+    requires { AscendById parameters.now }
     ensures { IfOk result (λ found. MatchOption found (names_other names.now (ids_of parameters.now) ≡ true)
         (λ places. (names_other names.now (ids_of parameters.now) ≡ false) × (places.items ≡ parameter_places names.now parameters.now))) }
 {

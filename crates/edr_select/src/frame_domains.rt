@@ -1,8 +1,7 @@
 //! The domains of frames.
 ghost use Rattle.std.specs.Prelude.{◌≡◌, ◌≢◌, ◌+◌, ◌<◌, ◌≤◌, [], All, length, map, option_map, IfOk};
 ghost use Rattle.std.specs.List.{range_with_len};
-ghost use Rattle.edr_axes.specs.Axes.{value_at, IsAscending};
-ghost use Rattle.covjson_value.specs.Domains.{axis_length};
+ghost use Rattle.edr_axes.specs.Axes.{value_at, IsAscending, axis_length};
 ghost use Rattle.edr_edition.specs.Instances.{HasGrid};
 ghost use Rattle.edr_select.specs.AreaPlans.{HasNodes, domain_over};
 ghost use Rattle.edr_select.specs.Listings.{NumbersRise};

@@ -1,11 +1,9 @@
 //! What is planned for the places that a position takes.
 ghost use Rattle.std.specs.Prelude.{◌≡◌, ◌<◌, ◌*◌, All, length, map, option_map, IfOk, IfSome};
-ghost use Rattle.edr_axes.specs.Axes.{IsAxis};
-ghost use Rattle.covjson_value.specs.Domains.{axis_length};
+ghost use Rattle.edr_axes.specs.Axes.{IsAxis, axis_length, value_at};
 ghost use Rattle.edr_select.specs.Heads.{position_at};
 ghost use Rattle.edr_select.specs.Choices.{spot_of, times_of, levels_of};
 ghost use Rattle.edr_corridor.specs.Boxes.{level_at};
-ghost use Rattle.edr_axes.specs.Axes.{value_at};
 ghost use Rattle.edr_select.specs.Planned as planned;
 ghost use Rattle.edr_select.specs.Planned.{IsInside, IsSmall};
 

@@ -1,7 +1,6 @@
 //! The coverages that are planned for a position.
 ghost use Rattle.std.specs.Prelude.{◌≡◌, ◌<◌, All, map, option_map, IfOk, IfSome};
-ghost use Rattle.covjson_value.specs.Domains.{axis_length};
-ghost use Rattle.edr_axes.specs.Axes.{IsAxis};
+ghost use Rattle.edr_axes.specs.Axes.{axis_length, IsAxis};
 ghost use Rattle.edr_select.specs.Choices.{times_of, levels_of};
 ghost use Rattle.edr_select.specs.Planned as planned;
 ghost use Rattle.edr_select.specs.Planned.{IsInside, IsSmall, AreAxes};

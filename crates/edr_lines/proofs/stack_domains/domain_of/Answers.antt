@@ -1,8 +1,7 @@
 use Rattle.std.proofs.Common.{◌≡◌, ◌≢◌, ◌+◌, ◌<◌, ◌≤◌, ◌∙◌, ℕ, List, [], length, ap, ap₂, sym, subst, All}
-use Rattle.edr_axes.specs.Axes.{IsAscending}
+use Rattle.edr_axes.specs.Axes.{IsAscending, axis_length}
 use Rattle.edr_chunk.specs.declared.shapes.GridShape.{GridShape}
 use Rattle.edr_edition.specs.Values.{InstanceValue}
-use Rattle.covjson_value.specs.Domains.{axis_length}
 use Rattle.edr_select.specs.Listings.{NumbersRise}
 use Rattle.edr_select.specs.Stacks.{SidesValue}
 use Rattle.edr_lines.proofs.stack_domains.domain_of.Goals as goal

@@ -1,5 +1,5 @@
 use Rattle.std.proofs.Common.{◌<◌, length, arith, subst, sym, ap, ◌∙◌, All, List}
-use Rattle.covjson_value.specs.Domains.{axis_length}
+use Rattle.edr_axes.specs.Axes.{axis_length}
 use Rattle.edr_chunk.specs.Places.{Within}
 use Rattle.edr_select.specs.declared.plans.GridNode.{GridNode}
 use Rattle.edr_select.specs.ListLaws.{all_member}

@@ -18,11 +18,11 @@ returns-in-Radius c =
       low = to_z w64 (of_z w64 (to_z w64 (of_z w64 centre.y) -ℤ to_z w64 (of_z w64 within)));
       high = to_z w64 (of_z w64 (to_z w64 (of_z w64 centre.y) +ℤ to_z w64 (of_z w64 within)));
     } in
-    subst (λ s. LiesIn s reach) (sym c.in-Radius.is) (disc_lies c.in-Radius.geometry within centre reach c.centre_of-centre.ensures shape.1.from (record {
-      left = omega (arith, ints, across, shape.1.from, shape.1.to);
-      right = omega (arith, ints, across, shape.1.from, shape.1.to);
-      low = omega (arith, ints, placed, shape.1.from, shape.1.to);
-      high = omega (arith, ints, placed, shape.1.from, shape.1.to);
+    subst (λ s. LiesIn s reach) (sym c.in-Radius.is) (disc_lies c.in-Radius.geometry within centre reach c.centre_of-centre.ensures shape.1.least (record {
+      left = omega (arith, ints, across, shape.1.least, shape.1.greatest);
+      right = omega (arith, ints, across, shape.1.least, shape.1.greatest);
+      low = omega (arith, ints, placed, shape.1.least, shape.1.greatest);
+      high = omega (arith, ints, placed, shape.1.least, shape.1.greatest);
     }))
 
 pub returns-in-Area : goal.returns-in-Area
