@@ -1,12 +1,10 @@
 //! Reading a reply.
-ghost use Rattle.std.specs.Prelude.{◌≡◌, ◌≢◌, ◌+◌, ℕ, List, IfOk, IfErr, IfSome, OnErr, IsErrOf, Err};
+ghost use Rattle.std.specs.Prelude.{◌≡◌, ◌+◌, ℕ, List, IfOk, IfSome, IsErrOf, Err};
 ghost use Rattle.edr_base.specs.Outside.{Rose};
 ghost use Rattle.edr_base.specs.Calls.{SourceLent, ReadsAtMost};
 ghost use Rattle.edr_http.specs.Heads.{Told};
 ghost use Rattle.covjson_value.specs.Coverages.{IsValidDocument};
 ghost use Rattle.covjson_checks.specs.declared.faults.CovFault.{CovFault};
-ghost use Rattle.covjson_read.specs.Standing.{StandsForDocument};
-ghost use Rattle.covjson_read.specs.Rows.{DocumentRows};
 ghost use Rattle.edr_reply.specs.Messages.{HasNoMessage, BreaksOff, most_beyond, most_read};
 ghost use Rattle.edr_reply.specs.BrokenParts.{IsFirstBreak};
 ghost use Rattle.edr_client.specs.Replies.{IsCode, IsReply, IsNotData, IsNoDocument, IsLeft};
@@ -31,13 +29,11 @@ fn code_of(alloc: Global, body: &[u8]) -> Result<Text, OutOfMemory>
 }
 
 // Why a reply whose status isn't 200 is none of data.
-fn not_data(alloc: Global, message: &Message) -> ReplyFault
-    ensures { TellsNotData message.now result }
+fn not_data(alloc: Global, message: &Message) -> Result<ReplyFault, OutOfMemory>
+    ensures { IfOk result (TellsNotData message.now) }
 {
-    match code_of(alloc, message.body.bytes()) {
-        Ok(code) => ReplyFault::NotData(message.status, code),
-        Err(_) => ReplyFault::OutOfMemory,
-    }
+    let code = code_of(alloc, message.body.bytes())?;
+    Ok(ReplyFault::NotData(message.status, code))
 }
 
 // The reply that a message is.
@@ -46,7 +42,7 @@ fn reply_of(alloc: Global, message: &Message) -> Result<Reply, ReplyFault>
     ensures valid { IfOk result (λ reply. IsValidDocument reply.document) }
 {
     if message.status != 200 {
-        return Err(not_data(alloc, message));
+        return Err(not_data(alloc, message)?);
     }
     let document = read_document(alloc, message.body.bytes())?;
     Ok(Reply {

@@ -4,7 +4,7 @@ ghost use Rattle.edr_client.specs.Answering.{TellsCov, fault_of};
 
 use covjson_checks::CovFault;
 use covjson_value::Document;
-use edr_base::Text;
+use edr_base::{OutOfMemory, Text};
 use edr_reply::MessageFault;
 
 /// A reply of data.
@@ -30,6 +30,16 @@ pub enum ReplyFault {
     Cov(CovFault),
     /// Memory was wanting.
     OutOfMemory,
+}
+
+impl From<OutOfMemory> for ReplyFault {
+    ghost use Rattle.edr_client.specs.declared.replies.ReplyFault.TheVariants as variants;
+
+    ghost from_gives = { λ _ fault. fault ≡ variants.OutOfMemory };
+
+    fn from(_: OutOfMemory) -> ReplyFault {
+        ReplyFault::OutOfMemory
+    }
 }
 
 impl From<MessageFault> for ReplyFault {

@@ -6,7 +6,7 @@ ghost use Rattle.covjson_value.specs.Coverages.{IsValidDocument};
 ghost use Rattle.edr_fetch.specs.Requests.{request_text};
 ghost use Rattle.edr_fetch.specs.Exchanges.{Exchanged, Heard, AsksOnce, LinkKept};
 ghost use Rattle.edr_fetch.specs.declared.fetching.FetchFault.TheVariants.{OutOfMemory as FetchWantsMemory};
-ghost use Rattle.edr_fetch.specs.Outcomes.{fault_of, fault_of_sending};
+ghost use Rattle.edr_fetch.specs.Outcomes.{fault_of, fault_of_connecting, fault_of_sending};
 
 use crate::requests::{Request, text_of};
 use covjson_checks::CovFault;
@@ -38,6 +38,17 @@ impl From<OutOfMemory> for FetchFault {
 
     fn from(_: OutOfMemory) -> FetchFault {
         FetchFault::OutOfMemory
+    }
+}
+
+impl From<Stop> for FetchFault {
+    ghost from_gives = { λ given fault. fault ≡ fault_of_connecting given };
+
+    fn from(given: Stop) -> FetchFault {
+        match given {
+            Stop::Failed => FetchFault::ConnectFault,
+            Stop::OutOfMemory => FetchFault::OutOfMemory,
+        }
     }
 }
 
@@ -91,11 +102,7 @@ pub fn fetch<L: Link>(alloc: Global, request: &Request, link: &mut L) -> Result<
     ensures kept { LinkKept (L.aside link.old) (L.aside link.new) (L.faults link.old) (L.faults link.new) }
 {
     let text = text_of(alloc, request)?;
-    match link.connect(request.host.bytes(), request.port) {
-        Ok(()) => {}
-        Err(Stop::Failed) => return Err(FetchFault::ConnectFault),
-        Err(Stop::OutOfMemory) => return Err(FetchFault::OutOfMemory),
-    }
+    link.connect(request.host.bytes(), request.port)?;
     put(link, text.bytes())?;
     Ok(read_reply(alloc, link)?)
 }

@@ -1,5 +1,5 @@
 //! How a shelf is opened.
-ghost use Rattle.std.specs.Prelude.{◌≡◌, ◌<◌, ◌≤◌, ◌^◌, [], ◌∷◌, drop, vec_len, All, IfOk, IsErrOf, true, false};
+ghost use Rattle.std.specs.Prelude.{◌≡◌, ◌<◌, ◌≤◌, ◌^◌, [], ◌∷◌, drop, vec_len, All, IfOk, IfErr, IsErrOf, true, false};
 ghost use Rattle.std.specs.Arc.{arc_value};
 ghost use Rattle.left_right.specs.Sides.{view};
 ghost use Rattle.edr_base.specs.Adapters.{Counts};
@@ -10,24 +10,20 @@ use crate::publishers::Publisher;
 use crate::rule::{LogFactory, LogWriter, Open};
 use crate::shelves::SharedShelf;
 use crate::shown::Shown;
-use edr_base::{Faults, OutOfMemory, Stop};
+use edr_base::{Faults, Stop};
 use edr_edition::Edition;
 use left_right::writer::Writer;
 use std::alloc::Global;
 use std::sync::{Arc, Wait};
 
 // A writer that may publish, with so many places for readers. Its log is the first edition alone.
-fn open<R: Wait>(
-    rt: &R,
-    alloc: Global,
-    first: Edition,
-    readers: usize,
-) -> Result<LogWriter, OutOfMemory>
+fn open<R: Wait>(rt: &R, alloc: Global, first: Edition, readers: usize) -> Result<LogWriter, Stop>
     requires number { first.number ≡ 1 }
     requires readers { (0 < readers) × (readers < 2 ^ 32) }
     ensures log { IfOk result (λ writer. (view writer.desk.place).seen ≡ first ∷ []) }
     ensures publishes { IfOk result (λ writer. (view writer.desk.place).publishes ≡ true) }
     ensures pending { IfOk result (λ writer. drop writer.behind writer.log.items ≡ []) }
+    ensures memory { IfErr result (λ stop. stop ≡ Stop.OutOfMemory) }
 {
     let first = Arc::new(alloc, first)?;
     let one = Shown {
@@ -43,7 +39,7 @@ fn open<R: Wait>(
         Ok(()) => {}
         Err(_) => {
             let _shown = writer.take(rt);
-            return Err(OutOfMemory);
+            return Err(Stop::OutOfMemory);
         }
     }
     let (writer, done) = writer.publish_as::<Open, R>(rt);
@@ -51,7 +47,7 @@ fn open<R: Wait>(
         Ok(()) => Ok(writer),
         Err(_) => {
             let _shown = writer.take(rt);
-            Err(OutOfMemory)
+            Err(Stop::OutOfMemory)
         }
     }
 }
@@ -73,9 +69,7 @@ fn shelves(
             places.refused();
             return Err(Stop::Failed);
         };
-        if shelves.push(SharedShelf::over(reader, factory)).is_err() {
-            return Err(Stop::OutOfMemory);
-        }
+        shelves.push(SharedShelf::over(reader, factory))?;
     }
     Ok(shelves)
 }
@@ -102,9 +96,7 @@ pub fn open_shelf<R: Wait>(
     if readers >= 1 << 32 {
         return Err(Stop::OutOfMemory);
     }
-    let Ok(writer) = open(rt, alloc, first, readers) else {
-        return Err(Stop::OutOfMemory);
-    };
+    let writer = open(rt, alloc, first, readers)?;
     match shelves(alloc, writer.factory(), readers, places) {
         Ok(shelves) => Ok((Publisher::over(writer), shelves)),
         Err(stop) => {

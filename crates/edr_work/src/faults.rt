@@ -1,9 +1,9 @@
 //! Why a run has no text.
 ghost use Rattle.std.specs.Prelude.{◌≡◌};
-ghost use Rattle.edr_work.specs.Faults.{of_target, of_plan};
+ghost use Rattle.edr_work.specs.Faults.{of_feed, of_target, of_plan};
 
 use edr_base::{OutOfMemory, Refusal};
-use edr_feed::FeedRefusal;
+use edr_feed::{FeedFault, FeedRefusal};
 use edr_query::TargetFault;
 use edr_select::PlanFault;
 use std::alloc::AllocError;
@@ -17,6 +17,17 @@ pub enum WorkFault {
     Refused(Refusal),
     /// Memory was wanting.
     OutOfMemory,
+}
+
+impl From<FeedFault> for WorkFault {
+    ghost from_gives = { λ feed fault. fault ≡ of_feed feed };
+
+    fn from(feed: FeedFault) -> WorkFault {
+        match feed.refusal() {
+            Some(refusal) => WorkFault::NotFeed(refusal),
+            None => WorkFault::OutOfMemory,
+        }
+    }
 }
 
 impl From<TargetFault> for WorkFault {

@@ -38,13 +38,7 @@ fn read_made(alloc: Global, number: u64) -> Result<Feed, WorkFault>
     ensures { MatchMade result number }
 {
     let mut source = QuietSource::of(made_of(alloc, number)?, usize::MAX);
-    match read_feed(alloc, &mut source) {
-        Ok(feed) => Ok(feed),
-        Err(fault) => match fault.refusal() {
-            Some(refusal) => Err(WorkFault::NotFeed(refusal)),
-            None => Err(WorkFault::OutOfMemory),
-        },
-    }
+    Ok(read_feed(alloc, &mut source)?)
 }
 
 // The last of some editions.
