@@ -11,16 +11,17 @@ use edr_edition::Edition;
 use edr_feed::{FeedFault, read_feed};
 use std::alloc::Global;
 
-// How a run ends where the feed isn't read.
-fn ending_of(fault: &FeedFault) -> Ending
-    ensures { result ≡ ending_of fault.now }
-{
-    match fault.refusal() {
-        Some(refusal) => Ending::NotFeed(refusal),
-        None => match fault {
-            FeedFault::ReadFault => Ending::ReadFault,
-            _ => Ending::OutOfMemory,
-        },
+impl From<FeedFault> for Ending {
+    ghost from_gives = { λ given ending. ending ≡ ending_of given };
+
+    fn from(given: FeedFault) -> Ending {
+        match given.refusal() {
+            Some(refusal) => Ending::NotFeed(refusal),
+            None => match given {
+                FeedFault::ReadFault => Ending::ReadFault,
+                _ => Ending::OutOfMemory,
+            },
+        }
     }
 }
 
@@ -45,8 +46,6 @@ pub fn editions_in<F: Files>(
         Err(Stop::Failed) => return Err(Ending::OpenFault),
         Err(Stop::OutOfMemory) => return Err(Ending::OutOfMemory),
     }
-    match read_feed(alloc, files) {
-        Ok(feed) => Ok(feed.editions.into_vec()),
-        Err(fault) => Err(ending_of(&fault)),
-    }
+    let feed = read_feed(alloc, files)?;
+    Ok(feed.editions.into_vec())
 }
