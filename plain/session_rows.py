@@ -8,7 +8,7 @@ The replies are written here as texts, and not by the plain program.
 import json
 from pathlib import Path
 
-SPAN = (6, 21)  # from when to when this is answered, as in the other rows
+SPAN = (1, 2)  # from the product as it is to that with the query of the nearest station, as in the other rows
 
 VALUES = "[10,11,12,13,null,15,20,21,22,23,24,25]"
 RISEN_VALUES = "[110,111,112,113,null,115,120,121,122,123,124,125]"

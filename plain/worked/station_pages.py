@@ -8,7 +8,7 @@ from worked.pages import page as grid_page
 from worked.station_feeds import DROP
 from worked.station_levels import MAST_SITES
 from worked.station_places import USUAL_SITES
-from worked.stations import Site, StationRow, answered, at, changed, cube, drop_line, location, moment, refused, sites_line, within
+from worked.stations import NEAREST, Site, StationRow, answered, at, changed, cube, drop_line, location, moment, refused, sites_line, within
 from worked.texts import A, B, PUBLISH, collected, collection, feed, instance
 
 LOCATIONS = "/collections/sites/locations"
@@ -32,7 +32,7 @@ def page(path: str, id_: str, told: str = "", parameters: str = "", title: str =
 def paged(id_: str, more: list[str], *targets: str, feed: str) -> list[StationRow]:
     """Rows of the page of a collection, which lists the query of the nearest station later."""
     pages = [page(f"/collections/{id_}", f'"{id_}"', *more, is_near=is_near) for is_near in (False, True)]
-    return changed(19, *[answered(each, *targets, feed=feed) for each in pages])
+    return changed(NEAREST, *[answered(each, *targets, feed=feed) for each in pages])
 
 
 def feature(x: int, y: int, id_: str, label: str) -> str:
@@ -63,7 +63,7 @@ def description_rows() -> list[StationRow]:
         bare = page("/collections/bare", '"bare"', is_near=is_near)
         sites = page("/collections/sites", '"sites"', usual, both, is_near=is_near)
         all_pages.append(f'{{"collections":[{bare},{grid},{sites}],"links":[]}}')
-    found += changed(19, *[answered(each, "/collections", feed=USUAL_SITES) for each in all_pages])
+    found += changed(NEAREST, *[answered(each, "/collections", feed=USUAL_SITES) for each in all_pages])
     titled = feed(sites_line(title='The "sites"\\\n', crs='a"b', vertical="x"), PUBLISH)
     found += paged("sites", ["", "", '"The \\"sites\\"\\\\\\n"', '"a\\"b"'], "/collections/sites", feed=titled)
     wide = [Site("p", 100_000_000, -100_000_000, [5], {"a": [1]}), Site("q", -100_000_000, 0, [2, 7], {"a": [1, 2]})]
@@ -126,7 +126,7 @@ def id_rows() -> list[StationRow]:
         found += answered(some[id_].reply(), f"/collections/{link}/locations/{link}", feed=of_id)
         box = f"{some[id_].x},0,{some[id_].x},0"
         pages = [page(f"/collections/{link}", as_json, extent(box, 0, 0), A, is_near=near) for near in (False, True)]
-        found += changed(19, *[answered(each, f"/collections/{link}", feed=of_id) for each in pages])
+        found += changed(NEAREST, *[answered(each, f"/collections/{link}", feed=of_id) for each in pages])
     found += answered(some["a+b"].reply(), location("a+b"), feed=all_ids) + answered(some["a b"].reply(), location("a b"), feed=all_ids)
     found += answered(some["50%"].reply(), location("50%"), feed=all_ids) + refused(20, location("a%252Bb"), location("%41"), feed=all_ids)
     found += refused(6, location("a/b"), location("%F0%9F%98"), feed=all_ids)

@@ -4,7 +4,7 @@ import itertools
 
 from worked.grids import POLYGON, USUAL
 from worked.refusals import LINE, Parts, meet, target_of
-from worked.stations import Site, StationRow, all_of, answered, area, at, by_id, changed, cube, location, refused, sites_line, within
+from worked.stations import NEAREST, Site, StationRow, all_of, answered, area, at, by_id, changed, cube, location, refused, sites_line, within
 from worked.texts import PUBLISH, collection, feed, instance
 
 # s9 and s10 are on one spot; s9 has a sample at each of the hours 0 to 2, s10 at two of them, s1 and far at one each
@@ -222,7 +222,7 @@ def other_query_rows() -> list[StationRow]:
     ]
     found = [row for rows in corridors for row in rows]
     for rows in nearest:
-        found += changed(19, [row for each in rows for row in refused(21, each.words[1], feed=USUAL_SITES)], rows)
+        found += changed(NEAREST, [row for each in rows for row in refused(21, each.words[1], feed=USUAL_SITES)], rows)
     found += refused(21, f"{ending}/position?coords=POINT(0 0)", f"{ending}/trajectory?coords={LINE}", f"{ending}/radius?{disc}", feed=USUAL_SITES)
     found += refused(21, f"{ending}/cube?bbox=0,0,1,1&crs=x&z=0&parameter-name=c", f"{ending}/area?coords={POLYGON}", feed=USUAL_SITES)
     found += refused(21, f"{ending}/corridor?{narrow.split('?')[1]}", ending, f"{ending}/?f=json", feed=USUAL_SITES)

@@ -5,7 +5,8 @@ from datetime import datetime, timedelta
 
 from worked.texts import A, B, DEEP, FLAT, LEVEL, TIME, TZYX, Row, axes_of, bare_range, collected, range_along, steps, text, values
 
-FIRST, LAST = 9, 21  # from when to when the rows are answered so, unless they say otherwise
+FIRST, LAST = 1, 2  # from the product as it is to that with the query of the nearest station, unless rows say otherwise
+NEAREST = 2  # with that query
 PARAMETERS = {"a": A, "b": B}
 
 

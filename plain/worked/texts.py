@@ -3,7 +3,7 @@
 import json
 from dataclasses import dataclass
 
-FIRST, LAST = 9, 21  # from when to when the rows are answered so
+FIRST, LAST = 1, 2  # from the product as it is to that with the query of the nearest station
 NAMES = {
     6: "NoSuchPage", 7: "UnknownParameter", 8: "RepeatedParameter", 9: "BadFormat", 10: "MissingParameter", 11: "BadCoords",
     12: "WrongGeometry", 13: "BadBbox", 14: "BadDatetime", 15: "BadLevel", 16: "BadDistance", 17: "Conflict", 18: "UnknownCollection",
