@@ -1,5 +1,5 @@
-"""The commands of the program: python3 plain/edr.py ask TARGET < input, check [--summary], replay FEED [--advance], make NUMBER, or
-work NUMBER"""
+"""The commands of the program: python3 plain/edr.py ask TARGET < input, check [--summary], replay FEED [--advance], make NUMBER,
+work NUMBER, show, or fetch URL"""
 
 import os
 import re
@@ -7,18 +7,25 @@ import sys
 from dataclasses import dataclass
 from typing import Callable
 
+import limits
 from ask import answer
+from coverage_json_read import CoverageFault, read_document
 from editions import Collections
 from feeds import FeedFault, read_feed
+from links import Link
 from making import made_feed
 from names import is_utf8
+from replies import BadReply, NotData, read_reply
 from sessions import serve
 from summaries import count_line, summary_lines
+from tables import write_table
+from urls import Url, read_url
 from working import work_text
 
 USAGE = "usage: edr ask TARGET | replay FEED [--advance] | check [--summary] | make NUMBER | work NUMBER | show | fetch URL"
 
 Read = Callable[[], bytes]  # gives all that there is; raises OSError
+Connect = Callable[[str, int], Link]  # to a host, at a port; raises OSError
 
 
 @dataclass(frozen=True)
@@ -34,8 +41,8 @@ def _ended(status: int, line: str) -> Ending:
     return Ending(status, errors=line.encode("utf-8") + b"\n")
 
 
-def run(words: list[bytes], read_input: Read, open_file: Callable[[bytes], Read]) -> Ending:
-    """What the program does for its words. The input is read, and a file opened, where the words ask for it."""
+def run(words: list[bytes], read_input: Read, open_file: Callable[[bytes], Read], connect: Connect = Link) -> Ending:
+    """What the program does for its words. The input is read, a file opened, and a peer connected to, where the words ask for it."""
     if words == [b"check"]:
         return _of_feed(read_input(), lambda editions: Ending(0, count_line(editions).encode("utf-8")))
     if words == [b"check", b"--summary"]:
@@ -48,6 +55,10 @@ def run(words: list[bytes], read_input: Read, open_file: Callable[[bytes], Read]
         return Ending(0, made_feed(int(words[1])).encode("utf-8"))
     if len(words) == 2 and words[0] == b"work" and _is_number(words[1]):
         return Ending(0, work_text(int(words[1])).encode("utf-8"))
+    if words == [b"show"]:
+        return _of_read(read_input, _shown)
+    if len(words) == 2 and words[0] == b"fetch" and (url := read_url(words[1])):
+        return _fetched(url, connect)
     return _ended(1, USAGE)
 
 
@@ -62,6 +73,11 @@ def _of_file(name: bytes, open_file: Callable[[bytes], Read], ending_of: Callabl
         read = open_file(name)
     except OSError:
         return _ended(9, "open fault")
+    return _of_read(read, ending_of)
+
+
+def _of_read(read: Read, ending_of: Callable[[bytes], Ending]) -> Ending:
+    """How it ends with what can be read, or without it."""
     try:
         content = read()
     except OSError:
@@ -85,6 +101,46 @@ def _of_feed(feed: bytes, ending_of) -> Ending:
 def _answered(target: bytes, edition: Collections) -> Ending:
     found = answer(target, edition)
     return Ending(0, found.text.encode("utf-8")) if found.status == 200 else _ended(6, found.text)
+
+
+def _shown(text: bytes) -> Ending:
+    """The table of a document."""
+    if len(text) > limits.BODY_BYTES:
+        return _ended(7, "reply: TooLong")
+    try:
+        return Ending(0, write_table(read_document(text)).encode("utf-8"))
+    except CoverageFault:
+        return _ended(7, "reply: Cov")
+
+
+def _fetched(url: Url, connect: Connect) -> Ending:
+    """The table of the document that a peer replies."""
+    try:
+        link = connect(*url.peer())
+    except OSError:
+        return _ended(8, "connect fault")
+    try:
+        link.send(url.request())
+    except OSError:
+        link.close()
+        return _ended(4, "write fault")
+    try:
+        return _of_reply(link)
+    except OSError:
+        return _ended(3, "read fault")
+    finally:
+        link.close()
+
+
+def _of_reply(link: Link) -> Ending:
+    try:
+        return Ending(0, write_table(read_reply(link.pieces()).document).encode("utf-8"))
+    except BadReply:
+        return _ended(7, "reply: BadReply")
+    except NotData as found:
+        return _ended(7, f"reply: NotData {found.status}")
+    except CoverageFault:
+        return _ended(7, "reply: Cov")
 
 
 def real_file(name: bytes) -> Read:

@@ -12,9 +12,12 @@ LINE_BYTES = 16_777_216  # the line feed isn't counted
 FEED_BYTES = 1_073_741_824
 REPLY_VALUES = 2_000_000  # of all ranges of a reply, missing and unselected ones too
 REPLY_COVERAGES = 5_000
-HEAD_BYTES = 16_384  # of a request, the empty lines before it and the one at its end too
+HEAD_BYTES = 16_384  # of a request or a reply, the empty lines before it and the one at its end too
 HEAD_FIELDS = 64
 REQUESTS = 1_000  # of a connection
+BODY_BYTES = 67_108_864  # of a reply that the client reads, and of a document that is shown
+URL_BYTES = 65_536  # of a URL that is fetched
+CHUNK_LINE_BYTES = 16_384  # of the line before a chunk that the client reads, its end too
 
 
 def is_coordinate(number: int) -> bool:
