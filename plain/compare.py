@@ -2,10 +2,11 @@
 
     python3 plain/compare.py --edr crates/edr/out/edr --answers crates/edr_answers/out/edr_answers --seed 1 --count 1000
 
-`--edr` names the program, which is asked by its words and its input (the kinds `ask`, `check`, `line` and `replay`); `--answers` names `edr_answers`,
-which gives what the readers answer (all other kinds). With `--tried` in place of `--edr`, `rt try` runs
-the crate `edr` without proof. Each kind gets `--count` inputs, which the seed, the kind and their number decide. Every
-difference is printed with what reproduces it; the last line is `N agreed, M differ`, and the status is 1 where any differ.
+`--edr` names the program, which is asked by its words and its input (the kinds `ask`, `check`, `line`, `replay`, `show` and `fetch`);
+`--answers` names `edr_answers`, which gives what the readers answer (all other kinds). With `--tried` in place of `--edr`, `rt try` runs
+the crate `edr` without proof; it has no peers, so `fetch` is left out. Each kind gets `--count` inputs, which the seed, the kind and
+their number decide. Every difference is printed with what reproduces it; the last line is `N agreed, M differ`, and the status is 1
+where any differ.
 """
 
 import argparse
@@ -23,14 +24,16 @@ import built
 from edr import Ending, held_files, run
 from inputs import large
 from inputs.asks import Ask, ask_input, large_ask_input
-from inputs.documents import document_text
+from inputs.documents import document_text, shown_text
 from inputs.draws import Draw
 from inputs.feed_lines import feed_text
+from inputs.fetches import Fetch, fetch_input, large_fetch_input
 from inputs.geometries import geometry_text
 from inputs.lines import line_input
 from inputs.sessions import replay_input
 from inputs.targets import target_text
 from inputs.texts import instant_text, levels_text, number_text, times_text
+from peers import Peer
 from programs import endings, reader_answers
 
 
@@ -48,12 +51,30 @@ def check_input(draw: Draw) -> Ask:
     return Ask(draw.pick((b"check",), (b"check", b"--summary")), feed_text(draw))
 
 
+def show_input(draw: Draw) -> Ask:
+    """A document, or nearly one, whose table is asked for."""
+    words = (b"show",) if draw.chance(0.995) else draw.pick((b"show", b""), (b"Show",), (b"show", b"show"), (b"show", b"--summary"))
+    return Ask(words, shown_text(draw))
+
+
+def large_show_input(draw: Draw) -> Ask:
+    """A document of about as many bytes as may be shown."""
+    return Ask((b"show",), large.long_document(draw))
+
+
 GROUP = 10  # so many inputs of `ask`, of `line` and of `replay` have one feed
 
 # What the program is started with.
-ASKS = {"ask": ask_input, "check": check_input, "line": line_input, "replay": replay_input}
-LARGE_ASKS = {"large-ask": large_ask_input}
+ASKS = {"ask": ask_input, "check": check_input, "line": line_input, "replay": replay_input, "show": show_input}
+LARGE_ASKS = {"large-ask": large_ask_input, "large-show": large_show_input}
 ALL_ASKS = ASKS | LARGE_ASKS
+
+# What it is started with, and what its peer gives.
+FETCHES = {"fetch": fetch_input}
+LARGE_FETCHES = {"large-fetch": large_fetch_input}
+ALL_FETCHES = FETCHES | LARGE_FETCHES
+
+LARGE = {*LARGE_ASKS, *LARGE_FETCHES}
 
 READERS = {
     "number": Kind(number_text, answers.number_answer, "n"),
@@ -117,8 +138,10 @@ class Result:
 def compare(settings: Settings, places: list[Place]) -> list[Result]:
     """Compares some inputs."""
     asks = [place for place in places if place.kind in ALL_ASKS]
-    reads = [place for place in places if place.kind not in ALL_ASKS]
+    fetches = [place for place in places if place.kind in ALL_FETCHES]
+    reads = [place for place in places if place.kind not in ALL_ASKS | ALL_FETCHES]
     results = _compare_asks(settings, asks) if asks else []
+    results += _compare_fetches(settings, fetches) if fetches else []
     results += _compare_reads(settings, reads) if reads else []
     return [result.shortened() for result in results]
 
@@ -131,20 +154,41 @@ def _compare_asks(settings: Settings, places: list[Place]) -> list[Result]:
 
 def _ask_result(place: Place, ask: Ask, ending: Ending | None) -> Result:
     plain = run(list(ask.words), lambda: ask.input, held_files(dict(ask.files)))
-    word = f"{plain.status} {plain.errors[:40].decode(errors='replace').strip()}" if plain.status else "0 " + _kind_of_output(plain)
-    return Result(place, repr(ask), repr(plain), ending and repr(ending), word)
+    return Result(place, repr(ask), repr(plain), ending and repr(ending), _word(plain))
+
+
+def _word(ending: Ending) -> str:
+    return f"{ending.status} {ending.errors[:40].decode(errors='replace').strip()}" if ending.status else "0 " + _kind_of_output(ending)
 
 
 def _kind_of_output(ending: Ending) -> str:
-    """The type of a document and its domains, or the statuses of replies and whether the last one closes, or `text`."""
+    """The type of a document and its domains, or the statuses of replies and whether the last one closes, or `table`, or `text`."""
     statuses = sorted(set(re.findall(rb"^HTTP/1\.1 ([0-9]{3}) ", ending.output, flags=re.MULTILINE)))
     if statuses or not ending.output:
         closes = b"\r\nConnection: close\r\n" in ending.output
         return b" ".join(statuses).decode() + (" closed" if closes else "")
     domain = re.search(rb'"domainType":"([A-Za-z]+)"', ending.output)
     if domain is None:
-        return "text"
+        return "table" if b"\t" in ending.output else "text"
     return ("several " if ending.output.endswith(b'"type":"CoverageCollection"}') else "") + domain[1].decode()
+
+
+def _compare_fetches(settings: Settings, places: list[Place]) -> list[Result]:
+    peer = Peer()
+    try:
+        return [_fetch_result(settings, peer, place, ALL_FETCHES[place.kind](place.draw(settings.seed))) for place in places]
+    finally:
+        peer.close()
+
+
+def _fetch_result(settings: Settings, peer: Peer, place: Place, fetch: Fetch) -> Result:
+    """How both end with the peer, and what they ask it."""
+    words = tuple(peer.filled(word, fetch.length) for word in fetch.words)
+    if len(words) > 1 and not peer.is_near(words[1]):
+        words = (words[0], peer.filled(b"http://127.0.0.1:<port>/"))
+    plain = peer.during(fetch.script, lambda: run(list(words), lambda: b"", held_files({})))
+    found = peer.during(fetch.script, lambda: endings(settings.edr, [Ask(words, b"")])[0]) if settings.edr else None
+    return Result(place, f"{words!r} {fetch.script!r}", repr(plain), found and repr(found), _word(plain[0]))
 
 
 def _compare_reads(settings: Settings, places: list[Place]) -> list[Result]:
@@ -183,7 +227,7 @@ def parsed_words() -> argparse.Namespace:
     parser.add_argument("--tried", action="store_true", help="run the crate edr by rt try, in one process")
     parser.add_argument("--seed", required=True)
     parser.add_argument("--count", type=int, default=1000, help="how many inputs of each kind")
-    parser.add_argument("--kind", action="append", choices=[*ALL_ASKS, *READERS, *LARGE_READERS], help="may be given several times")
+    parser.add_argument("--kind", action="append", choices=[*ALL_ASKS, *ALL_FETCHES, *READERS, *LARGE_READERS], help="may be given several times")
     parser.add_argument("--only", type=int, help="compare the input of this number alone, and print it whole")
     parser.add_argument("--at-once", type=int, default=500, help="how many inputs a process takes at a time")
     parser.add_argument("--built", default="", help="what else is built: names as in built.py, with commas between, or whole")
@@ -196,6 +240,7 @@ def kinds_of(words: argparse.Namespace) -> list[str]:
     if words.kind:
         return words.kind
     asks = list(ASKS) if words.edr or words.tried else []
+    asks += list(FETCHES) if words.edr else []
     return asks + (list(READERS) if words.answers else [])
 
 
@@ -205,7 +250,7 @@ def jobs_of(words: argparse.Namespace, kinds: list[str]) -> list[list[Place]]:
     jobs = []
     for kind in kinds:
         places = [Place(kind, number) for number in numbers]
-        step = 1 if kind in LARGE_READERS | LARGE_ASKS else words.at_once
+        step = 1 if kind in {*LARGE_READERS, *LARGE} else words.at_once
         jobs += [places[first : first + step] for first in range(0, len(places), step)]
     if words.tried:
         places = [place for job in jobs for place in job]

@@ -22,6 +22,11 @@ def document_text(draw: Draw) -> bytes:
     return damaged_text(draw, text) if draw.chance(0.06) else text
 
 
+def shown_text(draw: Draw) -> bytes:
+    """A document, or nearly one, that is valid more often."""
+    return document_text(draw) if draw.chance(0.6) else spelled_tree(draw, document(draw)).encode("utf-8", "surrogatepass")
+
+
 def document(draw: Draw) -> dict:
     """The tree of a valid document."""
     if draw.chance(0.7):

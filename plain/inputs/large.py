@@ -1,4 +1,4 @@
-"""Large inputs, near the limits of lines, nodes and positions."""
+"""Large inputs, near the limits of lines, nodes, positions and documents."""
 
 import limits
 from inputs.draws import Draw
@@ -59,6 +59,13 @@ def wide_document(draw: Draw) -> bytes:
     spanned = f'"x":{{"start":0,"stop":{(num - 1) * step},"num":{num}}}'
     axes = draw.pick(listed, spanned) + ',"y":{"values":[0]}'
     return _grid(axes, '"x"', f"{num}", ",".join("5" if draw.chance(0.00001) else "7" for _ in range(num))).encode()
+
+
+def long_document(draw: Draw) -> bytes:
+    """A document, or nearly one, of about as many bytes as are read."""
+    text = draw.pick(small_grid(), small_grid(), small_grid(), b"{", b"[]")
+    blanks = b" " * (limits.BODY_BYTES + draw.pick(-1, 0, 0, 1, 1) - len(text))
+    return draw.pick(text + blanks, blanks + text)
 
 
 def many_positions(draw: Draw) -> bytes:
