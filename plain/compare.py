@@ -183,8 +183,8 @@ def _compare_fetches(settings: Settings, places: list[Place]) -> list[Result]:
 
 def _fetch_result(settings: Settings, peer: Peer, place: Place, fetch: Fetch) -> Result:
     """How both end with the peer, and what they ask it."""
-    words = tuple(peer.filled(word, fetch.length) for word in fetch.words)
-    if len(words) > 1 and not peer.is_near(words[1]):
+    words = (*fetch.words[:1], *(peer.filled(word, fetch.length) for word in fetch.words[1:]))
+    if len(words) == 2 and not peer.is_near(words[1]):
         words = (words[0], peer.filled(b"http://127.0.0.1:<port>/"))
     plain = peer.during(fetch.script, lambda: run(list(words), lambda: b"", held_files({})))
     found = peer.during(fetch.script, lambda: endings(settings.edr, [Ask(words, b"")])[0]) if settings.edr else None

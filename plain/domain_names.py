@@ -11,6 +11,7 @@ _DOTS = str.maketrans({dot: "." for dot in "\u3002\uff0e\uff61"})
 _DEVIATIONS = "\u00df\u03c2\u200c\u200d"  # they are mapped by folding, and kept here
 _JOINERS = "\u200c\u200d"
 _IGNORED = re.compile("[\u00ad\u034f\u180b-\u180d\u180f\u200b\u2060\u2064\ufe00-\ufe0f\ufeff\U0001bca0-\U0001bca3\U000e0100-\U000e01ef]")
+_NEVER_MAPPED = "\ufffd"  # what stands for a character that isn't allowed
 _NEVER = ("Cc", "Cf", "Cs", "Co", "Cn", "Zl", "Zp")  # categories, beyond ASCII
 
 
@@ -35,7 +36,8 @@ def _mapped_character(character: str) -> str:
     if character in _DEVIATIONS:
         return character
     # what folding makes of some characters is folded to others only when it was composed
-    return normalize("NFKC", normalize("NFKC", normalize("NFKC", character).casefold()).casefold())
+    mapped = normalize("NFKC", normalize("NFKC", normalize("NFKC", character).casefold()).casefold())
+    return _NEVER_MAPPED if "." in mapped and character != "." else mapped
 
 
 def _told_label(label: str) -> str | None:
@@ -61,7 +63,7 @@ def _is_valid(label: str) -> bool:
 def _is_allowed(label: str, place: int) -> bool:
     if label[place] in _JOINERS:
         return place > 0 and combining(label[place - 1]) == 9  # a virama
-    return category(label[place]) not in _NEVER and label[place] != "\ufffd"
+    return category(label[place]) not in _NEVER and label[place] != _NEVER_MAPPED
 
 
 # The bidi rule

@@ -264,6 +264,16 @@ def _length(reply: _Reply) -> None:
     reply.add(b"Content-Length", reply.draw.pick(b"%d" % length, b"%d" % (length + 1), b"%d" % max(0, length - 1), b"0", other, other))
 
 
+def _two_lengths(reply: _Reply) -> None:
+    """Two or three lengths, so that none counts."""
+    reply.without(b"content-length")
+    reply.without(b"transfer-encoding")
+    length = len(reply.body)
+    for _ in range(reply.draw.pick(2, 2, 3)):
+        reply.add(b"Content-Length", b"%d" % max(0, length + reply.draw.pick(0, 0, -1, 1, 50, -length)))
+    reply.framing = "end"
+
+
 def _too_long(reply: _Reply) -> None:
     """A length above the limit, for which nothing has to be waited."""
     reply.without(b"content-length")
@@ -316,5 +326,5 @@ def _edition(reply: _Reply) -> None:
 
 
 _DAMAGES = [_status, _phrase, _version, _front, _front, _mixed_ends, _mixed_ends, _no_end, _no_field, _no_field, _many_fields, _long_head, _long_head]
-_DAMAGES += [_coding, _coding, _length, _length, _length, _too_long, _line, _line, _line_end, _large_chunk, _long_line, _other_size, _other_size]
+_DAMAGES += [_coding, _coding, _length, _length, _two_lengths, _two_lengths, _too_long, _line, _line, _line_end, _large_chunk, _long_line, _other_size, _other_size]
 _DAMAGES += [_chunk_end, _trailers, _many_values, _edition]
