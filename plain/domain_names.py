@@ -17,7 +17,7 @@ _NEVER = ("Cc", "Cf", "Cs", "Co", "Cn", "Zl", "Zp")  # categories, beyond ASCII
 
 def ascii_name(name: str) -> str | None:
     """The name in ASCII and in small letters, or None where it can't be had."""
-    if name.isascii() and not any(label.startswith("xn--") for label in name.lower().split(".")):
+    if name.isascii():
         return name.lower()
     labels = [_told_label(label) for label in _mapped(name).split(".")]
     if any(label is None or not _is_valid(label) for label in labels):

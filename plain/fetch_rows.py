@@ -62,6 +62,8 @@ URLS = [
     ("http://BÜcher.invalid", ("/", "xn--bcher-kva.invalid")),
     ("http://faß.invalid", ("/", "xn--fa-hia.invalid")),
     ("http://א.invalid", ("/", "xn--4db.invalid")),
+    ("http://xn--", ("/", "xn--")),
+    ("http://XN--a.invalid", ("/", "xn--a.invalid")),
 ]  # fmt: skip
 
 NO_URLS = """
@@ -102,8 +104,6 @@ http://a|b
 http://a^b
 http://a%
 http://%ff
-http://xn--
-http://xn--a
 http://אa
 """.split("\n")[1:-1]
 
