@@ -24,15 +24,19 @@ TICKS = os.sysconf("SC_CLK_TCK")
 
 
 def kind_of(words, folder, bases):
-    """What a process of the prover does for a crate. The first check over a folder of kept work, which runs in a copy of the
-    crate in `folder`, is the base of the edits."""
+    """What a process of the prover does for a crate. The base of the edits is the check over a folder of kept work that is named
+    `seed`, and the edits go by copies of it beside it; where there is no such name, the base is the first check over a folder of
+    kept work, which runs in a copy of the crate in `folder`."""
     if words[1] == "build":
         return "tests" if "--test" in words else "proof" if "--statements" in words else "programs"
     if "--incremental" not in words:
         return "proof" if "-o" in words else "edits"
     kept = words[words.index("--incremental") + 1]
-    first = bases.setdefault(kept, folder)
-    return "base" if kept.endswith("/seed") or first == folder else "edits"
+    beside, name = os.path.split(kept)
+    if name == "seed":
+        bases[beside] = folder
+        return "base"
+    return "edits" if beside in bases or bases.setdefault(kept, folder) != folder else "base"
 
 
 def running(bases):
