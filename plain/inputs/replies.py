@@ -6,6 +6,7 @@ from typing import Sequence
 import limits
 from inputs.documents import shown_text
 from inputs.draws import Draw, damaged_bytes
+from inputs.heads import Head
 from inputs.trees import any_tree, spelled_tree
 
 _MARKS = b" \t\r\n:;/,.0123456789abcdefHTP\0\x7f\xff"
@@ -76,18 +77,15 @@ def large_reply_script(draw: Draw, body: bytes) -> Script:
     return Script((head + b"\r\n", body))
 
 
-class _Reply:
+class _Reply(Head):
     """Makes one reply: a right one, with some damages."""
 
     def __init__(self, draw: Draw, damages: int):
-        self.draw = draw
-        self.front = b""
+        super().__init__(draw)
         self.version = b"HTTP/1.1"
         self.status = b"200" if draw.chance(0.85) else draw.choice(_STATUSES)
         self.phrase = draw.choice(_PHRASES)
         self.end = draw.pick(b"\r\n", b"\r\n", b"\r\n", b"\r\n", b"\n")
-        self.mixes_ends = False
-        self.lines: list[bytes] = []
         for _ in range(draw.pick(0, 0, 1, 2, 3)):
             self.add(draw.choice(_NAMES), draw.choice(_VALUES))
         self.head_length: int | None = None
@@ -104,15 +102,6 @@ class _Reply:
         for _ in range(damages):
             draw.choice(_DAMAGES)(self)
 
-    def add(self, name: bytes, value: bytes) -> None:
-        """Adds a field somewhere."""
-        blank = self.draw.pick(b" ", b" ", b" ", b"", b"\t", b"  \t ")
-        after = self.draw.pick(b"", b"", b"", b" ", b"\t ")
-        self.put(self.draw.pick(name, name, name.lower(), name.upper()) + b":" + blank + value + after)
-
-    def put(self, line: bytes) -> None:
-        self.lines.insert(self.draw.randint(0, len(self.lines)), line)
-
     def without(self, name: bytes) -> None:
         """Drops the fields of a name."""
         self.lines = [line for line in self.lines if not line.lower().startswith(name + b":")]
@@ -127,12 +116,8 @@ class _Reply:
             return self.head() + self.body
         return self.head() + b"".join(chunk.text() for chunk in [*self.chunks, self.last])
 
-    def head(self) -> bytes:
-        lines = [self.version + b" " + self.status + self.phrase, *self.lines, b""]
-        if not self.mixes_ends:
-            return self.front + b"".join(line + self.end for line in lines)
-        draw = Draw(repr(lines))  # the same ends each time
-        return self.front + b"".join(line + draw.pick(b"\r\n", b"\n") for line in lines)
+    def first_line(self) -> bytes:
+        return self.version + b" " + self.status + self.phrase
 
     def fill(self, count: int) -> None:
         """Makes the head longer by so many bytes."""

@@ -11,6 +11,7 @@ from inputs.asks import Ask
 from inputs.draws import Draw, damaged_bytes
 from inputs.edition_feeds import EditionMaker
 from inputs.feed_lines import feed_text
+from inputs.heads import Head
 from inputs.queries import target_of_edition
 from inputs.targets import target_text
 from json_text import write_json
@@ -134,18 +135,16 @@ def _many_requests(draw: Draw) -> bytes:
     return b"".join(requests)
 
 
-class _Request:
+class _Request(Head):
     """Makes one request: a valid one, with some damages."""
 
     def __init__(self, draw: Draw, edition: Collections, damages: int):
-        self.draw = draw
+        super().__init__(draw)
         self.method = draw.pick(b"GET", b"GET", b"GET", b"HEAD")
         self.target = _target(draw, edition)
         self.version = b"HTTP/1.1"
-        self.front = b""
         self.behind = b""
         self.end = draw.pick(b"\r\n", b"\r\n", b"\r\n", b"\r\n", b"\n")
-        self.mixes_ends = False
         host = draw.pick(b"Host", b"Host", b"Host", b"host", b"HOST", b"hOsT") + b":" + draw.pick(b" a", b" a", b"a:80", b"", b" [::1]", b"\t a \t")
         self.lines = [host]
         for _ in range(draw.pick(0, 0, 1, 2, 3)):
@@ -154,26 +153,13 @@ class _Request:
         for _ in range(damages):
             draw.choice(_DAMAGES)(self)
 
-    def add(self, name: bytes, value: bytes) -> None:
-        """Adds a field somewhere."""
-        blank = self.draw.pick(b" ", b" ", b" ", b"", b"\t", b"  \t ")
-        after = self.draw.pick(b"", b"", b"", b" ", b"\t ")
-        self.put(self.draw.pick(name, name, name.lower(), name.upper()) + b":" + blank + value + after)
-
-    def put(self, line: bytes) -> None:
-        self.lines.insert(self.draw.randint(0, len(self.lines)), line)
-
     def text(self) -> bytes:
         if self.length is not None:
             self.fill(self.length - len(self.head()))
         return self.head() + self.behind
 
-    def head(self) -> bytes:
-        lines = [self.method + b" " + self.target + b" " + self.version, *self.lines, b""]
-        if not self.mixes_ends:
-            return self.front + b"".join(line + self.end for line in lines)
-        draw = Draw(repr(lines))  # the same ends each time
-        return self.front + b"".join(line + draw.pick(b"\r\n", b"\n") for line in lines)
+    def first_line(self) -> bytes:
+        return self.method + b" " + self.target + b" " + self.version
 
     def fill(self, count: int) -> None:
         """Makes the head longer by so many bytes."""
