@@ -1,12 +1,13 @@
 -- The answer to a tree: what it stands for, or the first check that it fails.
 use Rattle.std.specs.Prelude.{Result, Ok, List, [], ◌∷◌, ◌++◌}
 use Rattle.serde_json.specs.Data.{Data, Items, no_items, item}
+use Rattle.edr_base.specs.FirstThatApplies as first
 use Rattle.edr_base.specs.FirstThatApplies.{and_then, IsAnswer, IsAnswerUnless}
 use Rattle.covjson_checks.specs.declared.faults.CovFault.{CovFault}
 use Rattle.covjson_checks.specs.declared.faults.CovFault.TheVariants.{OutOfMemory}
 
 abbrev pub Answer : Type 0 → Type 0
-Answer T = Result T CovFault
+Answer T = first.Answer CovFault T
 
 -- an answer for each item of a list, in turn
 abbrev pub each : {V : Type 0} → (Data → Answer V) → Items → Answer (List V)

@@ -1,5 +1,6 @@
 -- Members of objects, and what each has to be.
 use Rattle.std.specs.Prelude.{ℕ, ℤ, unsigned_abs, nat_le, List, Bool, true, is_some, ◌||◌, ◌&&◌, if◌then◌else◌, ⊤, Option, Some, None, Ok, Err}
+use Rattle.std.specs.Option.{option_or}
 use Rattle.serde_json.specs.Data.{Data, Items, no_items, item, Members, Num}
 use Rattle.serde_json.specs.Find.{get, as_object, as_array, as_number, as_str, as_null, as_integer}
 use Rattle.covjson_checks.specs.declared.faults.Member.{Member}
@@ -19,14 +20,9 @@ need name m d = or_fault (get name d) (Missing m)
 abbrev pub part : List ℕ → Member → Data → Answer Data
 part name m d = or_fault (get name d) (WrongType m)
 
--- the one, or else the other
-abbrev pub either : Option Data → Option Data → Option Data
-either (Some d) other = Some d
-either None other = other
-
 -- the member of a tree, else of the collection that it is in, which is null where it is in none
 abbrev pub lent : List ℕ → Data → Data → Option Data
-lent name d collection = either (get name d) (get name collection)
+lent name d collection = option_or (get name d) (get name collection)
 
 -- an object, or WrongType
 abbrev pub object_at : Member → Data → Answer Members

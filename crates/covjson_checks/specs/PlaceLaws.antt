@@ -4,7 +4,7 @@ use Rattle.std.proofs.lemmas.Bool.{and_parts, and_from, cases_lt}
 use Rattle.std.proofs.Math.Nat.{eq-or-lt_of_le}
 use Rattle.serde_json.specs.Data.{Data, Items, no_items, item}
 use Rattle.edr_json.specs.Trees.{item_at}
-use Rattle.covjson_checks.specs.Places.{IsAmong, EachItem, IsFirst}
+use Rattle.covjson_checks.specs.Places.{IsAmong, EachItem, IsFirstItem}
 
 -- ---- each item
 
@@ -40,7 +40,7 @@ each_decides Is test all none more one (item d ds) =
 -- ---- the first item
 
 -- it is the first of all
-pub first_here : (Is : Data → Type 0) (d : Data) (ds : Items) → Is d → IsFirst Is (item d ds) d
+pub first_here : (Is : Data → Type 0) (d : Data) (ds : Items) → Is d → IsFirstItem Is (item d ds) d
 first_here Is d ds is = record { place = 0; here = refl; is = is; none_before = λ earlier other before at. absurd (omega arith) }
 
 -- at place 0
@@ -49,26 +49,22 @@ unfolding first_here
 first_here_place Is d ds is = refl
 
 -- none before a place after the first item is so
-before : (Is : Data → Type 0) (d : Data) (ds : Items) (first : Data) → ¬ (Is d) → (later : IsFirst Is ds first) (earlier : ℕ) (other : Data) → earlier < suc later.place
+before : (Is : Data → Type 0) (d : Data) (ds : Items) (first : Data) → ¬ (Is d) → (later : IsFirstItem Is ds first) (earlier : ℕ) (other : Data) → earlier < suc later.place
     → item_at (item d ds) earlier ≡ Some other → ¬ (Is other)
 before Is d ds first not later zero other h at is = let same : other ≡ d = cc in not (subst Is same is)
 before Is d ds first not later (suc earlier) other h at is = later.none_before earlier other (omega arith) at is
 
 -- or the first of the others
-pub first_later : (Is : Data → Type 0) (d : Data) (ds : Items) (first : Data) → ¬ (Is d) → IsFirst Is ds first → IsFirst Is (item d ds) first
+pub first_later : (Is : Data → Type 0) (d : Data) (ds : Items) (first : Data) → ¬ (Is d) → IsFirstItem Is ds first → IsFirstItem Is (item d ds) first
 first_later Is d ds first not later = record { place = suc later.place; here = later.here; is = later.is; none_before = before Is d ds first not later }
 
 -- one place on
-pub first_later_place : (Is : Data → Type 0) (d : Data) (ds : Items) (first : Data) (not : ¬ (Is d)) (later : IsFirst Is ds first) → (first_later Is d ds first not later).place ≡ suc later.place
+pub first_later_place : (Is : Data → Type 0) (d : Data) (ds : Items) (first : Data) (not : ¬ (Is d)) (later : IsFirstItem Is ds first) → (first_later Is d ds first not later).place ≡ suc later.place
 unfolding first_later
 first_later_place Is d ds first not later = refl
 
--- a place has one item
-one_item : (items : Items) (place other : ℕ) (d e : Data) → place ≡ other → item_at items place ≡ Some d → item_at items other ≡ Some e → d ≡ e
-one_item items place other d e same here there = let at : item_at items other ≡ Some d = subst (λ n. item_at items n ≡ Some d) same here in cc
-
 -- the first stands at one place
-pub first_place : (Is : Data → Type 0) (items : Items) (one other : Data) (a : IsFirst Is items one) (b : IsFirst Is items other) → a.place ≡ b.place
+pub first_place : (Is : Data → Type 0) (items : Items) (one other : Data) (a : IsFirstItem Is items one) (b : IsFirstItem Is items other) → a.place ≡ b.place
 first_place Is items one other a b = elim (cases_lt a.place b.place) [
   | inl below ↦ absurd (b.none_before a.place one below a.here a.is)
   | inr from ↦ elim (eq-or-lt_of_le from) [
@@ -77,10 +73,6 @@ first_place Is items one other a b = elim (cases_lt a.place b.place) [
   ]
 ]
 
--- and is one item
-pub first_one : (Is : Data → Type 0) (items : Items) (one other : Data) → IsFirst Is items one → IsFirst Is items other → one ≡ other
-first_one Is items one other a b = one_item items a.place b.place one other (first_place Is items one other a b) a.here b.here
-
 -- the first that isn't so is one of the items
-pub first_among : (Is : Data → Type 0) (items : Items) (first : Data) → IsFirst Is items first → IsAmong first items
+pub first_among : (Is : Data → Type 0) (items : Items) (first : Data) → IsFirstItem Is items first → IsAmong first items
 first_among Is items first at = (at.place, at.here)

@@ -16,7 +16,7 @@ abbrev pub NoItem : (Data → Type 0) → Items → Type 0
 NoItem Is items = EachItem (λ d. ¬ (Is d)) items
 
 -- the datum is the first item that is so
-pub record IsFirst (Is : Data → Type 0) (items : Items) (first : Data) : Type 0 where
+pub record IsFirstItem (Is : Data → Type 0) (items : Items) (first : Data) : Type 0 where
   pub place : ℕ
   pub here : item_at items place ≡ Some first
   pub is : Is first

@@ -10,7 +10,7 @@ use Rattle.serde_json.specs.Find.{get, as_object, as_array, as_number, as_str, a
 use Rattle.edr_base.specs.FirstThatApplies.{Check, Find, Gives, and_then, or_fault, check}
 use Rattle.edr_base.specs.Limits.{coordinate_limit, node_limit, IsCoordinate}
 use Rattle.edr_axes.specs.InstantComputed.{instant_of, InstantsAreRead}
-use Rattle.edr_json.specs.Trees.{count_items, EachStands, StandsForWhole, whole_of}
+use Rattle.edr_json.specs.Trees.{count_items, EachStands, StandsForWhole, whole_of, IsObject, IsText, IsNumber}
 use Rattle.edr_json.specs.AnswerLaws.{and_then_ok, or_fault_ok, and_then_given, or_fault_given}
 use Rattle.edr_json.specs.TreeLaws.{as_object_some}
 use Rattle.covjson_value.specs.declared.domains.CoordinateName.{CoordinateName}
@@ -23,15 +23,15 @@ use Rattle.covjson_checks.specs.declared.members.Wanted.TheVariants.{Texts, Numb
 use Rattle.covjson_checks.specs.Answers.{Answer, each}
 use Rattle.covjson_checks.specs.Members.{part, object_at, list_at, number_at, held_whole, is_within, whole_within, is_wanted, all_wanted}
 use Rattle.covjson_checks.specs.CheckLaws.{first_given, all_wanted_given}
-use Rattle.covjson_checks.specs.Places.{EachItem, IsFirst}
+use Rattle.covjson_checks.specs.Places.{EachItem, IsFirstItem}
 use Rattle.covjson_checks.specs.PlaceLaws.{each_none, each_more, each_head, each_tail, each_decides, first_here, first_here_place, first_later, first_later_place, first_place, first_among}
 use Rattle.covjson_checks.specs.RowLaws.{HaveAnswer, Finds, option_finds, find_answers, check_answers, then_within, check_within, gives_answers, told, and_then_assoc, ok_fault, option_fault, check_fault, then_fault}
 use Rattle.covjson_domains.specs.declared.axes.ReadAxis.{ReadAxis}
 use Rattle.covjson_domains.specs.declared.domain_types.Presence.{Presence}
 use Rattle.covjson_domains.specs.DomainTypes.{member_of, IsNeeded, IsSingle}
 use Rattle.covjson_domains.specs.Axes.{StandsForTime, HasWhole, IsRegular}
-use Rattle.covjson_domains.specs.RowWords.{IsObject, CheckEach, With, IfFound}
-use Rattle.covjson_domains.specs.AxisRows.{HasItems, IsText, IsNumber, IsTimeText, TimeRows, ListRows, HasNumber, HasWholeSteps, IsSpan, SpanRows, ListedRows, NumberRows, ValueRows, IsMonotonic, AxisRows}
+use Rattle.covjson_domains.specs.RowWords.{CheckEach, With, IfFound}
+use Rattle.covjson_domains.specs.AxisRows.{HasItems, IsTimeText, TimeRows, ListRows, HasNumber, HasWholeSteps, IsSpan, SpanRows, ListedRows, NumberRows, ValueRows, IsMonotonic, AxisRows}
 use Rattle.covjson_domains.specs.TypeAnswers.{is_needed, is_single, left_out}
 use Rattle.covjson_domains.specs.AxisAnswers.{has_some, value_items, coordinates, time_at, times_from, axis_times, number_in, has_whole_steps, is_span_within, regular, spanned, axis_numbers, axis_values, ascends, in_direction, need_count, axis_if}
 use Rattle.covjson_domains.proofs.AscendLemmas.{ascends_tells, ascends_given}
@@ -58,7 +58,7 @@ with_answers Is Next value answer is unique has = record {
 abbrev pub Outcome : {V : Type 0} → (Data → V → Type 0) → (Data → Type 0) → Items → ℕ → Answer (List V) → Type 0
 Outcome {V} R Is ds place answer =
     ((vs : List V) × (answer ≡ Ok vs) × EachStands R ds vs × EachItem Is ds)
-    ⊎ ((d : Data) × (first : IsFirst (λ other. ¬ (Is other)) ds d) × (answer ≡ Err (BadTime (place + first.place))))
+    ⊎ ((d : Data) × (first : IsFirstItem (λ other. ¬ (Is other)) ds d) × (answer ≡ Err (BadTime (place + first.place))))
 
 -- that outcome is the answer of a row over each item
 pub check_each_answers : {V T : Type 0} (R : Data → V → Type 0) (Is : Data → Type 0) (ds : Items) (Next : Answer T → Type 0) (answer : Answer (List V)) (next : List V → Answer T)

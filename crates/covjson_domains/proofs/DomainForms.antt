@@ -12,15 +12,16 @@ use Rattle.covjson_checks.specs.declared.turned.Turned.{Turned}
 use Rattle.covjson_domains.specs.declared.axes.ReadAxis.{ReadAxis}
 use Rattle.covjson_domains.specs.declared.tuples.ReadTuples.{ReadTuples}
 use Rattle.covjson_domains.specs.declared.domains.ReadAxes.{ReadAxes}
-use Rattle.covjson_domains.specs.declared.domain_types.DomainType.{DomainType}
-use Rattle.covjson_domains.specs.declared.domain_types.DomainType.TheVariants.{Grid, Point, PointSeries, VerticalProfile, MultiPoint, Trajectory}
+use Rattle.covjson_value.specs.declared.domain_types.DomainType.{DomainType}
+use Rattle.covjson_value.specs.declared.domain_types.DomainType.TheVariants.{Grid, Point, PointSeries, VerticalProfile, MultiPoint, Trajectory}
 use Rattle.covjson_domains.specs.declared.domain_types.Presence.{Presence}
 use Rattle.covjson_domains.specs.declared.domain_types.Presence.TheVariants.{Absent, Optional, Required, OptionalSingle, Single}
 use Rattle.covjson_domains.specs.DomainTypes.{presence}
 use Rattle.covjson_value.specs.AxisNames.{axis_name}
+use Rattle.covjson_value.specs.DomainTypes.{kind_of}
 use Rattle.covjson_domains.specs.DomainAnswers.{axis_in, values_of, value_of, value_in, domain_formed}
 use Rattle.covjson_domains.proofs.AxisLaws.{only_value}
-use Rattle.covjson_domains.proofs.DomainTypes.{kind_of, Fits}
+use Rattle.covjson_domains.proofs.DomainTypes.{Fits}
 use Rattle.covjson_domains.proofs.DomainAxes.{read_as, same_values}
 
 -- ---- the axes of the domain that is formed

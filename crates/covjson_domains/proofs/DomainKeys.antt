@@ -12,7 +12,7 @@ use Rattle.edr_json.specs.Trees.{names_of}
 use Rattle.covjson_value.specs.declared.axis_names.AxisName.{AxisName}
 use Rattle.covjson_value.specs.AxisNames.{axis_key, axis_by_name}
 use Rattle.covjson_checks.specs.AxisNameLaws.{key_is, named_axis, one_name}
-use Rattle.covjson_domains.specs.declared.domain_types.DomainType.{DomainType}
+use Rattle.covjson_value.specs.declared.domain_types.DomainType.{DomainType}
 use Rattle.covjson_domains.specs.DomainTypes.{presence, IsAllowed, IsAxisOf}
 use Rattle.covjson_domains.specs.Domains.{IsAxisKey}
 use Rattle.covjson_domains.specs.TypeAnswers.{is_allowed, is_axis_of, may_have, has_no_others}

@@ -26,15 +26,16 @@ use Rattle.covjson_checks.specs.Members.{need, object_at}
 use Rattle.covjson_checks.specs.CheckLaws.{object_ok}
 use Rattle.covjson_checks.specs.Turns.{is_turned}
 use Rattle.covjson_domains.specs.declared.domains.ReadAxes.{ReadAxes}
-use Rattle.covjson_domains.specs.declared.domain_types.DomainType.{DomainType}
-use Rattle.covjson_domains.specs.DomainTypes.{type_key, presence, IsAllowed, IsAxisOf}
+use Rattle.covjson_value.specs.declared.domain_types.DomainType.{DomainType}
+use Rattle.covjson_value.specs.DomainTypes.{type_key, kind_of}
+use Rattle.covjson_domains.specs.DomainTypes.{presence, IsAllowed, IsAxisOf}
 use Rattle.covjson_domains.specs.Axes.{HasSameAxis}
 use Rattle.covjson_domains.specs.Tuples.{StandsForTuple, HasSameTuples}
 use Rattle.covjson_domains.specs.Domains.{StandsForDomain}
 use Rattle.covjson_domains.specs.TypeAnswers.{is_allowed, has_no_others}
 use Rattle.covjson_domains.specs.AxisAnswers.{axis_by}
 use Rattle.covjson_domains.specs.DomainAnswers.{type_at, axes_at, tuple_kind, composite_by, axes_read, is_turned_round, axis_in, turned_in, domain_formed, formed, domain_of, AreCounted}
-use Rattle.covjson_domains.proofs.DomainTypes.{kind_of, type_stands, key_of_domain, type_of_domain, allowed_decides, domain_fits}
+use Rattle.covjson_domains.proofs.DomainTypes.{type_stands, type_of_domain, allowed_decides, domain_fits}
 use Rattle.covjson_domains.proofs.DomainKeys.{no_others_decides, no_other, all_axes, all_left}
 use Rattle.covjson_domains.proofs.DomainAxes.{IsRead, axis_if_stands, read_as, axis_if_answers, same_turned, none_there}
 use Rattle.covjson_domains.proofs.DomainForms.{read_at, formed_axes, formed_kind, axes_as, formed_back}
@@ -136,7 +137,7 @@ same_formed kind members r read name =
 pub formed_stands : (found : Option Data) (tree : Data) (kind : DomainType) (r : ReadAxes) → found ≡ Some (string (type_key kind)) → (axes : Data) (are : AreAxes kind tree axes) → AreRead kind are.members r
     → StandsForDomain found tree (turned_in r) (domain_formed kind r)
 formed_stands found tree kind r is axes are read = record {
-  kind_is = is ∙ ap (λ k. Some (string (type_key k))) (sym (formed_kind kind r)) ∙ ap (λ text. Some (string text)) (key_of_domain (domain_formed kind r));
+  kind_is = is ∙ ap (λ k. Some (string (type_key k))) (sym (formed_kind kind r));
   members = are.members;
   axes = are.axes_at;
   no_others = all_axes kind are.members are.keys;

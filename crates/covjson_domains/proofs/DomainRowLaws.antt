@@ -23,15 +23,16 @@ use Rattle.covjson_checks.specs.RowLaws.{HaveAnswer, Finds, option_finds, find_a
 use Rattle.covjson_domains.specs.declared.axes.ReadAxis.{ReadAxis}
 use Rattle.covjson_domains.specs.declared.tuples.ReadTuples.{ReadTuples}
 use Rattle.covjson_domains.specs.declared.domains.ReadAxes.{ReadAxes}
-use Rattle.covjson_domains.specs.declared.domain_types.DomainType.{DomainType}
-use Rattle.covjson_domains.specs.declared.domain_types.DomainType.TheVariants.{Grid, Point, PointSeries, VerticalProfile, MultiPoint, Trajectory}
+use Rattle.covjson_value.specs.declared.domain_types.DomainType.{DomainType}
+use Rattle.covjson_value.specs.declared.domain_types.DomainType.TheVariants.{Grid, Point, PointSeries, VerticalProfile, MultiPoint, Trajectory}
+use Rattle.covjson_value.specs.DomainTypes.{type_key, type_by_name}
 use Rattle.covjson_domains.specs.declared.domain_types.Presence.{Presence}
-use Rattle.covjson_domains.specs.DomainTypes.{type_key, presence, member_of}
+use Rattle.covjson_domains.specs.DomainTypes.{presence, member_of}
 use Rattle.covjson_domains.specs.Domains.{StandsForDomain}
 use Rattle.covjson_domains.specs.RowWords.{With, IfFound}
 use Rattle.covjson_domains.specs.TupleRows.{TupleRows}
 use Rattle.covjson_domains.specs.DomainRows.{HasOnlyAxes, NamedRows, CompositeRows, DomainRows}
-use Rattle.covjson_domains.specs.TypeAnswers.{type_named, is_allowed, has_no_others, left_out}
+use Rattle.covjson_domains.specs.TypeAnswers.{is_allowed, has_no_others, left_out}
 use Rattle.covjson_domains.specs.AxisAnswers.{axis_read, need_count, axis_if, axis_by}
 use Rattle.covjson_domains.specs.TupleAnswers.{tuples_read}
 use Rattle.covjson_domains.specs.DomainAnswers.{type_at, axes_at, tuple_kind, composite_if, composite_by, axes_read, formed, domain_of, AreCounted}
@@ -52,9 +53,9 @@ text_found : (d : Data) → Finds (λ (name : List ℕ). d ≡ string name) (Wro
 text_found d = option_finds (λ (name : List ℕ). d ≡ string name) (WrongType TypeMember) (as_str d) (λ name h. as_str_some d name h) (λ name h. ap as_str h)
 
 -- a type of that name
-type_found : (name : List ℕ) → Finds (λ (kind : DomainType). name ≡ type_key kind) (UnsupportedDomain name) (or_fault (type_named name) (UnsupportedDomain name))
+type_found : (name : List ℕ) → Finds (λ (kind : DomainType). name ≡ type_key kind) (UnsupportedDomain name) (or_fault (type_by_name name) (UnsupportedDomain name))
 type_found name =
-    option_finds (λ (kind : DomainType). name ≡ type_key kind) (UnsupportedDomain name) (type_named name) (type_is_named name) (λ kind h. ap type_named h ∙ type_of_key kind)
+    option_finds (λ (kind : DomainType). name ≡ type_key kind) (UnsupportedDomain name) (type_by_name name) (type_is_named name) (λ kind h. ap type_by_name h ∙ type_of_key kind)
 
 -- the axes of a tree
 axes_found : (tree : Data) → Finds (λ (axes : Data). get (codes "axes") tree ≡ Some axes) (Missing Axes) (need (codes "axes") Axes tree)
@@ -214,7 +215,7 @@ pub domain_rows : InstantsAreRead → (found : Option Data) (tree : Data) → Ha
 domain_rows instants found tree =
     find_within (λ (d : Data). found ≡ Some d) (Missing TypeMember) _ (or_fault found (Missing TypeMember)) _ _ (datum_found found) (λ d is_d.
     find_within (λ (name : List ℕ). d ≡ string name) (WrongType TypeMember) _ (text_at TypeMember d) _ _ (text_found d) (λ name is_name.
-    find_answers (λ (kind : DomainType). name ≡ type_key kind) (UnsupportedDomain name) _ (or_fault (type_named name) (UnsupportedDomain name)) _ (type_found name) (λ kind is_kind.
+    find_answers (λ (kind : DomainType). name ≡ type_key kind) (UnsupportedDomain name) _ (or_fault (type_by_name name) (UnsupportedDomain name)) _ (type_found name) (λ kind is_kind.
     find_within (λ (axes : Data). get (codes "axes") tree ≡ Some axes) (Missing Axes) _ (need (codes "axes") Axes tree) _ _ (axes_found tree) (λ axes is_axes.
     value_answers (HasOnlyAxes kind axes) (WrongType Axes) _ (only_axes kind axes) axes _ (only_found kind axes) (λ only.
     rows_of_axes instants found tree kind axes (record { type_is = is_d ∙ ap Some (is_name ∙ ap string is_kind); axes_are = is_axes; only = only }))))))

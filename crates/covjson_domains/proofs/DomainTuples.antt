@@ -18,8 +18,9 @@ use Rattle.covjson_domains.specs.declared.tuples.ReadTuples.{ReadTuples}
 use Rattle.covjson_domains.specs.declared.tuples.TupleKind.{TupleKind}
 use Rattle.covjson_domains.specs.declared.tuples.TupleKind.TheVariants.{Places, Steps, LevelSteps}
 use Rattle.covjson_domains.specs.declared.domains.ReadAxes.{ReadAxes}
-use Rattle.covjson_domains.specs.declared.domain_types.DomainType.{DomainType}
-use Rattle.covjson_domains.specs.declared.domain_types.DomainType.TheVariants.{Grid, Point, PointSeries, VerticalProfile, MultiPoint, Trajectory}
+use Rattle.covjson_value.specs.declared.domain_types.DomainType.{DomainType}
+use Rattle.covjson_value.specs.declared.domain_types.DomainType.TheVariants.{Grid, Point, PointSeries, VerticalProfile, MultiPoint, Trajectory}
+use Rattle.covjson_value.specs.DomainTypes.{kind_of}
 use Rattle.covjson_domains.specs.declared.domain_types.Presence.{Presence}
 use Rattle.covjson_domains.specs.DomainTypes.{presence, IsAllowed}
 use Rattle.covjson_domains.specs.Tuples.{StandsForTuples, HasSameTuples}
@@ -28,7 +29,6 @@ use Rattle.covjson_domains.specs.TupleAnswers.{names_of, may_have_z, tuples_read
 use Rattle.covjson_domains.specs.DomainAnswers.{tuple_kind, composite_if, value_in, tuples_of as tuples_in, domain_formed}
 use Rattle.covjson_checks.specs.declared.faults.Member.TheVariants.{Composite as CompositeAxis}
 use Rattle.covjson_domains.proofs.TupleLaws.{tuples_stand, tuples_answer}
-use Rattle.covjson_domains.proofs.DomainTypes.{kind_of}
 use Rattle.covjson_domains.proofs.DomainAxes.{not_missing}
 use Rattle.covjson_domains.proofs.DomainForms.{tuples_as, axes_as}
 
@@ -99,10 +99,6 @@ step_names has_z = T ∷ X ∷ Y ∷ level_if has_z
 steps_named : (level has_z : Bool) → names_of (tuple_kind Trajectory level) has_z ≡ step_names has_z
 steps_named true has_z = refl
 steps_named false has_z = refl
-
--- what was read of the composite axis of a type
-abbrev CompositeOf : DomainType → Option Data → ReadAxes → Type 0
-CompositeOf kind found r = IsReadComposite (presence kind Composite) (tuple_kind kind (is_some r.z)) found r.composite
 
 -- the tuples of the domain are those that stand there
 pub formed_tuples : (kind : DomainType) (found : Option Data) (r : ReadAxes) → IsReadComposite (presence kind Composite) (tuple_kind kind (is_some r.z)) found r.composite

@@ -14,34 +14,26 @@ use Rattle.covjson_checks.specs.declared.faults.Member.TheVariants.{DomainType a
 use Rattle.covjson_checks.specs.declared.faults.CovFault.TheVariants.{Missing, UnsupportedDomain}
 use Rattle.covjson_checks.specs.Members.{text_at}
 use Rattle.covjson_checks.specs.CheckLaws.{text_ok, named_one}
-use Rattle.covjson_domains.specs.declared.domain_types.DomainType.{DomainType}
-use Rattle.covjson_domains.specs.declared.domain_types.DomainType.TheVariants.{Grid, Point, PointSeries, VerticalProfile, MultiPoint, Trajectory}
+use Rattle.covjson_value.specs.declared.domain_types.DomainType.{DomainType}
+use Rattle.covjson_value.specs.declared.domain_types.DomainType.TheVariants.{Grid, Point, PointSeries, VerticalProfile, MultiPoint, Trajectory}
 use Rattle.covjson_domains.specs.declared.domain_types.Presence.{Presence}
 use Rattle.covjson_domains.specs.declared.domain_types.Presence.TheVariants.{Absent, Optional, Required, OptionalSingle, Single}
-use Rattle.covjson_domains.specs.DomainTypes.{type_key, presence, IsAllowed, IsNeeded, IsSingle}
+use Rattle.covjson_domains.specs.DomainTypes.{presence, IsAllowed, IsNeeded, IsSingle}
 use Rattle.covjson_value.specs.AxisNames.{axis_name}
-use Rattle.covjson_domains.specs.TypeAnswers.{type_named, is_allowed, is_needed, is_single}
+use Rattle.covjson_value.specs.DomainTypes.{type_key, type_by_name, kind_of}
+use Rattle.covjson_domains.specs.TypeAnswers.{is_allowed, is_needed, is_single}
 use Rattle.covjson_domains.specs.DomainAnswers.{type_at}
 
 -- ---- types
 
--- the type of a domain
-abbrev pub kind_of : Domain → DomainType
-kind_of (domain.Grid t z y x) = Grid
-kind_of (domain.Point t z y x) = Point
-kind_of (domain.PointSeries t z y x) = PointSeries
-kind_of (domain.VerticalProfile t z y x) = VerticalProfile
-kind_of (domain.MultiPoint t has_z spots) = MultiPoint
-kind_of (domain.Trajectory z has_z steps) = Trajectory
-
 -- a type is named by its text alone
-pub type_is_named : (name : List ℕ) (kind : DomainType) → type_named name ≡ Some kind → name ≡ type_key kind
+pub type_is_named : (name : List ℕ) (kind : DomainType) → type_by_name name ≡ Some kind → name ≡ type_key kind
 type_is_named name kind h =
     named_one type_key name Grid kind _ (named_one type_key name Point kind _ (named_one type_key name PointSeries kind _ (named_one type_key name VerticalProfile kind _
     (named_one type_key name MultiPoint kind _ (named_one type_key name Trajectory kind None (λ none. cc)))))) h
 
 -- and the text names it
-pub type_of_key : (kind : DomainType) → type_named (type_key kind) ≡ Some kind
+pub type_of_key : (kind : DomainType) → type_by_name (type_key kind) ≡ Some kind
 type_of_key Grid = refl
 type_of_key Point = refl
 type_of_key PointSeries = refl
@@ -55,18 +47,9 @@ type_stands found kind h =
     let d = and_then_ok (or_fault found (Missing TypeMember)) _ kind h in
     let name = and_then_ok (text_at TypeMember d.0) _ kind d.2 in
     or_fault_ok found _ d.0 d.1 ∙ ap Some (text_ok _ d.0 name.0 name.1
-    ∙ ap string (type_is_named name.0 kind (or_fault_ok (type_named name.0) (UnsupportedDomain name.0) kind name.2)))
+    ∙ ap string (type_is_named name.0 kind (or_fault_ok (type_by_name name.0) (UnsupportedDomain name.0) kind name.2)))
 
--- the text of a domain's type is that of its kind
-pub key_of_domain : (d : Domain) → type_key (kind_of d) ≡ domain_type d
-key_of_domain (domain.Grid t z y x) = refl
-key_of_domain (domain.Point t z y x) = refl
-key_of_domain (domain.PointSeries t z y x) = refl
-key_of_domain (domain.VerticalProfile t z y x) = refl
-key_of_domain (domain.MultiPoint t has_z spots) = refl
-key_of_domain (domain.Trajectory z has_z steps) = refl
-
--- so it is read of that text
+-- a domain's type is read of its text
 pub type_of_domain : (d : Domain) → type_at (Some (string (domain_type d))) ≡ Ok (kind_of d)
 type_of_domain (domain.Grid t z y x) = refl
 type_of_domain (domain.Point t z y x) = refl

@@ -30,8 +30,8 @@ use Rattle.covjson_domains.specs.declared.tuples.TupleKind.{TupleKind}
 use Rattle.covjson_domains.specs.declared.tuples.TupleKind.TheVariants.{Places, Steps, LevelSteps}
 use Rattle.covjson_domains.specs.declared.tuples.Test.{Test}
 use Rattle.covjson_domains.specs.declared.tuples.Test.TheVariants.{Form, Whole, Within}
-use Rattle.covjson_domains.specs.declared.domain_types.DomainType.{DomainType}
-use Rattle.covjson_domains.specs.declared.domain_types.DomainType.TheVariants.{Grid, Point, PointSeries, VerticalProfile, MultiPoint, Trajectory}
+use Rattle.covjson_value.specs.declared.domain_types.DomainType.{DomainType}
+use Rattle.covjson_value.specs.declared.domain_types.DomainType.TheVariants.{Grid, Point, PointSeries, VerticalProfile, MultiPoint, Trajectory}
 use Rattle.covjson_domains.specs.Axes.{StandsForTime}
 use Rattle.covjson_domains.specs.Tuples.{EachCoordinate, StandsForTuple}
 use Rattle.covjson_domains.specs.RowWords.{CheckEach, With}

@@ -1,11 +1,11 @@
 -- The checks of an axis in their order (docs/PROFILE.md, "CoverageJSON as read"), and the answer that they lead to.
 use Rattle.std.specs.Prelude.{◌≡◌, ◌⊎◌, ℕ, ◌<◌, ℤ, pos, ◌-ℤ◌, ◌*ℤ◌, ◌≤ℤ◌, unsigned_abs, List, length, reverse, All, codes, ⊤, Option, None, Some, Result}
-use Rattle.serde_json.specs.Data.{Data, number, string, array, Items, Num}
+use Rattle.serde_json.specs.Data.{Data, number, array, Items, Num}
 use Rattle.serde_json.specs.Find.{get}
 use Rattle.edr_base.specs.FirstThatApplies.{Check, Find, Then, Gives}
 use Rattle.edr_base.specs.Limits.{node_limit, IsCoordinate}
 use Rattle.edr_axes.specs.Axes.{IsAscending}
-use Rattle.edr_json.specs.Trees.{count_items, EachStands, StandsForWhole}
+use Rattle.edr_json.specs.Trees.{count_items, EachStands, StandsForWhole, IsObject, IsText, IsNumber}
 use Rattle.covjson_value.specs.declared.domains.CoordinateName.{CoordinateName}
 use Rattle.covjson_value.specs.declared.domains.CoordinateName.TheVariants.{T, Z, Y, X}
 use Rattle.covjson_checks.specs.declared.faults.Member.{Member}
@@ -16,7 +16,7 @@ use Rattle.covjson_checks.specs.Places.{EachItem}
 use Rattle.covjson_domains.specs.declared.domain_types.Presence.{Presence}
 use Rattle.covjson_domains.specs.DomainTypes.{member_of, IsSingle}
 use Rattle.covjson_domains.specs.Axes.{StandsForTime, HasWhole, IsRegular}
-use Rattle.covjson_domains.specs.RowWords.{IsObject, CheckEach, With}
+use Rattle.covjson_domains.specs.RowWords.{CheckEach, With}
 
 -- ---- listed values
 
@@ -24,12 +24,6 @@ use Rattle.covjson_domains.specs.RowWords.{IsObject, CheckEach, With}
 pub record HasItems (axis : Data) (items : Items) : Type 0 where
   pub list : get (codes "values") axis ≡ Some (array items)
   pub some : 0 < count_items items
-
-abbrev pub IsText : Data → Type 0
-IsText d = (text : List ℕ) × (d ≡ string text)
-
-abbrev pub IsNumber : Data → Type 0
-IsNumber d = (n : Num) × (d ≡ number n)
 
 -- a text that is an instant
 abbrev pub IsTimeText : Data → Type 0

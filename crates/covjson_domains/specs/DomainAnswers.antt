@@ -21,11 +21,12 @@ use Rattle.covjson_domains.specs.declared.tuples.ReadTuples.{ReadTuples}
 use Rattle.covjson_domains.specs.declared.tuples.TupleKind.{TupleKind}
 use Rattle.covjson_domains.specs.declared.tuples.TupleKind.TheVariants.{Places, Steps, LevelSteps}
 use Rattle.covjson_domains.specs.declared.domains.ReadAxes.{ReadAxes}
-use Rattle.covjson_domains.specs.declared.domain_types.DomainType.{DomainType}
-use Rattle.covjson_domains.specs.declared.domain_types.DomainType.TheVariants.{Grid, Point, PointSeries, VerticalProfile, MultiPoint, Trajectory}
+use Rattle.covjson_value.specs.declared.domain_types.DomainType.{DomainType}
+use Rattle.covjson_value.specs.declared.domain_types.DomainType.TheVariants.{Grid, Point, PointSeries, VerticalProfile, MultiPoint, Trajectory}
+use Rattle.covjson_value.specs.DomainTypes.{type_by_name}
 use Rattle.covjson_domains.specs.declared.domain_types.Presence.{Presence}
 use Rattle.covjson_domains.specs.DomainTypes.{presence}
-use Rattle.covjson_domains.specs.TypeAnswers.{type_named, has_no_others, left_out}
+use Rattle.covjson_domains.specs.TypeAnswers.{has_no_others, left_out}
 use Rattle.covjson_domains.specs.AxisAnswers.{axis_by, IfNeeded}
 use Rattle.covjson_domains.specs.TupleAnswers.{tuples_read}
 
@@ -34,7 +35,7 @@ abbrev pub type_at : Option Data → Answer DomainType
 type_at found =
     and_then (or_fault found (Missing TypeMember)) (λ d.
     and_then (text_at TypeMember d) (λ name.
-    or_fault (type_named name) (UnsupportedDomain name)))
+    or_fault (type_by_name name) (UnsupportedDomain name)))
 
 -- the axes of a domain of a type, and no others
 abbrev pub axes_at : DomainType → Data → Answer Data

@@ -12,8 +12,9 @@ use Rattle.covjson_checks.specs.declared.turned.ReadDomain.{ReadDomain}
 use Rattle.covjson_checks.specs.declared.faults.Member.TheVariants.{DomainType as TypeMember, Axes, Composite as CompositeAxis}
 use Rattle.covjson_checks.specs.declared.faults.CovFault.{CovFault}
 use Rattle.covjson_checks.specs.declared.faults.CovFault.TheVariants.{Missing, WrongType, UnsupportedDomain}
-use Rattle.covjson_domains.specs.declared.domain_types.DomainType.{DomainType}
-use Rattle.covjson_domains.specs.DomainTypes.{type_key, presence, member_of, IsAxisOf}
+use Rattle.covjson_value.specs.declared.domain_types.DomainType.{DomainType}
+use Rattle.covjson_value.specs.DomainTypes.{type_key}
+use Rattle.covjson_domains.specs.DomainTypes.{presence, member_of, IsAxisOf}
 use Rattle.covjson_domains.specs.Domains.{StandsForDomain}
 use Rattle.covjson_domains.specs.RowWords.{With, IfFound}
 use Rattle.covjson_domains.specs.AxisRows.{AxisRows}

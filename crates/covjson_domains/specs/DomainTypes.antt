@@ -1,5 +1,5 @@
 -- The domain types (OGC 21-069r2, Domain types), and which axes a domain of each has.
-use Rattle.std.specs.Prelude.{ℕ, ◌≡◌, ⊤, List, codes}
+use Rattle.std.specs.Prelude.{ℕ, ◌≡◌, ⊤, List}
 use Rattle.covjson_value.specs.declared.domains.CoordinateName.{CoordinateName}
 use Rattle.covjson_value.specs.declared.domains.CoordinateName.TheVariants as coordinates
 use Rattle.covjson_value.specs.declared.axis_names.AxisName.{AxisName}
@@ -7,19 +7,10 @@ use Rattle.covjson_value.specs.declared.axis_names.AxisName.TheVariants.{T, Z, Y
 use Rattle.covjson_value.specs.AxisNames.{axis_key}
 use Rattle.covjson_checks.specs.declared.faults.Member.{Member}
 use Rattle.covjson_checks.specs.declared.faults.Member.TheVariants as members
-use Rattle.covjson_domains.specs.declared.domain_types.DomainType.{DomainType}
-use Rattle.covjson_domains.specs.declared.domain_types.DomainType.TheVariants.{Grid, Point, PointSeries, VerticalProfile, MultiPoint, Trajectory}
+use Rattle.covjson_value.specs.declared.domain_types.DomainType.{DomainType}
+use Rattle.covjson_value.specs.declared.domain_types.DomainType.TheVariants.{Grid, Point, PointSeries, VerticalProfile, MultiPoint, Trajectory}
 use Rattle.covjson_domains.specs.declared.domain_types.Presence.{Presence}
 use Rattle.covjson_domains.specs.declared.domain_types.Presence.TheVariants.{Absent, Optional, Required, OptionalSingle, Single}
-
--- the name of a type
-abbrev pub type_key : DomainType → List ℕ
-type_key Grid = codes "Grid"
-type_key Point = codes "Point"
-type_key PointSeries = codes "PointSeries"
-type_key VerticalProfile = codes "VerticalProfile"
-type_key MultiPoint = codes "MultiPoint"
-type_key Trajectory = codes "Trajectory"
 
 -- how a domain has each axis
 pub record Presences : Type 0 where

@@ -1,22 +1,18 @@
 -- Rows of checks of axes and tuples: the forms that are theirs.
 use Rattle.std.specs.Prelude.{◌≡◌, ◌⊎◌, ℕ, ⊤, Option, None, Some, Result, Err}
-use Rattle.serde_json.specs.Data.{Data, object, Items, Members}
+use Rattle.serde_json.specs.Data.{Data, Items}
 use Rattle.edr_base.specs.FirstThatApplies.{Check, Gives}
 use Rattle.covjson_checks.specs.declared.faults.Member.{Member}
 use Rattle.covjson_checks.specs.declared.faults.CovFault.{CovFault}
 use Rattle.covjson_checks.specs.declared.faults.CovFault.TheVariants.{Missing}
-use Rattle.covjson_checks.specs.Places.{EachItem, IsFirst}
+use Rattle.covjson_checks.specs.Places.{EachItem, IsFirstItem}
 use Rattle.covjson_domains.specs.declared.domain_types.Presence.{Presence}
 use Rattle.covjson_domains.specs.DomainTypes.{IsNeeded}
-
--- an object
-abbrev pub IsObject : Data → Type 0
-IsObject d = (members : Members) × (d ≡ object members)
 
 -- a row over the items of a list: each is so, and the next rows follow; or the fault is that of the first place whose item isn't
 abbrev pub CheckEach : {F T : Type 0} → (Data → Type 0) → (ℕ → F) → Items → (Result T F → Type 0) → Result T F → Type 0
 CheckEach Is fault items Next answer =
-    (EachItem Is items × Next answer) ⊎ ((d : Data) × (first : IsFirst (λ other. ¬ (Is other)) items d) × (answer ≡ Err (fault first.place)))
+    (EachItem Is items × Next answer) ⊎ ((d : Data) × (first : IsFirstItem (λ other. ¬ (Is other)) items d) × (answer ≡ Err (fault first.place)))
 
 -- a value that is there by the rows before, and the next rows
 abbrev pub With : {V F T : Type 0} → (V → Type 0) → (V → Result T F → Type 0) → Result T F → Type 0

@@ -6,7 +6,7 @@ use Rattle.edr_base.specs.declared.places.Position.{Position}
 use Rattle.covjson_value.specs.declared.domains.CoordinateName.{CoordinateName}
 use Rattle.covjson_value.specs.declared.domains.CoordinateName.TheVariants.{T, Z, Y, X}
 use Rattle.edr_base.specs.Limits.{coordinate_limit}
-use Rattle.covjson_value.specs.Domains.{coordinate_key, coordinate, level_if}
+use Rattle.covjson_value.specs.Domains.{coordinate_key, coordinate, place_coordinates, step_coordinates}
 use Rattle.covjson_domains.specs.declared.tuples.TupleKind.{TupleKind}
 use Rattle.covjson_domains.specs.declared.tuples.TupleKind.TheVariants.{Places, Steps, LevelSteps}
 use Rattle.covjson_domains.specs.declared.tuples.ReadTuples.{ReadTuples}
@@ -25,9 +25,9 @@ use Rattle.covjson_domains.specs.AxisAnswers.{value_items, time_at}
 
 -- the coordinates of tuples of a kind, with and without levels of their own
 abbrev pub names_of : TupleKind → Bool → List CoordinateName
-names_of Places has_z = X ∷ Y ∷ level_if has_z
-names_of Steps has_z = T ∷ X ∷ Y ∷ level_if has_z
-names_of LevelSteps has_z = T ∷ X ∷ Y ∷ level_if has_z
+names_of Places has_z = place_coordinates has_z
+names_of Steps has_z = step_coordinates has_z
+names_of LevelSteps has_z = step_coordinates has_z
 
 -- whether tuples of a kind may have levels of their own: steps at one level have none
 abbrev pub may_have_z : TupleKind → Bool

@@ -1,12 +1,12 @@
 -- The checks of a composite axis in their order (docs/PROFILE.md, "CoverageJSON as read"), and the answer that they lead to.
-use Rattle.std.specs.Prelude.{◌≡◌, ◌⊎◌, ℤ, List, [], ◌∷◌, map, codes, ⊤, Option, None, Some, Result}
+use Rattle.std.specs.Prelude.{◌≡◌, ◌⊎◌, ℤ, List, [], ◌∷◌, map, codes, ⊤, Option, None, Some, Result, true, false}
 use Rattle.serde_json.specs.Data.{Data, string, array, Items, no_items, item}
 use Rattle.serde_json.specs.Find.{get}
 use Rattle.edr_base.specs.FirstThatApplies.{Check, Find, Gives}
-use Rattle.edr_json.specs.Trees.{EachStands, StandsForWhole}
+use Rattle.edr_json.specs.Trees.{EachStands, StandsForWhole, IsObject, IsText, IsNumber}
 use Rattle.covjson_value.specs.declared.domains.CoordinateName.{CoordinateName}
 use Rattle.covjson_value.specs.declared.domains.CoordinateName.TheVariants.{T, Z, Y, X}
-use Rattle.covjson_value.specs.Domains.{coordinate}
+use Rattle.covjson_value.specs.Domains.{coordinate, place_coordinates, step_coordinates}
 use Rattle.edr_base.specs.Limits.{IsCoordinate}
 use Rattle.covjson_value.specs.Coverages.{NeverFall}
 use Rattle.covjson_value.specs.Trees.{keys_data}
@@ -14,11 +14,11 @@ use Rattle.covjson_checks.specs.declared.faults.Member.TheVariants.{Composite}
 use Rattle.covjson_checks.specs.declared.faults.CovFault.{CovFault}
 use Rattle.covjson_checks.specs.declared.faults.CovFault.TheVariants.{WrongType, NotWhole, OutOfRange, BadTime, NotMonotonic}
 use Rattle.covjson_checks.specs.Places.{EachItem}
-use Rattle.covjson_domains.specs.declared.domain_types.DomainType.{DomainType}
-use Rattle.covjson_domains.specs.declared.domain_types.DomainType.TheVariants.{Grid, Point, PointSeries, VerticalProfile, MultiPoint, Trajectory}
+use Rattle.covjson_value.specs.declared.domain_types.DomainType.{DomainType}
+use Rattle.covjson_value.specs.declared.domain_types.DomainType.TheVariants.{Grid, Point, PointSeries, VerticalProfile, MultiPoint, Trajectory}
 use Rattle.covjson_domains.specs.Tuples.{StandsForTuple}
-use Rattle.covjson_domains.specs.RowWords.{IsObject, CheckEach, With}
-use Rattle.covjson_domains.specs.AxisRows.{HasItems, IsText, IsNumber, IsTimeText}
+use Rattle.covjson_domains.specs.RowWords.{CheckEach, With}
+use Rattle.covjson_domains.specs.AxisRows.{HasItems, IsTimeText}
 
 -- the coordinates of places, and of places at their times; those of a Trajectory have levels only where there is no axis of levels
 abbrev pub AreCoordinates : DomainType → Option Data → List CoordinateName → Type 0
@@ -26,9 +26,9 @@ AreCoordinates Grid level names = ⊥
 AreCoordinates Point level names = ⊥
 AreCoordinates PointSeries level names = ⊥
 AreCoordinates VerticalProfile level names = ⊥
-AreCoordinates MultiPoint level names = (names ≡ X ∷ Y ∷ []) ⊎ (names ≡ X ∷ Y ∷ Z ∷ [])
-AreCoordinates Trajectory None names = (names ≡ T ∷ X ∷ Y ∷ []) ⊎ (names ≡ T ∷ X ∷ Y ∷ Z ∷ [])
-AreCoordinates Trajectory (Some level) names = names ≡ T ∷ X ∷ Y ∷ []
+AreCoordinates MultiPoint level names = (names ≡ place_coordinates false) ⊎ (names ≡ place_coordinates true)
+AreCoordinates Trajectory None names = (names ≡ step_coordinates false) ⊎ (names ≡ step_coordinates true)
+AreCoordinates Trajectory (Some level) names = names ≡ step_coordinates false
 
 -- the member `coordinates` has the names of these
 pub record HasCoordinates (kind : DomainType) (level : Option Data) (axis : Data) (names : List CoordinateName) : Type 0 where

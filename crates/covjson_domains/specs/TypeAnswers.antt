@@ -1,5 +1,5 @@
 -- Domain types and their axes, as they are computed.
-use Rattle.std.specs.Prelude.{ℕ, List, bytes_eq, codes, Bool, true, false, not, ◌&&◌, if◌then◌else◌, ⊤, Option, Some, None}
+use Rattle.std.specs.Prelude.{ℕ, List, Bool, true, false, not, ◌&&◌, ⊤, Option, Some, None}
 use Rattle.serde_json.specs.Data.{Members, no_members, member}
 use Rattle.edr_base.specs.FirstThatApplies.{check}
 use Rattle.covjson_value.specs.declared.axis_names.AxisName.{AxisName}
@@ -7,22 +7,10 @@ use Rattle.covjson_value.specs.AxisNames.{axis_by_name}
 use Rattle.covjson_checks.specs.declared.faults.Member.{Member}
 use Rattle.covjson_checks.specs.declared.faults.CovFault.TheVariants.{Missing}
 use Rattle.covjson_checks.specs.Answers.{Answer}
-use Rattle.covjson_domains.specs.declared.domain_types.DomainType.{DomainType}
-use Rattle.covjson_domains.specs.declared.domain_types.DomainType.TheVariants.{Grid, Point, PointSeries, VerticalProfile, MultiPoint, Trajectory}
+use Rattle.covjson_value.specs.declared.domain_types.DomainType.{DomainType}
 use Rattle.covjson_domains.specs.declared.domain_types.Presence.{Presence}
 use Rattle.covjson_domains.specs.declared.domain_types.Presence.TheVariants.{Absent, Optional, Required, OptionalSingle, Single}
 use Rattle.covjson_domains.specs.DomainTypes.{presence}
-
--- the type of a name
-abbrev pub type_named : List ℕ → Option DomainType
-type_named name =
-    if bytes_eq name (codes "Grid") then Some Grid
-    else if bytes_eq name (codes "Point") then Some Point
-    else if bytes_eq name (codes "PointSeries") then Some PointSeries
-    else if bytes_eq name (codes "VerticalProfile") then Some VerticalProfile
-    else if bytes_eq name (codes "MultiPoint") then Some MultiPoint
-    else if bytes_eq name (codes "Trajectory") then Some Trajectory
-    else None
 
 -- the axis may be there
 abbrev pub is_allowed : Presence → Bool

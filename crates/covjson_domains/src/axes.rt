@@ -8,12 +8,12 @@ ghost use Rattle.covjson_value.specs.AxisNames.{axis_name};
 ghost use Rattle.covjson_domains.specs.AxisAnswers as axes;
 ghost use Rattle.covjson_domains.specs.AxisAnswers.{IfNeeded};
 
-use crate::domain_types::{DomainType, Presence, is_single, left_out, presence_of};
+use crate::domain_types::{Presence, is_single, left_out, presence_of};
 use crate::spans::spanned;
 use covjson_checks::{
     CovFault, Member, Wanted, list_at, need_form, need_wholes, object_at, part, text_at, wholes,
 };
-use covjson_value::{CoordinateName, axis_key, axis_name};
+use covjson_value::{CoordinateName, DomainType, axis_key, axis_name};
 use edr_axes::{Axis, AxisFault, instants_are_read, read_instant};
 use edr_base::COORDINATE_LIMIT;
 use serde_json::Value;

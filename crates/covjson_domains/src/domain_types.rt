@@ -5,25 +5,8 @@ ghost use Rattle.covjson_domains.specs.DomainTypes.{presence};
 ghost use Rattle.covjson_domains.specs.TypeAnswers as types;
 
 use covjson_checks::{CovFault, Member};
-use covjson_value::{AxisName, axis_by_name};
+use covjson_value::{AxisName, DomainType, axis_by_name};
 use serde_json::{Map, Value};
-
-/// The type of a domain (OGC 21-069r2, Domain types).
-#[derive(Clone, Copy, Debug, PartialEq, Eq)]
-pub enum DomainType {
-    /// All nodes of some axes.
-    Grid,
-    /// One place.
-    Point,
-    /// Several times at one place.
-    PointSeries,
-    /// Several levels at one place.
-    VerticalProfile,
-    /// Several places.
-    MultiPoint,
-    /// Several places at their times.
-    Trajectory,
-}
 
 /// Whether a domain of a type has an axis, and how many values that has.
 #[derive(Clone, Copy, Debug, PartialEq, Eq)]
@@ -38,27 +21,6 @@ pub enum Presence {
     OptionalSingle,
     /// There is one, of a single value.
     Single,
-}
-
-/// The type of a name.
-pub fn type_named(name: &str) -> Option<DomainType>
-    ensures { result ≡ types.type_named name.now }
-{
-    if name == "Grid" {
-        Some(DomainType::Grid)
-    } else if name == "Point" {
-        Some(DomainType::Point)
-    } else if name == "PointSeries" {
-        Some(DomainType::PointSeries)
-    } else if name == "VerticalProfile" {
-        Some(DomainType::VerticalProfile)
-    } else if name == "MultiPoint" {
-        Some(DomainType::MultiPoint)
-    } else if name == "Trajectory" {
-        Some(DomainType::Trajectory)
-    } else {
-        None
-    }
 }
 
 /// Which axes a domain of a type has.

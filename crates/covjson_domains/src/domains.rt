@@ -11,13 +11,13 @@ ghost use Rattle.covjson_domains.specs.DomainAnswers.{HasNeeded, CompositeCounte
 ghost use Rattle.covjson_domains.specs.DomainAnswers as domains;
 
 use crate::axes::{ReadAxis, axis_by};
-use crate::domain_types::{DomainType, Presence, has_no_others, left_out, presence_of, type_named};
+use crate::domain_types::{Presence, has_no_others, left_out, presence_of};
 use crate::tuples::{ReadTuples, TupleKind, tuples_read};
 use covjson_checks::{
     CovFault, Member, ReadDomain, Turned, found_or_missing, need, object_at, text_at,
     unsupported_domain,
 };
-use covjson_value::{AxisName, CoordinateName, Domain, axis_key};
+use covjson_value::{AxisName, CoordinateName, Domain, DomainType, axis_key, type_by_name};
 use edr_axes::{Axis, instants_are_read};
 use serde_json::Value;
 use std::alloc::Global;
@@ -43,7 +43,7 @@ fn type_at(alloc: Global, found: Option<&Value>) -> Result<DomainType, CovFault>
 {
     let found = found_or_missing(found, Member::DomainType)?;
     let name = text_at(found, Member::DomainType)?;
-    match type_named(name) {
+    match type_by_name(name) {
         Some(kind) => Ok(kind),
         None => Err(unsupported_domain(alloc, name)?),
     }

@@ -1,6 +1,6 @@
 -- The rows of a range lead to the computed answer, and end in a range exactly where the tree stands for it.
 use Rattle.std.proofs.Common.{◌≡◌, ◌≢◌, inl, inr, codes, List, length, bytes_eq, ℤ, true, Option, Some, Ok, Err, refl, sym, ap, ◌∙◌, subst}
-use Rattle.std.specs.Prelude.{Result, IfErr, IfSome}
+use Rattle.std.specs.Prelude.{Result, IfErr}
 use Rattle.std.proofs.lemmas.Slice.Eq.{bytes_eq-Decides}
 use Rattle.serde_json.specs.Data.{Data, string, object}
 use Rattle.serde_json.specs.Find.{get, as_object}
@@ -9,7 +9,7 @@ use Rattle.edr_json.specs.TreeLaws.{as_object_some, member_of_object, text_is}
 use Rattle.covjson_value.specs.declared.domains.Domain.{Domain}
 use Rattle.covjson_value.specs.declared.coverages.NdArray.{NdArray}
 use Rattle.covjson_value.specs.declared.axis_names.AxisName.{AxisName}
-use Rattle.edr_base.specs.Limits.{IsSample}
+use Rattle.edr_base.specs.Limits.{AreSamples, HasSample}
 use Rattle.covjson_value.specs.Coverages.{IsRange}
 use Rattle.covjson_value.specs.Domains.{count_of}
 use Rattle.covjson_checks.specs.declared.faults.CovFault.{CovFault}
@@ -18,7 +18,7 @@ use Rattle.covjson_checks.specs.declared.faults.Member.TheVariants.{Ranges, Data
 use Rattle.covjson_checks.specs.declared.turned.Turned.{Turned}
 use Rattle.covjson_checks.specs.declared.turned.ReadDomain.{ReadDomain}
 use Rattle.covjson_checks.specs.Answers.{GivesUnlessMemory}
-use Rattle.covjson_ranges.specs.Ranges.{StandsForSample, IsNdArray, HasIntegers, NamesStand, AreRangeAxes, AreSamples, AreInOrder, StandsForRange}
+use Rattle.covjson_ranges.specs.Ranges.{StandsForSample, IsNdArray, HasIntegers, NamesStand, AreRangeAxes, AreInOrder, StandsForRange}
 use Rattle.covjson_ranges.specs.Orders.{ordered}
 use Rattle.covjson_ranges.specs.RangeAnswers.{is_array, has_integers, names_in, shape_in, samples_in, range_of}
 use Rattle.covjson_ranges.specs.RangeRows.{KindRows, DataTypeRows, NamesRows, ShapeRows, ValuesRows, GivesInOrder, RangeRows}
@@ -153,7 +153,7 @@ range_valid domain turned d range h =
     record {
       count = h.in_order.counted;
       samples = subst AreSamples (sym (in_order_is_ordered domain turned h.names h.samples range.values h.in_order))
-          (ordered_all (λ v. IfSome v IsSample) domain turned h.names h.samples h.axes counted h.within);
+          (ordered_all HasSample domain turned h.names h.samples h.axes counted h.within);
     }
 
 -- a fault that is answered is that of the rows, unless memory was wanting
@@ -162,6 +162,13 @@ pub fault_follows : (read : ReadDomain) (d : Data) (result : Result NdArray CovF
 fault_follows read d (Ok range) h = tt
 fault_follows read d (Err fault) (inl is) = λ other. subst (RangeRows read d) is (range_leads read d).follows
 fault_follows read d (Err fault) (inr memory) = λ other. absurd (other memory)
+
+-- and then the tree stands for no range
+pub nothing_stands : (read : ReadDomain) (d : Data) (result : Result NdArray CovFault) → GivesUnlessMemory (λ range. range) result (range_of read d)
+    → IfErr result (λ fault. fault ≢ OutOfMemory → (range : NdArray) → ¬ (StandsForRange read.domain read.turned d range))
+nothing_stands read d (Ok range) h = tt
+nothing_stands read d (Err fault) (inl is) = λ other range stands. let e = (range_leads read d).only (Ok range) (stand_rows read d range stands) ∙ is in cc
+nothing_stands read d (Err fault) (inr memory) = λ other. absurd (other memory)
 
 -- ---- the laws
 

@@ -6,7 +6,7 @@ use Rattle.std.proofs.lemmas.List.Elements.{All-cons, All-nil, All-head, All-tai
 use Rattle.serde_json.specs.Data.{Data, null, boolean, number, string, array, object, Items, no_items, item, Num}
 use Rattle.serde_json.specs.Find.{get, as_null, as_number, as_array}
 use Rattle.edr_base.specs.FirstThatApplies.{Check, Find, Gives, and_then, check}
-use Rattle.edr_base.specs.Limits.{sample_limit, IsSample}
+use Rattle.edr_base.specs.Limits.{sample_limit, IsSample, AreSamples, HasSample}
 use Rattle.edr_json.specs.Trees.{whole_of, count_items, EachStands}
 use Rattle.edr_json.specs.AnswerLaws.{and_then_ok}
 use Rattle.edr_json.specs.TreeLaws.{as_array_some}
@@ -17,7 +17,7 @@ use Rattle.covjson_checks.specs.declared.members.Wanted.TheVariants.{NumbersOrNu
 use Rattle.covjson_checks.specs.Answers.{Answer, each}
 use Rattle.covjson_checks.specs.Members.{is_within, whole_within, whole_or_null, all_wanted}
 use Rattle.covjson_checks.specs.CheckLaws.{each_stands, whole_within_stands, all_wanted_given}
-use Rattle.covjson_ranges.specs.Ranges.{StandsForSample, AreSamples}
+use Rattle.covjson_ranges.specs.Ranges.{StandsForSample}
 use Rattle.covjson_ranges.specs.RangeAnswers.{samples_of, samples_in}
 use Rattle.covjson_ranges.specs.RangeRows.{StandsForNumber, ValuesRows}
 use Rattle.covjson_ranges.proofs.CheckRows.{LeadTo, gives_leads, check_leads, find_leads, find_tested, row_passed}
@@ -163,15 +163,15 @@ short_given (Some z) h = le-leb (unsigned_abs z) sample_limit h
 
 -- so it is with all
 samples_are : (vs : List (Option ℤ)) → are_short sample_limit vs ≡ true → AreSamples vs
-samples_are [] h = All-nil (λ v. IfSome v IsSample)
+samples_are [] h = All-nil HasSample
 samples_are (v ∷ vs) h =
     let both = and_parts (is_short sample_limit v) (are_short sample_limit vs) h in
-    All-cons (λ v. IfSome v IsSample) v vs (short_is v both.0) (samples_are vs both.1)
+    All-cons HasSample v vs (short_is v both.0) (samples_are vs both.1)
 
 samples_given : (vs : List (Option ℤ)) → AreSamples vs → are_short sample_limit vs ≡ true
 samples_given [] h = refl
 samples_given (v ∷ vs) h =
-    and_from (is_short sample_limit v) (are_short sample_limit vs) (short_given v (All-head (λ v. IfSome v IsSample) v vs h)) (samples_given vs (All-tail (λ v. IfSome v IsSample) v vs h))
+    and_from (is_short sample_limit v) (are_short sample_limit vs) (short_given v (All-head HasSample v vs h)) (samples_given vs (All-tail HasSample v vs h))
 
 -- ---- the rows
 

@@ -4,8 +4,8 @@ use Rattle.std.proofs.Common.{◌≡◌, inl, inr, ℕ, ◌<◌, ℤ, List, leng
 use Rattle.std.proofs.lemmas.Bool.{cases_lt}
 use Rattle.std.proofs.lemmas.List.{get_or_default, get_or_past}
 use Rattle.covjson_value.specs.Domains.{count_of}
-use Rattle.edr_base.specs.Limits.{IsSample}
-use Rattle.covjson_ranges.specs.Ranges.{tree_number, AreSamples}
+use Rattle.edr_base.specs.Limits.{IsSample, AreSamples, HasSample}
+use Rattle.covjson_ranges.specs.Ranges.{tree_number}
 use Rattle.covjson_ranges.specs.Orders.{places_at}
 use Rattle.covjson_ranges.specs.Laws.{RangesAreValid}
 use Rattle.covjson_ranges.proofs.PlaceLemmas.{places_at_inside, places_at_number}
@@ -14,7 +14,7 @@ use Rattle.covjson_ranges.proofs.PlaceLemmas.{places_at_inside, places_at_number
 any_sample : (samples : List (Option ℤ)) → AreSamples samples → (place : ℕ) → IfSome (get_or samples place None) IsSample
 any_sample samples are place = elim (cases_lt place (length samples)) [
   | inl inside ↦ are place None inside
-  | inr beyond ↦ subst (λ (v : Option ℤ). IfSome v IsSample) (sym (get_or_past samples place None beyond)) tt
+  | inr beyond ↦ subst HasSample (sym (get_or_past samples place None beyond)) tt
 ]
 
 pub ranges_are_valid : RangesAreValid
@@ -28,5 +28,5 @@ ranges_are_valid domain turned d range s =
           let there = in_order.each places (places_at_inside domain place within) in
           let here : get_or range.values place other ≡ get_or s.samples (tree_number domain turned s.names places) None =
           get_or_default range.values place other None inside ∙ ap (λ n. get_or range.values n None) (sym (places_at_number domain place)) ∙ there in
-          subst (λ (v : Option ℤ). IfSome v IsSample) (sym here) (any_sample s.samples s.within (tree_number domain turned s.names places));
+          subst HasSample (sym here) (any_sample s.samples s.within (tree_number domain turned s.names places));
     }

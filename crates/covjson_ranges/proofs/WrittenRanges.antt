@@ -1,5 +1,5 @@
 -- What is written of ranges stands for them.
-use Rattle.std.proofs.Common.{◌≡◌, ℕ, suc, ℤ, true≢false, inl, inr, List, [], ◌∷◌, map, length, zip, codes, slice_index_or, IfSome, Option, Some, None, refl, sym, ap, ◌∙◌, subst, arith}
+use Rattle.std.proofs.Common.{◌≡◌, ℕ, suc, ℤ, true≢false, inl, inr, List, [], ◌∷◌, map, length, zip, codes, slice_index_or, Option, Some, None, refl, sym, ap, ◌∙◌, subst, arith}
 use Rattle.std.proofs.lemmas.Bool.{cases_lt}
 use Rattle.std.proofs.lemmas.List.{length-map}
 use Rattle.serde_json.specs.Data.{Data, string, Items, item, Members, no_members, member}
@@ -8,7 +8,7 @@ use Rattle.serde_json.specs.View.{items_of}
 use Rattle.covjson_value.specs.declared.domains.Domain.{Domain}
 use Rattle.covjson_value.specs.declared.coverages.NdArray.{NdArray}
 use Rattle.covjson_value.specs.Domains.{AxisLength, range_axes}
-use Rattle.edr_base.specs.Limits.{IsSample}
+use Rattle.edr_base.specs.Limits.{HasSample}
 use Rattle.covjson_value.specs.Coverages.{IsRange}
 use Rattle.covjson_value.specs.Trees.{member_if, array_of, array_if_some, sample_data, name_data, length_data, range_data, members_in_order}
 use Rattle.covjson_value.specs.declared.axis_names.AxisName.{AxisName}
@@ -134,7 +134,7 @@ range_written domain range h =
       list = values_found domain range;
       as_many = count_items_of (map sample_data range.values) ∙ (length-map range.values sample_data ∙ h.count);
       samples = range.values;
-      samples_stand = each_written StandsForSample (λ v. IfSome v IsSample) sample_data (λ v h. sample_written v) range.values h.samples;
+      samples_stand = each_written StandsForSample HasSample sample_data (λ v h. sample_written v) range.values h.samples;
       within = h.samples;
       in_order = record {
         counted = h.count;

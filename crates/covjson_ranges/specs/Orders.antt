@@ -1,5 +1,5 @@
 -- The values of a range in the order of the domain's axes.
-use Rattle.std.specs.Prelude.{◌≡◌, ◌⊎◌, ℕ, zero, suc, ◌+◌, ◌-◌, ◌*◌, ◌/◌, ◌%◌, ◌<◌, ◌≤◌, ℤ, true, false, if◌then◌else◌, List, [], ◌∷◌, ◌++◌, map, Option, None}
+use Rattle.std.specs.Prelude.{◌≡◌, ◌⊎◌, ℕ, zero, suc, ◌+◌, ◌-◌, ◌*◌, ◌/◌, ◌<◌, ◌≤◌, ℤ, true, false, if◌then◌else◌, List, [], ◌∷◌, ◌++◌, map, Option, None}
 use Rattle.std.specs.List.{slice_index_or}
 use Rattle.covjson_value.specs.declared.domains.Domain.{Domain}
 use Rattle.covjson_value.specs.Domains.{count_of}
@@ -9,7 +9,7 @@ use Rattle.covjson_ranges.specs.declared.places.Places.{Places}
 use Rattle.covjson_value.specs.declared.axis_names.AxisName.{AxisName}
 use Rattle.covjson_value.specs.declared.axis_names.AxisName.TheVariants.{T, Z, Y, X, Composite}
 use Rattle.covjson_ranges.specs.Ranges.{length_of, is_range_turned, tree_number}
-use Rattle.edr_chunk.specs.RowMajor.{place_in_row}
+use Rattle.edr_chunk.specs.RowMajor.{place_in_row, row_of_number, place_of_number}
 
 -- the numbers below a bound, ascending
 abbrev pub below : ℕ → List ℕ
@@ -18,13 +18,17 @@ below (suc n) = below n ++ n ∷ []
 
 -- the places whose value has that number in row-major order
 abbrev pub places_at : Domain → ℕ → Places
-places_at domain number = record {
-  tuple = number % length_of domain Composite;
-  x = number / length_of domain Composite % length_of domain X;
-  y = number / length_of domain Composite / length_of domain X % length_of domain Y;
-  z = number / length_of domain Composite / length_of domain X / length_of domain Y % length_of domain Z;
-  t = number / length_of domain Composite / length_of domain X / length_of domain Y / length_of domain Z;
-}
+places_at domain number =
+    let node = row_of_number (length_of domain Composite) number in
+    let row = row_of_number (length_of domain X) node in
+    let plane = row_of_number (length_of domain Y) row in
+    record {
+      tuple = place_of_number (length_of domain Composite) number;
+      x = place_of_number (length_of domain X) node;
+      y = place_of_number (length_of domain Y) row;
+      z = place_of_number (length_of domain Z) plane;
+      t = row_of_number (length_of domain Z) plane;
+    }
 
 -- the value that a tree has at some places of the domain
 abbrev pub value_in_tree : Domain → Turned → List AxisName → List (Option ℤ) → Places → Option ℤ

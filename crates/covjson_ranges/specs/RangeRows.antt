@@ -3,6 +3,7 @@ use Rattle.std.specs.Prelude.{◌≡◌, ◌≢◌, ◌⊎◌, ℕ, ℤ, List, [
 use Rattle.serde_json.specs.Data.{Data, null, number, array, object, Num}
 use Rattle.serde_json.specs.Find.{get}
 use Rattle.edr_base.specs.FirstThatApplies.{Check, Find, Then, Gives}
+use Rattle.edr_base.specs.Limits.{AreSamples}
 use Rattle.edr_json.specs.Trees.{text_or_empty, count_items, EachStands}
 use Rattle.covjson_value.specs.declared.domains.Domain.{Domain}
 use Rattle.covjson_value.specs.declared.coverages.NdArray.{NdArray}
@@ -12,7 +13,7 @@ use Rattle.covjson_checks.specs.declared.faults.CovFault.{CovFault}
 use Rattle.covjson_checks.specs.declared.faults.CovFault.TheVariants.{Missing, WrongType, UnsupportedRange, NotWhole, OutOfRange, WrongCount}
 use Rattle.covjson_checks.specs.declared.faults.Member.TheVariants.{Ranges, DataType, AxisNames, Shape, Values}
 use Rattle.covjson_checks.specs.declared.turned.ReadDomain.{ReadDomain}
-use Rattle.covjson_ranges.specs.Ranges.{StandsForSample, StandsForLength, Lists, IsNdArray, HasIntegers, length_of, AreRangeAxes, IsOnePlace, NamesStand, AreSamples, AreInOrder}
+use Rattle.covjson_ranges.specs.Ranges.{StandsForSample, StandsForLength, Lists, IsNdArray, HasIntegers, length_of, AreRangeAxes, IsOnePlace, NamesStand, AreInOrder}
 
 -- it is an object of the type NdArray
 abbrev pub KindRows : Data → Result ⊤ CovFault → Type 0

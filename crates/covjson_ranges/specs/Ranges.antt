@@ -1,5 +1,5 @@
 -- The ranges of a tree (OGC 21-069r2, NdArray objects), and what they stand for.
-use Rattle.std.specs.Prelude.{◌≡◌, ℕ, ◌-◌, ◌<◌, ◌≤◌, ℤ, Bool, true, false, bytes_eq, is_some, ◌||◌, IfSome, if◌then◌else◌, List, [], ◌∷◌, length, map, All, codes, ⊤, Option, Some, None}
+use Rattle.std.specs.Prelude.{◌≡◌, ℕ, ◌-◌, ◌<◌, ◌≤◌, ℤ, Bool, true, false, bytes_eq, is_some, ◌||◌, if◌then◌else◌, List, [], ◌∷◌, length, map, All, codes, ⊤, Option, Some, None}
 use Rattle.std.specs.List.{slice_index_or}
 use Rattle.serde_json.specs.Data.{Data, null, string, array, Items}
 use Rattle.serde_json.specs.Find.{get}
@@ -11,7 +11,7 @@ use Rattle.covjson_value.specs.declared.coverages.NdArray.{NdArray}
 use Rattle.covjson_value.specs.declared.axis_names.AxisName.{AxisName}
 use Rattle.covjson_value.specs.declared.axis_names.AxisName.TheVariants.{T, Z, Y, X, Composite}
 use Rattle.covjson_value.specs.AxisNames.{axis_key}
-use Rattle.edr_base.specs.Limits.{IsSample}
+use Rattle.edr_base.specs.Limits.{AreSamples}
 use Rattle.covjson_value.specs.Domains.{axis_of, tuples_of, has_axis, count_of}
 use Rattle.edr_axes.specs.Axes.{axis_length}
 use Rattle.covjson_checks.specs.declared.turned.Turned.{Turned}
@@ -123,10 +123,6 @@ NamesStand domain (Some d) names = Lists StandsForName d names
 abbrev pub ShapeStands : Domain → Option Data → List AxisName → Type 0
 ShapeStands domain None names = IsOnePlace domain
 ShapeStands domain (Some d) names = Lists StandsForLength d (map (length_of domain) names)
-
--- samples within their limit, or absent
-abbrev pub AreSamples : List (Option ℤ) → Type 0
-AreSamples samples = All (λ (v : Option ℤ). IfSome v IsSample) samples
 
 -- the value at each place of the domain is the sample that the tree has at that place
 pub record AreInOrder (domain : Domain) (turned : Turned) (names : List AxisName) (samples values : List (Option ℤ)) : Type 0 where

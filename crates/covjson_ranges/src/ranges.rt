@@ -3,6 +3,7 @@ ghost use Rattle.std.specs.Prelude.{◌≡◌, ◌≢◌, IfOk, IfErr, Err, code
 ghost use Rattle.serde_json.specs.View.{view, items_view};
 ghost use Rattle.serde_json.specs.Find.{get};
 ghost use Rattle.covjson_value.specs.Domains.{count_of};
+ghost use Rattle.covjson_value.specs.declared.coverages.NdArray.{NdArray};
 ghost use Rattle.covjson_value.specs.Coverages.{HasAxes, HasTuples, IsRange};
 ghost use Rattle.covjson_checks.specs.Answers.{GivesUnlessMemory, each};
 ghost use Rattle.covjson_checks.specs.declared.faults.CovFault.TheVariants.{OutOfMemory};
@@ -249,6 +250,8 @@ pub fn range_of(alloc: Global, tree: &Value, read: &ReadDomain) -> Result<NdArra
     requires tuples { HasTuples read.now.domain }
     ensures stands { IfOk result (StandsForRange read.now.domain read.now.turned (view tree.now)) }
     ensures fault { IfErr result (λ fault. fault ≢ OutOfMemory → RangeRows read.now (view tree.now) (Err fault)) }
+    ensures stands_not { IfErr result (λ fault. fault ≢ OutOfMemory
+        → (range : NdArray) → ¬ (StandsForRange read.now.domain read.now.turned (view tree.now) range)) }
     ensures answer { GivesUnlessMemory (λ r. r) result (ranges.range_of read.now (view tree.now)) }
     ensures valid { IfOk result (IsRange read.now.domain) }
 {

@@ -12,8 +12,8 @@ use Rattle.edr_base.specs.Names.{IsName}
 use Rattle.edr_json.specs.AnswerLaws.{some_is}
 use Rattle.edr_json.specs.TreeLaws.{as_object_some}
 use Rattle.covjson_read.specs.Parameters.{EachHasName, HaveNames, EachIsNamedObject, EachIsParameter, HoldsParameters}
-use Rattle.covjson_read.specs.NameTests.{is_name}
-use Rattle.covjson_read.specs.NameLaws.{name_tells, name_passes}
+use Rattle.edr_base.specs.NameTests.{is_name}
+use Rattle.edr_base.specs.NameLaws.{name_tells, name_passes}
 use Rattle.covjson_read.specs.ParameterAnswers.{all_named_objects}
 
 -- ---- objects by names

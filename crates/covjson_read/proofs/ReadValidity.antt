@@ -9,6 +9,7 @@ use Rattle.std.specs.Cmp.Lexicographic.{slice_cmp}
 use Rattle.std.specs.List.Sorted.{IsStrictlySortedBy}
 use Rattle.std.proofs.lemmas.List.{length-map}
 use Rattle.std.proofs.lemmas.List.Elements.{All-nil, All-cons, All-weaker}
+use Rattle.std.specs.Option.{option_or}
 use Rattle.serde_json.specs.Data.{Data, null, boolean, number, string, array, object, Items, no_items, item, Members, no_members, member}
 use Rattle.serde_json.specs.Find.{get, as_str}
 use Rattle.edr_base.specs.declared.places.Position.{Position}
@@ -27,7 +28,7 @@ use Rattle.covjson_value.specs.Coverages.{IsNamedAxis, IsTuple, AreTuples, IsPar
 use Rattle.covjson_value.specs.AxisNames.{axis_key}
 use Rattle.covjson_value.specs.declared.axis_names.AxisName.TheVariants.{Composite}
 use Rattle.covjson_checks.specs.declared.turned.Turned.{Turned}
-use Rattle.covjson_checks.specs.Members.{either, lent}
+use Rattle.covjson_checks.specs.Members.{lent}
 use Rattle.covjson_domains.specs.Axes.{HasSameAxis}
 use Rattle.covjson_domains.specs.Tuples.{StandsForTuple, HasSameTuples}
 use Rattle.covjson_ranges.specs.Ranges.{StandsForRange}
@@ -41,7 +42,7 @@ use Rattle.covjson_read.proofs.ParameterNames.{named_found, have_names}
 -- ---- texts
 
 -- what is found here or there
-either_tree : (a b : Option Data) → IfSome a IsTree → IfSome b IsTree → IfSome (either a b) IsTree
+either_tree : (a b : Option Data) → IfSome a IsTree → IfSome b IsTree → IfSome (option_or a b) IsTree
 either_tree (Some d) b here there = here
 either_tree None b here there = there
 

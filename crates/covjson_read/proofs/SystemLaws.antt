@@ -13,7 +13,7 @@ use Rattle.edr_base.specs.FirstThatApplies.{or_fault}
 use Rattle.edr_json.specs.TreeLaws.{as_array_some}
 use Rattle.covjson_checks.specs.RowLaws.{HaveAnswer, Finds, option_finds, find_answers, then_answers, passed, passed_then, find_within, check_within}
 use Rattle.covjson_read.proofs.RowAnswers.{answer_stands}
-use Rattle.covjson_checks.specs.Places.{EachItem, NoItem, IsFirst}
+use Rattle.covjson_checks.specs.Places.{EachItem, NoItem, IsFirstItem}
 use Rattle.covjson_read.specs.Systems.{IsConnection, IsPlane, IsOtherCalendar, IsVertical, system_text, system_name, StandsForVertical, StandsForReferencing}
 use Rattle.covjson_read.specs.SystemAnswers.{all_that, first_that, is_connection, is_plane, is_other_calendar, is_vertical, vertical_name, only_gregorian, referencing_of}
 use Rattle.covjson_read.specs.Rows.{CalendarRows, GivesSystems, SystemRows}
@@ -94,8 +94,8 @@ systems_rows has_z found =
     find_answers (λ list. found ≡ Some list) (Missing SystemsMember) _ (or_fault found (Missing SystemsMember)) _ (given_found (Missing SystemsMember) found) (λ list is.
     find_answers (λ entries. list ≡ array entries) (WrongType SystemsMember) _ (list_at SystemsMember list) _ (list_found (WrongType SystemsMember) list) (λ entries is_list.
     check_within (EachItem IsConnection entries) (WrongType SystemsMember) _ (all_that is_connection entries) _ _ (all_tells is_connection IsConnection connections entries, all_passes is_connection IsConnection connections entries) (λ all.
-    find_within (IsFirst IsPlane entries) (Missing SystemsMember) _ (or_fault (first_that is_plane entries) (Missing SystemsMember)) _ _
-    (option_finds (IsFirst IsPlane entries) (Missing SystemsMember) (first_that is_plane entries) (first_tells is_plane IsPlane planes entries) (first_passes is_plane IsPlane planes entries)) (λ plane first.
+    find_within (IsFirstItem IsPlane entries) (Missing SystemsMember) _ (or_fault (first_that is_plane entries) (Missing SystemsMember)) _ _
+    (option_finds (IsFirstItem IsPlane entries) (Missing SystemsMember) (first_that is_plane entries) (first_tells is_plane IsPlane planes entries) (first_passes is_plane IsPlane planes entries)) (λ plane first.
     let kind = system_text (codes "type") plane in
     check_within (kind ≡ codes "ProjectedCRS") (UnsupportedSystem kind) _ (bytes_eq kind (codes "ProjectedCRS")) _ _ (bytes_eq-Decides kind (codes "ProjectedCRS")) (λ projected.
     then_answers (CalendarRows entries) _ (only_gregorian (first_that is_other_calendar entries)) _ (calendars_by entries (first_that is_other_calendar entries) refl) (λ _ passed.

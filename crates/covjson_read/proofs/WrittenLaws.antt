@@ -1,6 +1,7 @@
 -- What is written of a coverage stands for it.
 use Rattle.std.proofs.Common.{◌≡◌, ℕ, List, codes, length, Option, Some, None, option_map, option_and_then, refl, sym, ap, ◌∙◌, arith}
 use Rattle.std.proofs.lemmas.List.{length-map}
+use Rattle.std.specs.Option.{option_or}
 use Rattle.serde_json.specs.Data.{Data, string, Members, no_members, member}
 use Rattle.serde_json.specs.Find.{get, as_str}
 use Rattle.covjson_value.specs.declared.domains.CoordinateName.TheVariants.{T, Z}
@@ -8,8 +9,7 @@ use Rattle.covjson_value.specs.declared.coverages.Parameter.{Parameter}
 use Rattle.covjson_value.specs.declared.coverages.Coverage.{Coverage}
 use Rattle.covjson_value.specs.Domains.{has_coordinate}
 use Rattle.covjson_value.specs.Coverages.{ids_of, IsValid}
-use Rattle.covjson_value.specs.Trees.{member_if, members_in_order, domain_data, parameters_data, named_ranges, ranges_data, coverage_data}
-use Rattle.covjson_checks.specs.Members.{either}
+use Rattle.covjson_value.specs.Trees.{members_in_order, domain_data, parameters_data, named_ranges, ranges_data, coverage_data}
 use Rattle.covjson_read.specs.Standing.{StandsForRanges, StandsIn}
 use Rattle.covjson_value.specs.MemberLaws.{member_passed, member_found}
 use Rattle.covjson_checks.specs.Turns.{unturned}
@@ -33,10 +33,6 @@ after_id coverage =
 -- the datum of the id
 abbrev id_given : Coverage → Option Data
 id_given coverage = option_map string coverage.id
-
--- the members of what is written of a coverage
-abbrev pub coverage_members : Coverage → Members
-coverage_members coverage = member (codes "domain") (domain_data coverage.domain coverage.referencing) (member_if (codes "id") (id_given coverage) (after_id coverage))
 
 -- the type of what is written of a coverage
 pub kind_found : (coverage : Coverage) → get (codes "type") (coverage_data coverage) ≡ Some (string (codes "Coverage"))
@@ -79,7 +75,7 @@ collected_stands_written domains ranges collection coverage h = record {
   domain_stands = domains coverage.domain coverage.referencing h.axes h.tuples;
   referencing_stands = systems_written (has_coordinate coverage.domain Z) (has_coordinate coverage.domain T) coverage.referencing h.vertical;
   parameters = parameters_data coverage.parameters;
-  parameters_at = ap (λ (found : Option Data). either found (get (codes "parameters") collection)) (parameters_found coverage);
+  parameters_at = ap (λ (found : Option Data). option_or found (get (codes "parameters") collection)) (parameters_found coverage);
   parameters_are = parameters_written coverage.parameters h.parameters;
   ranges = members_in_order (named_ranges coverage.domain coverage.parameters coverage.ranges);
   ranges_at = ranges_found coverage;

@@ -1,7 +1,5 @@
 pub mod Systems
 pub mod SystemAnswers
-pub mod NameTests
-pub mod NameLaws
 pub mod Parameters
 pub mod ParameterAnswers
 pub mod Collected

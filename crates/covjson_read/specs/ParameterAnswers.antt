@@ -9,7 +9,7 @@ use Rattle.covjson_checks.specs.declared.faults.CovFault.TheVariants.{Missing, W
 use Rattle.covjson_checks.specs.Answers.{Answer}
 use Rattle.edr_base.specs.FirstThatApplies.{and_then, or_fault, check}
 use Rattle.covjson_checks.specs.Members.{need, part, object_at, text_at}
-use Rattle.covjson_read.specs.NameTests.{is_name}
+use Rattle.edr_base.specs.NameTests.{is_name}
 
 -- each member is a text
 abbrev pub all_texts : Members → Bool

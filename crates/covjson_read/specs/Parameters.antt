@@ -4,11 +4,12 @@ use Rattle.serde_json.specs.Data.{Data, null, boolean, number, string, array, ob
 use Rattle.serde_json.specs.Find.{get, get_member}
 use Rattle.edr_base.specs.Names.{IsName}
 use Rattle.covjson_value.specs.declared.coverages.Parameter.{Parameter}
+use Rattle.edr_json.specs.Trees.{IsText, IsObject}
 
 -- each member is a text
 abbrev pub EachIsText : Members → Type 0
 EachIsText no_members = ⊤
-EachIsText (member lang d members) = ((text : List ℕ) × (d ≡ string text)) × EachIsText members
+EachIsText (member lang d members) = IsText d × EachIsText members
 
 -- the text in English, or without one that of the first member, which is of the least language since names ascend
 abbrev pub IsSaid : Members → List ℕ → List ℕ → Type 0
@@ -72,7 +73,7 @@ pub record StandsAmong (tree : Data) (parameter : Parameter) : Type 0 where
 -- each member is an object by a name
 abbrev pub EachIsNamedObject : Members → Type 0
 EachIsNamedObject no_members = ⊤
-EachIsNamedObject (member name d members) = IsName name × ((inside : Members) × (d ≡ object inside)) × EachIsNamedObject members
+EachIsNamedObject (member name d members) = IsName name × IsObject d × EachIsNamedObject members
 
 -- ---- for private clauses
 

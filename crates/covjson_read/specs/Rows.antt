@@ -20,7 +20,7 @@ use Rattle.covjson_checks.specs.Members.{lent}
 use Rattle.covjson_domains.specs.DomainRows.{DomainRows}
 use Rattle.covjson_ranges.specs.RangeRows.{RangeRows}
 use Rattle.covjson_read.specs.declared.collected.ReadRanges.{ReadRanges}
-use Rattle.covjson_checks.specs.Places.{EachItem, NoItem, IsFirst}
+use Rattle.covjson_checks.specs.Places.{EachItem, NoItem, IsFirstItem}
 use Rattle.covjson_read.specs.Systems.{IsConnection, IsPlane, IsOtherCalendar, system_text, StandsForVertical}
 use Rattle.covjson_read.specs.Parameters.{StandsForLabel, StandsForUnit, EachIsNamedObject}
 use Rattle.covjson_read.specs.Standing.{type_of}
@@ -31,7 +31,7 @@ use Rattle.covjson_read.specs.Standing.{type_of}
 abbrev pub CalendarRows : Items → Result ⊤ CovFault → Type 0
 CalendarRows entries answer =
     (NoItem IsOtherCalendar entries × Gives tt answer)
-    ⊎ ((entry : Data) × IsFirst IsOtherCalendar entries entry × (answer ≡ Err (UnsupportedSystem (system_text (codes "calendar") entry))))
+    ⊎ ((entry : Data) × IsFirstItem IsOtherCalendar entries entry × (answer ≡ Err (UnsupportedSystem (system_text (codes "calendar") entry))))
 
 -- the systems of a plane's entry, and of levels
 abbrev pub GivesSystems : Bool → Items → Data → Result Referencing CovFault → Type 0
@@ -41,7 +41,7 @@ GivesSystems has_z entries plane answer =
 abbrev pub SystemRows : Bool → Option Data → Result Referencing CovFault → Type 0
 SystemRows has_z found =
     Find (λ list. found ≡ Some list) (Missing Systems) (λ list. Find (λ entries. list ≡ array entries) (WrongType Systems) (λ entries. Check (EachItem IsConnection entries) (WrongType Systems) (
-    Find (IsFirst IsPlane entries) (Missing Systems) (λ plane. Check (system_text (codes "type") plane ≡ codes "ProjectedCRS") (UnsupportedSystem (system_text (codes "type") plane)) (
+    Find (IsFirstItem IsPlane entries) (Missing Systems) (λ plane. Check (system_text (codes "type") plane ≡ codes "ProjectedCRS") (UnsupportedSystem (system_text (codes "type") plane)) (
     Then (CalendarRows entries) (λ _.
     GivesSystems has_z entries plane))))))
 

@@ -1,5 +1,6 @@
 -- Which trees stand for which coverages, and which texts for which documents (OGC 21-069r2, CoverageJSON documents).
 use Rattle.std.specs.Prelude.{◌≡◌, ℕ, ◌<◌, List, length, codes, All, Option, Some, option_and_then}
+use Rattle.std.specs.Option.{option_or}
 use Rattle.serde_json.specs.Data.{Data, null, string, array, object, Items, Members}
 use Rattle.serde_json.specs.Find.{get, as_str}
 use Rattle.covjson_value.specs.declared.domains.CoordinateName.TheVariants.{Z}
@@ -12,7 +13,7 @@ use Rattle.covjson_value.specs.declared.coverages.Document.TheVariants.{One, Man
 use Rattle.covjson_value.specs.Domains.{has_coordinate}
 use Rattle.covjson_value.specs.Coverages.{ids_of}
 use Rattle.covjson_checks.specs.declared.turned.Turned.{Turned}
-use Rattle.covjson_checks.specs.Members.{either, lent}
+use Rattle.covjson_checks.specs.Members.{lent}
 use Rattle.edr_json.specs.Json.{IsJson}
 use Rattle.edr_json.specs.Trees.{EachStands, names_of, values_of}
 use Rattle.covjson_domains.specs.Domains.{StandsForDomain}
@@ -29,7 +30,7 @@ pub record StandsForRanges (domain : Domain) (turned : Turned) (parameters : Dat
 
 -- what is lent: the type of a domain is its own, else the coverage's, else the collection's
 abbrev pub type_of : Data → Data → Data → Option Data
-type_of domain tree collection = either (get (codes "domainType") domain) (lent (codes "domainType") tree collection)
+type_of domain tree collection = option_or (get (codes "domainType") domain) (lent (codes "domainType") tree collection)
 
 -- a tree stands for a coverage, in a collection that lends it what it lacks
 pub record StandsIn (collection tree : Data) (coverage : Coverage) : Type 0 where

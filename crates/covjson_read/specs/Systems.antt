@@ -3,7 +3,7 @@ use Rattle.std.specs.Prelude.{◌≡◌, ◌≢◌, ◌⊎◌, ℕ, List, codes,
 use Rattle.serde_json.specs.Data.{Data, string, array, Items}
 use Rattle.serde_json.specs.Find.{get, as_str}
 use Rattle.edr_json.specs.Trees.{text_or_empty}
-use Rattle.covjson_checks.specs.Places.{IsAmong, EachItem, NoItem, IsFirst}
+use Rattle.covjson_checks.specs.Places.{IsAmong, EachItem, NoItem, IsFirstItem}
 use Rattle.covjson_value.specs.declared.coverages.Referencing.{Referencing}
 use Rattle.covjson_value.specs.declared.domains.CoordinateName.TheVariants.{X, Y, Z}
 use Rattle.covjson_value.specs.Domains.{coordinate_key}
@@ -46,7 +46,7 @@ IsVertical entry = (system_text (codes "type") entry ≡ codes "VerticalCRS") ×
 -- the vertical text of a domain with or without levels: the name of the first system of levels, where it has one
 abbrev pub StandsForVertical : Bool → Items → Option (List ℕ) → Type 0
 StandsForVertical false entries vertical = vertical ≡ None
-StandsForVertical true entries vertical = ((entry : Data) × IsFirst IsVertical entries entry × (vertical ≡ system_name entry)) ⊎ (NoItem IsVertical entries × (vertical ≡ None))
+StandsForVertical true entries vertical = ((entry : Data) × IsFirstItem IsVertical entries entry × (vertical ≡ system_name entry)) ⊎ (NoItem IsVertical entries × (vertical ≡ None))
 
 -- the systems: that of the plane is projected, and those of times are Gregorian
 pub record StandsForReferencing (has_z : Bool) (found : Option Data) (referencing : Referencing) : Type 0 where
@@ -54,7 +54,7 @@ pub record StandsForReferencing (has_z : Bool) (found : Option Data) (referencin
   pub list : found ≡ Some (array entries)
   pub connections : EachItem IsConnection entries
   pub plane : Data
-  pub first : IsFirst IsPlane entries plane
+  pub first : IsFirstItem IsPlane entries plane
   pub projected : system_text (codes "type") plane ≡ codes "ProjectedCRS"
   pub gregorian : NoItem IsOtherCalendar entries
   pub crs : referencing.crs ≡ system_text (codes "id") plane

@@ -5,7 +5,7 @@ ghost use Rattle.serde_json.specs.Find.{get};
 ghost use Rattle.covjson_value.specs.Coverages.{IsParameter};
 ghost use Rattle.covjson_checks.specs.Answers.{GivesAnswer, GivesUnlessMemory};
 ghost use Rattle.edr_base.specs.Names.{IsName};
-ghost use Rattle.covjson_read.specs.NameTests.{is_name};
+ghost use Rattle.edr_base.specs.NameTests.{is_name};
 ghost use Rattle.covjson_read.specs.ParameterAnswers as parameters;
 
 use covjson_checks::{

@@ -1,4 +1,5 @@
 pub mod Domains
+pub mod DomainTypes
 pub mod Coverages
 pub mod Trees
 pub mod Puts

@@ -1,8 +1,8 @@
 -- Laws of regular axes: what the test of `is_regular` tells of the values.
-use Rattle.std.proofs.Common.{◌≡◌, ℕ, zero, suc, add-one, ◌+◌, ◌-◌, ◌*◌, ◌<◌, ◌≤◌, ℤ, pos, negsuc, neg_ℤ, ◌-ℤ◌, ◌*ℤ◌, ◌⊎◌, inl, inr, Bool, true, if◌then◌else◌, List, [], ◌∷◌, length, zip, drop, All, refl, sym, ap, ◌∙◌, arith}
+use Rattle.std.proofs.Common.{◌≡◌, ℕ, zero, suc, add-one, ◌+◌, ◌-◌, ◌*◌, ◌<◌, ◌≤◌, ℤ, pos, negsuc, neg_ℤ, ◌-ℤ◌, ◌*ℤ◌, true, List, [], ◌∷◌, length, zip, drop, All, refl, sym, ap, ◌∙◌, arith}
 use Rattle.std.specs.Prelude.{nat_le, ◌&&◌}
 use Rattle.std.specs.Ordering.{int_eq}
-use Rattle.std.proofs.lemmas.Bool.{false≢true, cases_Bool, and_parts, and_from, le-leb, leb-true}
+use Rattle.std.proofs.lemmas.Bool.{false≢true, and_parts, and_from, le-leb, leb-true}
 use Rattle.std.proofs.lemmas.Bool.Decides.{Decides-int_eq}
 use Rattle.std.proofs.lemmas.Grind.{get_or_after_one}
 use Rattle.std.proofs.lemmas.Int.{ints}
@@ -13,13 +13,12 @@ use Rattle.std.proofs.lemmas.Slice.Zip.{get_or-zip, length-zip}
 use Rattle.std.proofs.Math.IntN.{*ℤ_comm}
 use Rattle.std.proofs.Math.Nat.{eq_of_mul-eq-mul_right}
 use borrow.Author.Differences.{up, down, same_in}
-use Rattle.serde_json.specs.Data.{Data}
 use Rattle.edr_base.specs.Limits.{node_limit, IsCoordinate}
 use Rattle.edr_axes.specs.Axes.{value_at}
 use Rattle.covjson_value.specs.declared.domains.CoordinateName.{CoordinateName}
 use Rattle.covjson_value.specs.declared.domains.CoordinateName.TheVariants.{T, Z, Y, X}
 use Rattle.covjson_value.specs.Coverages.{IsAxisValue}
-use Rattle.covjson_value.specs.Trees.{gap, gaps, are_equal, is_regular, is_spanned, list_data, span_data, axis_data}
+use Rattle.covjson_value.specs.Trees.{gap, gaps, are_equal, is_regular, is_spanned}
 
 -- three values or more, and no more than may be read from a span, all neighbours as far apart as the first two
 pub record AreRegular (values : List ℤ) : Type 0 where
@@ -91,12 +90,6 @@ spanned_tells T values h = absurd (false≢true h)
 spanned_tells Z values h = record { regular = h; numbers = λ within. within }
 spanned_tells Y values h = record { regular = h; numbers = λ within. within }
 spanned_tells X values h = record { regular = h; numbers = λ within. within }
-
--- an axis is listed, or it is spanned
-pub axis_forms : (name : CoordinateName) (values : List ℤ) → (axis_data name values ≡ list_data name values) ⊎ ((axis_data name values ≡ span_data values) × IsSpanned name values)
-axis_forms name values =
-    let chosen : Bool → Data = λ short. if short then span_data values else list_data name values in
-    elim (cases_Bool (is_spanned name values)) [ inl short ↦ inr (ap chosen short, spanned_tells name values short) | inr listed ↦ inl (ap chosen listed) ]
 
 -- ---- how far each value is
 

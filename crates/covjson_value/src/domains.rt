@@ -2,9 +2,10 @@
 ghost use Rattle.std.specs.Prelude.{◌≡◌, ◌≤◌, ◌<◌, ◌^◌, option_map, IfSome, MatchOption};
 ghost use Rattle.covjson_value.specs.Domains.{axis_of, tuples_of, coordinates_of, is_among, has_coordinate, single, count_of, is_grid, range_axis_of, range_tuples_of};
 ghost use Rattle.edr_axes.specs.Axes.{axis_length, IsAxis};
-ghost use Rattle.covjson_value.specs.Trees.{domain_type};
+ghost use Rattle.covjson_value.specs.DomainTypes.{kind_of, type_key};
 ghost use Rattle.covjson_value.specs.declared.domains.CoordinateName.TheVariants.{T, Z, Y, X};
 
+use crate::domain_types::{DomainType, type_key};
 use edr_axes::Axis;
 use edr_base::{Items, Position};
 use std::slice;
@@ -309,18 +310,25 @@ impl Domain {
         }
     }
 
-    /// The type of the domain in CoverageJSON (OGC 21-069r2, domain types). It takes no memory.
-    pub fn type_name(&self) -> &'static str
-        ensures { result.now ≡ domain_type self.now }
+    /// The type of the domain (OGC 21-069r2, domain types).
+    pub fn kind(&self) -> DomainType
+        ensures { result ≡ kind_of self.now }
     {
         match self {
-            Domain::Grid { .. } => "Grid",
-            Domain::Point { .. } => "Point",
-            Domain::PointSeries { .. } => "PointSeries",
-            Domain::VerticalProfile { .. } => "VerticalProfile",
-            Domain::MultiPoint { .. } => "MultiPoint",
-            Domain::Trajectory { .. } => "Trajectory",
+            Domain::Grid { .. } => DomainType::Grid,
+            Domain::Point { .. } => DomainType::Point,
+            Domain::PointSeries { .. } => DomainType::PointSeries,
+            Domain::VerticalProfile { .. } => DomainType::VerticalProfile,
+            Domain::MultiPoint { .. } => DomainType::MultiPoint,
+            Domain::Trajectory { .. } => DomainType::Trajectory,
         }
+    }
+
+    /// The name of its type in CoverageJSON. It takes no memory.
+    pub fn type_name(&self) -> &'static str
+        ensures { result.now ≡ type_key (kind_of self.now) }
+    {
+        type_key(self.kind())
     }
 
     /// The values of an axis of the domain's ranges: in a Grid each axis that it has, and else one that has

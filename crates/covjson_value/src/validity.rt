@@ -1,11 +1,10 @@
 //! Which coverages are valid.
 ghost use Rattle.std.specs.Prelude.{◌≡◌, ◌↔◌, true, map, IsTrue, IfSome, IsSome, IsNone, All};
-ghost use Rattle.std.specs.Ordering.{nat_cmp};
 ghost use Rattle.std.specs.declared.cmp.Ordering.TheVariants.{Less};
-ghost use Rattle.std.specs.Cmp.Lexicographic.{slice_cmp};
 ghost use Rattle.covjson_value.specs.declared.domains.CoordinateName.TheVariants.{T, Z};
 ghost use Rattle.covjson_value.specs.Domains.{axis_of, tuples_of, coordinates_of, coordinate, is_among, has_coordinate};
-ghost use Rattle.edr_base.specs.Limits.{IsSample};
+ghost use Rattle.edr_base.specs.Limits.{HasSample};
+ghost use Rattle.edr_base.specs.Names.{order};
 ghost use Rattle.covjson_value.specs.Coverages.{IsAxisValue, IsNamedAxis, HasAxes, IsTupleValue, IsTuple, NeverFall, AreTuples, HasTuples, IsParameter, IsReferencing, AscendById, IsRange, IsValid, IsValidDocument};
 
 use crate::coverages::{Coverage, Document, NdArray, Parameter, Referencing};
@@ -137,7 +136,7 @@ fn is_referencing(referencing: &Referencing) -> bool
 }
 
 fn is_below(one: &Parameter, other: &Parameter) -> bool
-    ensures { IsTrue result ↔ (slice_cmp nat_cmp one.now.id other.now.id ≡ Less) }
+    ensures { IsTrue result ↔ (order one.now.id other.now.id ≡ Less) }
 {
     one.id.bytes().cmp(other.id.bytes()).is_lt()
 }
@@ -154,7 +153,7 @@ fn ascend_by_id(parameters: &[Parameter]) -> bool
 }
 
 fn is_sample(value: Option<i64>) -> bool
-    ensures { IsTrue result ↔ IfSome value IsSample }
+    ensures { IsTrue result ↔ HasSample value }
 {
     match value {
         Some(value) => value.unsigned_abs() <= SAMPLE_LIMIT,

@@ -5,8 +5,7 @@ use Rattle.json.specs.Filled.{Placed}
 use Rattle.json.proofs.Printed.Places.{Placed-then}
 use Rattle.covjson_write.specs.Pieces.{is_later, value_piece, values_from}
 use Rattle.covjson_write.specs.PieceLaws.{values_more, values_on, values_cut}
-use Rattle.covjson_write.specs.Writers.{Gathered}
-use Rattle.edr_base.specs.Calls.{Front, Writes}
+use Rattle.edr_base.specs.Calls.{Front, Writes, Gathered}
 use Rattle.covjson_write.proofs.ValueLemmas.{gathered_more, gathered_on, gathered_stop, gathered_end}
 use Rattle.std.proofs.lemmas.List.{take_all}
 

@@ -1,13 +1,8 @@
 -- Values that are gathered and written.
 use Rattle.std.proofs.Common.{◌≡◌, ℕ, Option, List, [], ◌++◌, Result, refl, sym, ap, ◌∙◌, append_assoc, append-nil}
 use Rattle.std.specs.Io.KnownBytes.{append_known}
-use Rattle.edr_base.specs.Calls.{Front, Writes}
+use Rattle.edr_base.specs.Calls.{Front, Writes, Gathered}
 use Rattle.edr_base.specs.KnownBytes.{append_nothing, grew_on, front_on, front_more, writes_on}
-use Rattle.covjson_write.specs.Writers.{Gathered}
-
--- nothing was gathered yet
-pub gathered_none : (w : Option (List ℕ)) → Gathered w w [] []
-gathered_none w = record { sent = []; grew = append_nothing w; whole = refl }
 
 -- all stays gathered
 pub all_stays : (w : Option (List ℕ)) (piece : List ℕ) → Gathered w w piece piece

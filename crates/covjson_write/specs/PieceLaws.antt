@@ -97,10 +97,6 @@ coverages_cut coverages k inside =
     ap (λ m. coverages_from 0 (take k coverages) ++ coverages_from m (drop k coverages)) (sym (zero-add (length (take k coverages)) ∙ length-take-le k coverages inside))
     ∙ sym (coverages_on 0 (take k coverages) (drop k coverages)) ∙ ap (coverages_from 0) (take-append-drop k coverages)
 
--- a coverage has a key for each of its parameters
-pub keys_length : (coverage : Coverage) → length (head_of coverage).keys ≡ length coverage.parameters
-keys_length coverage = length-map (ids_of coverage.parameters) quoted ∙ length-map coverage.parameters (λ (p : Parameter). p.id)
-
 -- ---- ranges
 
 -- the items of a list of values, with the closing bracket

@@ -1,7 +1,5 @@
 -- What a writer of documents has written so far, and what may come next.
-use Rattle.std.specs.Prelude.{◌≡◌, ℕ, ◌+◌, Bool, true, false, if◌then◌else◌, ◌==◌, List, [], ◌++◌, length}
-use Rattle.std.specs.declared.option.Option.{Option}
-use Rattle.std.specs.Io.KnownBytes.{append_known}
+use Rattle.std.specs.Prelude.{ℕ, ◌+◌, Bool, true, false, if◌then◌else◌, ◌==◌, List, [], length}
 use Rattle.covjson_value.specs.declared.coverages.NdArray.{NdArray}
 use Rattle.covjson_value.specs.declared.coverages.Coverage.{Coverage}
 use Rattle.covjson_value.specs.Coverages.{IsValid}
@@ -58,11 +56,3 @@ without_range writer = record {
   ranges = writer.ranges + 1;
   values = 0;
 }
-
--- ---- for private clauses
-
--- what was written since, and what is gathered behind it, are a text
-pub record Gathered (old now : Option (List ℕ)) (piece text : List ℕ) : Type 0 where
-  pub sent : List ℕ
-  pub grew : now ≡ append_known old sent
-  pub whole : sent ++ piece ≡ text

@@ -1,9 +1,8 @@
 //! The values of ranges, gathered in pieces.
 ghost use Rattle.std.specs.Prelude.{◌≡◌, ◌≤◌, ◌<◌, ◌+◌, ◌*◌, ◌++◌, length, take, IfOk, IsErrOf};
 ghost use Rattle.edr_base.specs.Outside.{Rose};
-ghost use Rattle.edr_base.specs.Calls.{SinkLent, Front, Writes};
+ghost use Rattle.edr_base.specs.Calls.{SinkLent, Front, Writes, Gathered};
 ghost use Rattle.covjson_write.specs.Pieces.{value_piece, values_from};
-ghost use Rattle.covjson_write.specs.Writers.{Gathered};
 
 use crate::value_texts::{VALUE_SIZE, place_one, place_values};
 use edr_base::{SendFault, Sink, send};

@@ -12,9 +12,9 @@ use Rattle.edr_http.specs.Heads.{Told, IsBehind, HasNoHead, most_held}
 use Rattle.edr_serve.specs.declared.ends.End.{End}
 use Rattle.edr_serve.specs.declared.ends.End.TheVariants.{EndOfInput}
 use Rattle.edr_serve.specs.declared.reports.OneReport.{OneReport}
-use Rattle.edr_serve.specs.Requests.{Request, IsFirst, Requests, Begun, session_end, request_limit}
+use Rattle.edr_serve.specs.Requests.{Request, IsFirstRequest, Requests, Begun, session_end, request_limit}
 use Rattle.edr_serve.specs.Replies.{readers, output}
-use Rattle.edr_serve.specs.Sessions.{State, IfTold, Uses, Served, Exchanged, BrokenAtOne, AtMost, most_behind, ReadsAhead}
+use Rattle.edr_serve.specs.Sessions.{State, Uses, Served, Exchanged, BrokenAtOne, AtMost, most_behind, ReadsAhead}
 use Rattle.edr_serve.specs.SessionLaws.{OutputGoesOn}
 use Rattle.edr_serve.specs.AheadLaws.{HeldBehind, held_on, held_none, held_read, held_end, ahead_of, ahead_more, most_behind_held, held_behind}
 use Rattle.edr.specs.Replays.{edition_at, editions_read, replayed, AreReplies, AreBegun, IsServed, IsReadFor, Waits}
@@ -111,27 +111,27 @@ one_read standing k last r es h full a = read_step (standing k) last r.asked 0 e
 both : (b : Bool) → b ≡ true → b ≡ false → ⊥
 both b t f = cc
 
-goes_on : (n : ℕ) (b c : Option (List ℕ)) (r : Request) (rs : List Request) → Told (λ x y. IsFirst n x r y) b c → r.end ≡ None → IfTold (λ x. Requests (n - 1) x rs) c → IfTold (λ x. Requests n x (r ∷ rs)) b
+goes_on : (n : ℕ) (b c : Option (List ℕ)) (r : Request) (rs : List Request) → Told (λ x y. IsFirstRequest n x r y) b c → r.end ≡ None → IfSome c (λ x. Requests (n - 1) x rs) → IfSome b (λ x. Requests n x (r ∷ rs))
 goes_on n None c r rs x e y = tt
 goes_on n (Some b) None r rs x e y = absurd x
 goes_on n (Some b) (Some c) r rs x e y = (c, x, (λ t. absurd (both (is_some r.end) t (ap is_some e))), λ _. y)
 
-begins_on : (n : ℕ) (b c : Option (List ℕ)) (r : Request) (rs : List Request) → Told (λ x y. IsFirst n x r y) b c → r.end ≡ None → IfTold (λ x. Begun (n - 1) x rs) c → IfTold (λ x. Begun n x (r ∷ rs)) b
+begins_on : (n : ℕ) (b c : Option (List ℕ)) (r : Request) (rs : List Request) → Told (λ x y. IsFirstRequest n x r y) b c → r.end ≡ None → IfSome c (λ x. Begun (n - 1) x rs) → IfSome b (λ x. Begun n x (r ∷ rs))
 begins_on n None c r rs x e y = tt
 begins_on n (Some b) None r rs x e y = absurd x
 begins_on n (Some b) (Some c) r rs x e y = (c, x, (λ t. absurd (both (is_some r.end) t (ap is_some e))), λ _. y)
 
-closes_with : (n : ℕ) (b c : Option (List ℕ)) (r : Request) (end : End) → Told (λ x y. IsFirst n x r y) b c → r.end ≡ Some end → IfTold (λ x. Requests n x (r ∷ [])) b
+closes_with : (n : ℕ) (b c : Option (List ℕ)) (r : Request) (end : End) → Told (λ x y. IsFirstRequest n x r y) b c → r.end ≡ Some end → IfSome b (λ x. Requests n x (r ∷ []))
 closes_with n None c r end x e = tt
 closes_with n (Some b) None r end x e = absurd x
 closes_with n (Some b) (Some c) r end x e = (c, x, (λ _. refl), λ f. absurd (both (is_some r.end) (ap is_some e) f))
 
-none_left : (n : ℕ) (b c : Option (List ℕ)) → Told (λ x y. (x ≡ []) × (y ≡ [])) b c → IfTold (λ x. Requests n x []) b
+none_left : (n : ℕ) (b c : Option (List ℕ)) → Told (λ x y. (x ≡ []) × (y ≡ [])) b c → IfSome b (λ x. Requests n x [])
 none_left n None c t = tt
 none_left n (Some b) None t = absurd t
 none_left n (Some b) (Some c) t = t.0
 
-begun_none : (n : ℕ) (b : Option (List ℕ)) → IfTold (λ bytes. Begun n bytes []) b
+begun_none : (n : ℕ) (b : Option (List ℕ)) → IfSome b (λ bytes. Begun n bytes [])
 begun_none n None = tt
 begun_none n (Some b) = tt
 
@@ -141,8 +141,8 @@ begun_none n (Some b) = tt
 pub record Going (editions : List EditionValue) (turn : ℕ) (rest behind before now : Option (List ℕ)) : Type 0 where
   pub done : List Request
   pub count : length done ≡ turn - 1
-  pub goes : (rs : List Request) → IfTold (λ bytes. Requests (1001 - turn) bytes rs) behind → IfTold (λ bytes. Requests request_limit bytes (done ++ rs)) rest
-  pub begins : (rs : List Request) → IfTold (λ bytes. Begun (1001 - turn) bytes rs) behind → IfTold (λ bytes. Begun request_limit bytes (done ++ rs)) rest
+  pub goes : (rs : List Request) → IfSome behind (λ bytes. Requests (1001 - turn) bytes rs) → IfSome rest (λ bytes. Requests request_limit bytes (done ++ rs))
+  pub begins : (rs : List Request) → IfSome behind (λ bytes. Begun (1001 - turn) bytes rs) → IfSome rest (λ bytes. Begun request_limit bytes (done ++ rs))
   pub ahead : (rs : List Request) (held : List ℕ) (left : Option (List ℕ)) → HeldBehind (1001 - turn) rs held behind left → HeldBehind request_limit (done ++ rs) held rest left
   pub ends : (rs : List Request) → session_end (done ++ rs) ≡ session_end rs
   pub bytes : now ≡ append_known before (replayed true editions done)
@@ -180,10 +180,10 @@ going_more law editions turn rest b c a x y report one most last g e none =
     record {
       done = g.done ++ r ∷ [];
       count = omega (arith, g.count, length-append g.done (r ∷ []), one);
-      goes = λ rs k. subst (λ (z : List Request). IfTold (λ bytes. Requests request_limit bytes z) rest) (sym (snoc g.done r rs))
-          (g.goes (r ∷ rs) (goes_on (1001 - turn) b c r rs e.first still (subst (λ (m : ℕ). IfTold (λ bytes. Requests m bytes rs) c) fewer k)));
-      begins = λ rs k. subst (λ (z : List Request). IfTold (λ bytes. Begun request_limit bytes z) rest) (sym (snoc g.done r rs))
-          (g.begins (r ∷ rs) (begins_on (1001 - turn) b c r rs e.first still (subst (λ (m : ℕ). IfTold (λ bytes. Begun m bytes rs) c) fewer k)));
+      goes = λ rs k. subst (λ (z : List Request). IfSome rest (λ bytes. Requests request_limit bytes z)) (sym (snoc g.done r rs))
+          (g.goes (r ∷ rs) (goes_on (1001 - turn) b c r rs e.first still (subst (λ (m : ℕ). IfSome c (λ bytes. Requests m bytes rs)) fewer k)));
+      begins = λ rs k. subst (λ (z : List Request). IfSome rest (λ bytes. Begun request_limit bytes z)) (sym (snoc g.done r rs))
+          (g.begins (r ∷ rs) (begins_on (1001 - turn) b c r rs e.first still (subst (λ (m : ℕ). IfSome c (λ bytes. Begun m bytes rs)) fewer k)));
       ahead = λ rs held left t. subst (λ (z : List Request). HeldBehind request_limit z held rest left) (sym (snoc g.done r rs))
           (g.ahead (r ∷ rs) held left (held_on (1001 - turn) b c left r rs held e.first (subst (λ (m : ℕ). HeldBehind m rs held c left) fewer t)));
       ends = λ rs. ap session_end (snoc g.done r rs) ∙ (g.ends (r ∷ rs) ∙ ap (λ (o : Option End). unwrap_or o (session_end rs)) still);
@@ -193,7 +193,7 @@ going_more law editions turn rest b c a x y report one most last g e none =
 -- ---- a session that is over: its requests, what is left behind them, and what was written for them
 pub record Over (editions : List EditionValue) (rest left before now : Option (List ℕ)) (end : End) : Type 0 where
   pub requests : List Request
-  pub all : IfTold (λ bytes. Requests request_limit bytes requests) rest
+  pub all : IfSome rest (λ bytes. Requests request_limit bytes requests)
   pub ahead : Told (λ bytes others. ReadsAhead (AtMost (most_behind (Some end))) request_limit requests bytes others) rest left
   pub ends : end ≡ session_end requests
   pub bytes : now ≡ append_known before (replayed true editions requests)
@@ -218,15 +218,15 @@ ahead_done : (IsSo : List ℕ → Type 0) (editions : List EditionValue) (turn :
 ahead_done IsSo editions turn held rest b left a now g is ahead =
     ahead_of IsSo request_limit g.done held rest left is (subst (λ (z : List Request). HeldBehind request_limit z held rest left) (append-nil g.done) (g.ahead [] held left ahead))
 
-begun_done : (editions : List EditionValue) (turn : ℕ) (rest b a now : Option (List ℕ)) (g : Going editions turn rest b a now) → IfTold (λ bytes. Begun request_limit bytes g.done) rest
+begun_done : (editions : List EditionValue) (turn : ℕ) (rest b a now : Option (List ℕ)) (g : Going editions turn rest b a now) → IfSome rest (λ bytes. Begun request_limit bytes g.done)
 begun_done editions turn rest b a now g =
-    subst (λ (z : List Request). IfTold (λ bytes. Begun request_limit bytes z) rest) (append-nil g.done) (g.begins [] (begun_none (1001 - turn) b))
+    subst (λ (z : List Request). IfSome rest (λ bytes. Begun request_limit bytes z)) (append-nil g.done) (g.begins [] (begun_none (1001 - turn) b))
 
 going_stop : (editions : List EditionValue) (turn : ℕ) (rest b c left a now : Option (List ℕ)) → Going editions turn rest b a now → Told (λ u v. (u ≡ []) × (v ≡ [])) b c → HeldBehind (1001 - turn) [] [] b left
     → Over editions rest left a now EndOfInput
 going_stop editions turn rest b c left a now g t ahead = record {
   requests = g.done;
-  all = subst (λ (z : List Request). IfTold (λ bytes. Requests request_limit bytes z) rest) (append-nil g.done) (g.goes [] (none_left (1001 - turn) b c t));
+  all = subst (λ (z : List Request). IfSome rest (λ bytes. Requests request_limit bytes z)) (append-nil g.done) (g.goes [] (none_left (1001 - turn) b c t));
   ahead = ahead_done (AtMost 0) editions turn [] rest b left a now g (omega arith) ahead;
   ends = sym (ap session_end (sym (append-nil g.done)) ∙ g.ends []);
   bytes = g.bytes;

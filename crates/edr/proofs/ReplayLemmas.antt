@@ -19,7 +19,7 @@ use Rattle.edr_serve.specs.declared.ends.End.TheVariants.{EndOfInput}
 use Rattle.edr_serve.specs.declared.reports.SessionReport.{SessionReport}
 use Rattle.edr_serve.specs.Requests.{Request, Requests, Begun, request_limit}
 use Rattle.edr_serve.specs.Replies.{bytes_of, replies, first_reply, reply_without, reply_from, readers, count_if_page, output}
-use Rattle.edr_serve.specs.Sessions.{State, IfTold, Uses, Answered, Session, Broken, ReadsAhead, AtMost, most_behind}
+use Rattle.edr_serve.specs.Sessions.{State, Uses, Answered, Session, Broken, ReadsAhead, AtMost, most_behind}
 use Rattle.edr_serve.specs.Sessions as sessions
 use Rattle.edr_serve.specs.SessionLaws.{OutputGoesOn}
 use Rattle.edr_serve.specs.AheadLaws.{ahead_more, most_behind_held}
@@ -150,7 +150,7 @@ begun_all : (n : ℕ) (bytes : List ℕ) (rs : List Request) → Requests n byte
 begun_all n bytes [] x = tt
 begun_all n bytes (r ∷ rs) x = (x.0, x.1, x.2, λ f. begun_all (n - 1) x.0 rs (x.3 f))
 
-told_begun : (input : Option (List ℕ)) (rs : List Request) → IfTold (λ bytes. Requests request_limit bytes rs) input → IfTold (λ bytes. Begun request_limit bytes rs) input
+told_begun : (input : Option (List ℕ)) (rs : List Request) → IfSome input (λ bytes. Requests request_limit bytes rs) → IfSome input (λ bytes. Begun request_limit bytes rs)
 told_begun None rs x = tt
 told_begun (Some bytes) rs x = begun_all request_limit bytes rs x
 

@@ -1,5 +1,5 @@
 -- What a replay writes: the replies to the requests of a connection, from the editions of a feed.
-use Rattle.std.specs.Prelude.{◌≡◌, ◌⊎◌, ℕ, ◌+◌, ◌++◌, Bool, true, false, List, [], ◌∷◌, Result, Ok, Err, Some}
+use Rattle.std.specs.Prelude.{◌≡◌, ◌⊎◌, ℕ, ◌+◌, ◌++◌, Bool, true, false, List, [], ◌∷◌, Result, Ok, Err, Some, IfSome}
 use Rattle.std.specs.declared.option.Option.{Option}
 use Rattle.std.specs.Io.KnownBytes.{append_known, IsAtEnd}
 use Rattle.edr_base.specs.Calls.{IsFlushed}
@@ -12,7 +12,7 @@ use Rattle.edr_query.specs.declared.pages.Page.{Page}
 use Rattle.edr_serve.specs.declared.ends.End.TheVariants.{EndOfInput}
 use Rattle.edr_serve.specs.Requests.{Request, Requests, Begun, session_end, request_limit}
 use Rattle.edr_serve.specs.Replies.{output}
-use Rattle.edr_serve.specs.Sessions.{IfTold, ReadsAhead, AtMost, most_behind}
+use Rattle.edr_serve.specs.Sessions.{ReadsAhead, AtMost, most_behind}
 
 -- the edition that stands on the shelf after so many requests: the first for ever, or where each request advances the shelf
 -- the next, and the last where there are no more
@@ -38,13 +38,13 @@ replayed advances editions requests = output requests (editions_read (edition_at
 -- the replies to all requests of the input, from the editions of a feed
 pub record AreReplies (advances : Bool) (editions : List EditionValue) (input : Option (List ℕ)) (text : List ℕ) : Type 0 where
   pub requests : List Request
-  pub all : IfTold (λ bytes. Requests request_limit bytes requests) input
+  pub all : IfSome input (λ bytes. Requests request_limit bytes requests)
   pub text_is : text ≡ replayed advances editions requests
 
 -- the replies to those that were begun, which are the first of the input's
 pub record AreBegun (advances : Bool) (editions : List EditionValue) (input : Option (List ℕ)) (text : List ℕ) : Type 0 where
   pub requests : List Request
-  pub begun : IfTold (λ bytes. Begun request_limit bytes requests) input
+  pub begun : IfSome input (λ bytes. Begun request_limit bytes requests)
   pub text_is : text ≡ replayed advances editions requests
 
 -- the file is a feed, and this the replies from its editions
@@ -62,7 +62,7 @@ pub record IsReplayBegun (advances : Bool) (feed input : Option (List ℕ)) (tex
 -- session the input was read to its end
 pub record IsServed (input left : Option (List ℕ)) : Type 0 where
   pub requests : List Request
-  pub all : IfTold (λ bytes. Requests request_limit bytes requests) input
+  pub all : IfSome input (λ bytes. Requests request_limit bytes requests)
   pub ahead : Told (λ bytes others. ReadsAhead (AtMost (most_behind (Some (session_end requests)))) request_limit requests bytes others) input left
   pub ended : session_end requests ≡ EndOfInput → IsAtEnd left
 
@@ -89,7 +89,7 @@ pub record ReplayReads (advances : Bool) (feed input left old new : Option (List
 -- session, and no head was read behind them
 pub record Waits (advances : Bool) (editions : List EditionValue) (input left old new : Option (List ℕ)) (flushed : Option ℕ) : Type 0 where
   pub requests : List Request
-  pub begun : IfTold (λ bytes. Begun request_limit bytes requests) input
+  pub begun : IfSome input (λ bytes. Begun request_limit bytes requests)
   pub open_ : session_end requests ≡ EndOfInput
   pub ahead : Told (λ bytes others. ReadsAhead (λ held. AtMost (most_held 0) held × HasNoHead held) request_limit requests bytes others) input left
   pub whole : new ≡ append_known old (replayed advances editions requests)

@@ -1,9 +1,10 @@
 -- The standard library's readers and writers, as sources and sinks.
-use Rattle.std.specs.Prelude.{◌≡◌, ℕ, ◌+◌, ◌-◌, ◌^◌, min}
+use Rattle.std.specs.Prelude.{◌≡◌, ℕ, ◌+◌, ◌-◌, min}
 use Rattle.std.specs.declared.io.traits.Read as Read
 use Rattle.std.specs.declared.io.traits.Write as Write
 use Rattle.edr_base.specs.declared.adapters.RealSource.{RealSource}
 use Rattle.edr_base.specs.declared.adapters.RealSink.{RealSink}
+use Rattle.edr_base.specs.Limits.{count_limit}
 
 -- the reader that a source reads from
 abbrev pub reader_of : {T : Type 0} {ghosts : Read.Ghosts T} → RealSource T ghosts → T
@@ -15,5 +16,5 @@ writer_of sink = sink.writer
 
 -- a fault is counted exactly where the call failed: one more, up to the greatest value
 pub record Counts (Failed : Type 0) (before after : ℕ) : Type 0 where
-  pub fault : Failed → after ≡ min (before + 1) (2 ^ 64 - 1)
+  pub fault : Failed → after ≡ min (before + 1) count_limit
   pub none : ¬ Failed → after ≡ before

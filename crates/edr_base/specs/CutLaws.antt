@@ -1,8 +1,7 @@
 -- Laws of cuts: the mark stands in a text that is cut, and there is one cut.
-use Rattle.std.proofs.Common.{◌≡◌, ℕ, suc, ap₂, sym, ◌∙◌, refl, List, [], ◌∷◌, ◌++◌, length}
+use Rattle.std.proofs.Common.{◌≡◌, ℕ, suc, ap₂, sym, refl, List, [], ◌∷◌, ◌++◌, length}
 use Rattle.std.specs.List.{Contains}
 use Rattle.std.proofs.Math.Nat.{zero-lt-suc, suc-le-suc_iff}
-use Rattle.edr_base.specs.Cuts.{IsCut}
 use Rattle.edr_base.specs.SplitLaws.{same_first, same_rest}
 
 pub Contains-first : (c : ℕ) (text : List ℕ) (mark : ℕ) → c ≡ mark → Contains (c ∷ text) mark
@@ -24,7 +23,3 @@ cut_unique mark (x ∷ a) b [] d p q e = absurd (p (Contains-first x a mark (sam
 cut_unique mark (x ∷ a) b (y ∷ c) d p q e =
     let rest = cut_unique mark a b c d (λ h. p (Contains-rest x a mark h)) (λ h. q (Contains-rest y c mark h)) (same_rest x y (a ++ mark ∷ b) (c ++ mark ∷ d) e) in
     (ap₂ (λ h t. h ∷ t) (same_first x y (a ++ mark ∷ b) (c ++ mark ∷ d) e) rest.0, rest.1)
-
--- a text has one cut
-pub IsCut-unique : (mark : ℕ) (text a b c d : List ℕ) → IsCut mark text a b → IsCut mark text c d → (a ≡ c) × (b ≡ d)
-IsCut-unique mark text a b c d s t = cut_unique mark a b c d s.first t.first (sym s.text_is ∙ t.text_is)

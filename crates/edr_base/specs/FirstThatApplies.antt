@@ -1,5 +1,5 @@
 -- What is answered where several faults may apply: the first that does, in one of two forms.
-use Rattle.std.specs.Prelude.{◌≡◌, ◌⊎◌, ℕ, ◌<◌, ⊤, Bool, true, false, Result, Ok, Err, MatchResult}
+use Rattle.std.specs.Prelude.{◌≡◌, ◌⊎◌, ℕ, ◌<◌, ⊤, Bool, true, false, Result, Ok, Err, MatchResult, MatchOption}
 use Rattle.std.specs.declared.option.Option.{Option}
 use Rattle.std.specs.Prelude.{None, Some}
 
@@ -13,6 +13,10 @@ pub record IsLeast {F : Type 0} (rank : F → ℕ) (Applies : F → Type 0) (fau
 -- no fault applies
 abbrev pub NoneApplies : {F : Type 0} → (F → Type 0) → Type 0
 NoneApplies {F} Applies = (fault : F) → ¬ (Applies fault)
+
+-- the least that applies, or none where none does
+abbrev pub IsLeastOrNone : {F : Type 0} → (F → ℕ) → (F → Type 0) → Option F → Type 0
+IsLeastOrNone rank Applies outcome = MatchOption outcome (NoneApplies Applies) (IsLeast rank Applies)
 
 -- ---- where a check presupposes what those before it found: one row after another, each a relation to the answer
 

@@ -1,4 +1,5 @@
 pub mod Outside
+pub mod Boxes
 pub mod Calls
 pub mod Sending
 pub mod Memory
@@ -6,12 +7,16 @@ pub mod MemoryParts
 pub mod LinkTies
 pub mod Untold
 pub mod RefusalTable
+pub mod RefusalLaws
 pub mod Numbers
 pub mod NumberParts
 pub mod Cuts
 pub mod FirstThatApplies
+pub mod FirstLaws
 pub mod Limits
 pub mod Names
+pub mod NameTests
+pub mod NameLaws
 pub mod KnownBytes
 pub mod Adapters
 pub mod SplitLaws

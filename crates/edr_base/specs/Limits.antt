@@ -1,5 +1,5 @@
 -- The limits of the product, each by its name.
-use Rattle.std.specs.Prelude.{ℕ, ◌≤◌, ℤ, ◌≤ℤ◌, pos, neg_ℤ, unsigned_abs}
+use Rattle.std.specs.Prelude.{ℕ, ◌≤◌, ℤ, ◌≤ℤ◌, pos, neg_ℤ, unsigned_abs, List, Option, All, IfSome}
 
 -- the size of a coordinate or a level, in metres
 abbrev pub coordinate_limit : ℕ
@@ -33,6 +33,13 @@ sample_limit = 9_007_199_254_740_991
 abbrev pub IsSample : ℤ → Type 0
 IsSample value = unsigned_abs value ≤ sample_limit
 
+-- a value that is missing, or one that a range may have
+abbrev pub HasSample : Option ℤ → Type 0
+HasSample value = IfSome value IsSample
+
+abbrev pub AreSamples : List (Option ℤ) → Type 0
+AreSamples = All HasSample
+
 -- the bytes of a name
 abbrev pub name_limit : ℕ
 name_limit = 128
@@ -52,3 +59,7 @@ line_limit = 16_777_216
 -- the bytes of a feed
 abbrev pub feed_limit : ℕ
 feed_limit = 1_073_741_824
+
+-- the greatest count of faults, editions or pieces; a counter stands still there
+abbrev pub count_limit : ℕ
+count_limit = 18_446_744_073_709_551_615

@@ -1,13 +1,14 @@
 -- The objects in memory: which of their calls fail, and what they tell.
-use Rattle.std.specs.Prelude.{ℕ, ◌+◌, ◌<◌, ◌^◌, ◌-◌, Bool, true, false, not, bytes_eq, List, [], drop, Vec, Contains, position, option_map, unwrap_or, slice_get}
+use Rattle.std.specs.Prelude.{ℕ, ◌+◌, ◌<◌, ◌-◌, Bool, true, false, not, bytes_eq, List, [], drop, Vec, Contains, position, option_map, unwrap_or, slice_get}
 use Rattle.std.specs.declared.option.Option.{Option}
 use Rattle.std.specs.declared.alloc.Global.{Global}
 use Rattle.std.specs.Prelude.{None, Some}
 use Rattle.edr_base.specs.Outside.{Aside, Beside, Asked}
+use Rattle.edr_base.specs.Limits.{count_limit}
 
 -- after so many calls the next one fails; a call that can't be counted doesn't
 abbrev pub FailsNext : List ℕ → ℕ → Type 0
-FailsNext fails calls = (calls < 2 ^ 64 - 1) × Contains fails (calls + 1)
+FailsNext fails calls = (calls < count_limit) × Contains fails (calls + 1)
 
 -- a file: its name and its content
 abbrev pub File : Type 0

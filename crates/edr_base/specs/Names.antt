@@ -1,5 +1,6 @@
 -- Names and blanks.
-use Rattle.std.specs.Prelude.{◌≢◌, ℕ, ◌≤◌, ◌==◌, ◌||◌, Bool, List, length, All, IsUtf8}
+use Rattle.std.specs.Prelude.{◌≡◌, ◌≢◌, ℕ, ◌≤◌, ◌==◌, ◌||◌, Bool, List, length, map, All, IsUtf8}
+use Rattle.std.specs.Char.{to_ascii_lowercase}
 use Rattle.std.specs.declared.cmp.Ordering.{Ordering}
 use Rattle.std.specs.Ordering.{nat_cmp}
 use Rattle.std.specs.Cmp.Lexicographic.{slice_cmp}
@@ -20,6 +21,10 @@ pub record IsName (text : List ℕ) : Type 0 where
   pub length_in : (1 ≤ length text) × (length text ≤ name_limit)
   pub bytes : All IsNameByte text
   pub utf8 : IsUtf8 text
+
+-- the letters of a word, in any case
+abbrev pub IsAnyCase : List ℕ → List ℕ → Type 0
+IsAnyCase letters word = map to_ascii_lowercase letters ≡ map to_ascii_lowercase word
 
 -- texts are compared byte by byte, and then by their lengths
 abbrev pub order : List ℕ → List ℕ → Ordering

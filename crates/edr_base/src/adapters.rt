@@ -3,18 +3,19 @@
 //! They tell nothing of contents by the words of `Source` and `Sink`. Where the reader or the writer tells its bytes
 //! by the standard library's words, the clauses `passes` say that each call passes them on. That a flush is passed on
 //! the standard library has no word for.
-ghost use Rattle.std.specs.Prelude.{◌≡◌, ◌≤◌, ◌<◌, ◌+◌, ◌-◌, ◌^◌, min, length, Ok, Err, IfOk, OnErr, IsErr, IsErrOf, IsOk, None, true, false};
+ghost use Rattle.std.specs.Prelude.{◌≡◌, ◌≤◌, ◌<◌, ◌+◌, ◌-◌, min, length, Ok, Err, IfOk, OnErr, IsErr, IsErrOf, IsOk, None, true, false};
 ghost use Rattle.std.specs.Io.KnownBytes.{ReadConsumes, WriteAppends, Keeps};
 ghost use Rattle.edr_base.specs.Outside.{Rose};
 ghost use Rattle.edr_base.specs.Calls.{Reads, Appended, Flushed, SourceLent, SinkLent};
 ghost use Rattle.edr_base.specs.Untold.{untold_aside, untold_beside};
+ghost use Rattle.edr_base.specs.Limits.{count_limit};
 
 use crate::outside::{Failed, Faults, Sink, Source, Stop};
 use std::io::{ErrorKind, Read, Write};
 
 // A count of faults after one more.
 pub(crate) fn one_more(faults: u64) -> u64
-    ensures { result ≡ min (faults + 1) (2 ^ 64 - 1) }
+    ensures { result ≡ min (faults + 1) count_limit }
 {
     faults.saturating_add(1)
 }
@@ -24,7 +25,7 @@ pub(crate) fn one_more(faults: u64) -> u64
 pub struct RealSource<T: Read> {
     reader: T,
     faults: u64,
-    ghost fits: { faults ≤ 18446744073709551615 },
+    ghost fits: { faults ≤ count_limit },
 }
 
 impl<T: Read> RealSource<T> {
@@ -103,7 +104,7 @@ impl<T: Read> Source for RealSource<T> {
 pub struct RealSink<T: Write> {
     writer: T,
     faults: u64,
-    ghost fits: { faults ≤ 18446744073709551615 },
+    ghost fits: { faults ≤ count_limit },
 }
 
 impl<T: Write> RealSink<T> {

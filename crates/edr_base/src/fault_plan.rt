@@ -1,6 +1,7 @@
 //! Which calls of an object in memory fail.
-ghost use Rattle.std.specs.Prelude.{◌≡◌, ◌↔◌, ◌+◌, ◌-◌, ◌^◌, ◌≤◌, min, IsTrue};
+ghost use Rattle.std.specs.Prelude.{◌≡◌, ◌↔◌, ◌+◌, ◌-◌, ◌≤◌, min, IsTrue};
 ghost use Rattle.edr_base.specs.Memory.{FailsNext};
+ghost use Rattle.edr_base.specs.Limits.{count_limit};
 
 /// Which calls of an object in memory fail, by their numbers from 1, and the counts of its calls and faults.
 ///
@@ -13,7 +14,7 @@ pub struct FaultPlan {
     pub calls: u64,
     /// How many faults there were.
     pub faults: u64,
-    ghost fits: { faults ≤ 18446744073709551615 },
+    ghost fits: { faults ≤ count_limit },
 }
 
 impl FaultPlan {
@@ -32,7 +33,7 @@ impl FaultPlan {
     /// Counts a call, and says whether it fails.
     pub fn strikes(&mut self) -> bool
         ensures strikes { IsTrue result ↔ FailsNext self.old.fails.items self.old.calls }
-        ensures calls { self.new.calls ≡ min (self.old.calls + 1) (2 ^ 64 - 1) }
+        ensures calls { self.new.calls ≡ min (self.old.calls + 1) count_limit }
         ensures fails { self.new.fails ≡ self.old.fails }
         ensures faults { self.new.faults ≡ self.old.faults }
     {
@@ -45,7 +46,7 @@ impl FaultPlan {
 
     /// Counts a fault.
     pub fn count_fault(&mut self)
-        ensures faults { self.new.faults ≡ min (self.old.faults + 1) (2 ^ 64 - 1) }
+        ensures faults { self.new.faults ≡ min (self.old.faults + 1) count_limit }
         ensures calls { (self.new.calls ≡ self.old.calls) × (self.new.fails ≡ self.old.fails) }
     {
         self.faults = self.faults.saturating_add(1);

@@ -30,8 +30,8 @@ pub use digits::{are_digits, value_of_digits};
 pub use fault_plan::FaultPlan;
 pub use lent::Lent;
 pub use limits::{
-    BUFFER_SIZE, COORDINATE_LIMIT, EARLIEST_TIME, FEED_LIMIT, LATEST_TIME, LINE_LIMIT, NAME_LIMIT,
-    NODE_LIMIT, POSITION_LIMIT, SAMPLE_LIMIT,
+    BUFFER_SIZE, COORDINATE_LIMIT, EARLIEST_TIME, FEED_LIMIT, LATEST_TIME, LINE_LIMIT, NODE_LIMIT,
+    POSITION_LIMIT, SAMPLE_LIMIT,
 };
 pub use memory_files::MemoryFiles;
 pub use memory_link::MemoryLink;
@@ -40,7 +40,7 @@ pub use memory_source::MemorySource;
 pub use names::{is_blank, is_name, is_utf8, is_utf8_where_given};
 pub use numbers::{Whole, numeral, whole_number, whole_number_is_one, written_number_is_numeral};
 pub use outside::{Failed, Faults, Files, Link, Sink, Source, Stop};
-pub use places::{Position, Spot};
+pub use places::{Position, Spot, in_box};
 pub use quiet_sink::QuietSink;
 pub use quiet_source::QuietSource;
 pub use reading::{ReadStop, read_all};

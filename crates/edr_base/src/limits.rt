@@ -13,7 +13,7 @@ pub const LATEST_TIME: i64 = 253_402_300_799;
 pub const SAMPLE_LIMIT: u64 = 9_007_199_254_740_991;
 
 /// A name has at most so many bytes.
-pub const NAME_LIMIT: usize = 128;
+pub(crate) const NAME_LIMIT: usize = 128;
 
 /// A geometry has at most so many positions.
 pub const POSITION_LIMIT: usize = 10_000;

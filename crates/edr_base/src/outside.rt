@@ -20,6 +20,7 @@ ghost use Rattle.std.specs.Prelude.{◌≡◌, ◌≤◌, ◌<◌, ℕ, List, []
 ghost use Rattle.edr_base.specs.declared.outside.Stop.TheVariants.{OutOfMemory as WantsMemory};
 ghost use Rattle.edr_base.specs.Outside.{Aside, Beside, Rose, Ties, TellsBottom, KeptByOpen};
 ghost use Rattle.edr_base.specs.Calls.{SourceLent, SinkLent, Reads, Appended, Flushed, Opened, asked_after, Cause};
+ghost use Rattle.edr_base.specs.Limits.{count_limit};
 
 use std::alloc::{AllocError, AllocFailed};
 
@@ -57,7 +58,7 @@ pub trait Faults {
     /// How many faults there were. It never falls, and stands still at 18,446,744,073,709,551,615.
     ghost faults: { Self → ℕ };
 
-    ghost bounded: { (s : Self) → faults s ≤ 18446744073709551615 };
+    ghost bounded: { (s : Self) → faults s ≤ count_limit };
 }
 
 /// What bytes are read from.

@@ -7,6 +7,7 @@ ghost use Rattle.std.specs.Io.KnownBytes.{ReadConsumes};
 ghost use Rattle.edr_base.specs.Outside.{Rose, KeptByOpen};
 ghost use Rattle.edr_base.specs.Calls.{Reads, SourceLent, Opened, asked_after, Cause};
 ghost use Rattle.edr_base.specs.Untold.{untold_aside};
+ghost use Rattle.edr_base.specs.Limits.{count_limit};
 
 use crate::adapters::{one_more, read_from};
 use crate::outside::{Failed, Faults, Files, Source, Stop};
@@ -20,7 +21,7 @@ pub struct RealFiles<R: std::rt::Files + Drop> {
     rt: R,
     file: Option<R::File>,
     faults: u64,
-    ghost fits: { faults ≤ 18446744073709551615 },
+    ghost fits: { faults ≤ count_limit },
 }
 
 impl<R: std::rt::Files + Drop> RealFiles<R> {

@@ -7,6 +7,7 @@ ghost use Rattle.std.specs.Io.KnownBytes.{ReadConsumes, WriteAppends, Keeps};
 ghost use Rattle.edr_base.specs.Outside.{Rose, Ties};
 ghost use Rattle.edr_base.specs.Calls.{Reads, Appended, Flushed, SourceLent, SinkLent, Opened, asked_after, Cause};
 ghost use Rattle.edr_base.specs.Untold.{untold_aside, untold_beside};
+ghost use Rattle.edr_base.specs.Limits.{count_limit};
 
 use crate::adapters::{flush_of, one_more, read_from, write_to};
 use crate::outside::{Failed, Faults, Link, Sink, Source, Stop};
@@ -21,7 +22,7 @@ pub struct RealLink<R: Net + Drop> {
     rt: R,
     stream: Option<R::Stream>,
     faults: u64,
-    ghost fits: { faults ≤ 18446744073709551615 },
+    ghost fits: { faults ≤ count_limit },
 }
 
 impl<R: Net + Drop> RealLink<R> {

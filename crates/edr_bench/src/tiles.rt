@@ -1,7 +1,6 @@
 //! Packed grids whose tiles are opened.
 ghost use Rattle.std.specs.Prelude.{◌≡◌, length, IfOk};
-ghost use Rattle.edr_base.specs.Limits.{IsSample};
-ghost use Rattle.edr_chunk.specs.Samples.{AreSamples};
+ghost use Rattle.edr_base.specs.Limits.{IsSample, AreSamples};
 
 use crate::answers::BenchFault;
 use edr_base::OutOfMemory;

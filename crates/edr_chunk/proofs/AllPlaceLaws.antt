@@ -8,7 +8,7 @@ use Rattle.std.proofs.lemmas.List.{length-map, map-id, get_or-map}
 use Rattle.std.proofs.lemmas.List.FromFn.{length-range_with_len, get_or-range_with_len}
 use Rattle.std.proofs.lemmas.List.Folds.{list_any-append}
 use Rattle.std.proofs.lemmas.List.Elements.{All-nil, All-append, All-cons, All-map}
-use Rattle.edr_base.specs.Limits.{node_limit}
+use Rattle.edr_base.specs.Limits.{node_limit, HasSample, AreSamples}
 use Rattle.edr_chunk.specs.declared.shapes.GridShape.{GridShape}
 use Rattle.edr_chunk.specs.declared.shapes.GridPlace.{GridPlace}
 use Rattle.edr_chunk.specs.Places.{Within, IsShape, count, number}
@@ -19,7 +19,6 @@ use Rattle.edr_chunk.specs.LawsOfPlaces.{Found, PlacesAreListed, TilesAreNumbere
 use Rattle.edr_chunk.proofs.PlaceNumbers.{numbered, read_place, tile_within, tiles_le, along_le, nodes_le}
 use Rattle.edr_chunk.proofs.TileLaws.{node_within, node_corner, some_row, some_column}
 use Rattle.edr_chunk.specs.KeptTiles.{stored, IsPacked}
-use Rattle.edr_chunk.specs.Samples.{HasSample, AreSamples}
 
 any-map : {X Y : Type 0} (t : Y → Bool) (f : X → Y) (xs : List X) → list_any t (map f xs) ≡ list_any (λ x. t (f x)) xs
 any-map t f [] = refl

@@ -8,15 +8,15 @@ use Rattle.std.proofs.Math.Seq.{take-add}
 use Rattle.std.proofs.lemmas.List.{get_or_append_left, get_or-append-add}
 use Rattle.edr_chunk.specs.declared.shapes.GridShape.{GridShape}
 use Rattle.edr_chunk.specs.declared.shapes.GridPlace.{GridPlace}
-use Rattle.edr_chunk.specs.Places.{nodes, node_number, count, Within, IsShape}
+use Rattle.edr_chunk.specs.Places.{nodes, node_number, count, Within}
 use Rattle.edr_chunk.specs.AllPlaces.{at, places}
-use Rattle.edr_chunk.specs.Samples.{HasSample, AreSamples}
 use Rattle.edr_chunk.specs.PlaceLaws.{number-below, number-by_node}
 use Rattle.edr_chunk.specs.Tiles.{with_parameters, tile_shape, tile_place, tile_height, tile_width, tiles, tile_of}
 use Rattle.edr_chunk.specs.KeptTiles.{one_of, one_more, inner, stored, AreTiles, Filled}
 use Rattle.edr_chunk.proofs.Lists.{flat_map_range_agree, map_range_agree, flat_map_range_more}
 use Rattle.edr_chunk.proofs.PlaceNumbers.{columns_of, rows_of, levels_of, times_of, map_places, places_agree, tile_within}
 use Rattle.edr_chunk.proofs.TileLaws.{filled_long, filled_samples, filled_values}
+use Rattle.edr_base.specs.Limits.{HasSample, AreSamples}
 
 -- the place of the first parameter at a node
 abbrev first_at : GridPlace → GridPlace
@@ -109,17 +109,6 @@ module _ (s : GridShape) (kept more : List (List (Option ℤ))) (part : List (Op
       next = sym (append-nil (times_of (stored (one_of s) more) s 0)) ∙ (sym (map_places (stored (one_of s) more) (one_of s)) ∙ filled_values (one_of s) part more counted f)
 
 -- ---- of no parameter there is nothing
-pub no_tiles : (s : GridShape) → IsShape (one_of s) → AreTiles (with_parameters s 0) []
-no_tiles s h = record {
-  one = h;
-  fits = omega arith;
-  many = sym (none (nodes (tile_shape s)));
-  long = λ a w. absurd (omega (arith, w.parameter));
-  samples = λ a w. absurd (omega (arith, w.parameter));
-}
-  where
-    none : (n : ℕ) → 0 * n ≡ 0
-    none n = omega arith
 
 pub no_values : (s : GridShape) (kept : List (List (Option ℤ))) → map (stored (with_parameters s 0) kept) (places (with_parameters s 0)) ≡ []
 no_values s kept = map_places (stored (with_parameters s 0) kept) (with_parameters s 0)

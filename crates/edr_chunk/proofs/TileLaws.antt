@@ -7,7 +7,6 @@ use Rattle.std.proofs.lemmas.Bool.{cases_lt}
 use Rattle.std.proofs.lemmas.List.{get_or_append_left, get_or_past}
 use Rattle.std.proofs.Math.Seq.{get_or-append_seam}
 use Rattle.std.proofs.lemmas.List.Elements.{All-nil, All-append, All-map}
-use Rattle.edr_chunk.specs.Samples.{HasSample, AreSamples}
 use Rattle.edr_chunk.specs.declared.shapes.GridShape.{GridShape}
 use Rattle.edr_chunk.specs.declared.shapes.GridPlace.{GridPlace}
 use Rattle.edr_chunk.specs.Places.{number, count, Within}
@@ -18,6 +17,7 @@ use Rattle.edr_chunk.specs.KeptTiles.{row_value, row_start, cut_values, inner, s
 use Rattle.edr_chunk.proofs.Lists.{get_rows, length_rows}
 use Rattle.edr_chunk.specs.PlaceLaws.{number-once, number-below}
 use Rattle.edr_chunk.proofs.PlaceNumbers.{tile_within, read_place, read_places, places_agree, below_rows}
+use Rattle.edr_base.specs.Limits.{HasSample, AreSamples}
 
 -- where a place stands in its tile
 pub inner_row : (s : GridShape) (a : GridPlace) → Within s a → a.y % 64 < tile_height s (tile_place a)

@@ -6,8 +6,8 @@ use Rattle.edr_chunk.specs.declared.shapes.GridPlace.{GridPlace}
 use Rattle.edr_chunk.specs.RowMajor.{place_in_row}
 use Rattle.edr_chunk.specs.Places.{Within, count, number, IsShape}
 use Rattle.edr_chunk.specs.AllPlaces.{at}
-use Rattle.edr_chunk.specs.Samples.{HasSample}
 use Rattle.edr_chunk.specs.Tiles.{tile_side, with_parameters, tile_place, tiles, tile_of, tile_height, tile_width}
+use Rattle.edr_base.specs.Limits.{HasSample}
 
 -- one parameter of a shape, and a shape with one more
 abbrev pub one_of : GridShape → GridShape
@@ -23,7 +23,7 @@ row_value shape values place column =
 
 -- the first place of a row of a tile
 abbrev pub row_start : GridPlace → ℕ → GridPlace
-row_start tile row = at tile.parameter tile.t tile.z (tile.y * tile_side + row) (tile.x * tile_side)
+row_start tile row = at tile.parameter tile.t tile.z (place_in_row tile.y tile_side row) (tile.x * tile_side)
 
 -- the values of a tile, row by row
 abbrev pub cut_values : GridShape → List (Option ℤ) → GridPlace → List (Option ℤ)

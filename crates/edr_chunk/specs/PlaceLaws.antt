@@ -1,10 +1,9 @@
 -- Laws of the numbers of a grid's values, for the proofs of callers.
-use Rattle.std.proofs.Common.{◌≡◌, ℕ, ◌+◌, ◌*◌, ◌<◌, List, [], ◌∷◌, refl, sym, ap, ◌∙◌, subst}
+use Rattle.std.proofs.Common.{◌≡◌, ℕ, ◌+◌, ◌*◌, ◌<◌, List, [], ◌∷◌, sym, ap, ◌∙◌, subst}
 use Rattle.std.proofs.Math.Nat.{mul-one, mul_assoc, add-mul, add_assoc}
 use Rattle.edr_chunk.specs.declared.shapes.GridShape.{GridShape}
 use Rattle.edr_chunk.specs.declared.shapes.GridPlace.{GridPlace}
 use Rattle.edr_chunk.specs.Places.{Within, nodes, count, number, node_number, NumbersTellPlaces}
-use Rattle.edr_chunk.specs.RowMajor.{row_major}
 use Rattle.edr_chunk.specs.RowMajorLaws.{row_major-below, row_major-once}
 
 -- an axis: its length, and two places on it
@@ -26,13 +25,6 @@ low_sides shape a b = (shape.levels, a.z, b.z) ∷ ((shape.rows, a.y, b.y) ∷ (
 
 abbrev pub sides : GridShape → GridPlace → GridPlace → List Side
 sides shape a b = (shape.times, a.t, b.t) ∷ low_sides shape a b
-
--- numbers are in row-major order
-pub number-row_major : (shape : GridShape) (a b : GridPlace) → number shape a ≡ row_major length_of place_on (sides shape a b) a.parameter
-number-row_major shape a b = refl
-
-pub node_number-row_major : (shape : GridShape) (a b : GridPlace) → node_number shape a ≡ row_major length_of place_on (low_sides shape a b) a.t
-node_number-row_major shape a b = refl
 
 -- factors in turn
 in_turn : (z y x : ℕ) → (t : ℕ) → t * (z * (y * (x * 1))) ≡ ((t * z) * y) * x

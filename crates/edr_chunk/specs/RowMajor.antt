@@ -1,10 +1,17 @@
 -- Row-major order: the number of places along some axes, the last axis fastest (OGC 21-069r2, NdArray objects).
-use Rattle.std.specs.Prelude.{◌≡◌, ℕ, ◌+◌, ◌*◌, ◌<◌, ◌≤◌, List, [], ◌∷◌}
+use Rattle.std.specs.Prelude.{◌≡◌, ℕ, ◌+◌, ◌*◌, ◌/◌, ◌%◌, ◌<◌, ◌≤◌, List, [], ◌∷◌}
 use Rattle.std.specs.List.{AllByRecursion}
 
 -- the number of a place in a row of so many places, behind a number of rows that stand before
 abbrev pub place_in_row : ℕ → ℕ → ℕ → ℕ
 place_in_row rows length place = rows * length + place
+
+-- the other way: the row of a number, and its place there, where each row has so many places
+abbrev pub row_of_number : ℕ → ℕ → ℕ
+row_of_number length number = number / length
+
+abbrev pub place_of_number : ℕ → ℕ → ℕ
+place_of_number length number = number % length
 
 -- the number of a place on each of some axes, behind a number of rows that stand before
 abbrev pub row_major : {A : Type 0} → (A → ℕ) → (A → ℕ) → List A → ℕ → ℕ

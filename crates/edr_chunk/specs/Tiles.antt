@@ -56,7 +56,7 @@ tile_width shape corner = min (shape.columns - corner.x * tile_side) tile_side
 
 -- the place of a node of that tile, so many rows and columns behind the tile's first node
 abbrev pub node_at : GridPlace → ℕ → ℕ → GridPlace
-node_at corner down right = record { parameter = corner.parameter; t = corner.t; z = corner.z; y = corner.y * tile_side + down; x = corner.x * tile_side + right }
+node_at corner down right = record { parameter = corner.parameter; t = corner.t; z = corner.z; y = place_in_row corner.y tile_side down; x = place_in_row corner.x tile_side right }
 
 -- an opened tile: the grid's row and column of its first value, how many columns it has, and its values row by row
 pub record TileValue : Type 0 where

@@ -1,8 +1,8 @@
 //! Codes of samples, many at once.
 ghost use Rattle.std.specs.Prelude.{◌≡◌, ◌<◌, ◌≤◌, ◌+◌, ℕ, map, length, All, None, IfOk};
 ghost use Rattle.std.specs.List.{slice_index_or};
-ghost use Rattle.edr_chunk.specs.Samples.{AreSamples};
 ghost use Rattle.edr_chunk.specs.Codes.{IsFloor};
+ghost use Rattle.edr_base.specs.Limits.{AreSamples};
 
 use crate::widths::Width;
 use edr_base::OutOfMemory;

@@ -1,8 +1,7 @@
 //! A list of samples that is kept in as few bytes a sample as its values allow.
 ghost use Rattle.std.specs.Prelude.{◌≡◌, ◌<◌, ◌≤◌, ◌+◌, ℕ, IfOk, None, length, pos, ◌+ℤ◌};
 ghost use Rattle.std.specs.List.{slice_index_or};
-ghost use Rattle.edr_base.specs.Limits.{IsSample};
-ghost use Rattle.edr_chunk.specs.Samples.{AreSamples};
+ghost use Rattle.edr_base.specs.Limits.{IsSample, AreSamples};
 ghost use Rattle.edr_chunk.specs.Codes.{IsFloor, AreBetween};
 ghost use Rattle.edr_chunk.specs.KeptCodes.{samples};
 

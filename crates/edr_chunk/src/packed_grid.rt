@@ -1,10 +1,10 @@
 //! A grid whose samples are kept in packed tiles.
 ghost use Rattle.std.specs.Prelude.{◌≡◌, ◌<◌, ◌^◌, ◌++◌, ◌∷◌, [], map, length, IfOk, OnOk, OnErr};
-ghost use Rattle.edr_chunk.specs.Samples.{AreSamples};
 ghost use Rattle.edr_chunk.specs.Places.{count, Within, IsShape};
 ghost use Rattle.edr_chunk.specs.AllPlaces.{places};
 ghost use Rattle.edr_chunk.specs.Tiles.{tiles, tile_of, IsTile};
 ghost use Rattle.edr_chunk.specs.KeptTiles.{stored, IsPacked};
+ghost use Rattle.edr_base.specs.Limits.{AreSamples};
 
 use crate::reads::open_shared;
 use crate::shared::SharedPacked;

@@ -1,9 +1,9 @@
 //! Grids that are made parameter by parameter, each packed as it comes.
 ghost use Rattle.std.specs.Prelude.{◌≡◌, ◌≤◌, ◌<◌, ◌+◌, ◌^◌, ◌++◌, [], length, IfOk, OnOk, OnErr};
-ghost use Rattle.edr_chunk.specs.Samples.{AreSamples};
 ghost use Rattle.edr_chunk.specs.Places.{nodes, count, IsShape};
 ghost use Rattle.edr_chunk.specs.Tiles.{tiles, with_parameters};
 ghost use Rattle.edr_chunk.specs.KeptTiles.{one_of, one_more, Filled};
+ghost use Rattle.edr_base.specs.Limits.{AreSamples};
 
 use crate::cutting::cut;
 use crate::shared::SharedPacked;

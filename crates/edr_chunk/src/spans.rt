@@ -1,7 +1,6 @@
 //! What lies between the least and the greatest of some samples.
 ghost use Rattle.std.specs.Prelude.{◌≡◌, ◌≤ℤ◌, ◌↔◌, IsTrue, All};
-ghost use Rattle.edr_base.specs.Limits.{IsSample};
-ghost use Rattle.edr_chunk.specs.Samples.{HasSample, AreSamples};
+ghost use Rattle.edr_base.specs.Limits.{IsSample, HasSample, AreSamples};
 ghost use Rattle.edr_chunk.specs.Codes.{IsBetween, AreBetween};
 
 use edr_base::SAMPLE_LIMIT;

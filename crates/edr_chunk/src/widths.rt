@@ -1,7 +1,7 @@
 //! The widths that codes are kept in.
 ghost use Rattle.std.specs.Prelude.{◌≡◌, ◌≤◌, ℤ, Option};
-ghost use Rattle.edr_chunk.specs.Samples.{HasSample};
 ghost use Rattle.edr_chunk.specs.Codes.{IsFloor, HasCode, code_sample, triple_code, triple_sample, whole_sample};
+ghost use Rattle.edr_base.specs.Limits.{HasSample};
 
 /// A number of some width as the code of a sample.
 pub trait Width: Copy + Drop {

@@ -1,4 +1,4 @@
--- Halves of wholes, and the places of an axis between two numbers.
+-- Halves of wholes, and the places of an axis is_between two numbers.
 use Rattle.std.proofs.Common.{◌≡◌, ℕ, Option, None, Some, cond, to_z, of_z, w64, ap₂, ◌<◌, ◌≤◌, arith, Bool, true, false, refl, ap, subst, sym, ◌∙◌, inl, inr, List, length, count_by, ℤ, pos, ◌+ℤ◌, ◌-ℤ◌, ◌*ℤ◌, ◌<ℤ◌, ◌≤ℤ◌, int_lt, int_le, max, nat_lt}
 use Rattle.std.specs.Prelude.{◌&&◌, ◌||◌, nat_le}
 use Rattle.std.specs.Int.{int_min, int_max}
@@ -7,15 +7,16 @@ use Rattle.std.proofs.lemmas.Bool.{cases_lt, and_left, and_parts, and_from, le-l
 use Rattle.std.proofs.lemmas.Int.{ints, by_lt_z}
 use Rattle.jiff_core.proofs.SignedLemmas.{signed_arith, one_part, back_small}
 use Rattle.edr_axes.specs.Axes.{value_at, SplitsValues}
-use Rattle.edr_geometry.specs.Planar.{between, is_among}
+use Rattle.edr_geometry.specs.Planar.{is_among}
 use Rattle.edr_base.specs.Limits.{IsCoordinate, IsMetres}
+use Rattle.edr_base.specs.Boxes.{is_between}
 use Rattle.edr_corridor.specs.declared.bands.Band.{Band}
 use Rattle.edr_corridor.specs.declared.segment.Segment.{Segment}
 use Rattle.edr_corridor.specs.Segments.{within_half, takes_height}
 use Rattle.edr_corridor.specs.Parts.{IsAbout, has_level, has_height}
 use Rattle.edr_corridor.specs.Boxes.{lies_in}
 
--- ---- places between two numbers
+-- ---- places is_between two numbers
 
 from_yes : (a b : ℤ) → a ≤ℤ b → int_le a b ≡ true
 from_yes a b h = grind (arith, ints)
@@ -28,7 +29,7 @@ both_yes a b h = ap (λ c. c && b) h
 
 -- of ascending values, those from a low number to a high one
 pub lies_between : (values : List ℤ) (low high : ℤ) (first end : ℕ) → SplitsValues values low → SplitsValues values high → first ≡ count_by (λ v. int_lt v low) values
-    → end ≡ max first (count_by (λ v. int_le v high) values) → (place : ℕ) → place < length values → lies_in (first, end) place ≡ between low high (value_at values place)
+    → end ≡ max first (count_by (λ v. int_le v high) values) → (place : ℕ) → place < length values → lies_in (first, end) place ≡ is_between low high (value_at values place)
 lies_between values low high first end below at_most first_is end_is place inside =
     by_lt_z (value_at values place) low
     (λ under. (let before = (below.below place).0 (inside, under) in
@@ -112,16 +113,16 @@ about_back band one other whole one_in other_in whole_in h =
     (subst (λ a. IsAbout band a (read other) (read whole)) (coordinate_back one one_in) h))
 
 -- from the lesser to the greater of two numbers are those among them
-among_ends : (one other v : ℤ) → between (int_min one other) (int_max one other) v ≡ is_among one other v
+among_ends : (one other v : ℤ) → is_between (int_min one other) (int_max one other) v ≡ is_among one other v
 among_ends one other v =
-    min_max (λ low high. between low high v ≡ is_among one other v) one other
-    (λ falls. sym (absorb_left (between one other v) (between other one v) (λ h. (let parts = and_parts (int_le one v) (int_le v other) h in
+    min_max (λ low high. is_between low high v ≡ is_among one other v) one other
+    (λ falls. sym (absorb_left (is_between one other v) (is_between other one v) (λ h. (let parts = and_parts (int_le one v) (int_le v other) h in
     and_from (int_le other v) (int_le v one) (lower_too other one v falls parts.0) (higher_too other one v falls parts.1)))))
-    (λ rises. sym (absorb_right (between one other v) (between other one v) (λ h. (let parts = and_parts (int_le other v) (int_le v one) h in
+    (λ rises. sym (absorb_right (is_between one other v) (is_between other one v) (λ h. (let parts = and_parts (int_le other v) (int_le v one) h in
     and_from (int_le one v) (int_le v other) (lower_too one other v rises parts.0) (higher_too one other v rises parts.1)))))
 
-pub among_both : (one other low high v : ℤ) → low ≡ int_min one other → high ≡ int_max one other → between low high v ≡ is_among one other v
-among_both one other low high v low_is high_is = ap₂ (λ l h. between l h v) low_is high_is ∙ among_ends one other v
+pub among_both : (one other low high v : ℤ) → low ≡ int_min one other → high ≡ int_max one other → is_between low high v ≡ is_among one other v
+among_both one other low high v low_is high_is = ap₂ (λ l h. is_between l h v) low_is high_is ∙ among_ends one other v
 
 -- ---- the tests of a band, and its least and its greatest number
 

@@ -9,7 +9,7 @@ ghost use Rattle.edr_corridor.specs.Parts.{IsSegment, IsPlacedNode, IsBand, IsAb
 use crate::bands::{Band, places_between};
 use edr_axes::Axis;
 use edr_base::{Position, Spot};
-use edr_geometry::near_segment;
+use edr_geometry::{near_segment, spot_of};
 
 /// What a corridor asks of each segment of its line, in metres.
 #[derive(Clone, Copy, Debug)]
@@ -35,16 +35,6 @@ pub struct Segment {
     pub start: Position,
     pub end: Position,
     pub rule: Rule,
-}
-
-/// The place of a position.
-pub fn spot_of(position: &Position) -> Spot
-    ensures { result ≡ plane.spot_of position.now }
-{
-    Spot {
-        x: position.x,
-        y: position.y,
-    }
 }
 
 impl Segment {

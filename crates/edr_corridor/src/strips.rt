@@ -4,10 +4,10 @@ ghost use Rattle.std.specs.List.{All};
 ghost use Rattle.edr_base.specs.Limits.{IsCoordinate};
 ghost use Rattle.edr_corridor.specs.Parts.{IsSegment, HasSpots, IsStrip, has_spot};
 
-use crate::segment::{Segment, spot_of};
+use crate::segment::Segment;
 use edr_axes::Axis;
 use edr_base::OutOfMemory;
-use edr_geometry::RowMask;
+use edr_geometry::{RowMask, spot_of};
 use std::alloc::Global;
 
 /// The nodes of a plane near a segment: masks of some rows from one on, each of some columns from one on.

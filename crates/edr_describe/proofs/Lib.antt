@@ -7,3 +7,4 @@ pub mod ReachPages
 pub mod PageMembers
 pub mod MoreTrees
 pub mod StationPages
+pub mod FoundTexts

@@ -11,7 +11,7 @@ use Rattle.edr_query.specs.declared.addresses.QueryKind.TheVariants.{Position, R
 use Rattle.edr_query.specs.Paths.{kind_text, path_text}
 use Rattle.edr_query.specs.declared.pages.Page.{Page}
 use Rattle.edr_query.specs.declared.pages.Page.TheVariants.{Landing, Conformance, Collections, Collection, Instances, Instance, Locations, Ask}
-use Rattle.edr_select.specs.Refusals.{refused}
+use Rattle.edr_select.specs.Refusals.{refused, IsFirstRefusal}
 use Rattle.edr_describe.specs.declared.describing.DescribeFault.{DescribeFault}
 use Rattle.edr_describe.specs.declared.describing.DescribeFault.TheVariants.{Refused, OutOfMemory}
 use Rattle.edr_describe.specs.Extents.{extent_data}
@@ -31,13 +31,13 @@ IsDescription (Ask query) = ⊥
 
 -- the text of the description
 pub record IsDescribed (edition : EditionValue) (page : Page) (text : List ℕ) : Type 0 where
-  pub none : refused edition page ≡ None
+  pub none : IsFirstRefusal edition page None
   pub text_is : option_map compact_text (description edition page) ≡ Some text
 
 -- the text, or the first refusal that applies; it is free where memory is wanting
 abbrev pub MatchDescription : Result (List ℕ) DescribeFault → EditionValue → Page → Type 0
 MatchDescription (Ok text) edition page = IsDescribed edition page text
-MatchDescription (Err (Refused refusal)) edition page = refused edition page ≡ Some refusal
+MatchDescription (Err (Refused refusal)) edition page = IsFirstRefusal edition page (Some refusal)
 MatchDescription (Err OutOfMemory) edition page = ⊤
 
 -- ---- for private clauses
@@ -91,6 +91,11 @@ landing_links = array (item (link_data (codes "/collections") (codes "data")) (i
 pub record IsTreeOf (edition : EditionValue) (page : Page) (tree : Data) : Type 0 where
   pub none : refused edition page ≡ None
   pub is : description edition page ≡ Some tree
+
+-- so is the text
+pub record IsFoundText (edition : EditionValue) (page : Page) (text : List ℕ) : Type 0 where
+  pub none : refused edition page ≡ None
+  pub is : option_map compact_text (description edition page) ≡ Some text
 
 -- the refusal is the first that applies
 abbrev pub IsFaultOf : EditionValue → Page → DescribeFault → Type 0

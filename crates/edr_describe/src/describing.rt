@@ -7,13 +7,13 @@ ghost use Rattle.edr_base.specs.declared.refusals.Refusal.TheVariants.{UnknownCo
 ghost use Rattle.edr_describe.specs.declared.describing.DescribeFault.TheVariants as why;
 ghost use Rattle.edr_describe.specs.Descriptions.{landing_page, conformance_page};
 ghost use Rattle.edr_edition.specs.Stores.{collection_in};
-ghost use Rattle.edr_describe.specs.Describing.{IsDescription, MatchDescription, landing_links, IsTreeOf, IsFaultOf};
+ghost use Rattle.edr_describe.specs.Describing.{IsDescription, MatchDescription, landing_links, IsTreeOf, IsFoundText, IsFaultOf};
 
-use crate::leaves::{only_member, pair_of};
+use crate::leaves::pair_of;
 use crate::locations::locations_tree;
 use crate::pages::{collection_tree, collections_tree, instance_tree, instances_tree};
 use crate::paths::link_tree;
-use covjson_value::put_text;
+use covjson_value::{only_member, put_text};
 use edr_base::{OutOfMemory, Refusal, Text};
 use edr_edition::{CollectionData, Edition, Kind};
 use edr_query::Page;
@@ -154,13 +154,22 @@ fn text_of(alloc: Global, tree: &Value) -> Result<Text, OutOfMemory>
     Ok(Text::from_vec(tree.to_vec(alloc)?))
 }
 
+// The text of the description that is found.
 #[tactic(auto, using(crate::proofs::NoFloat::description_no_float))]
+fn found_text(alloc: Global, page: &Page, edition: &Edition) -> Result<Text, DescribeFault>
+    requires { IsDescription page.now }
+    ensures text { IfOk result (IsFoundText edition.now page.now) }
+    ensures fault { IfErr result (IsFaultOf edition.now page.now) }
+{
+    let tree = tree_of(alloc, page, edition)?;
+    Ok(text_of(alloc, &tree)?)
+}
+
 /// The text of a page that describes (OGC 19-086r6, section 7): the service, its collections, an instance, the stations of a
 /// collection. It is compact JSON whose keys ascend. Or the first refusal that applies.
 pub fn describe(alloc: Global, page: &Page, edition: &Edition) -> Result<Text, DescribeFault>
     requires { IsDescription page.now }
     ensures { MatchDescription result edition.now page.now }
 {
-    let tree = tree_of(alloc, page, edition)?;
-    Ok(text_of(alloc, &tree)?)
+    found_text(alloc, page, edition)
 }

@@ -8,9 +8,9 @@ ghost use Rattle.covjson_value.specs.Puts.{put_if};
 ghost use Rattle.edr_describe.specs.Extents.{time_data, extent_data, coordinates_where_some};
 ghost use Rattle.edr_describe.specs.Reaches.{span_data, box_data, reach_data, IsTimed, coordinates_of_grid};
 
-use crate::leaves::{only_item, only_member, pair_of};
+use crate::leaves::{only_item, pair_of};
 use crate::reaches::{Reach, Span};
-use covjson_value::{put_text, time_tree};
+use covjson_value::{only_member, put_text, time_tree};
 use edr_base::OutOfMemory;
 use edr_edition::GridInstance;
 use edr_station::Stations;

@@ -1,21 +1,12 @@
-//! Small trees of which pages are made: arrays of few items, and objects of one member.
+//! Small trees of which pages are made: arrays of few items.
 ghost use Rattle.std.specs.Prelude.{◌≡◌, ◌∷◌, [], IfOk};
-ghost use Rattle.serde_json.specs.Data.{array, object, string, no_items, item, no_members, member};
+ghost use Rattle.serde_json.specs.Data.{array, string, no_items, item};
 ghost use Rattle.serde_json.specs.View.{view};
 ghost use Rattle.covjson_value.specs.Trees.{array_of};
 
 use edr_base::OutOfMemory;
-use serde_json::{Map, Value};
+use serde_json::Value;
 use std::alloc::Global;
-
-/// An object of one member.
-pub fn only_member(alloc: Global, key: &str, tree: Value) -> Result<Value, OutOfMemory>
-    ensures { IfOk result (λ v. view v ≡ object (member key.now (view tree) no_members)) }
-{
-    let mut members = Map::new(alloc);
-    serde_json::put(&mut members, alloc, key, tree)?;
-    Ok(Value::Object(members))
-}
 
 /// An array of one item.
 pub fn only_item(alloc: Global, tree: Value) -> Result<Value, OutOfMemory>

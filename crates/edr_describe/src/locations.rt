@@ -5,8 +5,8 @@ ghost use Rattle.serde_json.specs.View.{view};
 ghost use Rattle.covjson_value.specs.Trees.{array_of};
 ghost use Rattle.edr_describe.specs.Descriptions.{point_data, feature_data, features_page};
 
-use crate::leaves::{only_member, pair_of};
-use covjson_value::{put_text, text_of};
+use crate::leaves::pair_of;
+use covjson_value::{only_member, put_text, text_of};
 use edr_base::OutOfMemory;
 use edr_station::{Station, Stations};
 use serde_json::{Map, Value};

@@ -7,8 +7,7 @@ ghost use Rattle.edr_query.specs.declared.addresses.TheConstants.{ID_SET as IDS}
 ghost use Rattle.edr_describe.specs.Descriptions.{link_data};
 ghost use Rattle.edr_describe.specs.Describing.{data_path, linked};
 
-use crate::leaves::only_member;
-use covjson_value::put_text;
+use covjson_value::{only_member, put_text};
 use edr_base::OutOfMemory;
 use edr_query::ID_SET;
 use percent_encoding::percent_encode;

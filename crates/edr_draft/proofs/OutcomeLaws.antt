@@ -1,6 +1,5 @@
 -- Each change has one outcome, and leaves the collections that it isn't about.
 use Rattle.std.proofs.Common.{◌≡◌, ◌≢◌, ◌⊎◌, inl, inr, ℕ, codes, List, [], ◌∷◌, Option, Some, None, IfSome, refl, sym, ap, ◌∙◌, subst, arith}
-use Rattle.std.proofs.lemmas.Bool.{cases_order}
 use Rattle.covjson_value.specs.declared.coverages.Coverage.{Coverage}
 use Rattle.covjson_value.specs.declared.coverages.Referencing.{Referencing}
 use Rattle.covjson_value.specs.Coverages.{IsValid}
@@ -23,6 +22,7 @@ use Rattle.edr_draft.proofs.SeriesLaws.{levels_differ_or_not}
 use Rattle.edr_draft.proofs.RefusalLaws.{same_refuses, none_to_add, unknown_refuses, none_to_drop, set_unknown_first, drop_unknown, drop_decided, drop_station_unknown, drop_station_decided}
 use Rattle.edr_ids.specs.ListLaws.{item_found}
 use Rattle.edr_draft.proofs.CollectionLaws.{found_are_collections, bare_is_collection, made_are_collections}
+use Rattle.edr_base.specs.FirstLaws.{least_rank}
 
 -- ---- some outcome
 
@@ -120,13 +120,7 @@ fault_once cs (DropStation collection id) a b ha hb same = dropping_station_once
 fault_once cs (Bare coverage) a b ha hb same = set_once (as_instance (codes "1")) (Some (bare_collection cs coverage.referencing)) coverage a b ha hb same
 
 refused_once : (cs : List CollectionValue) (change : Change) (a b : ChangeFault) → IsRefused cs change a → IsRefused cs change b → a ≡ b
-refused_once cs change a b first first' = elim (cases_order (rank a) (rank b)) [
-  | inl same ↦ fault_once cs change a b first.applies first'.applies same
-  | inr apart ↦ elim apart [
-    | inl lower ↦ absurd (first'.none_before a lower first.applies)
-    | inr higher ↦ absurd (first.none_before b higher first'.applies)
-  ]
-]
+refused_once cs change a b first first' = fault_once cs change a b first.applies first'.applies (least_rank rank (Applies cs change) a b first first')
 
 memory_never : (cs : List CollectionValue) (change : Change) → ¬ (Applies cs change OutOfMemory)
 memory_never cs (Collection id kind title crs vertical) h = h

@@ -4,7 +4,7 @@ use denote.Ref.{Bor}
 use Rattle.std.proofs.lemmas.Bool.{and_parts, eqb-true}
 use Rattle.std.proofs.lemmas.List.{length-map}
 use Rattle.std.proofs.lemmas.List.Elements.{All-nil, All-cons, All-map, All-weaker}
-use Rattle.edr_base.specs.Limits.{node_limit, IsCoordinate}
+use Rattle.edr_base.specs.Limits.{node_limit, IsCoordinate, AreSamples}
 use Rattle.edr_base.specs.Names.{IsName}
 use Rattle.edr_axes.specs.Instants.{IsTime}
 use Rattle.covjson_value.specs.declared.domains.CoordinateName.{CoordinateName}
@@ -16,9 +16,8 @@ use Rattle.covjson_value.specs.declared.coverages.Coverage.{Coverage}
 use Rattle.covjson_value.specs.Domains.{axis_of, has_axis, tuples_of, count_of}
 use Rattle.edr_axes.specs.Axes.{axis_length}
 use Rattle.covjson_value.specs.Samples.{values_or_none}
-use Rattle.covjson_value.specs.Coverages.{IsAxisValue, IsNamedAxis, IsRange, IsValid}
+use Rattle.covjson_value.specs.Coverages.{IsAxisValue, IsNamedAxis, IsRange, IsValid, range_values}
 use Rattle.covjson_value.specs.CountLaws.{count_is}
-use Rattle.edr_chunk.specs.Samples.{AreSamples}
 use Rattle.edr_ids.specs.Ids.{without_id}
 use Rattle.edr_station.specs.Stations as station
 use Rattle.edr_station.specs.Stations.{StationValue, IsAxisWithin, IsStation, station_id, values_along}
@@ -30,7 +29,7 @@ use Rattle.edr_edition.specs.Editions.{AreAlike}
 use Rattle.edr_edition.specs.CollectionLaws.{All-without_id}
 use Rattle.edr_draft.specs.Changes.{as_station}
 use Rattle.edr_draft.specs.Steps.{Fits}
-use Rattle.edr_draft.specs.Series.{is_at_one_place, IsTimedSeries, first_of, range_values, station_of, input_over}
+use Rattle.edr_draft.specs.Series.{is_at_one_place, IsTimedSeries, first_of, station_of, input_over}
 
 -- ---- the axes of one place
 

@@ -7,7 +7,7 @@ use Rattle.covjson_value.specs.declared.coverages.NdArray.{NdArray}
 use Rattle.covjson_value.specs.declared.coverages.Coverage.{Coverage}
 use Rattle.covjson_value.specs.Domains.{axis_of, has_axis, count_of}
 use Rattle.covjson_value.specs.Samples.{values_or_none}
-use Rattle.covjson_value.specs.Coverages.{IsValid}
+use Rattle.covjson_value.specs.Coverages.{IsValid, range_values}
 use Rattle.edr_axes.specs.Axes.{value_at}
 use Rattle.edr_base.specs.Limits.{node_limit}
 use Rattle.edr_station.specs.declared.inputs.StationInput.{StationInput}
@@ -25,9 +25,6 @@ is_at_one_place (Trajectory z has_z steps) = false
 -- the first value of an axis
 abbrev pub first_of : Option (List ℤ) → ℤ
 first_of axis = value_at (values_or_none axis) 0
-
-abbrev pub range_values : NdArray → List (Option ℤ)
-range_values range = range.values
 
 -- the station that such a coverage is: its place, its axes, and the values of each of its ranges, in the order t, z
 abbrev pub station_of : List ℕ → List ℕ → Coverage → StationValue

@@ -3,7 +3,8 @@ ghost use Rattle.std.specs.Prelude.{◌≡◌, true, map, option_map, IfOk};
 ghost use Rattle.covjson_value.specs.declared.domains.CoordinateName.TheVariants.{T, Z, Y, X};
 ghost use Rattle.covjson_value.specs.Domains.{axis_of, has_axis, single};
 ghost use Rattle.covjson_value.specs.Samples.{values_or_none};
-ghost use Rattle.edr_draft.specs.Series.{is_at_one_place, first_of, range_values, input_over};
+ghost use Rattle.covjson_value.specs.Coverages.{range_values};
+ghost use Rattle.edr_draft.specs.Series.{is_at_one_place, first_of, input_over};
 
 use covjson_value::{Domain, NdArray};
 use edr_axes::Axis;

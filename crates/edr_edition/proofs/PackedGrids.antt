@@ -20,7 +20,3 @@ packer_step shape old new ranges i d values before inside is sides more =
     let all : new.values ≡ values_of (take (i + 1) ranges) =
     more ∙ (ap (λ (g : Values). g.values ++ values) before ∙ (ap (λ vs. values_of (take i ranges) ++ vs) is ∙ sym (values_more ranges i d inside))) in
     ap (λ s. grid_of s new.values) shapes ∙ ap (grid_of (with_parameters shape (i + 1))) all
-
--- a shape has its own parameters
-pub own_parameters : (shape : GridShape) (n : ℕ) → shape.parameters ≡ n → with_parameters shape n ≡ shape
-own_parameters shape n same = ap (with_parameters shape) (sym same)

@@ -5,6 +5,7 @@ use Rattle.std.proofs.lemmas.List.{length-append, take-append-drop}
 use Rattle.std.proofs.Math.Seq.{take-add}
 use Rattle.edr_edition.specs.Values.{EditionValue}
 use Rattle.edr_edition.specs.Shelves.{AreNumberedFrom, IsShelfList, IsStocked, BeginsSeen, TakenGrew, IsNext, SteppedValue, given, edition_after, first_numbers, taken_of, stepped}
+use Rattle.edr_base.specs.Limits.{count_limit}
 
 -- ---- lists that ascend
 
@@ -59,20 +60,20 @@ given_within shelf = (drop shelf.answered shelf.editions, sym (take-append-drop 
 abbrev told : ℕ → List EditionValue → Option (List ℕ)
 told answered editions = taken_of (record { editions = editions; answered = answered })
 
-told_some : (answered : ℕ) (editions : List EditionValue) → answered < 18446744073709551615 → told answered editions ≡ Some (first_numbers answered editions)
-told_some answered editions less = let is : nat_lt answered 18446744073709551615 ≡ true = grind (arith, nat_tests, less) in rw is refl
+told_some : (answered : ℕ) (editions : List EditionValue) → answered < count_limit → told answered editions ≡ Some (first_numbers answered editions)
+told_some answered editions less = let is : nat_lt answered count_limit ≡ true = grind (arith, nat_tests, less) in rw is refl
 
-told_none : (answered : ℕ) (editions : List EditionValue) → nat_lt answered 18446744073709551615 ≡ false → told answered editions ≡ None
+told_none : (answered : ℕ) (editions : List EditionValue) → nat_lt answered count_limit ≡ false → told answered editions ≡ None
 told_none answered editions is = rw is refl
 
-told_grows : (before after number : ℕ) (editions : List EditionValue) → (after < 18446744073709551615 → after ≡ before + 1) → number ≡ (edition_after before editions).number
+told_grows : (before after number : ℕ) (editions : List EditionValue) → (after < count_limit → after ≡ before + 1) → number ≡ (edition_after before editions).number
     → TakenGrew (told before editions) (told after editions) (number ∷ [])
-told_grows before after number editions next is = by_test (nat_lt after 18446744073709551615) refl
+told_grows before after number editions next is = by_test (nat_lt after count_limit) refl
   where
-    by_test : (test : Bool) → nat_lt after 18446744073709551615 ≡ test → TakenGrew (told before editions) (told after editions) (number ∷ [])
+    by_test : (test : Bool) → nat_lt after count_limit ≡ test → TakenGrew (told before editions) (told after editions) (number ∷ [])
     by_test = elim [
       | true ↦ λ tested.
-          let less : after < 18446744073709551615 = grind (arith, nat_tests, tested) in
+          let less : after < count_limit = grind (arith, nat_tests, tested) in
           let one_more : after ≡ suc before = next less ∙ add-one before in
           let was = told_some before editions (omega (arith, less, one_more)) in
           let now : told after editions ≡ Some (first_numbers before editions ++ number ∷ []) =
@@ -88,6 +89,6 @@ told_grows before after number editions next is = by_test (nat_lt after 18446744
 pub taken_grows : (before after : SteppedValue) (edition : EditionValue) → after ≡ stepped before → edition ≡ edition_after before.answered before.editions
     → TakenGrew (taken_of before) (taken_of after) (edition.number ∷ [])
 taken_grows before after edition step is =
-    let next : after.answered < 18446744073709551615 → after.answered ≡ before.answered + 1 = λ less. let count = ap (λ (shelf : SteppedValue). shelf.answered) step in omega (arith, less, count) in
+    let next : after.answered < count_limit → after.answered ≡ before.answered + 1 = λ less. let count = ap (λ (shelf : SteppedValue). shelf.answered) step in omega (arith, less, count) in
     subst (λ (editions : List EditionValue). TakenGrew (taken_of before) (told after.answered editions) (edition.number ∷ [])) (sym (ap (λ (shelf : SteppedValue). shelf.editions) step))
     (told_grows before.answered after.answered edition.number before.editions next (ap (λ (e : EditionValue). e.number) is))

@@ -14,10 +14,10 @@ use Rattle.covjson_value.specs.Samples.{values_or_none}
 use Rattle.covjson_value.specs.Coverages.{IsNamedAxis}
 use Rattle.edr_chunk.specs.declared.shapes.GridShape.{GridShape}
 use Rattle.edr_chunk.specs.Places.{nodes}
-use Rattle.edr_chunk.specs.Samples.{HasSample, AreSamples}
 use Rattle.edr_edition.specs.Values.{InstanceValue}
 use Rattle.edr_edition.specs.Instances.{IsTimedGrid, shape_of, shape_over, values_of, instance_of, IsInstance, HasGrid}
 use Rattle.edr_edition.specs.ShapeLaws.{timed_shape, ranges_fill}
+use Rattle.edr_base.specs.Limits.{HasSample, AreSamples}
 
 -- ---- axes that are there
 

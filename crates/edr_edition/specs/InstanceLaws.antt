@@ -1,12 +1,10 @@
 -- Laws of Grids with times, for the proofs of callers.
 use Rattle.std.proofs.Common.{◌≡◌, Some, None, true, refl}
-use Rattle.covjson_value.specs.declared.coverages.Coverage.{Coverage}
 use Rattle.covjson_value.specs.declared.domains.CoordinateName.TheVariants.{T, Z, Y, X}
 use Rattle.covjson_value.specs.declared.domains.Domain.{Domain}
 use Rattle.covjson_value.specs.declared.domains.Domain.TheVariants.{Grid, Point, PointSeries, VerticalProfile, MultiPoint, Trajectory}
 use Rattle.covjson_value.specs.Domains.{axis_of, has_axis, is_grid}
 use Rattle.covjson_value.specs.Samples.{values_or_none}
-use Rattle.edr_edition.specs.Instances.{IsTimedGrid}
 
 domain_with_times : (domain : Domain) → is_grid domain ≡ true → has_axis domain T ≡ true
     → domain ≡ Grid (Some (values_or_none (axis_of domain T))) (axis_of domain Z) (values_or_none (axis_of domain Y)) (values_or_none (axis_of domain X))
@@ -17,8 +15,3 @@ domain_with_times (PointSeries t z y x) grid times = cc
 domain_with_times (VerticalProfile t z y x) grid times = cc
 domain_with_times (MultiPoint t has_z spots) grid times = cc
 domain_with_times (Trajectory z has_z steps) grid times = cc
-
--- its domain is a Grid of its axes
-pub timed_grid-domain : (coverage : Coverage) → IsTimedGrid coverage
-    → coverage.domain ≡ Grid (Some (values_or_none (axis_of coverage.domain T))) (axis_of coverage.domain Z) (values_or_none (axis_of coverage.domain Y)) (values_or_none (axis_of coverage.domain X))
-timed_grid-domain coverage grid = domain_with_times coverage.domain grid.grid grid.times

@@ -1,6 +1,7 @@
 -- Editions in the order in which they are published.
 use Rattle.std.specs.Prelude.{◌≡◌, ◌≢◌, ℕ, zero, suc, ◌+◌, ◌-◌, ◌<◌, min, nat_lt, cond, List, [], ◌∷◌, ◌++◌, length, take, slice_index_or, Option, None, Some, ⊤}
 use Rattle.edr_edition.specs.Values.{EditionValue}
+use Rattle.edr_base.specs.Limits.{count_limit}
 
 -- the numbers ascend by one from that number on
 abbrev pub AreNumberedFrom : ℕ → List EditionValue → Type 0
@@ -65,8 +66,8 @@ first_numbers (suc answered) editions = first_numbers answered editions ++ (edit
 
 -- the numbers of all its answers, told as long as they are counted
 abbrev pub taken_of : SteppedValue → Option (List ℕ)
-taken_of shelf = cond (nat_lt shelf.answered 18446744073709551615) (Some (first_numbers shelf.answered shelf.editions)) None
+taken_of shelf = cond (nat_lt shelf.answered count_limit) (Some (first_numbers shelf.answered shelf.editions)) None
 
 -- the shelf after one more answer
 abbrev pub stepped : SteppedValue → SteppedValue
-stepped shelf = record { editions = shelf.editions; answered = min (shelf.answered + 1) 18446744073709551615 }
+stepped shelf = record { editions = shelf.editions; answered = min (shelf.answered + 1) count_limit }

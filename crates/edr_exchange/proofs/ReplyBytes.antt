@@ -9,8 +9,9 @@ use Rattle.edr_edition.specs.Stores.{Subject, subject_of}
 use Rattle.edr_query.specs.Values.{QueryValue}
 use Rattle.edr_query.specs.declared.pages.Page.{Page}
 use Rattle.edr_query.specs.declared.pages.Page.TheVariants.{Ask}
-use Rattle.edr_select.specs.Refusals.{refused}
 use Rattle.edr_select.specs.Documents.{document}
+use Rattle.edr_select.specs.Refusals.{IsFirstRefusal}
+use Rattle.edr_select.specs.RefusalLaws.{first_found}
 use Rattle.edr_http.specs.Replies.{Body, refusal_body, reply_text}
 use Rattle.edr_client.specs.Laws.{data_body}
 use Rattle.edr_serve.specs.Requests.{Request}
@@ -20,13 +21,13 @@ use Rattle.edr_serve.specs.Replies.{body_from, body_unless, bytes_of, first_repl
 abbrev data_of : QueryValue → Option Subject → Body
 data_of query found = record { status = 200; json = false; text = unwrap_or (option_map (λ (subject : Subject). document_text (document subject query)) found) [] }
 
-data_is : (edition : EditionValue) (query : QueryValue) (subject : Subject) → refused edition (Ask query) ≡ None → subject_of edition query.collection query.instance ≡ Some subject
+data_is : (edition : EditionValue) (query : QueryValue) (subject : Subject) → IsFirstRefusal edition (Ask query) None → subject_of edition query.collection query.instance ≡ Some subject
     → body_from edition (Ask query) ≡ data_body (document subject query)
 data_is edition query subject none named =
-    ap (λ (refusal : Option Refusal). body_unless refusal edition (Ask query)) none ∙ ap (data_of query) named
+    ap (λ (refusal : Option Refusal). body_unless refusal edition (Ask query)) (first_found edition (Ask query) None none) ∙ ap (data_of query) named
 
 -- the bytes of a reply of data
-pub data_bytes : (request : Request) (edition : EditionValue) (query : QueryValue) (subject : Subject) → request.is_head ≡ false → refused edition (Ask query) ≡ None
+pub data_bytes : (request : Request) (edition : EditionValue) (query : QueryValue) (subject : Subject) → request.is_head ≡ false → IsFirstRefusal edition (Ask query) None
     → subject_of edition query.collection query.instance ≡ Some subject
     → bytes_of (reply_from request (Ask query) edition) ≡ reply_text (data_body (document subject query)) (Some edition.number) false (is_some request.end)
 data_bytes request edition query subject get none named =
@@ -34,11 +35,11 @@ data_bytes request edition query subject get none named =
     ∙ ap (λ (body : Body). reply_text body (Some edition.number) false (is_some request.end)) (data_is edition query subject none named)
 
 -- of a reply that refuses a page
-pub refused_bytes : (request : Request) (edition : EditionValue) (page : Page) (refusal : Refusal) → request.is_head ≡ false → refused edition page ≡ Some refusal
+pub refused_bytes : (request : Request) (edition : EditionValue) (page : Page) (refusal : Refusal) → request.is_head ≡ false → IsFirstRefusal edition page (Some refusal)
     → bytes_of (reply_from request page edition) ≡ reply_text (refusal_body refusal) (Some edition.number) false (is_some request.end)
 refused_bytes request edition page refusal get some =
     ap (λ (is_head : Bool). reply_text (body_from edition page) (Some edition.number) is_head (is_some request.end)) get
-    ∙ ap (λ (found : Option Refusal). reply_text (body_unless found edition page) (Some edition.number) false (is_some request.end)) some
+    ∙ ap (λ (found : Option Refusal). reply_text (body_unless found edition page) (Some edition.number) false (is_some request.end)) (first_found edition page (Some refusal) some)
 
 -- and of one that refuses the request itself
 pub bytes_without : (request : Request) (refusal : Refusal) → request.is_head ≡ false

@@ -12,7 +12,7 @@ use Rattle.edr_query.specs.Targets.{IsTarget}
 use Rattle.edr_query.specs.Spelling.{spell}
 use Rattle.edr_query.specs.declared.pages.Page.{Page}
 use Rattle.edr_query.specs.declared.pages.Page.TheVariants.{Ask}
-use Rattle.edr_select.specs.Refusals.{refused}
+use Rattle.edr_select.specs.Refusals.{IsFirstRefusal}
 use Rattle.edr_select.specs.Documents.{document}
 use Rattle.edr_reply.specs.Messages.{body_limit}
 use Rattle.edr_client.specs.Replies.{IsReply, IsNotData}
@@ -31,7 +31,7 @@ pub record IsTold (edition : EditionValue) : Type 0 where
 -- a query that an edition answers with a document
 pub record IsAnswered (edition : EditionValue) (query : QueryValue) (subject : Subject) : Type 0 where
   pub is_query : IsQuery query
-  pub none : refused edition (Ask query) ≡ None
+  pub none : IsFirstRefusal edition (Ask query) None
   pub named : subject_of edition query.collection query.instance ≡ Some subject
 
 -- the first of the replies is heard as the document of its query in the first of the editions, with its number; the other replies follow
@@ -46,7 +46,7 @@ FirstDataIsHeard =
 abbrev pub FirstRefusalIsHeard : Type 0
 FirstRefusalIsHeard =
     (request : Request) (requests : List Request) (edition : EditionValue) (editions : List EditionValue) (page : Page) (refusal : Refusal)
-    → request.is_head ≡ false → request.asked ≡ Ok page → IsTold edition → refused edition page ≡ Some refusal
+    → request.is_head ≡ false → request.asked ≡ Ok page → IsTold edition → IsFirstRefusal edition page (Some refusal)
     → IsNotData (output (request ∷ requests) (edition ∷ editions)) (line_of refusal).status (line_of refusal).code (output requests editions)
 
 -- and likewise where the request itself is refused, for which no edition is read

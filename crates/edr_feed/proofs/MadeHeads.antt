@@ -22,10 +22,10 @@ use Rattle.covjson_value.specs.declared.domains.CoordinateName.TheVariants.{T, Z
 use Rattle.covjson_value.specs.declared.domains.Domain.{Domain}
 use Rattle.covjson_value.specs.declared.coverages.NdArray.{NdArray}
 use Rattle.covjson_value.specs.Domains.{count_of}
-use Rattle.edr_base.specs.Limits.{IsSample}
+use Rattle.edr_base.specs.Limits.{IsSample, AreSamples, HasSample}
 use Rattle.covjson_value.specs.Coverages.{IsAxisValue, IsNamedAxis, HasAxes, HasTuples, IsParameter, IsRange, IsValid}
 use Rattle.covjson_write.specs.Writers.{IsHead}
-use Rattle.covjson_read.specs.NameLaws.{name_tells}
+use Rattle.edr_base.specs.NameLaws.{name_tells}
 use Rattle.edr_feed.specs.Made.{spaced, first_time, coverage_over, node_value, row_values, grid_values, grid_domain, grid_coverage, station_value, series_values, series_domain, series_coverage}
 
 -- ---- axes
@@ -93,7 +93,7 @@ unfolding is_utf8 chars encode_utf8
 english = IsUtf8-from_is_utf8 (codes "en") refl
 
 valid_over : (domain : Domain) (id unit : List ℕ) (values : List (Option ℤ)) → HasAxes domain → HasTuples domain → IsName id → IsUtf8 unit
-    → length values ≡ count_of domain → All (λ (v : Option ℤ). IfSome v IsSample) values
+    → length values ≡ count_of domain → AreSamples values
     → IsValid (coverage_over domain id unit (record { values = values } ∷ []))
 unfolding IsStrictlySortedBy
 valid_over domain id unit values axes tuples name symbol count samples = record {
@@ -129,19 +129,19 @@ pub row_long : (number columns row : ℕ) → length (row_values number columns 
 unfolding row_values
 row_long number columns row = length-map-range_with_len (node_value number row) 0 columns
 
-row_is : (number columns row : ℕ) → All (λ (v : Option ℤ). IfSome v IsSample) (row_values number columns row)
+row_is : (number columns row : ℕ) → AreSamples (row_values number columns row)
 unfolding row_values
-row_is number columns row = All-map (λ (v : Option ℤ). IfSome v IsSample) (node_value number row) (range_with_len 0 columns) (λ k d inside. node_is number row _)
+row_is number columns row = All-map HasSample (node_value number row) (range_with_len 0 columns) (λ k d inside. node_is number row _)
 
 rows_long : (number columns first count : ℕ) → length (flat_map (row_values number columns) (range_with_len first count)) ≡ count * columns
 rows_long number columns first zero = omega arith
 rows_long number columns first (suc count) =
     omega (arith, length-append (row_values number columns first) (flat_map (row_values number columns) (range_with_len (first + 1) count)), row_long number columns first, rows_long number columns (first + 1) count, suc-mul count columns)
 
-rows_are : (number columns first count : ℕ) → All (λ (v : Option ℤ). IfSome v IsSample) (flat_map (row_values number columns) (range_with_len first count))
-rows_are number columns first zero = All-nil (λ (v : Option ℤ). IfSome v IsSample)
+rows_are : (number columns first count : ℕ) → AreSamples (flat_map (row_values number columns) (range_with_len first count))
+rows_are number columns first zero = All-nil HasSample
 rows_are number columns first (suc count) =
-    All-append (λ (v : Option ℤ). IfSome v IsSample) (row_values number columns first) (flat_map (row_values number columns) (range_with_len (first + 1) count))
+    All-append HasSample (row_values number columns first) (flat_map (row_values number columns) (range_with_len (first + 1) count))
     (row_is number columns first) (rows_are number columns (first + 1) count)
 
 pub grid_count : (rows columns : ℕ) → count_of (grid_domain rows columns) ≡ rows * columns
@@ -154,7 +154,7 @@ grid_long : (number rows columns : ℕ) → length (grid_values number rows colu
 unfolding grid_values
 grid_long number rows columns = rows_long number columns 0 rows ∙ sym (grid_count rows columns)
 
-grid_are : (number rows columns : ℕ) → All (λ (v : Option ℤ). IfSome v IsSample) (grid_values number rows columns)
+grid_are : (number rows columns : ℕ) → AreSamples (grid_values number rows columns)
 unfolding grid_values
 grid_are number rows columns = rows_are number columns 0 rows
 
@@ -184,10 +184,10 @@ pub series_long : (number times station : ℕ) → length (series_values number 
 unfolding series_values
 series_long number times station = length-map-range_with_len (station_value number station) 0 times
 
-series_are : (number times station : ℕ) → All (λ (v : Option ℤ). IfSome v IsSample) (series_values number times station)
+series_are : (number times station : ℕ) → AreSamples (series_values number times station)
 unfolding series_values
 series_are number times station =
-    All-map (λ (v : Option ℤ). IfSome v IsSample) (station_value number station) (range_with_len 0 times) (λ k d inside. digit _)
+    All-map HasSample (station_value number station) (range_with_len 0 times) (λ k d inside. digit _)
 
 series_axes : (times station : ℕ) → 0 < times → times ≤ 1_000_000 → station < 100 → HasAxes (series_domain times station)
 series_axes times station some few low T = spaced_named T first_time 3_600 times (omega arith) some (λ k inside. in_time (first_time + 3_600 * k) (omega arith))

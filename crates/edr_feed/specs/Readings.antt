@@ -35,22 +35,22 @@ is_bare other = false
 -- ---- a line
 
 -- a line within the limit that isn't blank
-abbrev pub IsText : List ℕ → Type 0
-IsText line = (length line ≤ line_limit) × (¬ (IsBlank line))
+abbrev pub IsFilled : List ℕ → Type 0
+IsFilled line = (length line ≤ line_limit) × (¬ (IsBlank line))
 
 -- why a line says nothing
 abbrev pub SaysNothing : List ℕ → LineFault → Type 0
 SaysNothing line faults.LineTooLong = line_limit < length line
-SaysNothing line faults.NotJson = IsText line × IsNoJson line
-SaysNothing line faults.NotFeedLine = IsText line × (tree : Data) × IsJson line tree × IsNoEntry tree faults.NotFeedLine
-SaysNothing line (faults.Cov fault) = IsText line × (tree : Data) × IsJson line tree × IsNoEntry tree (faults.Cov fault)
+SaysNothing line faults.NotJson = IsFilled line × IsNoJson line
+SaysNothing line faults.NotFeedLine = IsFilled line × (tree : Data) × IsJson line tree × IsNoEntry tree faults.NotFeedLine
+SaysNothing line (faults.Cov fault) = IsFilled line × (tree : Data) × IsJson line tree × IsNoEntry tree (faults.Cov fault)
 SaysNothing line (faults.Change fault) = ⊥
 SaysNothing line faults.OutOfMemory = ⊤
 
 -- what a line says
 abbrev pub Says : List ℕ → Result (Option Entry) LineFault → Type 0
 Says line (Ok None) = (length line ≤ line_limit) × IsBlank line
-Says line (Ok (Some entry)) = IsText line × (tree : Data) × IsJson line tree × HasForm tree entry
+Says line (Ok (Some entry)) = IsFilled line × (tree : Data) × IsJson line tree × HasForm tree entry
 Says line (Err fault) = SaysNothing line fault
 
 -- why an entry isn't done

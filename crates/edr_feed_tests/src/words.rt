@@ -2,8 +2,7 @@
 ghost use Rattle.std.specs.Prelude.{◌≡◌, IfOk, IfSome, IsUtf8, All};
 ghost use Rattle.edr_base.specs.Names.{IsName};
 ghost use Rattle.edr_axes.specs.Instants.{IsTime};
-ghost use Rattle.edr_chunk.specs.Samples.{HasSample, AreSamples};
-ghost use Rattle.edr_base.specs.Limits.{IsCoordinate};
+ghost use Rattle.edr_base.specs.Limits.{IsCoordinate, HasSample, AreSamples};
 ghost use Rattle.edr_station.specs.Stations.{IsAxisWithin};
 ghost use Rattle.edr_station.specs.Inputs.{IsInput};
 

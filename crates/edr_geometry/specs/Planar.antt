@@ -4,19 +4,16 @@ use Rattle.std.specs.Ordering.{int_eq}
 use Rattle.std.specs.List.{list_any, flat_map}
 use Rattle.edr_base.specs.declared.places.Position.{Position}
 use Rattle.edr_base.specs.declared.places.Spot.{Spot}
+use Rattle.edr_base.specs.Boxes.{is_between}
 use Rattle.edr_wkt.specs.declared.geometry.Polygon.{Polygon}
 
 -- the place of a position
 abbrev pub spot_of : Position → Spot
 spot_of p = record { x = p.x; y = p.y }
 
--- v lies from low to high, both included
-abbrev pub between : ℤ → ℤ → ℤ → Bool
-between low high v = int_le low v && int_le v high
-
 -- v lies from one to the other, whichever is less
 abbrev pub is_among : ℤ → ℤ → ℤ → Bool
-is_among one other v = between one other v || between other one v
+is_among one other v = is_between one other v || is_between other one v
 
 -- the cross product of b - a and p - a: above 0 where p is to the left of the way from a to b
 abbrev pub cross : Spot → Spot → Spot → ℤ

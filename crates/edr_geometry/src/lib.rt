@@ -18,3 +18,4 @@ pub use masks::RowMask;
 pub use near::near_segment;
 pub use points::{in_disc, on_segment, squared_distance};
 pub use polygons::in_polygons;
+pub use rows::spot_of;

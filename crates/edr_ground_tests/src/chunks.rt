@@ -1,7 +1,7 @@
 ghost use Rattle.std.specs.Prelude.{◌≡◌, ◌<◌, ◌+◌, ◌^◌, IfOk, OnOk, length};
-ghost use Rattle.edr_chunk.specs.Samples.{HasSample, AreSamples};
 ghost use Rattle.edr_chunk.specs.Places.{count, nodes};
 ghost use Rattle.edr_chunk.specs.Tiles.{with_parameters};
+ghost use Rattle.edr_base.specs.Limits.{HasSample, AreSamples};
 
 use edr_base::{OutOfMemory, SAMPLE_LIMIT};
 use edr_chunk::{

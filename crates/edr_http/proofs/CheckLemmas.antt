@@ -1,59 +1,15 @@
 -- The first refusal of a head.
-use Rattle.std.proofs.Common.{◌≡◌, true, false, reverse, List, [], ◌∷◌, ◌++◌, ℕ, ◌==◌, ◌<◌, ⊎_elim, refl, ap, sym, ◌∙◌, arith, Some, None}
-use Rattle.std.specs.Prelude.{if◌then◌else◌}
-use Rattle.std.proofs.lemmas.Bool.Decides.{leb_tells}
+use Rattle.std.proofs.Common.{◌≡◌, true, false, reverse, List, [], ◌∷◌, ◌++◌, ℕ, ap, sym, ◌∙◌}
 use Rattle.std.proofs.lemmas.Bool.{cond-true, cond-false}
 use Rattle.std.proofs.lemmas.List.{reverse-append, reverse-reverse}
 use Rattle.httparse.specs.Grammar.{is_ows, skip_ows, trim_ows}
-use Rattle.edr_base.specs.declared.refusals.Refusal.{Refusal}
-use Rattle.edr_base.specs.declared.refusals.Refusal.TheVariants.{BadHead, BodyNotAllowed, BadHost, VersionNotOffered, MethodNotOffered, NoSuchPage, UnknownParameter, RepeatedParameter, BadFormat, MissingParameter, BadCoords, WrongGeometry, BadBbox, BadDatetime, BadLevel, BadDistance, Conflict, UnknownCollection, UnknownInstance, UnknownLocation, QueryNotOffered, UnknownParameterName, BadCrs, NoLevels, NoSamples, TooLarge}
-use Rattle.edr_http.specs.declared.heads.Head.{Head}
-use Rattle.edr_base.specs.RefusalTable.{rank}
 use Rattle.edr_http.specs.Checks.{Applies, RefusalIsOne}
+use Rattle.edr_base.specs.RefusalLaws.{first_once}
 
--- of the refusals that apply to heads, the one of a number
-abbrev refusal_at : ℕ → Refusal
-refusal_at n = if n == 2 then BodyNotAllowed else if n == 3 then BadHost else if n == 4 then VersionNotOffered else MethodNotOffered
-
-rank_back : (head : Head) (r : Refusal) → Applies head r → refusal_at (rank r) ≡ r
-rank_back head BadHead h = absurd h
-rank_back head BodyNotAllowed h = refl
-rank_back head BadHost h = refl
-rank_back head VersionNotOffered h = refl
-rank_back head MethodNotOffered h = refl
-rank_back head NoSuchPage h = absurd h
-rank_back head UnknownParameter h = absurd h
-rank_back head RepeatedParameter h = absurd h
-rank_back head BadFormat h = absurd h
-rank_back head MissingParameter h = absurd h
-rank_back head BadCoords h = absurd h
-rank_back head WrongGeometry h = absurd h
-rank_back head BadBbox h = absurd h
-rank_back head BadDatetime h = absurd h
-rank_back head BadLevel h = absurd h
-rank_back head BadDistance h = absurd h
-rank_back head Conflict h = absurd h
-rank_back head UnknownCollection h = absurd h
-rank_back head UnknownInstance h = absurd h
-rank_back head UnknownLocation h = absurd h
-rank_back head QueryNotOffered h = absurd h
-rank_back head UnknownParameterName h = absurd h
-rank_back head BadCrs h = absurd h
-rank_back head NoLevels h = absurd h
-rank_back head NoSamples h = absurd h
-rank_back head TooLarge h = absurd h
-
--- neither is before the other
-same : (a b : ℕ) → ¬ (a < b) → ¬ (b < a) → a ≡ b
-same a b p q = ⊎_elim (λ t. ⊎_elim (λ u. omega (arith, t.1, u.1)) (λ u. absurd (q u.1)) (leb_tells a b)) (λ t. absurd (p t.1)) (leb_tells b a)
+-- ---- one refusal is the least of a head
 
 pub refusal_one : RefusalIsOne
-refusal_one head None None p q = refl
-refusal_one head None (Some b) p q = absurd (p b q.applies)
-refusal_one head (Some a) None p q = absurd (q a p.applies)
-refusal_one head (Some a) (Some b) p q =
-    let e = same (rank a) (rank b) (λ h. q.none_before a h p.applies) (λ h. p.none_before b h q.applies) in
-    ap Some (sym (rank_back head a p.applies) ∙ ap refusal_at e ∙ rank_back head b q.applies)
+refusal_one head one other p q = first_once (Applies head) one other p q
 
 -- ---- blanks at the ends of a text
 

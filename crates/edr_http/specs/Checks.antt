@@ -1,10 +1,10 @@
 -- What a head is refused for, and whether the connection is closed after it (RFC 9112, sections 3.2, 6 and 9.6; RFC 9110, section 9).
-use Rattle.std.specs.Prelude.{◌≡◌, ◌≢◌, ℕ, ◌==◌, Bool, not, ◌&&◌, ◌||◌, IsTrue, bytes_eq, codes, List, length, map, filter, MatchOption}
+use Rattle.std.specs.Prelude.{◌≡◌, ◌≢◌, ℕ, ◌==◌, Bool, not, ◌&&◌, ◌||◌, IsTrue, bytes_eq, codes, List, length, map, filter}
 use Rattle.std.specs.declared.option.Option.{Option}
 use Rattle.std.specs.List.{list_any, list_all, slice_split}
 use Rattle.std.specs.Char.{to_ascii_lowercase}
 use Rattle.httparse.specs.Grammar.{trim_ows}
-use Rattle.edr_base.specs.FirstThatApplies.{IsLeast, NoneApplies}
+use Rattle.edr_base.specs.FirstThatApplies.{IsLeastOrNone}
 use Rattle.edr_base.specs.RefusalTable.{rank}
 use Rattle.edr_base.specs.declared.refusals.Refusal.{Refusal}
 use Rattle.edr_base.specs.declared.refusals.Refusal.TheVariants.{BodyNotAllowed, BadHost, VersionNotOffered, MethodNotOffered}
@@ -56,7 +56,7 @@ Applies head other = ⊥
 
 -- the least refusal that applies to a head, or none where none does
 abbrev pub Refuses : Head → Option Refusal → Type 0
-Refuses head refusal = MatchOption refusal (NoneApplies (Applies head)) (IsLeast rank (Applies head))
+Refuses head = IsLeastOrNone rank (Applies head)
 
 -- a law: a head has one such refusal at most, or none
 abbrev pub RefusalIsOne : Type 0

@@ -12,9 +12,6 @@ take_front n xs ys e = let l : n ≤ length xs = omega (arith, e) in take-append
 pub drop_front : (n : ℕ) (xs ys : List ℕ) → length xs ≡ n → drop n (xs ++ ys) ≡ ys
 drop_front n xs ys e = subst (λ (k : ℕ). drop k (xs ++ ys) ≡ ys) e (drop-append_seam xs ys)
 
-pub chunked_nothing : chunked [] ≡ last_chunk ++ crlf
-chunked_nothing = refl
-
 -- bodies of 1 and of 17 bytes, written by hand
 pub chunked_letter : chunked (codes "a") ≡ codes "1\r\na\r\n0\r\n\r\n"
 unfolding digits

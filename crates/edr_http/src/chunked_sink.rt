@@ -3,6 +3,7 @@ ghost use Rattle.std.specs.Prelude.{◌≡◌, ◌≤◌, ◌<◌, ◌+◌, ◌-
 ghost use Rattle.std.specs.Io.KnownBytes.{append_known};
 ghost use Rattle.edr_base.specs.Outside.{Rose};
 ghost use Rattle.edr_base.specs.Calls.{Appended, Flushed, SinkLent, Writes};
+ghost use Rattle.edr_base.specs.Limits.{count_limit};
 ghost use Rattle.edr_http.specs.Chunks.{chunk_length, chunked};
 ghost use Rattle.edr_http.specs.ChunkedSinkParts.{IsFrame, full_chunk_length, piece_in, has_room, rebuilt_known, body_known, bottom_known, both_told};
 ghost use Rattle.std.proofs.Props.{props};
@@ -61,7 +62,7 @@ impl<K: Sink> Sink for ChunkedSink<K> {
 
         // beyond the trait: nothing is flushed, and no piece can be counted any more
         ensures settled { K.flushed (sink_inside self.new) ≡ K.flushed (sink_inside self.old) }
-        ensures last { pieces_sent self.old ≡ 18446744073709551615 → 0 < length piece.now
+        ensures last { pieces_sent self.old ≡ count_limit → 0 < length piece.now
             → result ≡ Err Stop.OutOfMemory }
     {
         if piece.is_empty() {
@@ -127,7 +128,7 @@ fn send_part<K: Sink>(sink: &mut K, text: &[u8], start: usize, end: usize) -> Re
 impl<K: Sink> ChunkedSink<K> {
     // Sends what is left of the present piece's chunk where the piece is full.
     fn make_room(&mut self) -> Result<(), Stop>
-        requires more { self.old.pieces < 18446744073709551615 }
+        requires more { self.old.pieces < count_limit }
         requires going { self.old.ended ≡ false }
         ensures body { body_known self.new.pieces self.new.sent (piece_in self.new.frame self.new.used) (K.written self.new.sink)
             ≡ body_known self.old.pieces self.old.sent (piece_in self.old.frame self.old.used) (K.written self.old.sink) }

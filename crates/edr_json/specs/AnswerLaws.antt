@@ -14,11 +14,6 @@ pub or_fault_ok : {F T : Type 0} (o : Option T) (f : F) (x : T) → or_fault o f
 or_fault_ok None f x h = cc
 or_fault_ok (Some y) f x h = cc
 
--- what a fact of the value tells of it
-pub if_ok : {T F : Type 0} (r : Result T F) (P Q : T → Type 0) → ((x : T) → P x → Q x) → IfOk r P → IfOk r Q
-if_ok (Ok x) P Q step h = step x h
-if_ok (Err f) P Q step h = tt
-
 -- and what two facts of it tell together
 pub if_both : {T F : Type 0} (r : Result T F) (P Q R : T → Type 0) → ((x : T) → P x → Q x → R x) → IfOk r P → IfOk r Q → IfOk r R
 if_both (Ok x) P Q R step h k = step x h k

@@ -1,6 +1,6 @@
 -- Laws of trees of JSON.
-use Rattle.std.proofs.Common.{◌≡◌, ℕ, suc, ◌≤◌, ◌<◌, ◌+◌, ◌++◌, ℤ, List, [], ◌∷◌, length, map, get_or, drop, All, Option, Some, None, refl, ap, append_assoc, append-nil}
-use Rattle.std.proofs.lemmas.List.{drop_more, drop_all}
+use Rattle.std.proofs.Common.{◌≡◌, ℕ, suc, ◌<◌, ◌+◌, ◌++◌, ℤ, List, [], ◌∷◌, length, map, get_or, drop, All, Option, Some, None, refl, ap, append_assoc}
+use Rattle.std.proofs.lemmas.List.{drop_more}
 use Rattle.std.proofs.lemmas.List.Elements.{All-head, All-tail}
 use Rattle.serde_json.specs.Data.{Data, null, boolean, number, string, array, object, Items, Members, Num}
 use Rattle.serde_json.specs.Find.{get, as_array, as_object, as_str, as_number, as_integer}
@@ -55,12 +55,6 @@ pub stands_more : {V : Type 0} (R : Data → V → Type 0) (xs : List Value) (i 
 stands_more R xs i x found new v h is r pushed before rest s =
     let here : R (view (get_or xs i x)) v = rw (← is) r in
     rw (pushed, append_assoc found (v ∷ []) rest) (before (v ∷ rest) (rw (drop_more xs i x h) (here, s)))
-
--- and in the end those that were found are the values of all
-pub stands_all : {V : Type 0} (R : Data → V → Type 0) (xs : List Value) (i : ℕ) (found : List V) → length xs ≤ i
-    → ((rest : List V) → EachStands R (items_view (drop i xs)) rest → EachStands R (items_view xs) (found ++ rest))
-    → EachStands R (items_view xs) found
-stands_all R xs i found h before = rw (append-nil found) at (before [] (rw (drop_all i xs h) tt))
 
 -- what has a member is an object
 pub member_of_object : (key : List ℕ) (d v : Data) → get key d ≡ Some v → (ms : Members) × (as_object d ≡ Some ms)

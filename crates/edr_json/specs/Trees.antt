@@ -1,7 +1,17 @@
 -- What is asked of trees of JSON (RFC 8259) everywhere.
 use Rattle.std.specs.Prelude.{◌≡◌, ℕ, suc, zero, ◌==◌, ℤ, ⊤, Bool, false, bytes_eq, codes, List, [], ◌∷◌, Option, None, Some, option_and_then}
-use Rattle.serde_json.specs.Data.{Data, null, boolean, number, string, array, object, Items, no_items, item, Members, no_members, member}
+use Rattle.serde_json.specs.Data.{Data, null, boolean, number, string, array, object, Items, no_items, item, Members, no_members, member, Num}
 use Rattle.serde_json.specs.Find.{get, as_object, as_str, as_number, as_integer, as_u64}
+
+-- a text, a number, an object
+abbrev pub IsText : Data → Type 0
+IsText d = (text : List ℕ) × (d ≡ string text)
+
+abbrev pub IsNumber : Data → Type 0
+IsNumber d = (n : Num) × (d ≡ number n)
+
+abbrev pub IsObject : Data → Type 0
+IsObject d = (members : Members) × (d ≡ object members)
 
 -- the text of what was found, or the empty text
 abbrev pub text_or_empty : Option Data → List ℕ

@@ -8,13 +8,14 @@ use Rattle.std.proofs.lemmas.Bool.{eq-eqb, eqb-true, cases_eq, or_right, ne_eqb}
 use Rattle.std.proofs.lemmas.List.{take_more, get_or-set_same, get_or-set_other}
 use Rattle.std.proofs.lemmas.List.Elements.{All-filter}
 use Rattle.std.proofs.lemmas.List.Folds.{list_any-append}
+use Rattle.std.specs.Option.{option_or}
 use Rattle.edr_axes.specs.Axes.{axis_length}
 use Rattle.edr_query.specs.declared.shapes.Shape.{Shape}
 use Rattle.edr_query.specs.declared.shapes.Shape.TheVariants as at
 use Rattle.edr_query.specs.Values.{QueryValue}
 use Rattle.edr_select.specs.ListLaws.{both, passing, any_member}
 use Rattle.edr_select.specs.KeptLaws.{all_below, contains_kept, kept_passes}
-use Rattle.edr_select.specs.Wanted.{either, levels_asked, levels_of}
+use Rattle.edr_select.specs.Wanted.{levels_asked, levels_of}
 use Rattle.edr_lines.specs.Corridors.{IsCorridor}
 
 -- ---- places of a list
@@ -65,7 +66,7 @@ pub same_count : (zs : Option (List ℤ)) → axis_length zs ≡ axis_length zs
 same_count None = refl
 same_count (Some values) = refl
 
-either_none : {V : Type 0} (asked : Option V) → either asked None ≡ asked
+either_none : {V : Type 0} (asked : Option V) → option_or asked None ≡ asked
 either_none None = refl
 either_none (Some one) = refl
 
@@ -80,4 +81,4 @@ none_of_shape (at.Location station) h = elim h [ ]
 
 -- a corridor asks for levels by its query alone
 pub corridor_levels : (q : QueryValue) → IsCorridor q.shape → levels_asked q ≡ q.levels
-corridor_levels q h = ap (either q.levels) (none_of_shape q.shape h) ∙ either_none q.levels
+corridor_levels q h = ap (option_or q.levels) (none_of_shape q.shape h) ∙ either_none q.levels

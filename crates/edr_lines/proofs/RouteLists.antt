@@ -5,6 +5,7 @@ use Rattle.std.specs.Prelude.{map, ◌⊎◌, ◌&&◌, ◌||◌, not, is_some}
 use Rattle.std.specs.List.{filter, flat_map}
 use Rattle.std.proofs.lemmas.Bool.{false≢true}
 use Rattle.std.proofs.lemmas.List.Folds.{flat_map-map}
+use Rattle.std.specs.Option.{option_or}
 use Rattle.edr_axes.specs.Axes.{value_at, IsAxis, axis_length}
 use Rattle.edr_axes.specs.declared.levels.Levels.{Levels}
 use Rattle.edr_axes.specs.declared.times.Times.{Times}
@@ -29,7 +30,7 @@ use Rattle.edr_select.specs.ListLaws.{each-flat_map_in, each-map_in, map-map, ma
 use Rattle.edr_select.specs.Listings.{place_at}
 use Rattle.edr_select.specs.Samples.{node_at}
 use Rattle.edr_select.specs.Steps.{lacks_levels}
-use Rattle.edr_select.specs.Wanted.{takes_time, takes_level, levels_asked, either, levels_of}
+use Rattle.edr_select.specs.Wanted.{takes_time, takes_level, levels_asked, levels_of}
 use Rattle.edr_chunk.specs.Places.{Within}
 use Rattle.edr_lines.specs.Routes.{RouteValue, route_at, HasTurns, LiesOn, nodes_on, lists_on, IsRouteOver, turned}
 use Rattle.edr_lines.proofs.LineGrids.{grid_from, all_from_members, each_member, cases_empty, flat_map_agree_in, flat_map_none, filter_each, filter_nothing}
@@ -52,9 +53,9 @@ levels_are false asked None none = sym (ap (λ (o : Option Levels). map (turn_le
 
 -- along a line without levels of its own those of `z` are asked
 same_levels : (q : QueryValue) (line : Geometry) → q.shape ≡ at.Trajectory line → levels_asked q ≡ q.levels
-same_levels q line shape = ap (λ (k : Shape). either q.levels (levels_of k)) shape ∙ without q.levels
+same_levels q line shape = ap (λ (k : Shape). option_or q.levels (levels_of k)) shape ∙ without q.levels
   where
-    without : (asked : Option Levels) → either asked None ≡ asked
+    without : (asked : Option Levels) → option_or asked None ≡ asked
     without None = refl
     without (Some levels) = refl
 

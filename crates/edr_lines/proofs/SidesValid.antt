@@ -7,7 +7,7 @@ use Rattle.std.proofs.lemmas.List.Elements.{All-map}
 use Rattle.covjson_value.specs.declared.domains.Domain.{Domain}
 use Rattle.covjson_value.specs.declared.coverages.Parameter.{Parameter}
 use Rattle.covjson_value.specs.declared.coverages.NdArray.{NdArray}
-use Rattle.edr_base.specs.Limits.{IsSample}
+use Rattle.edr_base.specs.Limits.{IsSample, HasSample}
 use Rattle.covjson_value.specs.Coverages.{IsReferencing, IsRange, IsValid}
 use Rattle.covjson_value.specs.Samples.{nodes_of, is_of}
 use Rattle.edr_chunk.specs.Places.{number}
@@ -56,7 +56,7 @@ module _ (s : Subject) (q : QueryValue) (i : InstanceValue) (held : s.held ≡ o
   range_valid : (p : Parameter) → IsRange domain (range_of p)
   range_valid p = record {
     count = length-map (nodes_of domain) (value_in (picked s q) None p.id) ∙ (count_nodes s q i held (grid_from i h) takes selects sides are ∙ sym (counted s q i h referencing takes sides are));
-    samples = All-map (λ v. IfSome v IsSample) (value_in (picked s q) None p.id) (nodes_of domain)
+    samples = All-map HasSample (value_in (picked s q) None p.id) (nodes_of domain)
         (λ k d l. found_sample (λ (x : Stored). same_station x.station None && is_of p.id (slice_index_or (nodes_of domain) k d) x.sample) (picked s q) picks_are_samples);
   }
 

@@ -7,6 +7,7 @@ use Rattle.edr_corridor.specs.declared.boxes.SegmentBox.{SegmentBox}
 use Rattle.edr_corridor.specs.Boxes.{lies_in}
 use Rattle.edr_select.specs.Listings.{NumbersRise}
 use Rattle.edr_select.specs.Stacks.{SidesValue, plane_size, time_at, level_at}
+use Rattle.edr_select.specs.Masks.{AreAmong}
 use Rattle.edr_lines.specs.Taken.{NodeTest}
 use Rattle.edr_lines.specs.Boxes.{has_node}
 
@@ -36,11 +37,8 @@ abbrev pub node_number : SidesValue → ℕ → ℕ → ℕ
 node_number sides y x = place_in_row (y - sides.row) sides.columns (x - sides.column)
 
 -- a node of some sides
-pub record InBox (sides : SidesValue) (y x : ℕ) : Type 0 where
-  pub low : sides.row ≤ y
-  pub high : y < sides.row + sides.rows
-  pub left : sides.column ≤ x
-  pub right : x < sides.column + sides.columns
+abbrev pub InBox : SidesValue → ℕ → ℕ → Type 0
+InBox sides = AreAmong sides.row sides.rows sides.column sides.columns
 
 -- the nodes of a plane that pass a test were set
 pub record PlaneSet (sides : SidesValue) (test : ℕ → ℕ → Bool) (old new : List Bool) : Type 0 where

@@ -20,7 +20,7 @@ use Rattle.edr_query.specs.declared.shapes.Shape.{Shape}
 use Rattle.edr_query.specs.declared.shapes.Shape.TheVariants as at
 use Rattle.edr_query.specs.Values.{QueryValue}
 use Rattle.edr_query.specs.Queries.{IsQuery}
-use Rattle.edr_select.specs.Refusals.{Applies, applies_if, applies_if_found, applies_in, applies_to_subject, is_of_grids, offers, offers_shape, IsRefusedLeast, RefusalIsLeast}
+use Rattle.edr_select.specs.Refusals.{Applies, applies_if, applies_if_found, applies_in, applies_to_subject, is_of_grids, offers, offers_shape}
 use Rattle.edr_select.specs.Selections.{picked}
 use Rattle.edr_select.specs.Heads.{is_some_stored}
 use Rattle.edr_select.specs.Documents.{document}
@@ -179,8 +179,7 @@ module _ (of_grids : GridDocumentsAreValid) (of_lines : LineDocumentsAreValid) (
   pub document_valid : IsValidDocument (document subject q)
   document_valid = over c.kind refl answers
 
-pub documents_are_valid : RefusalIsLeast → GridDocumentsAreValid → LineDocumentsAreValid → DocumentsAreValid
-documents_are_valid least of_grids of_lines e q subject are query none named =
-    let none_applies : NoneApplies (Applies e (Ask q)) = subst (IsRefusedLeast e (Ask q)) none (least e (Ask q)) in
-    let found = collection_at q (item_of collection_id q.collection e.collections) (none_applies UnknownCollection) in
-    document_valid of_grids of_lines e q subject are query none_applies named found.0 found.1
+pub documents_are_valid : GridDocumentsAreValid → LineDocumentsAreValid → DocumentsAreValid
+documents_are_valid of_grids of_lines e q subject are query none named =
+    let found = collection_at q (item_of collection_id q.collection e.collections) (none UnknownCollection) in
+    document_valid of_grids of_lines e q subject are query none named found.0 found.1

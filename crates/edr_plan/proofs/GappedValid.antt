@@ -6,7 +6,6 @@ use Rattle.std.specs.List.{filter, range_with_len}
 use Rattle.std.proofs.lemmas.List.{length-map}
 use Rattle.std.proofs.lemmas.List.Elements.{All-map, All-filter, filter_passes}
 use Rattle.edr_axes.specs.Axes.{value_at}
-use Rattle.edr_chunk.specs.Samples.{HasSample}
 use Rattle.covjson_value.specs.declared.domains.Domain.{Domain}
 use Rattle.covjson_value.specs.declared.coverages.Parameter.{Parameter}
 use Rattle.covjson_value.specs.Coverages.{IsRange, IsValid}
@@ -34,6 +33,7 @@ use Rattle.edr_plan.specs.CorridorPlans.{CorridorValue, choice_along, cells_alon
 use Rattle.edr_plan.proofs.ChosenPlaces.{domain_axes, domain_count}
 use Rattle.edr_plan.proofs.StationValid.{id_head, station_is, values_sample}
 use Rattle.edr_plan.proofs.GappedCells.{along_chosen, along_count, along_rises, along_below}
+use Rattle.edr_base.specs.Limits.{HasSample}
 
 places_are : (collection : CollectionValue) (q : QueryValue) (c : CorridorValue) (ks : List ℕ) → map place_of (map (gapped_of collection q c) ks) ≡ ks
 places_are collection q c [] = refl

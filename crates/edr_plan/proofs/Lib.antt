@@ -30,3 +30,4 @@ mod GappedRows
 mod GappedSteps
 mod NoneAsked
 mod GappedReplies
+mod FoundPlans

@@ -7,7 +7,6 @@ use Rattle.std.proofs.lemmas.Bool.{cases_lt}
 use Rattle.std.proofs.lemmas.List.{length-map, get_or_past}
 use Rattle.std.proofs.lemmas.List.Elements.{All-map, All-filter, filter_passes}
 use Rattle.edr_axes.specs.Axes.{value_at}
-use Rattle.edr_chunk.specs.Samples.{HasSample, AreSamples}
 use Rattle.covjson_value.specs.declared.domains.CoordinateName.TheVariants.{T, Z, Y, X}
 use Rattle.covjson_value.specs.declared.domains.Domain.{Domain}
 use Rattle.covjson_value.specs.declared.coverages.Parameter.{Parameter}
@@ -15,7 +14,7 @@ use Rattle.covjson_value.specs.declared.coverages.Coverage.{Coverage}
 use Rattle.covjson_value.specs.Domains.{count_of}
 use Rattle.covjson_value.specs.Coverages.{IsNamedAxis, IsRange, IsValid, HasAxes}
 use Rattle.covjson_write.specs.Writers.{IsHead}
-use Rattle.edr_base.specs.Limits.{IsCoordinate}
+use Rattle.edr_base.specs.Limits.{IsCoordinate, HasSample, AreSamples}
 use Rattle.edr_station.specs.Stations.{StationValue, IsStation, IsAxisWithin, station_at, nowhere}
 use Rattle.edr_edition.specs.Values.{CollectionValue}
 use Rattle.edr_edition.specs.Editions.{IsCollection}

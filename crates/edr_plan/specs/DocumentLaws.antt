@@ -7,9 +7,9 @@ use Rattle.edr_edition.specs.Stores.{Subject, subject_of}
 use Rattle.edr_query.specs.declared.pages.Page.TheVariants.{Ask}
 use Rattle.edr_query.specs.Values.{QueryValue}
 use Rattle.edr_query.specs.Queries.{IsQuery}
-use Rattle.edr_select.specs.Refusals.{refused}
+use Rattle.edr_select.specs.Refusals.{IsFirstRefusal}
 use Rattle.edr_select.specs.Documents.{document}
 
 abbrev pub DocumentsAreValid : Type 0
 DocumentsAreValid = (edition : EditionValue) (query : QueryValue) (subject : Subject) → AreCollections edition.collections → IsQuery query
-    → refused edition (Ask query) ≡ None → subject_of edition query.collection query.instance ≡ Some subject → IsValidDocument (document subject query)
+    → IsFirstRefusal edition (Ask query) None → subject_of edition query.collection query.instance ≡ Some subject → IsValidDocument (document subject query)

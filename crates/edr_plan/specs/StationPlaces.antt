@@ -1,12 +1,12 @@
--- The samples of stations by their places: of a station, a parameter, a time and a level; and the places that a query takes.
-use Rattle.std.specs.Prelude.{⊤, ℕ, ◌+◌, ◌*◌, ◌/◌, Bool, true, false, ◌&&◌, bytes_eq, if◌then◌else◌, List, [], ◌∷◌, length, map, None, Some}
+-- For private clauses: the samples of stations by their places: of a station, a parameter, a time and a level; and the places that a query takes.
+use Rattle.std.specs.Prelude.{⊤, ℕ, ◌/◌, Bool, true, false, ◌&&◌, bytes_eq, if◌then◌else◌, List, [], ◌∷◌, length, map, None, Some}
 use Rattle.std.specs.List.{filter, flat_map, range_with_len, slice_index_or}
 use Rattle.edr_base.specs.declared.places.Spot.{Spot}
 use Rattle.edr_axes.specs.Axes.{value_at}
 use Rattle.covjson_value.specs.declared.coverages.Parameter.{Parameter}
 use Rattle.covjson_value.specs.Samples.{node}
 use Rattle.edr_station.specs.Stations.{StationValue, station_at}
-use Rattle.edr_station.specs.Blocks.{block_length, blocks_of, first_block, series_at, place_in_series}
+use Rattle.edr_station.specs.Blocks.{block_length, blocks_of, first_block, series_at, place_in_series, block_number}
 use Rattle.edr_query.specs.declared.shapes.Shape.{Shape}
 use Rattle.edr_query.specs.declared.shapes.Shape.TheVariants as at
 use Rattle.edr_query.specs.Values.{QueryValue}
@@ -32,7 +32,7 @@ stored_of ps s first p t z = record {
     value = slice_index_or (series_at s p) (cell_of s t z) None;
   };
   station = Some s.id;
-  chunk = first + p * blocks_of s + cell_of s t z / block_length;
+  chunk = block_number first (blocks_of s) p (cell_of s t z / block_length);
 }
 
 -- the sample at the places of a station, a parameter, a time and a level

@@ -1,7 +1,6 @@
 //! The stations that can be near a line.
 ghost use Rattle.std.specs.Prelude.{◌≡◌, ◌<◌, ◌≤ℤ◌, ◌+ℤ◌, All, length, IfOk};
 ghost use Rattle.edr_geometry.specs.Limits.{IsSpot};
-ghost use Rattle.edr_geometry.specs.Planar as plane;
 ghost use Rattle.edr_query.specs.Queries.{IsTaken, IsShape};
 ghost use Rattle.edr_base.specs.Limits.{IsMetres};
 ghost use Rattle.edr_query.specs.declared.addresses.QueryKind.TheVariants as kinds;
@@ -12,6 +11,7 @@ ghost use Rattle.edr_plan.specs.CorridorPlans.{IsLineOf, IsLower, IsBefore, IsBe
 use crate::lines::Line;
 use edr_base::{OutOfMemory, Position, Spot};
 use edr_corridor::near_places_are_within;
+use edr_geometry::spot_of;
 use edr_query::Query;
 use edr_station::Stations;
 use edr_wkt::Geometry;
@@ -54,16 +54,6 @@ fn higher_of(greatest: Spot, position: &Position) -> Spot
     Spot {
         x: greatest.x.max(position.x),
         y: greatest.y.max(position.y),
-    }
-}
-
-// The place of a position.
-fn spot_of(position: &Position) -> Spot
-    ensures { result ≡ plane.spot_of position.now }
-{
-    Spot {
-        x: position.x,
-        y: position.y,
     }
 }
 

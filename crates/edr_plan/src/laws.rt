@@ -2,13 +2,12 @@
 ghost use Rattle.edr_plan.specs.DocumentLaws.{DocumentsAreValid};
 
 use edr_lines::line_documents_are_valid;
-use edr_select::{grid_documents_are_valid, refusal_is_least};
+use edr_select::grid_documents_are_valid;
 
 /// The document of a query that no refusal applies to is valid (OGC 21-069r2).
 pub fn documents_are_valid()
     ensures { DocumentsAreValid }
 {
-    refusal_is_least();
     grid_documents_are_valid();
     line_documents_are_valid();
 }

@@ -95,14 +95,22 @@ fn reply_to(alloc: Global, query: &Query, edition: &Edition) -> Result<Reply, Pl
     }
 }
 
+// The plan with the reply that is found.
+fn found_plan(alloc: Global, query: Query, edition: &Edition) -> Result<Plan, PlanFault>
+    ensures planned { IfOk result (λ plan. (plan.query ≡ query) × IsReplyOf edition.now query plan.reply) }
+    ensures refused { IfErr result (IsFaultOf (refused edition.now (Ask query))) }
+{
+    query_stands(&query);
+    let reply = reply_to(alloc, &query, edition)?;
+    Ok(Plan::of(query, reply))
+}
+
 /// The plan of the reply to a query (OGC 19-086r6, section 8) from an edition, or the first refusal that applies. It keeps the
 /// query, and opens no chunk. The document that is planned is valid (OGC 21-069r2).
 pub fn plan_of(alloc: Global, query: Query, edition: &Edition) -> Result<Plan, PlanFault>
     ensures { MatchPlan result edition.now query }
 {
-    query_stands(&query);
-    let reply = reply_to(alloc, &query, edition)?;
-    Ok(Plan::of(query, reply))
+    found_plan(alloc, query, edition)
 }
 
 /// The plan of the reply to a query (OGC 19-086r6, section 8) from an edition, or the first refusal that applies. It opens no

@@ -2,35 +2,19 @@
 ghost use Rattle.std.specs.Prelude.{◌≡◌, bytes_eq, length, IfOk};
 ghost use Rattle.std.specs.List.{filter, range_with_len};
 ghost use Rattle.edr_geometry.specs.Limits.{IsSpot};
-ghost use Rattle.edr_geometry.specs.Planar as plane;
 ghost use Rattle.edr_query.specs.Queries.{IsShape};
 ghost use Rattle.edr_select.specs.Masks.{IsArea, takes_spot};
-ghost use Rattle.edr_select.specs.Wanted as wanted;
 ghost use Rattle.edr_station.specs.Stations.{station_at};
 ghost use Rattle.edr_plan.specs.StationPlaces as station_places;
 ghost use Rattle.edr_plan.specs.StationPlaces.{IsOfStations};
 
 use crate::station_choices::station_stands;
-use edr_base::{OutOfMemory, Spot};
+use edr_base::{OutOfMemory, Spot, in_box};
 use edr_geometry::{in_disc, in_polygons};
 use edr_query::Shape;
 use edr_select::{centre_of, keep, polygons_of, reach_of};
 use edr_station::{Station, Stations};
 use std::alloc::Global;
-
-// Whether a number is from a low one to a high one, both included.
-fn is_between(low: i64, high: i64, number: i64) -> bool
-    ensures { result ≡ plane.between low high number }
-{
-    low <= number && number <= high
-}
-
-// Whether a place is in a box, its borders included.
-fn in_box(spot: Spot, lo: Spot, hi: Spot) -> bool
-    ensures { result ≡ wanted.in_box spot lo hi }
-{
-    is_between(lo.x, hi.x, spot.x) && is_between(lo.y, hi.y, spot.y)
-}
 
 // Whether a disc, some polygons or a box takes a place.
 fn takes_place(shape: &Shape, spot: Spot) -> bool

@@ -63,10 +63,6 @@ parameter_sound name p e =
 pub name_same : (a b : Parameter) → name_of a ≡ name_of b → a ≡ b
 name_same a b e = some_same a b (sym (name_back a) ∙ ap parameter_in e ∙ name_back b)
 
--- a name that is none of the parameters', and one of a parameter that the page doesn't take
-pub unknown_none : (page : PageKind) (name : List ℕ) → parameter_in name ≡ None → IsUnknown page name
-unknown_none page name none p taken e = none_some p (sym none ∙ ap parameter_in e ∙ name_back p)
-
 pub unknown_other : (page : PageKind) (name : List ℕ) (p : Parameter) → parameter_in name ≡ Some p → is_taken page p ≡ false → IsUnknown page name
 unknown_other page name p is not q taken e =
     let same : p ≡ q = name_same p q (sym (parameter_sound name p is) ∙ e) in

@@ -1,18 +1,16 @@
 -- The pairs of a query text, one after another.
-use Rattle.std.proofs.Common.{◌≡◌, ◌⊎◌, inl, inr, ⊎_elim, ℕ, List, [], ◌∷◌, ◌++◌, map, true, ap, sym, ◌∙◌, subst, append-nil, Some, None, Err}
+use Rattle.std.proofs.Common.{◌≡◌, ◌⊎◌, inl, inr, ⊎_elim, ℕ, List, [], ◌∷◌, ◌++◌, map, true, ap, sym, ◌∙◌, subst, append-nil, Some, None}
 use Rattle.std.specs.declared.option.Option.{Option}
 use Rattle.edr_base.specs.FirstThatApplies.{IsLeast}
 use Rattle.edr_base.specs.declared.refusals.Refusal.TheVariants.{UnknownParameter, RepeatedParameter}
 use Rattle.edr_query.specs.declared.addresses.PageKind.{PageKind}
 use Rattle.edr_query.specs.declared.parameters.Parameter.{Parameter}
-use Rattle.edr_query.specs.declared.reading.TargetFault.{TargetFault}
-use Rattle.edr_query.specs.declared.reading.TargetFault.TheVariants.{Refused, OutOfMemory}
 use Rattle.edr_query.specs.Parameters.{Pair, read_pair, name_of, is_taken, IsUnknown, HasUnknown, HasRepeat}
 use Rattle.edr_base.specs.RefusalTable.{rank}
 use Rattle.edr_query.specs.Targets.{Applies}
-use Rattle.edr_query.specs.Reads.{read_text, with_pair, IsFound, AreRead, Steps}
+use Rattle.edr_query.specs.Reads.{read_text, with_pair, IsFound, AreRead}
 use Rattle.edr_query.proofs.PairLemmas.{known_name, found_more}
-use Rattle.edr_query.proofs.RefusalLemmas.{start, more, stopped}
+use Rattle.edr_query.proofs.RefusalLemmas.{start, more}
 
 abbrev read : List Pair → List Pair
 read raw = map read_pair raw
@@ -41,12 +39,6 @@ unknown_there page raw left all name value e later u = let P : List Pair → Typ
 
 all_known : (page : PageKind) (raw all : List Pair) → raw ≡ [] → (HasUnknown page all → HasUnknown page (read raw)) → ¬ (HasUnknown page all)
 all_known page raw all e known h = let P : List Pair → Type 0 = λ l. HasUnknown page (read l) in subst P e (known h)
-
--- what the name stops at
-pub stopped_name : {T : Type 0} (Reads : T → Type 0) (page : PageKind) (raw left all : List Pair) (name value : List ℕ) (fault : TargetFault) → raw ≡ (name, value) ∷ left
-    → (HasUnknown page (read raw) → HasUnknown page all) → (fault ≡ OutOfMemory) ⊎ ((fault ≡ Refused UnknownParameter) × IsUnknown page (read_text name)) → Steps (Err fault) Reads page all
-stopped_name Reads page raw left all name value fault e later h =
-    stopped Reads page all fault UnknownParameter (⊎_elim (λ o. inl o) (λ u. inr (u.0, unknown_there page raw left all name value e later u.1)) h) (start page all)
 
 pub all_read : (page : PageKind) (raw all found : List Pair) → raw ≡ [] → (HasUnknown page all → HasUnknown page (read raw)) → IsFound (Some found) (read raw) all → AreRead page all found
 all_read page raw all found e known h =

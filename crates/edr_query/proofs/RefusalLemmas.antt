@@ -1,60 +1,17 @@
 -- The least refusal, step by step.
-use Rattle.std.proofs.Common.{◌≡◌, ◌⊎◌, inl, inr, ⊎_elim, ℕ, ◌+◌, ◌==◌, ◌<◌, List, refl, ap, sym, ◌∙◌, subst, arith, Err}
-use Rattle.std.specs.Prelude.{if◌then◌else◌}
+use Rattle.std.proofs.Common.{◌≡◌, ◌⊎◌, inl, inr, ⊎_elim, ℕ, ◌+◌, ◌<◌, List, sym, subst, arith, Err}
 use Rattle.std.proofs.lemmas.Bool.Decides.{leb_tells}
 use Rattle.edr_base.specs.FirstThatApplies.{NoneApplies}
 use Rattle.edr_base.specs.declared.refusals.Refusal.{Refusal}
-use Rattle.edr_base.specs.declared.refusals.Refusal.TheVariants.{BadHead, BodyNotAllowed, BadHost, VersionNotOffered, MethodNotOffered, NoSuchPage, UnknownParameter, RepeatedParameter, BadFormat, MissingParameter, BadCoords, WrongGeometry, BadBbox, BadDatetime, BadLevel, BadDistance, Conflict, UnknownCollection, UnknownInstance, UnknownLocation, QueryNotOffered, UnknownParameterName, BadCrs, NoLevels, NoSamples, TooLarge}
+use Rattle.edr_base.specs.declared.refusals.Refusal.TheVariants.{UnknownParameter, RepeatedParameter, BadFormat, MissingParameter, BadCoords, WrongGeometry, BadBbox, BadDatetime, BadLevel, BadDistance, Conflict}
 use Rattle.edr_query.specs.declared.addresses.PageKind.{PageKind}
 use Rattle.edr_query.specs.declared.reading.TargetFault.{TargetFault}
 use Rattle.edr_query.specs.declared.reading.TargetFault.TheVariants.{Refused, OutOfMemory}
 use Rattle.edr_query.specs.Parameters.{Pair}
 use Rattle.edr_base.specs.RefusalTable.{rank}
+use Rattle.edr_base.specs.RefusalLaws.{rank_same}
 use Rattle.edr_query.specs.Targets.{Applies}
 use Rattle.edr_query.specs.Reads.{Passed, Steps}
-
--- the refusal of a number
-abbrev refusal_at : ℕ → Refusal
-refusal_at n =
-    if n == 1 then BadHead else if n == 2 then BodyNotAllowed else if n == 3 then BadHost else if n == 4 then VersionNotOffered else
-    if n == 5 then MethodNotOffered else if n == 6 then NoSuchPage else if n == 7 then UnknownParameter else if n == 8 then RepeatedParameter else
-    if n == 9 then BadFormat else if n == 10 then MissingParameter else if n == 11 then BadCoords else if n == 12 then WrongGeometry else
-    if n == 13 then BadBbox else if n == 14 then BadDatetime else if n == 15 then BadLevel else if n == 16 then BadDistance else
-    if n == 17 then Conflict else if n == 18 then UnknownCollection else if n == 19 then UnknownInstance else if n == 20 then UnknownLocation else
-    if n == 21 then QueryNotOffered else if n == 22 then UnknownParameterName else if n == 23 then BadCrs else if n == 24 then NoLevels else
-    if n == 25 then NoSamples else TooLarge
-
-rank_back : (r : Refusal) → refusal_at (rank r) ≡ r
-rank_back BadHead = refl
-rank_back BodyNotAllowed = refl
-rank_back BadHost = refl
-rank_back VersionNotOffered = refl
-rank_back MethodNotOffered = refl
-rank_back NoSuchPage = refl
-rank_back UnknownParameter = refl
-rank_back RepeatedParameter = refl
-rank_back BadFormat = refl
-rank_back MissingParameter = refl
-rank_back BadCoords = refl
-rank_back WrongGeometry = refl
-rank_back BadBbox = refl
-rank_back BadDatetime = refl
-rank_back BadLevel = refl
-rank_back BadDistance = refl
-rank_back Conflict = refl
-rank_back UnknownCollection = refl
-rank_back UnknownInstance = refl
-rank_back UnknownLocation = refl
-rank_back QueryNotOffered = refl
-rank_back UnknownParameterName = refl
-rank_back BadCrs = refl
-rank_back NoLevels = refl
-rank_back NoSamples = refl
-rank_back TooLarge = refl
-
--- a number is one refusal's
-pub rank_same : (a b : Refusal) → rank a ≡ rank b → a ≡ b
-rank_same a b e = sym (rank_back a) ∙ ap refusal_at e ∙ rank_back b
 
 below_or_same : (a b : ℕ) → a < b + 1 → (a < b) ⊎ (a ≡ b)
 below_or_same a b h = ⊎_elim (λ t. inr (omega (arith, t.1))) (λ t. inl t.1) (leb_tells b a)

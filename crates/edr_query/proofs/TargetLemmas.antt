@@ -1,8 +1,7 @@
 -- A target has one answer, and the least refusal of parameters is that of their target.
-use Rattle.std.proofs.Common.{◌≡◌, ◌⊎◌, inl, inr, ⊎_elim, ℕ, ◌<◌, ◌≤◌, List, refl, ap, sym, ◌∙◌, subst, arith, Some, None, Ok, Err}
+use Rattle.std.proofs.Common.{◌≡◌, ◌⊎◌, inl, inr, ℕ, ◌<◌, List, refl, ap, sym, ◌∙◌, subst, arith, Some, None, Ok, Err}
 use Rattle.std.specs.Prelude.{Result}
 use Rattle.std.specs.declared.option.Option.{Option}
-use Rattle.std.proofs.lemmas.Bool.Decides.{leb_tells}
 use Rattle.edr_base.specs.FirstThatApplies.{IsLeast, NoneApplies}
 use Rattle.edr_base.specs.declared.refusals.Refusal.{Refusal}
 use Rattle.edr_base.specs.declared.refusals.Refusal.TheVariants.{NoSuchPage, UnknownParameter, RepeatedParameter, BadFormat, MissingParameter, BadCoords, WrongGeometry, BadBbox, BadDatetime, BadLevel, BadDistance, Conflict}
@@ -32,7 +31,7 @@ use Rattle.edr_query.proofs.AddressLemmas.{address_back}
 use Rattle.edr_query.proofs.PathLemmas.{parts_same}
 use Rattle.edr_query.proofs.CoordsLemmas.{WktIsOne}
 use Rattle.edr_query.proofs.SaidLemmas.{said_same}
-use Rattle.edr_query.proofs.RefusalLemmas.{rank_same}
+use Rattle.edr_base.specs.RefusalLaws.{least_once}
 
 -- a path names one address
 pub path_is_one : (path : List ℕ) (a b : Address) → IsPath path a → IsPath path b → a ≡ b
@@ -154,15 +153,6 @@ pages_at wkt times levels distances address pairs a b (inr h) (inr k) = h.1 ∙ 
 pages_same : WktIsOne → TimesAreUnique → LevelsAreUnique → DistancesAreUnique → (address : Address) (pairs : List Pair) (a b : Page) → IsPage address pairs a → IsPage address pairs b → a ≡ b
 pages_same wkt times levels distances address pairs a b x y = pages_at wkt times levels distances address pairs a b (page_cases address pairs a x) (page_cases address pairs b y)
 
-at_least : (a b : ℕ) → (a < b) ⊎ (b ≤ a)
-at_least a b = ⊎_elim (λ t. inr t.1) (λ t. inl t.1) (leb_tells b a)
-
-least_same : (target : List ℕ) (r s : Refusal) → IsLeast rank (Refuses target) r → IsLeast rank (Refuses target) s → r ≡ s
-least_same target r s x y =
-    ⊎_elim (λ l. absurd (y.none_before r l x.applies))
-    (λ g. ⊎_elim (λ l. absurd (x.none_before s l y.applies)) (λ h. rank_same r s (omega (arith, g, h))) (at_least (rank s) (rank r)))
-    (at_least (rank r) (rank s))
-
 -- a target has one answer
 pub target_one : WktIsOne → TimesAreUnique → LevelsAreUnique → DistancesAreUnique → TargetIsOne
 target_one wkt times levels distances target (Ok a) (Ok b) x y =
@@ -170,7 +160,7 @@ target_one wkt times levels distances target (Ok a) (Ok b) x y =
     ap Ok (pages_same wkt times levels distances x.address (pairs_at target) a b x.page_is (subst P (path_is_one (path_in target) y.address x.address y.path x.path) y.page_is))
 target_one wkt times levels distances target (Ok a) (Err r) x y = absurd (x.none r y.applies)
 target_one wkt times levels distances target (Err r) (Ok b) x y = absurd (y.none r x.applies)
-target_one wkt times levels distances target (Err r) (Err s) x y = ap Err (least_same target r s x y)
+target_one wkt times levels distances target (Err r) (Err s) x y = ap Err (least_once (Refuses target) r s x y)
 
 -- ---- what reading answers
 

@@ -1,6 +1,5 @@
 -- The query parameters of a target, and which of them each page takes (OGC 19-086r6, section 8).
 use Rattle.std.specs.Prelude.{◌≡◌, ◌≢◌, ◌⊎◌, ℕ, Bool, true, false, ◌||◌, bytes_eq, if◌then◌else◌, List, [], ◌∷◌, map, codes, Option, None, Some, ⊤}
-use Rattle.std.specs.Char.{to_ascii_lowercase}
 use Rattle.std.specs.Str.Lossy.{utf8_lossy}
 use Rattle.form_urlencoded.specs.Form.{raw_pairs, decode}
 use Rattle.edr_query.specs.declared.addresses.QueryKind.TheVariants.{Radius, Cube, Corridor}
@@ -8,6 +7,7 @@ use Rattle.edr_query.specs.declared.addresses.PageKind.{PageKind}
 use Rattle.edr_query.specs.declared.addresses.PageKind.TheVariants.{Description, Query}
 use Rattle.edr_query.specs.declared.parameters.Parameter.{Parameter}
 use Rattle.edr_query.specs.declared.parameters.Parameter.TheVariants.{Format, Coords, Within, WithinUnits, Bbox, CorridorWidth, WidthUnits, CorridorHeight, HeightUnits, Datetime, Z, ParameterName, Crs}
+use Rattle.edr_base.specs.Names.{IsAnyCase}
 
 -- ---- the pairs of a query text
 
@@ -119,10 +119,6 @@ HasRepeat [] = ⊥
 HasRepeat (pair ∷ pairs) = HasName pair.0 pairs ⊎ HasRepeat pairs
 
 -- ---- formats
-
--- the text in any case
-abbrev pub IsAnyCase : List ℕ → List ℕ → Type 0
-IsAnyCase text small = map to_ascii_lowercase text ≡ small
 
 -- in any case: `json` or its type for descriptions, `CoverageJSON`, `json` or the type of CoverageJSON for data
 abbrev pub IsFormat : PageKind → List ℕ → Type 0

@@ -7,25 +7,13 @@ use Rattle.httparse.specs.Grammar.{print_response}
 use Rattle.edr_base.specs.Calls.{ReadsAtMost}
 use Rattle.edr_base.specs.KnownBytes.{took_on}
 use Rattle.edr_http.specs.Heads.{Told}
-use Rattle.edr_reply.specs.declared.framing.Framing.{Framing}
-use Rattle.edr_reply.specs.declared.framing.Framing.TheVariants.{Chunked, Sized, TooLong, ToEnd}
 use Rattle.edr_reply.specs.declared.heads.Opening.{Opening}
 use Rattle.edr_reply.specs.declared.messages.Message.{Message}
-use Rattle.edr_reply.specs.Messages.{fields_of, IsEdition, IsFraming, IsBody, TakesMessage, HasNoMessage, BreaksOff}
+use Rattle.edr_reply.specs.Messages.{fields_of, IsEdition, IsBody, TakesMessage, HasNoMessage, BreaksOff}
 use Rattle.edr_reply.specs.BrokenParts.{LacksHead, BreaksBody, BreaksAt, IsFirstBreak}
-use Rattle.edr_reply.specs.Taking.{TakesSome, TakesHead, BodyBreaks, IsCutBody, FramingFits}
+use Rattle.edr_reply.specs.Taking.{TakesSome, TakesHead, BodyBreaks, IsCutBody}
 use Rattle.edr_reply.proofs.MessageLaws.{first_break, none_broken, head_no_end, body_no_end}
 use Rattle.edr_reply.proofs.ChunkSteps.{behind}
-
--- a size that was found is within the limit
-pub framing_fits : (framing : Framing) (opening : Opening) (old new : Option (List ℕ)) → framing ≡ opening.framing → TakesHead opening old new → FramingFits framing
-framing_fits framing opening old new e t = fits framing (subst (λ (f : Framing). IsFraming (fields_of t.0) f) (sym e) t.2.framed)
-  where
-    fits : (f : Framing) → IsFraming (fields_of t.0) f → FramingFits f
-    fits Chunked h = tt
-    fits (Sized size) h = h.2
-    fits TooLong h = tt
-    fits ToEnd h = tt
 
 pub head_early : (opening : Opening) (old new : Option (List ℕ)) → TakesHead opening old new → opening.len ≤ 16384
 head_early opening old new t = let short = t.1.short in omega (arith, short, t.2.len)

@@ -157,7 +157,14 @@ TakesMessage message bytes left = (more : List ℕ) × IsMessage bytes message (
 abbrev pub most_beyond : ℕ
 most_beyond = (body_limit + 1) + buffer_size
 
+-- the bytes of a line's end, and of the longest chunk of one byte: its line, the byte, and a line's end
+abbrev pub line_end : ℕ
+line_end = 2
+
+abbrev pub longest_chunk : ℕ
+longest_chunk = size_line_limit + 3
+
 -- what is read at most: a head, a body of which each byte is a chunk with the longest line, and once more a line, a body and
 -- what was read with it
 abbrev pub most_read : ℕ
-most_read = (head_limit + (head_limit + body_limit * (size_line_limit + 3)) + (size_line_limit + body_limit + 2)) + buffer_size
+most_read = (head_limit + (head_limit + body_limit * longest_chunk) + (size_line_limit + body_limit + line_end)) + buffer_size

@@ -15,7 +15,7 @@ use Rattle.edr_reply.specs.declared.held.PartFault.{PartFault}
 use Rattle.edr_reply.specs.declared.held.PartFault.TheVariants as part
 use Rattle.edr_reply.specs.declared.messages.MessageFault.{MessageFault}
 use Rattle.edr_reply.specs.declared.messages.MessageFault.TheVariants as message
-use Rattle.edr_reply.specs.Messages.{IsHead, IsSizeLine, Chunk, IsChunk, AreChunks, print_chunk, print_chunks, joined, IsChunkedBody, body_limit, size_line_limit}
+use Rattle.edr_reply.specs.Messages.{IsHead, IsSizeLine, Chunk, IsChunk, AreChunks, print_chunk, print_chunks, joined, IsChunkedBody, body_limit, size_line_limit, longest_chunk}
 use Rattle.edr_reply.specs.BrokenParts.{BreaksChunk, BreaksChunks, BreaksBody}
 use Rattle.edr_reply.specs.Finding.{Opens}
 
@@ -78,7 +78,7 @@ at_place part.OutOfMemory place = message.OutOfMemory
 
 -- the greatest place behind the chunks of so many bytes: a chunk has a byte, a line end and its line
 abbrev pub latest_place : ℕ → ℕ
-latest_place size = head_limit + size * (size_line_limit + 3)
+latest_place size = head_limit + size * longest_chunk
 
 -- what is read of a chunk at most where it isn't taken
 abbrev pub most_of_chunk : ℕ

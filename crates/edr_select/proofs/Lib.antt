@@ -13,7 +13,6 @@ mod PlanLaws
 mod PlannedLaws
 mod Positions
 mod DomainCases
-mod RefusalLaws
 mod AscendingOnce
 mod RunsOfPlaces
 mod Runs

@@ -6,15 +6,14 @@ use Rattle.std.proofs.lemmas.Int.{ints}
 use Rattle.std.proofs.Math.Seq.{drop-append_seam}
 use Rattle.std.proofs.lemmas.List.{take_all, get_or-map, length-map, map_more}
 use Rattle.edr_base.specs.declared.places.Spot.{Spot}
+use Rattle.edr_base.specs.Boxes.{is_between, in_box}
 use Rattle.edr_axes.specs.Axes.{value_at, IsAxis}
 use Rattle.edr_axes.specs.AxisLaws.{ascending_far}
 use Rattle.edr_geometry.specs.Masks as row
 use Rattle.edr_geometry.specs.Masks.{IsSet, NoneSet}
-use Rattle.edr_geometry.specs.Planar.{between}
 use Rattle.edr_edition.specs.Values.{InstanceValue}
 use Rattle.edr_query.specs.declared.shapes.Shape.{Shape}
 use Rattle.edr_select.specs.Choices.{takes_node}
-use Rattle.edr_select.specs.Wanted.{in_box}
 use Rattle.edr_select.specs.Masks.{IsArea, takes_spot, NoneIn, ColumnsValue, LiesInColumns, Takes, IsTakenRow, bits_at}
 use Rattle.edr_select.proofs.MaskReach.{takes_is}
 
@@ -44,8 +43,8 @@ all_pass : (t : Spot → Bool) (y : ℤ) (xs : List ℤ) → ((k : ℕ) → k < 
 all_pass t y [] h = refl
 all_pass t y (x ∷ xs) h = ap₂ (λ b bs. b ∷ bs) (h 0 (omega arith)) (all_pass t y xs (λ k l. h (suc k) (omega (arith, l))))
 
--- an x between two that lie between bounds lies there too
-between_ends : (low high first x last : ℤ) (rows : Bool) → first ≤ℤ x → x ≤ℤ last → (between low high first && rows) ≡ true → (between low high last && rows) ≡ true → (between low high x && rows) ≡ true
+-- an x is_between two that lie is_between bounds lies there too
+between_ends : (low high first x last : ℤ) (rows : Bool) → first ≤ℤ x → x ≤ℤ last → (is_between low high first && rows) ≡ true → (is_between low high last && rows) ≡ true → (is_between low high x && rows) ≡ true
 between_ends low high first x last rows from to one other = grind (arith, ints)
 
 ascends_to : (xs : List ℤ) → IsAxis xs → (j k : ℕ) → j ≤ k → k < length xs → value_at xs j ≤ℤ value_at xs k
@@ -59,7 +58,7 @@ pub row_in_box : (lo hi : Spot) (y : ℤ) (xs : List ℤ) → IsAxis xs → in_b
     → row.row_of (λ p. in_box p lo hi) y xs ≡ replicate (length xs) true
 row_in_box lo hi y xs axis first last =
     all_pass (λ p. in_box p lo hi) y xs (λ k inside.
-    between_ends lo.x hi.x (value_at xs 0) (value_at xs k) (value_at xs (length xs - 1)) (between lo.y hi.y y)
+    between_ends lo.x hi.x (value_at xs 0) (value_at xs k) (value_at xs (length xs - 1)) (is_between lo.y hi.y y)
     (ascends_to xs axis 0 k (omega arith) inside) (ascends_to xs axis k (length xs - 1) (omega (arith, inside)) (omega (arith, inside))) first last)
 
 -- lists of one length with the same at each place

@@ -9,11 +9,12 @@ use Rattle.std.proofs.lemmas.List.{take_all, length-take-le}
 use Rattle.std.proofs.lemmas.List.Sums.{count_by-le-length}
 use Rattle.edr_base.specs.declared.places.Position.{Position}
 use Rattle.edr_base.specs.declared.places.Spot.{Spot}
+use Rattle.edr_base.specs.Boxes.{is_between}
 use Rattle.edr_axes.specs.Axes.{value_at, SplitsValues}
 use Rattle.edr_wkt.specs.declared.geometry.Geometry.{Geometry}
 use Rattle.edr_wkt.specs.declared.geometry.Polygon.{Polygon}
 use Rattle.edr_wkt.specs.Geometries.{positions_of}
-use Rattle.edr_geometry.specs.Planar.{spot_of, between, in_disc}
+use Rattle.edr_geometry.specs.Planar.{spot_of, in_disc}
 use Rattle.edr_edition.specs.Values.{InstanceValue}
 use Rattle.edr_query.specs.declared.shapes.Shape.{Shape}
 use Rattle.edr_query.specs.declared.shapes.Shape.TheVariants as at
@@ -102,24 +103,24 @@ disc_lies geometry within centre reach c h a = record {
 
 -- ---- boxes
 
-below_box : (columns : Bool) (low high y : ℤ) → y <ℤ low → (columns && between low high y) ≡ false
+below_box : (columns : Bool) (low high y : ℤ) → y <ℤ low → (columns && is_between low high y) ≡ false
 below_box columns low high y h = grind (arith, ints)
 
-above_box : (columns : Bool) (low high y : ℤ) → high <ℤ y → (columns && between low high y) ≡ false
+above_box : (columns : Bool) (low high y : ℤ) → high <ℤ y → (columns && is_between low high y) ≡ false
 above_box columns low high y h = grind (arith, ints)
 
-before_box : (rows : Bool) (low high x : ℤ) → x <ℤ low → (between low high x && rows) ≡ false
+before_box : (rows : Bool) (low high x : ℤ) → x <ℤ low → (is_between low high x && rows) ≡ false
 before_box rows low high x h = grind (arith, ints)
 
-behind_box : (rows : Bool) (low high x : ℤ) → high <ℤ x → (between low high x && rows) ≡ false
+behind_box : (rows : Bool) (low high x : ℤ) → high <ℤ x → (is_between low high x && rows) ≡ false
 behind_box rows low high x h = grind (arith, ints)
 
 pub box_lies : (lo hi : Spot) (levels : Option (ℤ × ℤ)) → LiesIn (at.Cube lo hi levels) (record { left = lo.x; right = hi.x; low = lo.y; high = hi.y })
 box_lies lo hi levels = record {
-  before = λ spot k. before_box (between lo.y hi.y spot.y) lo.x hi.x spot.x k;
-  behind = λ spot k. behind_box (between lo.y hi.y spot.y) lo.x hi.x spot.x k;
-  below = λ spot k. below_box (between lo.x hi.x spot.x) lo.y hi.y spot.y k;
-  above = λ spot k. above_box (between lo.x hi.x spot.x) lo.y hi.y spot.y k;
+  before = λ spot k. before_box (is_between lo.y hi.y spot.y) lo.x hi.x spot.x k;
+  behind = λ spot k. behind_box (is_between lo.y hi.y spot.y) lo.x hi.x spot.x k;
+  below = λ spot k. below_box (is_between lo.x hi.x spot.x) lo.y hi.y spot.y k;
+  above = λ spot k. above_box (is_between lo.x hi.x spot.x) lo.y hi.y spot.y k;
 }
 
 -- ---- a reach that grows
@@ -182,7 +183,7 @@ module _ (i : InstanceValue) (shape : Shape) (reach : Reach) (area : IsArea shap
       ∙ by_lt_z reach.right (value_at i.xs x) (λ above. lies.behind (spot_at i y x) above)
       (λ within. absurd (let counted = (right.at_most x).0 (inner, within) in omega (arith, counted, from, end_is)))
 
-  -- there are as many columns as stand between
+  -- there are as many columns as stand is_between
   pub columns_ordered : first ≤ end
   columns_ordered = omega (arith, end_is)
 

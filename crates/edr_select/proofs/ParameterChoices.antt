@@ -7,7 +7,7 @@ use Rattle.std.proofs.lemmas.List.Folds.{list_any_more, list_any_at}
 use Rattle.std.proofs.lemmas.Slice.Eq.{bytes_eq-Decides}
 use Rattle.edr_base.specs.Names.{order}
 use Rattle.edr_ids.specs.Ids.{AscendBy, has_id}
-use Rattle.edr_select.specs.PlacesOfIds.{IsPlaceOf}
+use Rattle.edr_select.specs.PlacesOfIds.{IsPlaceOfId}
 use Rattle.edr_ids.specs.ListLaws.{order_itself, keys_ascend}
 use Rattle.edr_select.proofs.SearchedIds.{none_has_it}
 use Rattle.covjson_value.specs.declared.coverages.Parameter.{Parameter}
@@ -102,7 +102,7 @@ names_more ps names places i p name up inside at in_p is so_far = record {
 
 -- a name that is no id
 pub name_unknown : (ps : List Parameter) (names : List (List ℕ)) (i place : ℕ) (name : List ℕ) → i < length names → get_or names i name ≡ name
-    → IsPlaceOf parameter_id name ps (Err place) → names_other (Some names) (ids_of ps) ≡ true
+    → IsPlaceOfId parameter_id name ps (Err place) → names_other (Some names) (ids_of ps) ≡ true
 name_unknown ps names i place name inside at missing =
     list_any_at (is_other ps) names i name inside (ap (is_other ps) at ∙ ap not (each ps (none_has_it parameter_id name ps place missing)))
   where
@@ -114,7 +114,7 @@ name_unknown ps names i place name inside at missing =
     each (x ∷ xs) h = or_both (bytes_eq name (parameter_id x)) (list_any (bytes_eq name) (ids_of xs)) (flip name (parameter_id x) (h 0 x (omega arith))) (each xs (λ k d inner. h (suc k) d (omega (arith, inner))))
 
 -- the id at the place that was found
-pub found_id : (ps : List Parameter) (p : ℕ) (name : List ℕ) → IsPlaceOf parameter_id name ps (Ok p) → id_at ps p ≡ name
+pub found_id : (ps : List Parameter) (p : ℕ) (name : List ℕ) → IsPlaceOfId parameter_id name ps (Ok p) → id_at ps p ≡ name
 found_id ps p name at = let d : Parameter = some_parameter ps p at.0 in sym (id_of ps p d at.0) ∙ at.1 d
 
 -- all names are ids, and the places are those of the parameters that are asked

@@ -5,7 +5,7 @@ use Rattle.std.specs.List.{slice_index_or}
 use Rattle.std.proofs.lemmas.Bool.{false≢true}
 use Rattle.std.proofs.lemmas.List.{length-map, get_or_default}
 use Rattle.edr_base.specs.declared.places.Position.{Position}
-use Rattle.edr_base.specs.Limits.{node_limit}
+use Rattle.edr_base.specs.Limits.{node_limit, AreSamples}
 use Rattle.edr_base.specs.declared.refusals.Refusal.TheVariants.{TooLarge}
 use Rattle.edr_axes.specs.Axes.{IsAxis, axis_length}
 use Rattle.edr_wkt.specs.declared.geometry.Geometry.{Geometry}
@@ -16,7 +16,6 @@ use Rattle.covjson_value.specs.declared.domains.CoordinateName.TheVariants.{Z}
 use Rattle.covjson_value.specs.Coverages.{IsNamedAxis, IsValidDocument, coverages_in}
 use Rattle.edr_chunk.specs.declared.shapes.GridShape.{GridShape}
 use Rattle.edr_chunk.specs.Places.{IsShape}
-use Rattle.edr_chunk.specs.Samples.{AreSamples}
 use Rattle.edr_edition.specs.Values.{InstanceValue, CollectionValue}
 use Rattle.edr_edition.specs.Instances.{HasGrid}
 use Rattle.edr_edition.specs.Stores.{of_grid, Subject}

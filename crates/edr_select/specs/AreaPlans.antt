@@ -13,11 +13,15 @@ use Rattle.edr_select.specs.Steps.{IsPlanIn, refused_large}
 use Rattle.edr_select.specs.Framings.{FrameValue, FramingValue, node_count}
 use Rattle.edr_select.specs.Masks.{MaskValue, IsMask, frame_with}
 
+-- the Grid of some times and levels of an instance, and of so many rows and columns from some on
+abbrev pub domain_within : InstanceValue → List ℕ → List ℕ → ℕ → ℕ → ℕ → ℕ → Domain
+domain_within i times levels row rows column columns =
+    Grid (Some (map (value_at i.ts) times)) (option_map (λ zs. map (value_at zs) levels) i.zs)
+    (map (value_at i.ys) (range_with_len row rows)) (map (value_at i.xs) (range_with_len column columns))
+
 -- the times, the levels and the rows and columns of a frame
 abbrev pub domain_over : InstanceValue → FrameValue → Domain
-domain_over i frame =
-    Grid (Some (map (value_at i.ts) frame.times)) (option_map (λ zs. map (value_at zs) frame.levels) i.zs)
-    (map (value_at i.ys) (range_with_len frame.row frame.rows)) (map (value_at i.xs) (range_with_len frame.column frame.columns))
+domain_over i frame = domain_within i frame.times frame.levels frame.row frame.rows frame.column frame.columns
 
 -- the frame has what a query takes of an instance
 pub record IsFrameOf (i : InstanceValue) (q : QueryValue) (frame : FrameValue) : Type 0 where
@@ -31,12 +35,16 @@ pub record TakesSome (places : List ℕ) (frame : FrameValue) : Type 0 where
   pub times : frame.times ≢ []
   pub levels : frame.levels ≢ []
 
+-- there is some of each
+pub record AreSome (ts zs : List ℕ) (height width : ℕ) : Type 0 where
+  pub times : ts ≢ []
+  pub levels : zs ≢ []
+  pub rows : 1 ≤ height
+  pub columns : 1 ≤ width
+
 -- a frame isn't empty
-pub record HasNodes (frame : FrameValue) : Type 0 where
-  pub times : frame.times ≢ []
-  pub levels : frame.levels ≢ []
-  pub rows : 1 ≤ frame.rows
-  pub columns : 1 ≤ frame.columns
+abbrev pub HasNodes : FrameValue → Type 0
+HasNodes frame = AreSome frame.times frame.levels frame.rows frame.columns
 
 -- how many values some parameters have over a frame
 abbrev pub framed_count : List ℕ → FrameValue → ℕ

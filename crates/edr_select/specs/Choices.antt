@@ -1,8 +1,9 @@
 -- The places on the axes of a grid that a query takes, of the kinds that take each time, level and place by itself; for the calls that plan, and private clauses.
-use Rattle.std.specs.Prelude.{⊤, ◌≢◌, ℕ, ◌*◌, ◌/◌, ◌%◌, ◌==◌, ℤ, Bool, false, ◌&&◌, List, [], length, map, Option, None, Some, option_map}
+use Rattle.std.specs.Prelude.{⊤, ◌≢◌, ℕ, ◌*◌, ◌==◌, ℤ, Bool, false, ◌&&◌, List, [], length, map, Option, None, Some, option_map}
 use Rattle.std.specs.List.{filter, flat_map, list_any, range_with_len}
 use Rattle.edr_base.specs.declared.places.Position.{Position}
 use Rattle.edr_base.specs.declared.places.Spot.{Spot}
+use Rattle.edr_base.specs.Boxes.{in_box}
 use Rattle.edr_axes.specs.declared.times.Times.{Times}
 use Rattle.edr_axes.specs.declared.levels.Levels.{Levels}
 use Rattle.edr_axes.specs.Axes.{value_at, axis_length}
@@ -19,8 +20,9 @@ use Rattle.edr_query.specs.Values.{QueryValue}
 use Rattle.edr_corridor.specs.Boxes.{level_at}
 use Rattle.edr_select.specs.declared.plans.GridNode.{GridNode}
 use Rattle.edr_select.specs.Samples.{id_at}
-use Rattle.edr_select.specs.Wanted.{takes_time, takes_level, levels_asked, is_along, is_nearest, in_areas, in_box}
+use Rattle.edr_select.specs.Wanted.{takes_time, takes_level, levels_asked, is_along, is_nearest, in_areas}
 use Rattle.edr_select.specs.Selections.{is_asked}
+use Rattle.edr_chunk.specs.RowMajor.{row_of_number, place_of_number}
 
 -- the places of the parameters, the times and the levels that are taken
 abbrev pub parameter_places : Option (List (List ℕ)) → List Parameter → List ℕ
@@ -50,10 +52,10 @@ is_nearest_place ys xs y x p = is_along ys p.y && is_along xs p.x && is_nearest 
 
 -- the nodes of a plane are numbered row by row
 abbrev pub row_of : List ℤ → ℕ → ℕ
-row_of xs spot = spot / length xs
+row_of xs spot = row_of_number (length xs) spot
 
 abbrev pub column_of : List ℤ → ℕ → ℕ
-column_of xs spot = spot % length xs
+column_of xs spot = place_of_number (length xs) spot
 
 -- the numbers of the nodes that are nearest to some points
 abbrev pub spot_places : List ℤ → List ℤ → List Position → List ℕ

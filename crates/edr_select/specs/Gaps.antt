@@ -1,5 +1,5 @@
 -- Coverages of stations, whose values are read from places of their series, or from none: series with gaps.
-use Rattle.std.specs.Prelude.{◌≡◌, ℕ, ◌+◌, ◌-◌, ◌*◌, ◌/◌, ◌<◌, ◌≤◌, ℤ, List, [], length, map, All, Option, None, Some, option_to_list}
+use Rattle.std.specs.Prelude.{◌≡◌, ℕ, ◌+◌, ◌-◌, ◌/◌, ◌<◌, ◌≤◌, ℤ, List, [], length, map, All, Option, None, Some, option_to_list}
 use Rattle.std.specs.List.{flat_map, slice_index_or}
 use Rattle.covjson_value.specs.declared.coverages.NdArray.{NdArray}
 use Rattle.covjson_value.specs.declared.coverages.Coverage.{Coverage}
@@ -8,7 +8,7 @@ use Rattle.covjson_value.specs.declared.coverages.Document.TheVariants.{Many}
 use Rattle.covjson_value.specs.Domains.{count_of}
 use Rattle.covjson_write.specs.Writers.{IsHead, with_ranges}
 use Rattle.edr_station.specs.Stations.{StationValue, StationsValue, values_along, station_at}
-use Rattle.edr_station.specs.Blocks.{block_length, blocks_of, first_block}
+use Rattle.edr_station.specs.Blocks.{block_length, blocks_of, first_block, block_number}
 use Rattle.edr_select.specs.Listings.{NumbersRise}
 use Rattle.edr_select.specs.Series.{series_value}
 
@@ -50,7 +50,7 @@ abbrev pub cells_taken : List (Option ℕ) → List ℕ
 cells_taken cells = flat_map option_to_list cells
 
 abbrev pub block_at : GappedSeriesValue → ℕ → ℕ → ℕ
-block_at series parameter cell = series.first + parameter * series.blocks + cell / block_length
+block_at series parameter cell = block_number series.first series.blocks parameter (cell / block_length)
 
 abbrev pub blocks_of_range : GappedSeriesValue → ℕ → List ℕ
 blocks_of_range series parameter = map (block_at series parameter) (cells_taken series.cells)

@@ -1,5 +1,5 @@
 -- The heads of a position's coverages are valid, and their cells are as many as their values.
-use Rattle.std.proofs.Common.{◌≡◌, ℕ, zero, suc, ◌<◌, Bool, true, false, List, [], length, refl, subst, None, IfSome, IsSome, ℤ, All, replicate}
+use Rattle.std.proofs.Common.{◌≡◌, ℕ, zero, suc, ◌<◌, Bool, true, false, List, [], length, refl, subst, None, IsSome, ℤ, All, replicate}
 use Rattle.std.specs.declared.option.Option.{Option}
 use Rattle.std.specs.Prelude.{map, if◌then◌else◌}
 use Rattle.std.specs.List.{filter}
@@ -17,7 +17,7 @@ use Rattle.covjson_value.specs.declared.coverages.NdArray.{NdArray}
 use Rattle.covjson_value.specs.declared.coverages.Referencing.{Referencing}
 use Rattle.covjson_value.specs.declared.coverages.Coverage.{Coverage}
 use Rattle.covjson_value.specs.Domains.{has_coordinate, count_of}
-use Rattle.edr_base.specs.Limits.{IsSample}
+use Rattle.edr_base.specs.Limits.{HasSample}
 use Rattle.edr_base.specs.Names.{Ascend, order}
 use Rattle.covjson_value.specs.Coverages.{IsAxisValue, IsNamedAxis, HasAxes, HasTuples, IsParameter, IsReferencing, IsRange, AscendById, ids_of}
 use Rattle.covjson_write.specs.Writers.{IsHead}
@@ -68,7 +68,7 @@ missing n = record { values = replicate n None }
 missing_is : (domain : Domain) → IsRange domain (missing (count_of domain))
 missing_is domain = record {
   count = length-replicate (count_of domain) None;
-  samples = All-replicate (λ (v : Option ℤ). IfSome v IsSample) (count_of domain) None tt;
+  samples = All-replicate HasSample (count_of domain) None tt;
 }
 
 vertical_is : (b : Bool) (vertical : Option (List ℕ)) → IsSome (if b then vertical else None) → b ≡ true

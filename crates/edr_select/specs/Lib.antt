@@ -8,6 +8,7 @@ pub mod Selections
 pub mod Heads
 pub mod Documents
 pub mod Refusals
+pub mod RefusalLaws
 pub mod Choices
 pub mod Listings
 pub mod Framings

@@ -3,6 +3,7 @@ use Rattle.std.specs.Prelude.{◌≡◌, ⊤, ℕ, ◌+◌, ◌-◌, ◌*◌, �
 use Rattle.std.specs.List.{All, AllByRecursion, list_any, slice_index_or}
 use Rattle.edr_base.specs.declared.places.Position.{Position}
 use Rattle.edr_base.specs.declared.places.Spot.{Spot}
+use Rattle.edr_base.specs.Boxes.{in_box}
 use Rattle.edr_wkt.specs.declared.geometry.Geometry.{Geometry}
 use Rattle.edr_wkt.specs.declared.geometry.Polygon.{Polygon}
 use Rattle.edr_wkt.specs.Geometries.{positions_of}
@@ -19,7 +20,7 @@ use Rattle.edr_query.specs.Values.{QueryValue}
 use Rattle.edr_select.specs.declared.reaches.Reach.{Reach}
 use Rattle.edr_select.specs.declared.mask_rows.RowEnds.{RowEnds}
 use Rattle.edr_select.specs.Choices.{takes_node, time_places, level_places}
-use Rattle.edr_select.specs.Wanted.{levels_asked, in_areas, in_box}
+use Rattle.edr_select.specs.Wanted.{levels_asked, in_areas}
 use Rattle.edr_select.specs.Framings.{FrameValue}
 use Rattle.edr_chunk.specs.RowMajor.{place_in_row}
 
@@ -90,12 +91,16 @@ pub record TakesInColumn (i : InstanceValue) (shape : Shape) (x : ℕ) : Type 0 
   pub inside : row < length i.ys
   pub takes : takes_node i shape row x ≡ true
 
--- a row and a column lie in the box
-pub record InBox (mask : MaskValue) (y x : ℕ) : Type 0 where
-  pub low : mask.row ≤ y
-  pub high : y < mask.row + mask.rows
-  pub left : mask.column ≤ x
-  pub right : x < mask.column + mask.columns
+-- a row and a column are among so many from some on
+pub record AreAmong (row rows column columns : ℕ) (y x : ℕ) : Type 0 where
+  pub low : row ≤ y
+  pub high : y < row + rows
+  pub left : column ≤ x
+  pub right : x < column + columns
+
+-- they lie in the box
+abbrev pub InBox : MaskValue → ℕ → ℕ → Type 0
+InBox mask = AreAmong mask.row mask.rows mask.column mask.columns
 
 -- the box is the least one with all nodes that are taken, and the truth values say which these are
 pub record IsMask (i : InstanceValue) (shape : Shape) (mask : MaskValue) : Type 0 where

@@ -1,7 +1,7 @@
 -- The refusals that an edition gives a page, in their order.
 use Rattle.std.specs.Prelude.{◌≡◌, ℕ, nat_lt, Bool, true, false, not, ◌&&◌, ◌||◌, bytes_eq, List, [], ◌∷◌, length, Option, None, Some, is_some, is_none}
 use Rattle.std.specs.List.{find, list_any}
-use Rattle.edr_base.specs.FirstThatApplies.{IsLeast, NoneApplies}
+use Rattle.edr_base.specs.FirstThatApplies.{IsLeastOrNone}
 use Rattle.edr_base.specs.RefusalTable.{rank}
 use Rattle.edr_base.specs.declared.refusals.Refusal.{Refusal}
 use Rattle.edr_base.specs.declared.refusals.Refusal.TheVariants.{UnknownCollection, UnknownInstance, UnknownLocation, QueryNotOffered, UnknownParameterName, BadCrs, NoLevels, NoSamples, TooLarge}
@@ -136,23 +136,26 @@ applies_if_found page refusal (Some collection) = applies_in collection page ref
 abbrev pub applies : EditionValue → Page → Refusal → Bool
 applies edition page refusal = applies_if (λ id. applies_if_found page refusal (collection_in edition.collections id)) (collection_named page)
 
+-- ---- the first that applies
+
+abbrev pub Applies : EditionValue → Page → Refusal → Type 0
+Applies edition page refusal = applies edition page refusal ≡ true
+
+-- the least refusal that applies to a page of an edition, or none where none does
+abbrev pub IsFirstRefusal : EditionValue → Page → Option Refusal → Type 0
+IsFirstRefusal edition page = IsLeastOrNone rank (Applies edition page)
+
+-- ---- the same, found; for the bytes of sessions, and private clauses
+
 -- the refusals of an edition, by their numbers
 abbrev pub in_order : List Refusal
 in_order =
     UnknownCollection ∷ (UnknownInstance ∷ (UnknownLocation ∷ (QueryNotOffered ∷ (UnknownParameterName ∷ (BadCrs ∷ (NoLevels ∷ (NoSamples ∷ (TooLarge ∷ []))))))))
 
--- the first that applies, where one does
+-- the first of them that applies, where one does
 abbrev pub refused : EditionValue → Page → Option Refusal
 refused edition page = find (applies edition page) in_order
 
--- ---- a law: it is the least that applies by its number, and where there is none, none applies
-
-abbrev pub Applies : EditionValue → Page → Refusal → Type 0
-Applies edition page refusal = applies edition page refusal ≡ true
-
-abbrev pub IsRefusedLeast : EditionValue → Page → Option Refusal → Type 0
-IsRefusedLeast edition page None = NoneApplies (Applies edition page)
-IsRefusedLeast edition page (Some refusal) = IsLeast rank (Applies edition page) refusal
-
+-- a law: that is the least by its number, and where there is none, none applies
 abbrev pub RefusalIsLeast : Type 0
-RefusalIsLeast = (edition : EditionValue) (page : Page) → IsRefusedLeast edition page (refused edition page)
+RefusalIsLeast = (edition : EditionValue) (page : Page) → IsFirstRefusal edition page (refused edition page)

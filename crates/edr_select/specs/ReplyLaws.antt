@@ -11,7 +11,7 @@ use Rattle.covjson_value.specs.declared.coverages.NdArray.{NdArray}
 use Rattle.covjson_value.specs.declared.coverages.Coverage.{Coverage}
 use Rattle.covjson_value.specs.declared.coverages.Document.{Document}
 use Rattle.covjson_value.specs.declared.coverages.Document.TheVariants.{One, Many}
-use Rattle.edr_base.specs.Limits.{IsSample}
+use Rattle.edr_base.specs.Limits.{IsSample, AreSamples, HasSample}
 use Rattle.covjson_value.specs.Coverages.{IsRange, IsValid, IsValidDocument, coverages_in}
 use Rattle.covjson_value.specs.Domains.{count_of}
 use Rattle.covjson_write.specs.Pieces.{is_many}
@@ -29,19 +29,19 @@ use Rattle.edr_select.specs.BoxLaws.{length_of_same}
 
 -- ---- validity
 
-pub sample_at : (values : List (Option ℤ)) (n : ℕ) → All (λ v. IfSome v IsSample) values → IfSome (get_or values n None) IsSample
+pub sample_at : (values : List (Option ℤ)) (n : ℕ) → AreSamples values → IfSome (get_or values n None) IsSample
 sample_at values n all = elim (cases_lt n (length values)) [
-  | inl inside ↦ All-get_or (λ v. IfSome v IsSample) values n None inside all
-  | inr past ↦ subst (λ (v : Option ℤ). IfSome v IsSample) (sym (get_or_past values n None past)) tt
+  | inl inside ↦ All-get_or HasSample values n None inside all
+  | inr past ↦ subst HasSample (sym (get_or_past values n None past)) tt
 ]
 
-samples_at : (grid : chunk.Values) (parameter : ℕ) (cells : List GridNode) → All (λ v. IfSome v IsSample) grid.values → All (λ v. IfSome v IsSample) (map (λ cell. value grid (place_at parameter cell)) cells)
-samples_at grid parameter [] all = All-nil (λ v. IfSome v IsSample)
+samples_at : (grid : chunk.Values) (parameter : ℕ) (cells : List GridNode) → AreSamples grid.values → AreSamples (map (λ cell. value grid (place_at parameter cell)) cells)
+samples_at grid parameter [] all = All-nil HasSample
 samples_at grid parameter (cell ∷ cells) all =
-    All-cons (λ v. IfSome v IsSample) (value grid (place_at parameter cell)) (map (λ cell. value grid (place_at parameter cell)) cells)
+    All-cons HasSample (value grid (place_at parameter cell)) (map (λ cell. value grid (place_at parameter cell)) cells)
     (sample_at grid.values (number grid.shape (place_at parameter cell)) all) (samples_at grid parameter cells all)
 
-ranges_valid : (grid : chunk.Values) (planned : PlannedValue) (parameters : List ℕ) → All (λ v. IfSome v IsSample) grid.values → length planned.cells ≡ count_of planned.head.domain
+ranges_valid : (grid : chunk.Values) (planned : PlannedValue) (parameters : List ℕ) → AreSamples grid.values → length planned.cells ≡ count_of planned.head.domain
     → All (IsRange planned.head.domain) (map (range_over grid planned.cells) parameters)
 ranges_valid grid planned [] all count = All-nil (IsRange planned.head.domain)
 ranges_valid grid planned (p ∷ parameters) all count =
@@ -49,7 +49,7 @@ ranges_valid grid planned (p ∷ parameters) all count =
     (record { count = length-map planned.cells (λ cell. value grid (place_at p cell)) ∙ count; samples = samples_at grid p planned.cells all })
     (ranges_valid grid planned parameters all count)
 
-coverage_valid : (grid : chunk.Values) (shape : GridShape) (parameters : List ℕ) (planned : PlannedValue) → All (λ v. IfSome v IsSample) grid.values → IsPlanned shape parameters planned
+coverage_valid : (grid : chunk.Values) (shape : GridShape) (parameters : List ℕ) (planned : PlannedValue) → AreSamples grid.values → IsPlanned shape parameters planned
     → IsValid (coverage_of grid parameters planned)
 coverage_valid grid shape parameters planned all is =
     let v = is.head.valid in
@@ -66,7 +66,7 @@ coverage_valid grid shape parameters planned all is =
       ranges = ranges_valid grid planned parameters all (sym is.count);
     }
 
-coverages_valid : (grid : chunk.Values) (shape : GridShape) (parameters : List ℕ) (coverages : List PlannedValue) → All (λ v. IfSome v IsSample) grid.values → All (IsPlanned shape parameters) coverages
+coverages_valid : (grid : chunk.Values) (shape : GridShape) (parameters : List ℕ) (coverages : List PlannedValue) → AreSamples grid.values → All (IsPlanned shape parameters) coverages
     → All IsValid (map (coverage_of grid parameters) coverages)
 coverages_valid grid shape parameters [] all are = All-nil IsValid
 coverages_valid grid shape parameters (planned ∷ coverages) all are =
@@ -74,15 +74,15 @@ coverages_valid grid shape parameters (planned ∷ coverages) all are =
     (coverage_valid grid shape parameters planned all (All-head (IsPlanned shape parameters) planned coverages are))
     (coverages_valid grid shape parameters coverages all (All-tail (IsPlanned shape parameters) planned coverages are))
 
-ranges_samples : (domain_is : NdArray → Type 0) (ranges : List NdArray) → ((range : NdArray) → domain_is range → All (λ v. IfSome v IsSample) range.values) → All domain_is ranges → All (λ v. IfSome v IsSample) (values_of ranges)
-ranges_samples domain_is [] each all = All-nil (λ v. IfSome v IsSample)
+ranges_samples : (domain_is : NdArray → Type 0) (ranges : List NdArray) → ((range : NdArray) → domain_is range → AreSamples range.values) → All domain_is ranges → AreSamples (values_of ranges)
+ranges_samples domain_is [] each all = All-nil HasSample
 ranges_samples domain_is (range ∷ ranges) each all =
-    All-append (λ v. IfSome v IsSample) range.values (values_of ranges) (each range (All-head domain_is range ranges all)) (ranges_samples domain_is ranges each (All-tail domain_is range ranges all))
+    All-append HasSample range.values (values_of ranges) (each range (All-head domain_is range ranges all)) (ranges_samples domain_is ranges each (All-tail domain_is range ranges all))
 
 -- the values of an instance are samples
-pub instance_samples : (instance : InstanceValue) → IsInstance instance → All (λ v. IfSome v IsSample) instance.grid.values
+pub instance_samples : (instance : InstanceValue) → IsInstance instance → AreSamples instance.grid.values
 instance_samples instance is =
-    subst (λ (i : InstanceValue). All (λ v. IfSome v IsSample) i.grid.values) (sym is.is)
+    subst (λ (i : InstanceValue). AreSamples i.grid.values) (sym is.is)
     (ranges_samples (IsRange is.coverage.domain) is.coverage.ranges (λ range r. r.samples) is.grid.valid.ranges)
 
 -- ---- the document of a listing
@@ -110,7 +110,7 @@ told_of grid plan d is f =
     told_by plan.many (map (coverage_of grid plan.parameters) plan.coverages) d (λ one. length-map plan.coverages (coverage_of grid plan.parameters) ∙ is.alone one) f
 
 -- the listing's document is valid
-pub document_valid : (grid : chunk.Values) (plan : ListingValue) (d : Document) → IsListing plan → All (λ v. IfSome v IsSample) grid.values → listing_document grid plan ≡ Some d → IsValidDocument d
+pub document_valid : (grid : chunk.Values) (plan : ListingValue) (d : Document) → IsListing plan → AreSamples grid.values → listing_document grid plan ≡ Some d → IsValidDocument d
 document_valid grid plan d is samples f =
     let told = told_of grid plan d is f in told.valid (coverages_valid grid plan.shape plan.parameters plan.coverages samples is.coverages)
 
@@ -144,13 +144,13 @@ stack_cells_count stack =
 
 -- ---- the document of a framing
 
-samples_in : (grid : chunk.Values) (p : ℕ) (cells : List (Option GridNode)) → All (λ v. IfSome v IsSample) grid.values → All (λ v. IfSome v IsSample) (map (cell_value grid p) cells)
-samples_in grid p [] all = All-nil (λ v. IfSome v IsSample)
-samples_in grid p (None ∷ cells) all = All-cons (λ v. IfSome v IsSample) None (map (cell_value grid p) cells) tt (samples_in grid p cells all)
+samples_in : (grid : chunk.Values) (p : ℕ) (cells : List (Option GridNode)) → AreSamples grid.values → AreSamples (map (cell_value grid p) cells)
+samples_in grid p [] all = All-nil HasSample
+samples_in grid p (None ∷ cells) all = All-cons HasSample None (map (cell_value grid p) cells) tt (samples_in grid p cells all)
 samples_in grid p (Some cell ∷ cells) all =
-    All-cons (λ v. IfSome v IsSample) (cell_value grid p (Some cell)) (map (cell_value grid p) cells) (sample_at grid.values (number grid.shape (place_at p cell)) all) (samples_in grid p cells all)
+    All-cons HasSample (cell_value grid p (Some cell)) (map (cell_value grid p) cells) (sample_at grid.values (number grid.shape (place_at p cell)) all) (samples_in grid p cells all)
 
-framed_ranges_valid : (grid : chunk.Values) (framing : FramingValue) (ps : List ℕ) → IsFraming framing → All (λ v. IfSome v IsSample) grid.values → All (IsRange framing.head.domain) (map (framed_range grid framing.frame) ps)
+framed_ranges_valid : (grid : chunk.Values) (framing : FramingValue) (ps : List ℕ) → IsFraming framing → AreSamples grid.values → All (IsRange framing.head.domain) (map (framed_range grid framing.frame) ps)
 framed_ranges_valid grid framing [] is all = All-nil (IsRange framing.head.domain)
 framed_ranges_valid grid framing (p ∷ ps) is all =
     All-cons (IsRange framing.head.domain) (framed_range grid framing.frame p) (map (framed_range grid framing.frame) ps)
@@ -161,7 +161,7 @@ framed_ranges_valid grid framing (p ∷ ps) is all =
     (framed_ranges_valid grid framing ps is all)
 
 -- the coverage over a frame is valid
-pub framed_valid : (grid : chunk.Values) (framing : FramingValue) → IsFraming framing → All (λ v. IfSome v IsSample) grid.values → IsValid (framed_coverage grid framing)
+pub framed_valid : (grid : chunk.Values) (framing : FramingValue) → IsFraming framing → AreSamples grid.values → IsValid (framed_coverage grid framing)
 framed_valid grid framing is all =
     let v = is.head.valid in
     record {
@@ -179,7 +179,7 @@ framed_valid grid framing is all =
 
 -- ---- the document of a stacking
 
-stacked_ranges_valid : (grid : chunk.Values) (stacking : StackingValue) (ps : List ℕ) → IsStacking stacking → All (λ v. IfSome v IsSample) grid.values
+stacked_ranges_valid : (grid : chunk.Values) (stacking : StackingValue) (ps : List ℕ) → IsStacking stacking → AreSamples grid.values
     → All (IsRange stacking.head.domain) (map (stacked_range grid stacking.stack) ps)
 stacked_ranges_valid grid stacking [] is all = All-nil (IsRange stacking.head.domain)
 stacked_ranges_valid grid stacking (p ∷ ps) is all =
@@ -191,7 +191,7 @@ stacked_ranges_valid grid stacking (p ∷ ps) is all =
     (stacked_ranges_valid grid stacking ps is all)
 
 -- the coverage over a stack is valid
-pub stacked_valid : (grid : chunk.Values) (stacking : StackingValue) → IsStacking stacking → All (λ v. IfSome v IsSample) grid.values → IsValid (stacked_coverage grid stacking)
+pub stacked_valid : (grid : chunk.Values) (stacking : StackingValue) → IsStacking stacking → AreSamples grid.values → IsValid (stacked_coverage grid stacking)
 stacked_valid grid stacking is all =
     let v = is.head.valid in
     record {

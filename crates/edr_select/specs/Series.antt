@@ -1,5 +1,5 @@
 -- Coverages of stations, whose values are read from listed places of their series.
-use Rattle.std.specs.Prelude.{◌≡◌, ℕ, ◌+◌, ◌*◌, ◌/◌, ◌<◌, Bool, false, ℤ, List, [], length, map, All, Option, None}
+use Rattle.std.specs.Prelude.{◌≡◌, ℕ, ◌/◌, ◌<◌, Bool, false, ℤ, List, [], length, map, All, Option, None}
 use Rattle.std.specs.List.{flat_map, slice_index_or}
 use Rattle.covjson_value.specs.declared.coverages.NdArray.{NdArray}
 use Rattle.covjson_value.specs.declared.coverages.Coverage.{Coverage}
@@ -7,7 +7,7 @@ use Rattle.covjson_value.specs.declared.coverages.Document.{Document}
 use Rattle.covjson_value.specs.Domains.{count_of}
 use Rattle.covjson_write.specs.Writers.{IsHead, with_ranges}
 use Rattle.edr_station.specs.Stations.{StationValue, StationsValue, values_along, station_at}
-use Rattle.edr_station.specs.Blocks.{block_length, blocks_of, first_block, series_at}
+use Rattle.edr_station.specs.Blocks.{block_length, blocks_of, first_block, series_at, block_number}
 use Rattle.edr_select.specs.Listings.{document_of, NumbersRise}
 
 -- a coverage of the reply: all of it but its ranges, the place of its station, the number of the station's first block and how
@@ -42,7 +42,7 @@ series_document stations reply = document_of reply.many (map (series_coverage st
 -- ---- the blocks of all values, in the order of the text
 
 abbrev pub block_at : StationSeriesValue → ℕ → ℕ → ℕ
-block_at series parameter cell = series.first + parameter * series.blocks + cell / block_length
+block_at series parameter cell = block_number series.first series.blocks parameter (cell / block_length)
 
 abbrev pub blocks_of_range : StationSeriesValue → ℕ → List ℕ
 blocks_of_range series parameter = map (block_at series parameter) series.cells

@@ -2,8 +2,10 @@
 use Rattle.std.specs.Prelude.{ℕ, ℤ, pos, negsuc, ◌+ℤ◌, ◌*ℤ◌, int_lt, int_le, nat_lt, nat_le, Bool, true, false, not, ◌&&◌, ◌||◌, bytes_eq, List, ◌∷◌, Option, None, Some}
 use Rattle.std.specs.Ordering.{int_eq}
 use Rattle.std.specs.List.{list_any, list_all, range_with_len}
+use Rattle.std.specs.Option.{option_or}
 use Rattle.edr_base.specs.declared.places.Position.{Position}
 use Rattle.edr_base.specs.declared.places.Spot.{Spot}
+use Rattle.edr_base.specs.Boxes.{in_box}
 use Rattle.edr_axes.specs.declared.times.Times.{Times}
 use Rattle.edr_axes.specs.declared.times.Times.TheVariants as times
 use Rattle.edr_axes.specs.declared.levels.Levels.{Levels}
@@ -13,7 +15,7 @@ use Rattle.edr_wkt.specs.declared.geometry.Geometry.{Geometry}
 use Rattle.edr_wkt.specs.declared.geometry.Geometry.TheVariants.{Points, Line, Polygons}
 use Rattle.edr_wkt.specs.Geometries.{positions_of}
 use Rattle.edr_wkt.specs.Wkt.{has_z_of}
-use Rattle.edr_geometry.specs.Planar.{spot_of, between, in_polygons, in_disc}
+use Rattle.edr_geometry.specs.Planar.{spot_of, in_polygons, in_disc}
 use Rattle.covjson_value.specs.Samples.{Node}
 use Rattle.edr_edition.specs.Stores.{Held, of_grid, of_stations}
 use Rattle.edr_query.specs.declared.shapes.Shape.{Shape}
@@ -74,13 +76,9 @@ levels_of (at.Radius geometry within) = level_of (has_z_of geometry) (positions_
 levels_of (at.Cube lo hi (Some (low, high))) = Some (levels.Between low high)
 levels_of other = None
 
-abbrev pub either : {V : Type 0} → Option V → Option V → Option V
-either (Some one) other = Some one
-either None other = other
-
 -- the levels that a query asks for, by `z` or by its shape; no query asks in both ways
 abbrev pub levels_asked : QueryValue → Option Levels
-levels_asked q = either q.levels (levels_of q.shape)
+levels_asked q = option_or q.levels (levels_of q.shape)
 
 -- ---- places
 
@@ -106,10 +104,6 @@ abbrev pub in_areas : Geometry → Spot → Bool
 in_areas (Points multi has_z has_m positions) spot = false
 in_areas (Line has_z has_m positions) spot = false
 in_areas (Polygons multi has_z has_m polygons) spot = in_polygons spot polygons
-
--- inside a box with its borders
-abbrev pub in_box : Spot → Spot → Spot → Bool
-in_box spot lo hi = between lo.x hi.x spot.x && between lo.y hi.y spot.y
 
 abbrev pub spot_at : Node → Spot
 spot_at n = record { x = n.x; y = n.y }

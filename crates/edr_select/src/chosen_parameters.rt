@@ -1,6 +1,6 @@
 //! The parameters of an instance that a query asks for.
 ghost use Rattle.std.specs.Prelude.{◌≡◌, ◌<◌, false, true, Some, None, IfOk, MatchOption};
-ghost use Rattle.edr_select.specs.PlacesOfIds.{IsPlaceOf};
+ghost use Rattle.edr_select.specs.PlacesOfIds.{IsPlaceOfId};
 ghost use Rattle.covjson_value.specs.Coverages.{ids_of, AscendById};
 ghost use Rattle.edr_edition.specs.Values.{parameter_id};
 ghost use Rattle.edr_select.specs.Refusals.{names_other};
@@ -14,7 +14,7 @@ use std::alloc::Global;
 // `Ok` with the place of the parameter of an id, or `Err` with the place where it would stand.
 fn place_of(parameters: &[Parameter], id: &[u8]) -> Result<usize, usize>
     requires { AscendById parameters.now }
-    ensures { IsPlaceOf parameter_id id.now parameters.now result }
+    ensures { IsPlaceOfId parameter_id id.now parameters.now result }
 {
     parameters.binary_search_by(|parameter| parameter.id.bytes().cmp(id))
 }

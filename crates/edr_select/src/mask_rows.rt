@@ -2,17 +2,16 @@
 ghost use Rattle.std.specs.Prelude.{◌≡◌, ◌<◌, ◌≤◌, ◌+◌, ◌++◌, length, All, IfOk, OnOk, MatchOption};
 ghost use Rattle.edr_axes.specs.Axes.{value_at};
 ghost use Rattle.edr_base.specs.Limits.{node_limit, IsCoordinate};
+ghost use Rattle.edr_base.specs.Boxes.{in_box};
 ghost use Rattle.edr_edition.specs.Instances.{HasGrid};
 ghost use Rattle.edr_geometry.specs.Masks.{row_of, spot_at, IsSet, NoneSet};
-ghost use Rattle.edr_geometry.specs.Planar as plane;
 ghost use Rattle.edr_query.specs.Queries.{IsShape};
 ghost use Rattle.edr_select.specs.Masks.{IsArea, LiesInColumns, NoneIn, IsTakenRow, bits_at, takes_spot};
-ghost use Rattle.edr_select.specs.Wanted.{in_box};
 
 use crate::grid_ranges::Columns;
 use crate::reaches::{centre_of, polygons_of};
 use edr_axes::Axis;
-use edr_base::{OutOfMemory, Spot};
+use edr_base::{OutOfMemory, Spot, in_box};
 use edr_edition::GridInstance;
 use edr_geometry::RowMask;
 use edr_query::Shape;
@@ -23,13 +22,6 @@ use std::alloc::Global;
 pub struct RowEnds {
     pub first: usize,
     pub last: usize,
-}
-
-// Whether a number is from a low one to a high one, both included.
-fn is_between(low: i64, high: i64, number: i64) -> bool
-    ensures { result ≡ plane.between low high number }
-{
-    low <= number && number <= high
 }
 
 // The places of one y and a box, in metres.
@@ -45,7 +37,7 @@ impl BoxRow {
     fn has(&self, x: i64) -> bool
         ensures { result ≡ in_box (spot_at self.now.y x) self.now.lo self.now.hi }
     {
-        is_between(self.lo.x, self.hi.x, x) && is_between(self.lo.y, self.hi.y, self.y)
+        in_box(Spot { x, y: self.y }, self.lo, self.hi)
     }
 }
 

@@ -1,8 +1,7 @@
 -- The document over a frame is valid, and its text is that of its pieces.
-use Rattle.std.proofs.Common.{◌≡◌, ℕ, List, ◌++◌, All, Some, false, ap, sym, ◌∙◌, subst, append-nil}
-use Rattle.std.specs.Prelude.{IfSome}
+use Rattle.std.proofs.Common.{◌≡◌, ℕ, List, ◌++◌, Some, false, ap, sym, ◌∙◌, subst, append-nil}
 use Rattle.covjson_value.specs.declared.coverages.Document.TheVariants.{One}
-use Rattle.edr_base.specs.Limits.{IsSample}
+use Rattle.edr_base.specs.Limits.{AreSamples}
 use Rattle.covjson_value.specs.Trees.{document_text}
 use Rattle.covjson_write.specs.Laws.{DocumentOfPieces}
 use Rattle.covjson_write.specs.Pieces.{document_begin, document_end}
@@ -21,7 +20,7 @@ pub framed_stands : (plan : PlanValue) (framing : FramingValue) (s : Subject) �
 framed_stands plan framing s framed stands = subst (λ (r : Reply). IsReplyTo r plan.query s) framed stands
 
 -- its text is that of its pieces
-pub framed_text_is : DocumentOfPieces → (grid : chunk.Values) (framing : FramingValue) → IsFraming framing → All (λ v. IfSome v IsSample) grid.values → framed_text grid framing ≡ document_text (One (framed_coverage grid framing))
+pub framed_text_is : DocumentOfPieces → (grid : chunk.Values) (framing : FramingValue) → IsFraming framing → AreSamples grid.values → framed_text grid framing ≡ document_text (One (framed_coverage grid framing))
 framed_text_is law grid framing is all =
     ap (λ (text : List ℕ). document_begin false ++ (text ++ document_end false)) (sym (append-nil (framed_coverage_text grid framing)))
     ∙ sym (law (One (framed_coverage grid framing)) (framed_valid grid framing is all))

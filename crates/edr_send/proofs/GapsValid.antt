@@ -3,7 +3,7 @@ use Rattle.std.proofs.Common.{◌≡◌, ℕ, List, get_or, All, Option, None, S
 use Rattle.std.specs.Prelude.{map, IfSome}
 use Rattle.std.proofs.lemmas.List.{length-map}
 use Rattle.std.proofs.lemmas.List.Elements.{All-map}
-use Rattle.edr_base.specs.Limits.{IsSample}
+use Rattle.edr_base.specs.Limits.{IsSample, HasSample}
 use Rattle.covjson_value.specs.Coverages.{IsRange, IsValid}
 use Rattle.covjson_value.specs.Trees.{document_text}
 use Rattle.covjson_write.specs.Laws.{DocumentOfPieces}
@@ -32,7 +32,7 @@ module _ (collection : StationsValue) (stand : AreStations collection) where
       → IsRange series.head.domain (gapped_range (station_of collection series) series.cells p)
   range_valid parameters series is of p = record {
     count = length-map series.cells (gapped_value (station_of collection series) p) ∙ sym is.count;
-    samples = All-map (λ v. IfSome v IsSample) (gapped_value (station_of collection series) p) series.cells (λ k d l. value_valid series of p (get_or series.cells k d));
+    samples = All-map HasSample (gapped_value (station_of collection series) p) series.cells (λ k d l. value_valid series of p (get_or series.cells k d));
   }
 
   coverage_valid : (parameters : List ℕ) (series : GappedSeriesValue) → IsGapped parameters series → IsOfStation collection series → IsValid (gapped_coverage collection.stations parameters series)

@@ -1,6 +1,6 @@
 -- The document of a listing, from all its values.
-use Rattle.std.proofs.Common.{◌≡◌, ℕ, suc, ◌+◌, ◌-◌, ◌*◌, Bool, List, [], ◌∷◌, ◌++◌, length, take, drop, All, ℤ, Option, Some, refl, ap, sym, ◌∙◌, subst, arith, append_assoc, length-append}
-use Rattle.std.specs.Prelude.{map, IfSome}
+use Rattle.std.proofs.Common.{◌≡◌, ℕ, suc, ◌+◌, ◌-◌, ◌*◌, Bool, List, [], ◌∷◌, ◌++◌, length, take, drop, ℤ, Option, Some, refl, ap, sym, ◌∙◌, subst, arith, append_assoc, length-append}
+use Rattle.std.specs.Prelude.{map}
 use Rattle.std.specs.List.{flat_map, slice_range}
 use Rattle.std.proofs.Math.Seq.{take-append_seam, drop-append_seam}
 use Rattle.std.proofs.lemmas.Simd.{map-map}
@@ -8,7 +8,7 @@ use Rattle.std.proofs.lemmas.List.{length-map, map-append, drop-drop}
 use Rattle.covjson_value.specs.declared.coverages.NdArray.{NdArray}
 use Rattle.covjson_value.specs.declared.coverages.Coverage.{Coverage}
 use Rattle.covjson_value.specs.declared.coverages.Document.{Document}
-use Rattle.edr_base.specs.Limits.{IsSample}
+use Rattle.edr_base.specs.Limits.{AreSamples}
 use Rattle.covjson_value.specs.Trees.{document_text}
 use Rattle.covjson_write.specs.Laws.{DocumentOfPieces}
 use Rattle.covjson_write.specs.Pieces.{coverages_from, document_begin, document_end}
@@ -157,7 +157,7 @@ pub listed_stands : (plan : PlanValue) (listing : ListingValue) (s : Subject) �
 listed_stands plan listing s listed stands = subst (λ (r : Reply). IsReplyTo r plan.query s) listed stands
 
 -- its text is that of its pieces
-pub plan_text_is : DocumentOfPieces → (grid : chunk.Values) (plan : ListingValue) (d : Document) → IsListing plan → All (λ v. IfSome v IsSample) grid.values → listing_document grid plan ≡ Some d
+pub plan_text_is : DocumentOfPieces → (grid : chunk.Values) (plan : ListingValue) (d : Document) → IsListing plan → AreSamples grid.values → listing_document grid plan ≡ Some d
     → listing_text grid plan ≡ document_text d
 plan_text_is law grid plan d is samples f =
     let told = told_of grid plan d is f in
@@ -166,7 +166,7 @@ plan_text_is law grid plan d is samples f =
     ∙ sym (law d (document_valid grid plan d is samples f))
 
 -- it is written from all its values
-pub text_is : DocumentOfPieces → (grid : chunk.Values) (plan : ListingValue) (values : List (Option ℤ)) (d : Document) → IsListing plan → All (λ v. IfSome v IsSample) grid.values
+pub text_is : DocumentOfPieces → (grid : chunk.Values) (plan : ListingValue) (values : List (Option ℤ)) (d : Document) → IsListing plan → AreSamples grid.values
     → values ≡ map (value grid) (places_of_coverages plan.parameters plan.coverages) → listing_document grid plan ≡ Some d
     → document_begin plan.many ++ (coverages_from 0 (coverages_cut (length plan.parameters) plan.coverages values) ++ document_end plan.many) ≡ document_text d
 text_is law grid plan values d is samples e f =

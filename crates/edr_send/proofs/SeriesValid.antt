@@ -1,12 +1,12 @@
 -- The document of a reply over stations is valid, and its text is that of its pieces.
 use Rattle.std.proofs.Common.{◌≡◌, ℕ, Bool, List, [], ◌++◌, length, get_or, All, ℤ, Option, Some, ap, sym, ◌∙◌, subst, inl, inr}
-use Rattle.std.specs.Prelude.{map, IfSome}
+use Rattle.std.specs.Prelude.{map}
 use Rattle.std.proofs.lemmas.Bool.{cases_lt}
 use Rattle.std.proofs.lemmas.List.{length-map, get_or_past}
 use Rattle.std.proofs.lemmas.List.Elements.{All-nil, All-map}
 use Rattle.covjson_value.specs.declared.coverages.Coverage.{Coverage}
 use Rattle.covjson_value.specs.declared.coverages.Document.{Document}
-use Rattle.edr_base.specs.Limits.{IsSample}
+use Rattle.edr_base.specs.Limits.{AreSamples, HasSample}
 use Rattle.covjson_value.specs.Coverages.{IsRange, IsValid, coverages_in}
 use Rattle.covjson_value.specs.Trees.{document_text}
 use Rattle.covjson_write.specs.Laws.{DocumentOfPieces}
@@ -26,10 +26,10 @@ pub series_stands : (plan : PlanValue) (reply : SeriesReplyValue) (s : Subject) 
 series_stands plan reply s is stands = subst (λ (r : Reply). IsReplyTo r plan.query s) is stands
 
 -- the samples of a station's parameter
-pub samples_in : (parameters : ℕ) (s : StationValue) → IsStation parameters s → (p : ℕ) → All (λ v. IfSome v IsSample) (series_at s p)
+pub samples_in : (parameters : ℕ) (s : StationValue) → IsStation parameters s → (p : ℕ) → AreSamples (series_at s p)
 samples_in parameters s is p = elim (cases_lt p (length s.series)) [
   | inl inside ↦ is.has.samples p [] inside
-  | inr past ↦ subst (λ (values : List (Option ℤ)). All (λ v. IfSome v IsSample) values) (sym (get_or_past s.series p [] past)) (All-nil (λ v. IfSome v IsSample))
+  | inr past ↦ subst (λ (values : List (Option ℤ)). AreSamples values) (sym (get_or_past s.series p [] past)) (All-nil HasSample)
 ]
 
 module _ (collection : StationsValue) (stand : AreStations collection) where
@@ -37,7 +37,7 @@ module _ (collection : StationsValue) (stand : AreStations collection) where
       → IsRange series.head.domain (series_range (station_of collection series) series.cells p)
   range_valid parameters series is of p = record {
     count = length-map series.cells (series_value (station_of collection series) p) ∙ sym is.count;
-    samples = All-map (λ v. IfSome v IsSample) (series_value (station_of collection series) p) series.cells
+    samples = All-map HasSample (series_value (station_of collection series) p) series.cells
         (λ k d l. sample_at (series_at (station_of collection series) p) (get_or series.cells k d) (samples_in collection.parameters (station_of collection series) (stand.each series.station nowhere of.station) p));
   }
 

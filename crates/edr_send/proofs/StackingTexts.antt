@@ -1,8 +1,7 @@
 -- The document over a stack is valid, and its text is that of its pieces.
-use Rattle.std.proofs.Common.{◌≡◌, ℕ, List, ◌++◌, All, Some, false, ap, sym, ◌∙◌, subst, append-nil}
-use Rattle.std.specs.Prelude.{IfSome}
+use Rattle.std.proofs.Common.{◌≡◌, ℕ, List, ◌++◌, Some, false, ap, sym, ◌∙◌, subst, append-nil}
 use Rattle.covjson_value.specs.declared.coverages.Document.TheVariants.{One}
-use Rattle.edr_base.specs.Limits.{IsSample}
+use Rattle.edr_base.specs.Limits.{AreSamples}
 use Rattle.covjson_value.specs.Trees.{document_text}
 use Rattle.covjson_write.specs.Laws.{DocumentOfPieces}
 use Rattle.covjson_write.specs.Pieces.{document_begin, document_end}
@@ -21,7 +20,7 @@ pub stacked_stands : (plan : PlanValue) (stacking : StackingValue) (s : Subject)
 stacked_stands plan stacking s stacked stands = subst (λ (r : Reply). IsReplyTo r plan.query s) stacked stands
 
 -- its text is that of its pieces
-pub stacked_text_is : DocumentOfPieces → (grid : chunk.Values) (stacking : StackingValue) → IsStacking stacking → All (λ v. IfSome v IsSample) grid.values → stacked_text grid stacking ≡ document_text (One (stacked_coverage grid stacking))
+pub stacked_text_is : DocumentOfPieces → (grid : chunk.Values) (stacking : StackingValue) → IsStacking stacking → AreSamples grid.values → stacked_text grid stacking ≡ document_text (One (stacked_coverage grid stacking))
 stacked_text_is law grid stacking is all =
     ap (λ (text : List ℕ). document_begin false ++ (text ++ document_end false)) (sym (append-nil (stacked_coverage_text grid stacking)))
     ∙ sym (law (One (stacked_coverage grid stacking)) (stacked_valid grid stacking is all))

@@ -15,7 +15,7 @@ use Rattle.edr_edition.specs.Stores.{Held, of_grid, of_stations, Subject, instan
 use Rattle.edr_query.specs.Values.{QueryValue}
 use Rattle.edr_query.specs.declared.pages.Page.{Page}
 use Rattle.edr_query.specs.declared.pages.Page.TheVariants.{Landing, Conformance, Collections, Collection, Instances, Instance, Locations, Ask}
-use Rattle.edr_select.specs.Refusals.{Applies, applies_if_found, applies_in, is_of_grids, refused, IsRefusedLeast, RefusalIsLeast}
+use Rattle.edr_select.specs.Refusals.{Applies, applies_if_found, applies_in, is_of_grids, refused, IsFirstRefusal, RefusalIsLeast}
 use Rattle.edr_select.specs.Documents.{document}
 use Rattle.edr_describe.specs.Descriptions.{landing_page, conformance_page, collections_page, collection_page, instances_page, instance_page, locations_page, page_of_instance}
 use Rattle.edr_serve.specs.Answers.{page_text, IsAnswer, PageHasAnswer}
@@ -97,9 +97,9 @@ text_there edition (Locations c) none =
     mapped compact_text (option_map locations_page o) (mapped locations_page o (collection_at (Locations c) o (none UnknownCollection)))
 text_there edition (Ask query) none = data_there edition query none
 
-answer_by : (edition : EditionValue) (page : Page) (r : Option Refusal) → refused edition page ≡ r → IsRefusedLeast edition page r → (answer : Result (List ℕ) Refusal) × IsAnswer edition page answer
-answer_by edition page None e none = let text = text_there edition page none in (Ok text.0, record { none = e; text_is = text.1 })
-answer_by edition page (Some refusal) e least = (Err refusal, e)
+answer_by : (edition : EditionValue) (page : Page) (r : Option Refusal) → IsFirstRefusal edition page r → (answer : Result (List ℕ) Refusal) × IsAnswer edition page answer
+answer_by edition page None none = let text = text_there edition page none in (Ok text.0, record { none = none; text_is = text.1 })
+answer_by edition page (Some refusal) least = (Err refusal, least)
 
 pub has_answer : RefusalIsLeast → PageHasAnswer
-has_answer least edition page = answer_by edition page (refused edition page) refl (least edition page)
+has_answer least edition page = answer_by edition page (refused edition page) (least edition page)

@@ -1,21 +1,17 @@
 -- A target has one answer, and its refusal is the first.
-use Rattle.std.proofs.Common.{◌≡◌, inl, inr, ◌∙◌, ℕ, List, refl, ap, sym, subst, Some, None, Ok, Err}
+use Rattle.std.proofs.Common.{◌≡◌, inl, inr, ◌∙◌, ℕ, List, refl, ap, sym, subst, Some, Ok, Err}
 use Rattle.std.specs.Prelude.{Result}
 use Rattle.std.specs.declared.option.Option.{Option}
-use Rattle.edr_base.specs.FirstThatApplies.{IsLeast, NoneApplies}
 use Rattle.edr_base.specs.declared.refusals.Refusal.{Refusal}
 use Rattle.edr_edition.specs.Values.{EditionValue}
 use Rattle.edr_query.specs.declared.pages.Page.{Page}
-use Rattle.edr_base.specs.RefusalTable.{rank}
+use Rattle.edr_base.specs.RefusalLaws.{least_once}
 use Rattle.edr_query.specs.Targets.{IsTarget, Refuses, TargetIsOne}
-use Rattle.edr_select.specs.Refusals.{Applies, refused, IsRefusedLeast, RefusalIsLeast}
+use Rattle.edr_select.specs.Refusals.{Applies}
 use Rattle.edr_serve.specs.Answers.{IsAnswer, AnswerIsOne, AppliesTo, IsTheFirst, RefusalIsTheFirst}
 
 some_same : {V : Type 0} (a b : V) (o : Option V) → o ≡ Some a → o ≡ Some b → a ≡ b
 some_same a b o e f = cc
-
-none_some : {V : Type 0} (a : V) (o : Option V) → o ≡ None → o ≡ Some a → ⊥
-none_some a o e f = cc
 
 ok_same : {T E : Type 0} (a b : T) (r : Result T E) → r ≡ Ok a → r ≡ Ok b → a ≡ b
 ok_same a b r e f = cc
@@ -26,9 +22,9 @@ err_same a b r e f = cc
 -- a page has one answer
 of_page : (edition : EditionValue) (page : Page) (one other : Result (List ℕ) Refusal) → IsAnswer edition page one → IsAnswer edition page other → one ≡ other
 of_page edition page (Ok a) (Ok b) x y = ap Ok (some_same a b _ x.text_is y.text_is)
-of_page edition page (Ok a) (Err r) x y = absurd (none_some r _ x.none y)
-of_page edition page (Err r) (Ok a) x y = absurd (none_some r _ y.none x)
-of_page edition page (Err r) (Err s) x y = ap Err (some_same r s _ x y)
+of_page edition page (Ok a) (Err r) x y = absurd (x.none r y.applies)
+of_page edition page (Err r) (Ok a) x y = absurd (y.none r x.applies)
+of_page edition page (Err r) (Err s) x y = ap Err (least_once (Applies edition page) r s x y)
 
 -- a target asks for one page
 page_same : TargetIsOne → (target : List ℕ) (a b : Page) → IsTarget target (Ok a) → IsTarget target (Ok b) → a ≡ b
@@ -59,15 +55,12 @@ at_target edition target other refusal least (inl refuses) = refuses
 at_target edition target other refusal least (inr h) = absurd (h.1.none other least.applies)
 
 first_of_page : TargetIsOne → (edition : EditionValue) (target : List ℕ) (page : Page) (answer : Result (List ℕ) Refusal)
-    → IsTarget target (Ok page) → IsRefusedLeast edition page (refused edition page) → IsAnswer edition page answer → IsTheFirst edition target answer
-first_of_page one edition target page (Ok text) asked least x = λ refusal h.
-    let none : NoneApplies (Applies edition page) = subst (λ (r : Option Refusal). IsRefusedLeast edition page r) x.none least in
-    none refusal (at_page one edition target page refusal asked h)
-first_of_page one edition target page (Err refusal) asked least x =
-    let first : IsLeast rank (Applies edition page) refusal = subst (λ (r : Option Refusal). IsRefusedLeast edition page r) x least in record {
-      applies = inr (page, asked, first.applies);
-      none_before = λ other lower h. first.none_before other lower (at_page one edition target page other asked h);
-    }
+    → IsTarget target (Ok page) → IsAnswer edition page answer → IsTheFirst edition target answer
+first_of_page one edition target page (Ok text) asked x = λ refusal h. x.none refusal (at_page one edition target page refusal asked h)
+first_of_page one edition target page (Err refusal) asked x = record {
+  applies = inr (page, asked, x.applies);
+  none_before = λ other lower h. x.none_before other lower (at_page one edition target page other asked h);
+}
 
 first_of_target : (edition : EditionValue) (target : List ℕ) (refusal : Refusal) → IsTarget target (Err refusal) → IsTheFirst edition target (Err refusal)
 first_of_target edition target refusal least = record {
@@ -75,6 +68,6 @@ first_of_target edition target refusal least = record {
   none_before = λ other lower h. least.none_before other lower (at_target edition target refusal other least h);
 }
 
-pub is_first : TargetIsOne → RefusalIsLeast → RefusalIsTheFirst
-is_first one least edition target answer (inl x) = first_of_page one edition target x.page answer x.asked (least edition x.page) x.answered
-is_first one least edition target answer (inr x) = subst (λ (a : Result (List ℕ) Refusal). IsTheFirst edition target a) (sym x.is) (first_of_target edition target x.refusal x.refused)
+pub is_first : TargetIsOne → RefusalIsTheFirst
+is_first one edition target answer (inl x) = first_of_page one edition target x.page answer x.asked x.answered
+is_first one edition target answer (inr x) = subst (λ (a : Result (List ℕ) Refusal). IsTheFirst edition target a) (sym x.is) (first_of_target edition target x.refusal x.refused)

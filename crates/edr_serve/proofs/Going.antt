@@ -1,7 +1,7 @@
 -- The steps of a session.
 use Rattle.std.proofs.Common.{◌≡◌, ◌≢◌, inl, inr, ℕ, ◌+◌, ◌-◌, ◌≤◌, max, Bool, true, false, length, length-append, List, [], ◌∷◌, ◌++◌, map, sym, ap, subst, ◌∙◌, refl, Some, None, append-nil, arith}
 use Rattle.std.specs.declared.option.Option.{Option}
-use Rattle.std.specs.Prelude.{is_some, unwrap_or, option_to_list}
+use Rattle.std.specs.Prelude.{is_some, unwrap_or, option_to_list, IfSome}
 use Rattle.std.specs.Io.KnownBytes.{append_known, prepend_known}
 use Rattle.std.proofs.lemmas.List.{map-append}
 use mathlib.Core.List.{append_assoc}
@@ -13,9 +13,9 @@ use Rattle.edr_serve.specs.declared.ends.End.{End}
 use Rattle.edr_serve.specs.declared.ends.End.TheVariants.{EndOfInput}
 use Rattle.edr_serve.specs.declared.reports.OneReport.{OneReport}
 use Rattle.edr_serve.specs.declared.reports.SessionReport.{SessionReport}
-use Rattle.edr_serve.specs.Requests.{Request, IsFirst, Requests, Begun, session_end, request_limit}
+use Rattle.edr_serve.specs.Requests.{Request, IsFirstRequest, Requests, Begun, session_end, request_limit}
 use Rattle.edr_serve.specs.Replies.{readers, number_of, output, opened}
-use Rattle.edr_serve.specs.Sessions.{State, state, IfTold, last_number, Answered, BrokeOff, Session, Broken, Waits, BrokenAtOne, AtMost, most_behind, ReadsAhead, chunks_in, Exchanged, Served}
+use Rattle.edr_serve.specs.Sessions.{State, state, last_number, Answered, BrokeOff, Session, Broken, Waits, BrokenAtOne, AtMost, most_behind, ReadsAhead, chunks_in, Exchanged, Served}
 use Rattle.edr_serve.specs.AheadLaws.{HeldBehind, held_on, held_none, held_read, held_end, ahead_of, held_behind}
 use Rattle.edr_serve.proofs.ReplyLaws.{output_on, opened_on, readers_on}
 use Rattle.edr_serve.proofs.Shelves.{seen_same, uses_on, taken_same, taken_on, never_on}
@@ -72,27 +72,27 @@ broke_none a = record {
 both : (b : Bool) → b ≡ true → b ≡ false → ⊥
 both b t f = cc
 
-goes_on : (n : ℕ) (b c : Option (List ℕ)) (r : Request) (rs : List Request) → Told (λ x y. IsFirst n x r y) b c → r.end ≡ None → IfTold (λ x. Requests (n - 1) x rs) c → IfTold (λ x. Requests n x (r ∷ rs)) b
+goes_on : (n : ℕ) (b c : Option (List ℕ)) (r : Request) (rs : List Request) → Told (λ x y. IsFirstRequest n x r y) b c → r.end ≡ None → IfSome c (λ x. Requests (n - 1) x rs) → IfSome b (λ x. Requests n x (r ∷ rs))
 goes_on n None c r rs x e y = tt
 goes_on n (Some b) None r rs x e y = absurd x
 goes_on n (Some b) (Some c) r rs x e y = (c, x, (λ t. absurd (both (is_some r.end) t (ap is_some e))), λ _. y)
 
-begins_on : (n : ℕ) (b c : Option (List ℕ)) (r : Request) (rs : List Request) → Told (λ x y. IsFirst n x r y) b c → r.end ≡ None → IfTold (λ x. Begun (n - 1) x rs) c → IfTold (λ x. Begun n x (r ∷ rs)) b
+begins_on : (n : ℕ) (b c : Option (List ℕ)) (r : Request) (rs : List Request) → Told (λ x y. IsFirstRequest n x r y) b c → r.end ≡ None → IfSome c (λ x. Begun (n - 1) x rs) → IfSome b (λ x. Begun n x (r ∷ rs))
 begins_on n None c r rs x e y = tt
 begins_on n (Some b) None r rs x e y = absurd x
 begins_on n (Some b) (Some c) r rs x e y = (c, x, (λ t. absurd (both (is_some r.end) t (ap is_some e))), λ _. y)
 
-closes_with : (n : ℕ) (b c : Option (List ℕ)) (r : Request) (end : End) → Told (λ x y. IsFirst n x r y) b c → r.end ≡ Some end → IfTold (λ x. Requests n x (r ∷ [])) b
+closes_with : (n : ℕ) (b c : Option (List ℕ)) (r : Request) (end : End) → Told (λ x y. IsFirstRequest n x r y) b c → r.end ≡ Some end → IfSome b (λ x. Requests n x (r ∷ []))
 closes_with n None c r end x e = tt
 closes_with n (Some b) None r end x e = absurd x
 closes_with n (Some b) (Some c) r end x e = (c, x, (λ _. refl), λ f. absurd (both (is_some r.end) (ap is_some e) f))
 
-begun_one : (n : ℕ) (r : Request) (b c : Option (List ℕ)) → Told (λ x y. IsFirst n x r y) b c → IfTold (λ x. Begun n x (r ∷ [])) b
+begun_one : (n : ℕ) (r : Request) (b c : Option (List ℕ)) → Told (λ x y. IsFirstRequest n x r y) b c → IfSome b (λ x. Begun n x (r ∷ []))
 begun_one n r None c t = tt
 begun_one n r (Some b) None t = absurd t
 begun_one n r (Some b) (Some c) t = (c, t, (λ _. refl), λ _. tt)
 
-at_end : (n : ℕ) (b c : Option (List ℕ)) → Told (λ x y. (x ≡ []) × (y ≡ [])) b c → IfTold (λ x. Requests n x []) b
+at_end : (n : ℕ) (b c : Option (List ℕ)) → Told (λ x y. (x ≡ []) × (y ≡ [])) b c → IfSome b (λ x. Requests n x [])
 at_end n None c t = tt
 at_end n (Some b) None t = absurd t
 at_end n (Some b) (Some c) t = t.0
@@ -103,8 +103,8 @@ at_end n (Some b) (Some c) t = t.0
 pub record Going (turns : ℕ) (rest behind : Option (List ℕ)) (before now : State) (numbers : List ℕ) (chunks : List (List ℕ)) : Type 0 where
   pub done : List Request
   pub editions : List EditionValue
-  pub goes : (rs : List Request) → IfTold (λ bytes. Requests turns bytes rs) behind → IfTold (λ bytes. Requests request_limit bytes (done ++ rs)) rest
-  pub begins : (rs : List Request) → IfTold (λ bytes. Begun turns bytes rs) behind → IfTold (λ bytes. Begun request_limit bytes (done ++ rs)) rest
+  pub goes : (rs : List Request) → IfSome behind (λ bytes. Requests turns bytes rs) → IfSome rest (λ bytes. Requests request_limit bytes (done ++ rs))
+  pub begins : (rs : List Request) → IfSome behind (λ bytes. Begun turns bytes rs) → IfSome rest (λ bytes. Begun request_limit bytes (done ++ rs))
   pub ahead : (rs : List Request) (held : List ℕ) (left : Option (List ℕ)) → HeldBehind turns rs held behind left → HeldBehind request_limit (done ++ rs) held rest left
   pub ends : (rs : List Request) → session_end (done ++ rs) ≡ session_end rs
   pub count : turns + length done ≡ request_limit
@@ -134,8 +134,8 @@ going_more n rest b c x y z ns cs report some g e none =
     record {
       done = g.done ++ r ∷ [];
       editions = g.editions ++ e.replied.editions;
-      goes = λ rs k. subst (λ (z : List Request). IfTold (λ bytes. Requests request_limit bytes z) rest) (sym (snoc g.done r rs)) (g.goes (r ∷ rs) (goes_on n b c r rs e.first still k));
-      begins = λ rs k. subst (λ (z : List Request). IfTold (λ bytes. Begun request_limit bytes z) rest) (sym (snoc g.done r rs)) (g.begins (r ∷ rs) (begins_on n b c r rs e.first still k));
+      goes = λ rs k. subst (λ (z : List Request). IfSome rest (λ bytes. Requests request_limit bytes z)) (sym (snoc g.done r rs)) (g.goes (r ∷ rs) (goes_on n b c r rs e.first still k));
+      begins = λ rs k. subst (λ (z : List Request). IfSome rest (λ bytes. Begun request_limit bytes z)) (sym (snoc g.done r rs)) (g.begins (r ∷ rs) (begins_on n b c r rs e.first still k));
       ahead = λ rs held left t. subst (λ (z : List Request). HeldBehind request_limit z held rest left) (sym (snoc g.done r rs)) (g.ahead (r ∷ rs) held left (held_on n b c left r rs held e.first t));
       ends = λ rs. ap session_end (snoc g.done r rs) ∙ (g.ends (r ∷ rs) ∙ ap (λ (o : Option End). unwrap_or o (session_end rs)) still);
       count = omega (arith, g.count, length-append g.done (r ∷ []), some);
@@ -168,8 +168,8 @@ ahead_done : (IsSo : List ℕ → Type 0) (n : ℕ) (held : List ℕ) (rest b le
 ahead_done IsSo n held rest b left x y ns cs g is ahead =
     ahead_of IsSo request_limit g.done held rest left is (subst (λ (z : List Request). HeldBehind request_limit z held rest left) (append-nil g.done) (g.ahead [] held left ahead))
 
-begun_done : (n : ℕ) (rest b : Option (List ℕ)) (x y : State) (ns : List ℕ) (cs : List (List ℕ)) (g : Going n rest b x y ns cs) → IfTold (λ bytes. Begun request_limit bytes g.done) rest
-begun_done n rest b x y ns cs g = subst (λ (z : List Request). IfTold (λ bytes. Begun request_limit bytes z) rest) (append-nil g.done) (g.begins [] (begun_none n b))
+begun_done : (n : ℕ) (rest b : Option (List ℕ)) (x y : State) (ns : List ℕ) (cs : List (List ℕ)) (g : Going n rest b x y ns cs) → IfSome rest (λ bytes. Begun request_limit bytes g.done)
+begun_done n rest b x y ns cs g = subst (λ (z : List Request). IfSome rest (λ bytes. Begun request_limit bytes z)) (append-nil g.done) (g.begins [] (begun_none n b))
 
 -- a session whose rest is empty
 going_stop : (n : ℕ) (rest b c left : Option (List ℕ)) (x y : State) (ns : List ℕ) (cs : List (List ℕ)) (report : SessionReport)
@@ -177,7 +177,7 @@ going_stop : (n : ℕ) (rest b c left : Option (List ℕ)) (x y : State) (ns : L
 going_stop n rest b c left x y ns cs report g e ahead count numbers chunks end_is = record {
   requests = g.done;
   editions = g.editions;
-  all = subst (λ (z : List Request). IfTold (λ bytes. Requests request_limit bytes z) rest) (append-nil g.done) (g.goes [] (at_end n b c e));
+  all = subst (λ (z : List Request). IfSome rest (λ bytes. Requests request_limit bytes z)) (append-nil g.done) (g.goes [] (at_end n b c e));
   ahead = subst (λ (end : End). Told (λ bytes others. ReadsAhead (AtMost (most_behind (Some end))) request_limit g.done bytes others) rest left) (sym end_is)
       (ahead_done (AtMost 0) n [] rest b left x y ns cs g (omega arith) ahead);
   answered = subst (λ (ds : List (List ℕ)). Answered g.done x y g.editions report.editions ds) (sym chunks) (subst (λ (ms : List ℕ). Answered g.done x y g.editions ms cs) (sym numbers) g.answered);
@@ -251,7 +251,7 @@ kept_broken n m held rest b left x y z ns cs report few more read g (inr e) =
       requests = g.done ++ r ∷ [];
       last = [];
       one = omega arith;
-      begun = subst (λ (w : List Request). IfTold (λ bytes. Begun request_limit bytes w) rest) (sym (append-nil (g.done ++ r ∷ [])))
+      begun = subst (λ (w : List Request). IfSome rest (λ bytes. Begun request_limit bytes w)) (sym (append-nil (g.done ++ r ∷ [])))
           (g.begins (r ∷ []) (begun_one n r b (prepend_known held left) e.first));
       ahead = ahead_of (AtMost (most_held 0)) request_limit (g.done ++ r ∷ []) held rest left within
           (g.ahead (r ∷ []) held left (held_on n b (prepend_known held left) left r [] held e.first (held_none (n - 1) held left)));

@@ -1,7 +1,7 @@
 -- One request of a connection, by what was found at the front of the rest.
 use Rattle.std.proofs.Common.{◌≡◌, ◌≢◌, ◌⊎◌, inl, inr, ⊎_elim, ℕ, ◌+◌, ◌≤◌, ◌<◌, max, false, length, length-append, List, [], ◌∷◌, ◌++◌, sym, ap, subst, ◌∙◌, refl, Some, None, arith}
 use Rattle.std.specs.declared.option.Option.{Option}
-use Rattle.std.specs.Prelude.{is_some}
+use Rattle.std.specs.Prelude.{is_some, IfSome}
 use Rattle.std.specs.Io.KnownBytes.{append_known, prepend_known}
 use mathlib.Core.List.{append_assoc}
 use Rattle.httparse.specs.Grammar.{print_request}
@@ -15,30 +15,30 @@ use Rattle.edr_http.specs.Replies.{reply_text, refusal_body}
 use Rattle.edr_serve.specs.declared.ends.End.{End}
 use Rattle.edr_serve.specs.declared.ends.End.TheVariants.{EndOfInput, ClosedByRefusal}
 use Rattle.edr_serve.specs.declared.reports.OneReport.{OneReport}
-use Rattle.edr_serve.specs.Requests.{Request, IsOf, IsFirst, Begun, no_head}
-use Rattle.edr_serve.specs.Sessions.{State, state, IfTold, TakesHead, BrokenAtOne, Served, most_behind}
+use Rattle.edr_serve.specs.Requests.{Request, IsOf, IsFirstRequest, Begun, no_head}
+use Rattle.edr_serve.specs.Sessions.{State, state, TakesHead, BrokenAtOne, Served, most_behind}
 use Rattle.edr_serve.specs.Serving.{HeadReplied, HeadBroken}
 use Rattle.edr_serve.specs.AheadLaws.{least_behind}
 use Rattle.edr_serve.proofs.OneReply.{refused_replied, refused_broke, none_broke}
 
 -- ---- the first request of the rest
 
-of_head : (n : ℕ) (head : Head) (r : Request) (b c : Option (List ℕ)) → IsOf n head r → Told (λ bytes rest. HeadOf bytes head rest) b c → Told (λ bytes others. IsFirst n bytes r others) b c
+of_head : (n : ℕ) (head : Head) (r : Request) (b c : Option (List ℕ)) → IsOf n head r → Told (λ bytes rest. HeadOf bytes head rest) b c → Told (λ bytes others. IsFirstRequest n bytes r others) b c
 of_head n head r None c x t = tt
 of_head n head r (Some b) None x t = t
 of_head n head r (Some b) (Some c) x t = inl (record { head = head; begins = t; is_of = x })
 
-of_none : (n : ℕ) (b c : Option (List ℕ)) → Told (λ bytes rest. (bytes ≢ []) × HasNoHead bytes × (rest ≡ bytes)) b c → Told (λ bytes others. IsFirst n bytes no_head others) b c
+of_none : (n : ℕ) (b c : Option (List ℕ)) → Told (λ bytes rest. (bytes ≢ []) × HasNoHead bytes × (rest ≡ bytes)) b c → Told (λ bytes others. IsFirstRequest n bytes no_head others) b c
 of_none n None c t = tt
 of_none n (Some b) None t = t
 of_none n (Some b) (Some c) t = inr (record { some = t.0; none = t.1; request_is = refl; rest_is = t.2 })
 
-begun_one : (n : ℕ) (r : Request) (b c : Option (List ℕ)) → Told (λ bytes others. IsFirst n bytes r others) b c → IfTold (λ bytes. Begun n bytes (r ∷ [])) b
+begun_one : (n : ℕ) (r : Request) (b c : Option (List ℕ)) → Told (λ bytes others. IsFirstRequest n bytes r others) b c → IfSome b (λ bytes. Begun n bytes (r ∷ []))
 begun_one n r None c t = tt
 begun_one n r (Some b) None t = absurd t
 begun_one n r (Some b) (Some c) t = (c, t, λ _. refl, λ _. tt)
 
-pub begun_none : (n : ℕ) (b : Option (List ℕ)) → IfTold (λ bytes. Begun n bytes []) b
+pub begun_none : (n : ℕ) (b : Option (List ℕ)) → IfSome b (λ bytes. Begun n bytes [])
 begun_none n None = tt
 begun_none n (Some b) = tt
 

@@ -1,7 +1,7 @@
 -- The reply to one request: each way of writing it writes the one text that it has.
 use Rattle.std.proofs.Common.{◌≡◌, ℕ, Bool, true, false, List, [], append-nil, sym, ap, subst, ◌∙◌, refl, Some, None, Ok, Err}
 use Rattle.std.specs.declared.option.Option.{Option}
-use Rattle.std.specs.Prelude.{option_map, unwrap_or, Result}
+use Rattle.std.specs.Prelude.{option_map, unwrap_or, Result, IfOk}
 use Rattle.std.specs.Io.KnownBytes.{append_known}
 use Rattle.serde_json.specs.Written.{compact_text}
 use Rattle.edr_base.specs.Calls.{Writes, Front}
@@ -13,11 +13,12 @@ use Rattle.edr_edition.specs.Stores.{Subject, subject_of}
 use Rattle.edr_query.specs.Values.{QueryValue}
 use Rattle.edr_query.specs.declared.pages.Page.{Page}
 use Rattle.edr_query.specs.declared.pages.Page.TheVariants.{Landing, Conformance, Collections, Collection, Instances, Instance, Locations, Ask}
-use Rattle.edr_select.specs.Refusals.{refused}
+use Rattle.edr_select.specs.Refusals.{refused, IsFirstRefusal}
 use Rattle.edr_select.specs.Selections.{needed}
 use Rattle.edr_select.specs.Documents.{document}
 use Rattle.edr_select.specs.Plans.{PlanValue}
 use Rattle.edr_select.specs.Planning.{IsPlanFor}
+use Rattle.edr_select.specs.RefusalLaws.{first_found}
 use Rattle.edr_describe.specs.Descriptions.{description}
 use Rattle.edr_describe.specs.Describing.{IsDescription, IsDescribed}
 use Rattle.edr_http.specs.Chunks.{chunked}
@@ -72,11 +73,11 @@ in_place : {T E : Type 0} (r : Result T E) (a b : Option (List ℕ)) (e : Editio
     → body_from e page ≡ body → Writes r (reply_text body number head last) a b → Writes r (reply_text (body_from e page) number head last) a b
 in_place r a b e page body number head last same written = subst (λ (x : Body). Writes r (reply_text x number head last) a b) (sym same) written
 
-refused_body : (e : EditionValue) (page : Page) (refusal : Refusal) → refused e page ≡ Some refusal → body_from e page ≡ refusal_body refusal
-refused_body e page refusal h = ap (λ o. body_unless o e page) h
+refused_body : (e : EditionValue) (page : Page) (refusal : Refusal) → IsFirstRefusal e page (Some refusal) → body_from e page ≡ refusal_body refusal
+refused_body e page refusal h = ap (λ o. body_unless o e page) (first_found e page (Some refusal) h)
 
 pub refused_page : {T E : Type 0} (r : Result T E) (a b : Option (List ℕ)) (e : EditionValue) (page : Page) (refusal : Refusal) (number : Option ℕ) (head last : Bool)
-    → refused e page ≡ Some refusal → Writes r (reply_text (refusal_body refusal) number head last) a b → Writes r (reply_text (body_from e page) number head last) a b
+    → IsFirstRefusal e page (Some refusal) → Writes r (reply_text (refusal_body refusal) number head last) a b → Writes r (reply_text (body_from e page) number head last) a b
 refused_page r a b e page refusal number head last h = in_place r a b e page (refusal_body refusal) number head last (refused_body e page refusal h)
 
 -- a page that describes has the text of its description
@@ -94,7 +95,7 @@ described_body : (e : EditionValue) (page : Page) (text : List ℕ) → IsDescri
 described_body e page text d x =
     let same = described_text e page d in
     let told : page_text e page ≡ Some text = same.1 ∙ x.text_is in
-    ap (λ o. body_unless o e page) x.none
+    ap (λ o. body_unless o e page) (first_found e page None x.none)
     ∙ (ap (λ (json : Bool). record { status = 200; json = json; text = unwrap_or (page_text e page) [] }) same.0
     ∙ ap (λ (o : Option (List ℕ)). json_body (unwrap_or o [])) told)
 
@@ -111,7 +112,7 @@ abbrev text_of : EditionValue → QueryValue → List ℕ
 text_of e q = unwrap_or (data_text e q) []
 
 planned_body : (e : EditionValue) (q : QueryValue) (plan : PlanValue) → IsPlanFor e q plan → body_from e (Ask q) ≡ data_body (text_of e q)
-planned_body e q plan x = ap (λ o. body_unless o e (Ask q)) x.none
+planned_body e q plan x = ap (λ o. body_unless o e (Ask q)) (first_found e (Ask q) None x.none)
 
 pub planned_whole : {T E : Type 0} (r : Result T E) (a b c : Option (List ℕ)) (e : EditionValue) (q : QueryValue) (plan : PlanValue) (number : Option ℕ) (head last : Bool)
     → IsPlanFor e q plan → head ≡ false → b ≡ append_known a (reply_head 200 false number last) → Writes r (chunked (text_of e q)) b c
@@ -146,15 +147,26 @@ data_read e q plan s x named =
 
 pub planned_chunks : (e : EditionValue) (q : QueryValue) (plan : PlanValue) (head : Bool) → IsPlanFor e q plan → head ≡ false → chunks_needed e q ≡ chunks_from e (Ask q) head
 planned_chunks e q plan true x f = absurd (cc f)
-planned_chunks e q plan false x f = sym (ap (λ o. chunks_unless o e (Ask q)) x.none)
+planned_chunks e q plan false x f = sym (ap (λ o. chunks_unless o e (Ask q)) (first_found e (Ask q) None x.none))
+
+-- so those that were read are
+pub planned_reads : {E : Type 0} (r : Result (List ℕ) E) (e : EditionValue) (q : QueryValue) (plan : PlanValue) (head : Bool) → IsPlanFor e q plan → head ≡ false
+    → IfOk r (λ reads. reads ≡ chunks_needed e q) → IfOk r (λ reads. reads ≡ chunks_from e (Ask q) head)
+planned_reads (Ok reads) e q plan head x f h = h ∙ planned_chunks e q plan head x f
+planned_reads (Err fault) e q plan head x f h = tt
 
 pub headed_chunks : (e : EditionValue) (page : Page) (head : Bool) → head ≡ true → [] ≡ chunks_from e page head
 headed_chunks e page true t = refl
 headed_chunks e page false t = absurd (cc t)
 
-pub refused_chunks : (e : EditionValue) (page : Page) (refusal : Refusal) (head : Bool) → refused e page ≡ Some refusal → [] ≡ chunks_from e page head
+pub refused_chunks : (e : EditionValue) (page : Page) (refusal : Refusal) (head : Bool) → IsFirstRefusal e page (Some refusal) → [] ≡ chunks_from e page head
 refused_chunks e page refusal true h = refl
-refused_chunks e page refusal false h = sym (ap (λ o. chunks_unless o e page) h)
+refused_chunks e page refusal false h = sym (ap (λ o. chunks_unless o e page) (first_found e page (Some refusal) h))
+
+pub refused_reads : {E : Type 0} (r : Result (List ℕ) E) (e : EditionValue) (page : Page) (refusal : Refusal) (head : Bool) → IsFirstRefusal e page (Some refusal)
+    → IfOk r (λ reads. reads ≡ []) → IfOk r (λ reads. reads ≡ chunks_from e page head)
+refused_reads (Ok reads) e page refusal head h none = none ∙ refused_chunks e page refusal head h
+refused_reads (Err fault) e page refusal head h none = tt
 
 none_for : (o : Option Refusal) (e : EditionValue) (page : Page) → IsDescription page → [] ≡ chunks_unless o e page
 none_for (Some refusal) e page d = refl

@@ -12,7 +12,7 @@ use Rattle.edr_http.specs.Heads.{HeadOf, HasHead, HasNoHead, HeadIsOne, IsDecide
 use Rattle.edr_http.specs.Checks.{Refuses, RefusalIsOne, is_head, says_close}
 use Rattle.edr_serve.specs.declared.ends.End.{End}
 use Rattle.edr_serve.specs.declared.ends.End.TheVariants.{ClosedByRefusal}
-use Rattle.edr_serve.specs.Requests.{Request, AsksUnless, closes, end_by_turns, end_of, IsOf, no_head, IsFirst, Requests, Begun}
+use Rattle.edr_serve.specs.Requests.{Request, AsksUnless, closes, end_by_turns, end_of, IsOf, no_head, IsFirstRequest, Requests, Begun}
 use Rattle.edr_serve.specs.SessionLaws.{RequestsExist}
 
 asks_same : TargetIsOne → (refusal : Option Refusal) (target : List ℕ) (a b : Result Page Refusal) → AsksUnless refusal target a → AsksUnless refusal target b → a ≡ b
@@ -32,7 +32,7 @@ head_same refusal target n h r s x y =
     let asked : r.asked ≡ s.asked = asks_same target y.refusal h.target r.asked s.asked moved y.asks in
     same_request r s (x.is_head_is ∙ sym y.is_head_is) asked (x.end_is ∙ ap (end_of n (says_close h)) asked ∙ sym y.end_is)
 
-first_same : HeadIsOne → RefusalIsOne → TargetIsOne → (n : ℕ) (b : List ℕ) (r s : Request) (p q : List ℕ) → IsFirst n b r p → IsFirst n b s q → (r ≡ s) × (p ≡ q)
+first_same : HeadIsOne → RefusalIsOne → TargetIsOne → (n : ℕ) (b : List ℕ) (r s : Request) (p q : List ℕ) → IsFirstRequest n b r p → IsFirstRequest n b s q → (r ≡ s) × (p ≡ q)
 first_same head refusal target n b r s p q (inr x) (inr y) = (x.request_is ∙ sym y.request_is, x.rest_is ∙ sym y.rest_is)
 first_same head refusal target n b r s p q (inr x) (inl y) = absurd (x.none y.head q y.begins)
 first_same head refusal target n b r s p q (inl x) (inr y) = absurd (y.none x.head p x.begins)
@@ -61,7 +61,7 @@ some_head h e =
 never : (h : RequestHead) (p : List ℕ) → [] ≡ print_request h ++ p → ⊥
 never h p e = some_head h (front_empty (print_request h) p e)
 
-pub no_first : (n : ℕ) (r : Request) (p : List ℕ) → IsFirst n [] r p → ⊥
+pub no_first : (n : ℕ) (r : Request) (p : List ℕ) → IsFirstRequest n [] r p → ⊥
 no_first n r p (inr x) = x.some refl
 no_first n r p (inl x) = never x.begins.tree p x.begins.begins.reads.1
 
@@ -70,8 +70,8 @@ no_first n r p (inl x) = never x.begins.tree p x.begins.begins.reads.1
 -- some bytes hold one list of requests at most
 pub requests_same : HeadIsOne → RefusalIsOne → TargetIsOne → (n : ℕ) (b : List ℕ) (rs ss : List Request) → Requests n b rs → Requests n b ss → rs ≡ ss
 requests_same head refusal target n b [] [] x y = refl
-requests_same head refusal target n b [] (s ∷ ss) x y = absurd (no_first n s y.0 (subst (λ (z : List ℕ). IsFirst n z s y.0) x y.1))
-requests_same head refusal target n b (r ∷ rs) [] x y = absurd (no_first n r x.0 (subst (λ (z : List ℕ). IsFirst n z r x.0) y x.1))
+requests_same head refusal target n b [] (s ∷ ss) x y = absurd (no_first n s y.0 (subst (λ (z : List ℕ). IsFirstRequest n z s y.0) x y.1))
+requests_same head refusal target n b (r ∷ rs) [] x y = absurd (no_first n r x.0 (subst (λ (z : List ℕ). IsFirstRequest n z r x.0) y x.1))
 requests_same head refusal target n b (r ∷ rs) (s ∷ ss) x y =
     let u = first_same head refusal target n b r s x.0 y.0 x.1 y.1 in
     let end : is_some r.end ≡ is_some s.end = ap (λ (z : Request). is_some z.end) u.0 in
@@ -84,7 +84,7 @@ requests_same head refusal target n b (r ∷ rs) (s ∷ ss) x y =
 -- the requests that were begun are the first of those that the bytes hold
 pub begun_same : HeadIsOne → RefusalIsOne → TargetIsOne → (n : ℕ) (b : List ℕ) (rs all : List Request) → Begun n b rs → Requests n b all → (more : List Request) × (all ≡ rs ++ more)
 begun_same head refusal target n b [] all x y = (all, refl)
-begun_same head refusal target n b (r ∷ rs) [] x y = absurd (no_first n r x.0 (subst (λ (z : List ℕ). IsFirst n z r x.0) y x.1))
+begun_same head refusal target n b (r ∷ rs) [] x y = absurd (no_first n r x.0 (subst (λ (z : List ℕ). IsFirstRequest n z r x.0) y x.1))
 begun_same head refusal target n b (r ∷ rs) (s ∷ ss) x y =
     let u = first_same head refusal target n b r s x.0 y.0 x.1 y.1 in
     let end : is_some r.end ≡ is_some s.end = ap (λ (z : Request). is_some z.end) u.0 in

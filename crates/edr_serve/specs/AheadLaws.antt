@@ -7,7 +7,7 @@ use Rattle.edr_base.specs.Calls.{ReadsAtMost}
 use Rattle.edr_http.specs.Heads.{Told, most_held}
 use Rattle.edr_serve.specs.declared.ends.End.{End}
 use Rattle.edr_serve.specs.declared.ends.End.TheVariants.{EndOfInput, ClosedByPeer, ClosedByRefusal, RequestLimit}
-use Rattle.edr_serve.specs.Requests.{Request, IsFirst, AreFirst}
+use Rattle.edr_serve.specs.Requests.{Request, IsFirstRequest, AreFirst}
 use Rattle.edr_serve.specs.Sessions.{ReadsAhead, AtMost, most_behind}
 
 -- these requests were read, and this is held behind them, where the bytes are told
@@ -16,7 +16,7 @@ HeldBehind turns requests held rest left = Told (λ bytes others. AreFirst turns
 
 -- behind the first request and those that follow it
 pub held_on : (turns : ℕ) (rest behind left : Option (List ℕ)) (request : Request) (requests : List Request) (held : List ℕ)
-    → Told (λ bytes others. IsFirst turns bytes request others) rest behind → HeldBehind (turns - 1) requests held behind left → HeldBehind turns (request ∷ requests) held rest left
+    → Told (λ bytes others. IsFirstRequest turns bytes request others) rest behind → HeldBehind (turns - 1) requests held behind left → HeldBehind turns (request ∷ requests) held rest left
 held_on turns None behind left request requests held x t = tt
 held_on turns (Some rest) None left request requests held x t = absurd x
 held_on turns (Some rest) (Some behind) None request requests held x t = absurd t

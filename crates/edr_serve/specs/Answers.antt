@@ -13,7 +13,7 @@ use Rattle.edr_base.specs.RefusalTable.{rank}
 use Rattle.edr_query.specs.Targets.{IsTarget, Refuses}
 use Rattle.edr_query.specs.declared.pages.Page.{Page}
 use Rattle.edr_query.specs.declared.pages.Page.TheVariants.{Ask}
-use Rattle.edr_select.specs.Refusals.{Applies, refused}
+use Rattle.edr_select.specs.Refusals.{Applies, IsFirstRefusal}
 use Rattle.edr_select.specs.Documents.{document}
 use Rattle.edr_describe.specs.Descriptions.{description}
 use Rattle.edr_serve.specs.declared.answering.AnswerFault.{AnswerFault}
@@ -31,13 +31,13 @@ page_text edition other = option_map compact_text (description edition other)
 
 -- no refusal applies to the page, and this is its text
 pub record IsTextOf (edition : EditionValue) (page : Page) (text : List ℕ) : Type 0 where
-  pub none : refused edition page ≡ None
+  pub none : IsFirstRefusal edition page None
   pub text_is : page_text edition page ≡ Some text
 
 -- the answer to a page
 abbrev pub IsAnswer : EditionValue → Page → Result (List ℕ) Refusal → Type 0
 IsAnswer edition page (Ok text) = IsTextOf edition page text
-IsAnswer edition page (Err refusal) = refused edition page ≡ Some refusal
+IsAnswer edition page (Err refusal) = IsFirstRefusal edition page (Some refusal)
 
 -- the target asks for a page, and this is the answer to it
 pub record IsAnswerOfPage (edition : EditionValue) (target : List ℕ) (answer : Result (List ℕ) Refusal) : Type 0 where

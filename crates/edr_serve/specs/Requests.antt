@@ -69,20 +69,20 @@ pub record WithoutHead (bytes : List ℕ) (request : Request) (rest : List ℕ) 
   pub rest_is : rest ≡ bytes
 
 -- the first request of the bytes, and what follows it
-abbrev pub IsFirst : ℕ → List ℕ → Request → List ℕ → Type 0
-IsFirst turns bytes request rest = FromHead turns bytes request rest ⊎ WithoutHead bytes request rest
+abbrev pub IsFirstRequest : ℕ → List ℕ → Request → List ℕ → Type 0
+IsFirstRequest turns bytes request rest = FromHead turns bytes request rest ⊎ WithoutHead bytes request rest
 
 -- the first requests of the bytes, one after another, and what follows them; it doesn't stop at one that ends the session, as
 -- `Requests` and `Begun` do
 abbrev pub AreFirst : ℕ → List ℕ → List Request → List ℕ → Type 0
 AreFirst turns bytes [] rest = rest ≡ bytes
-AreFirst turns bytes (request ∷ requests) rest = (others : List ℕ) × IsFirst turns bytes request others × AreFirst (turns - 1) others requests rest
+AreFirst turns bytes (request ∷ requests) rest = (others : List ℕ) × IsFirstRequest turns bytes request others × AreFirst (turns - 1) others requests rest
 
 -- the requests of the bytes, up to the one that ends the session or to the end of the bytes
 abbrev pub Requests : ℕ → List ℕ → List Request → Type 0
 Requests turns bytes [] = bytes ≡ []
 Requests turns bytes (request ∷ requests) =
-    (rest : List ℕ) × IsFirst turns bytes request rest
+    (rest : List ℕ) × IsFirstRequest turns bytes request rest
     × (is_some request.end ≡ true → requests ≡ [])
     × (is_some request.end ≡ false → Requests (turns - 1) rest requests)
 
@@ -90,7 +90,7 @@ Requests turns bytes (request ∷ requests) =
 abbrev pub Begun : ℕ → List ℕ → List Request → Type 0
 Begun turns bytes [] = ⊤
 Begun turns bytes (request ∷ requests) =
-    (rest : List ℕ) × IsFirst turns bytes request rest
+    (rest : List ℕ) × IsFirstRequest turns bytes request rest
     × (is_some request.end ≡ true → requests ≡ [])
     × (is_some request.end ≡ false → Begun (turns - 1) rest requests)
 

@@ -1,5 +1,5 @@
 -- What serving the requests of a connection does.
-use Rattle.std.specs.Prelude.{◌≡◌, ◌≢◌, ◌⊎◌, ℕ, ◌-◌, ◌≤◌, ◌==◌, if◌then◌else◌, List, [], ◌∷◌, ◌++◌, length, map, All, Option, None, Some, option_map, option_to_list, ⊤}
+use Rattle.std.specs.Prelude.{◌≡◌, ◌≢◌, ◌⊎◌, ℕ, ◌-◌, ◌≤◌, ◌==◌, if◌then◌else◌, List, [], ◌∷◌, ◌++◌, length, map, All, Option, None, Some, option_map, option_to_list, IfSome}
 use Rattle.std.specs.Io.KnownBytes.{append_known}
 use Rattle.edr_base.specs.Calls.{Front}
 use Rattle.edr_edition.specs.Values.{EditionValue}
@@ -10,7 +10,7 @@ use Rattle.edr_serve.specs.declared.ends.End.{End}
 use Rattle.edr_serve.specs.declared.ends.End.TheVariants.{EndOfInput, ClosedByPeer, ClosedByRefusal, RequestLimit}
 use Rattle.edr_serve.specs.declared.reports.OneReport.{OneReport}
 use Rattle.edr_serve.specs.declared.reports.SessionReport.{SessionReport}
-use Rattle.edr_serve.specs.Requests.{Request, IsFirst, AreFirst, Requests, Begun, session_end, request_limit}
+use Rattle.edr_serve.specs.Requests.{Request, IsFirstRequest, AreFirst, Requests, Begun, session_end, request_limit}
 use Rattle.edr_serve.specs.Replies.{readers, number_of, output, opened}
 
 -- what answering changes: the bytes that are written, the editions seen, and the numbers of those taken
@@ -21,11 +21,6 @@ pub record State : Type 0 where
 
 abbrev pub state : Option (List ℕ) → List EditionValue → Option (List ℕ) → State
 state written seen taken = record { written = written; seen = seen; taken = taken }
-
--- a fact of bytes, where they are told
-abbrev pub IfTold : (List ℕ → Type 0) → Option (List ℕ) → Type 0
-IfTold P None = ⊤
-IfTold P (Some bytes) = P bytes
 
 -- ---- editions
 
@@ -91,7 +86,7 @@ pub record ReadsAhead (IsSo : List ℕ → Type 0) (turns : ℕ) (requests : Lis
 -- all requests of the rest were answered
 pub record Session (rest left : Option (List ℕ)) (before after : State) (report : SessionReport) : Type 0 where
   pub requests : List Request
-  pub all : IfTold (λ bytes. Requests request_limit bytes requests) rest
+  pub all : IfSome rest (λ bytes. Requests request_limit bytes requests)
   pub ahead : Told (λ bytes others. ReadsAhead (AtMost (most_behind (Some report.end))) request_limit requests bytes others) rest left
   pub editions : List EditionValue
   pub answered : Answered requests before after editions report.editions report.reads
@@ -103,7 +98,7 @@ pub record Broken (rest left : Option (List ℕ)) (before after : State) : Type 
   pub requests : List Request
   pub last : List Request
   pub one : length last ≤ 1
-  pub begun : IfTold (λ bytes. Begun request_limit bytes (requests ++ last)) rest
+  pub begun : IfSome rest (λ bytes. Begun request_limit bytes (requests ++ last))
   pub ahead : Told (λ bytes others. ReadsAhead (AtMost (most_held 0)) request_limit requests bytes others) rest left
   pub editions : List EditionValue
   pub between : State
@@ -113,7 +108,7 @@ pub record Broken (rest left : Option (List ℕ)) (before after : State) : Type 
 -- a read failed: all requests that had come were answered, none of them ends the session, and no head was read behind them
 pub record Waits (rest left : Option (List ℕ)) (before after : State) : Type 0 where
   pub requests : List Request
-  pub begun : IfTold (λ bytes. Begun request_limit bytes requests) rest
+  pub begun : IfSome rest (λ bytes. Begun request_limit bytes requests)
   pub open_ : session_end requests ≡ EndOfInput
   pub ahead : Told (λ bytes others. ReadsAhead (λ held. AtMost (most_held 0) held × HasNoHead held) request_limit requests bytes others) rest left
   pub editions : List EditionValue
@@ -129,7 +124,7 @@ TakesHead rest behind = Told (λ bytes others. (head : Head) × HeadOf bytes hea
 pub record BrokenAtOne (turns : ℕ) (rest : Option (List ℕ)) (before after : State) : Type 0 where
   pub requests : List Request
   pub one : length requests ≤ 1
-  pub begun : IfTold (λ bytes. Begun turns bytes requests) rest
+  pub begun : IfSome rest (λ bytes. Begun turns bytes requests)
   pub broke_off : BrokeOff requests before after
 
 -- the chunks that a report of one request tells, as those of a session: a list where an edition was taken
@@ -147,7 +142,7 @@ pub record IsReplied (request : Request) (before after : State) (report : OneRep
 -- it was the first of the rest, and what is behind it is still to come
 pub record Exchanged (turns : ℕ) (rest behind : Option (List ℕ)) (before after : State) (report : OneReport) : Type 0 where
   pub request : Request
-  pub first : Told (λ bytes others. IsFirst turns bytes request others) rest behind
+  pub first : Told (λ bytes others. IsFirstRequest turns bytes request others) rest behind
   pub replied : IsReplied request before after report
   pub ends : report.end ≢ Some EndOfInput
 

@@ -24,5 +24,4 @@ pub fn refusal_is_the_first()
     ensures { RefusalIsTheFirst }
 {
     target_is_one();
-    refusal_is_least();
 }

@@ -1,5 +1,6 @@
 //! Places for readers.
-ghost use Rattle.std.specs.Prelude.{◌≡◌, ◌≤◌, ◌+◌, ◌-◌, ◌^◌, min};
+ghost use Rattle.std.specs.Prelude.{◌≡◌, ◌≤◌, ◌+◌, ◌-◌, min};
+ghost use Rattle.edr_base.specs.Limits.{count_limit};
 
 use edr_base::Faults;
 
@@ -7,7 +8,7 @@ use edr_base::Faults;
 #[derive(Drop)]
 pub struct Places {
     faults: u64,
-    ghost fits: { faults ≤ 18446744073709551615 },
+    ghost fits: { faults ≤ count_limit },
 }
 
 impl Faults for Places {
@@ -26,7 +27,7 @@ impl Places {
 
     // Counts one more.
     pub(crate) fn refused(&mut self)
-        ensures { ⟦<Places as Faults>⟧.faults self.new ≡ min (⟦<Places as Faults>⟧.faults self.old + 1) (2 ^ 64 - 1) }
+        ensures { ⟦<Places as Faults>⟧.faults self.new ≡ min (⟦<Places as Faults>⟧.faults self.old + 1) count_limit }
     {
         self.faults = self.faults.saturating_add(1);
     }

@@ -47,10 +47,6 @@ module _ (inputs : List StationInput) (IsSo : ℕ → Type 0) (place : ℕ) wher
   least_no None lacks h = up_to (λ at. ¬ (IsSo at)) h lacks
   least_no (Some p) lacks h = (omega (arith, h.0), h.1, up_to (λ at. IsSo at → ¬ (IsBelow inputs at p)) h.2 (λ so. absurd (lacks so)))
 
--- no id is so where no place is
-pub none_repeated : (inputs : List StationInput) → IsLeastPlace inputs (IsRepeatAt inputs) (length inputs) None → (id : List ℕ) → ¬ (IsRepeated inputs id)
-none_repeated inputs h id r = h r.second r.inside (r.first, r.apart, r.first_has ∙ sym r.second_has)
-
 pub least_repeated : (inputs : List StationInput) (place : ℕ) → IsLeastPlace inputs (IsRepeatAt inputs) (length inputs) (Some place) → IsLeastId (IsRepeated inputs) (id_at inputs place)
 least_repeated inputs place h = record {
   so = record { first = h.1.0; second = place; apart = h.1.1; inside = h.0; first_has = h.1.2; second_has = refl };

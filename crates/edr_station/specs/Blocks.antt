@@ -57,11 +57,15 @@ value collection place =
     let s = station_at collection.stations place.station in
     slice_index_or (series_at s place.parameter) (place_in_series s place.time place.level) None
 
+-- the number of a block of a parameter, where so many stand before those of the station, and each parameter has so many
+abbrev pub block_number : ℕ → ℕ → ℕ → ℕ → ℕ
+block_number before each parameter block = before + parameter * each + block
+
 -- the number of a place's block
 abbrev pub block_of : StationsValue → StationPlace → ℕ
 block_of collection place =
     let s = station_at collection.stations place.station in
-    first_block collection place.station + place.parameter * blocks_of s + place_in_series s place.time place.level / block_length
+    block_number (first_block collection place.station) (blocks_of s) place.parameter (place_in_series s place.time place.level / block_length)
 
 -- where a place's value stands in its block
 abbrev pub place_in_block : StationsValue → StationPlace → ℕ
@@ -80,7 +84,7 @@ pub record IsBlock (collection : StationsValue) (number : ℕ) (values : List (O
   pub station_in : station < length collection.stations
   pub parameter_in : parameter < collection.parameters
   pub block_in : block < blocks_of (station_at collection.stations station)
-  pub numbered : first_block collection station + parameter * blocks_of (station_at collection.stations station) + block ≡ number
+  pub numbered : block_number (first_block collection station) (blocks_of (station_at collection.stations station)) parameter block ≡ number
   pub long : length values ≡ min (values_along (station_at collection.stations station) - block * block_length) block_length
   pub cut : values ≡ cut_block block (series_at (station_at collection.stations station) parameter)
   pub lies : (place : StationPlace) → Within collection place → block_of collection place ≡ number → place_in_block collection place < length values

@@ -1,16 +1,13 @@
 -- Stations inside a box.
-use Rattle.std.specs.Prelude.{◌&&◌, ℕ, ℤ, Bool, List, map, int_le}
+use Rattle.std.specs.Prelude.{ℕ, Bool, List, map}
 use Rattle.std.specs.List.{filter, enumerate_from}
 use Rattle.edr_base.specs.declared.places.Spot.{Spot}
+use Rattle.edr_base.specs.Boxes.{in_box}
 use Rattle.edr_station.specs.Stations.{StationValue}
-
--- from one number to another, both included
-abbrev pub is_between : ℤ → ℤ → ℤ → Bool
-is_between low high value = int_le low value && int_le value high
 
 -- the station is inside the box of two corners, borders included
 abbrev pub is_inside : Spot → Spot → StationValue → Bool
-is_inside lo hi s = is_between lo.x hi.x s.x && is_between lo.y hi.y s.y
+is_inside lo hi s = in_box (record { x = s.x; y = s.y }) lo hi
 
 -- a station beside its place
 abbrev pub Placed : Type 0

@@ -2,8 +2,8 @@
 use Rattle.std.specs.Prelude.{◌≡◌, ◌≢◌, ◌↔◌, ℕ, pos, ◌<◌, List, [], length, map, All, Contains, None}
 use Rattle.std.specs.List.{slice_index_or}
 use Rattle.std.specs.declared.cmp.Ordering.TheVariants.{Less}
-use Rattle.edr_chunk.specs.Samples.{AreSamples}
 use Rattle.edr_base.specs.Names.{order}
+use Rattle.edr_base.specs.Limits.{AreSamples}
 use Rattle.edr_station.specs.declared.inputs.StationInput.{StationInput}
 use Rattle.edr_station.specs.declared.inputs.StationFault.{StationFault}
 use Rattle.edr_station.specs.declared.inputs.StationFault.TheVariants.{SameId, WrongCount, OutOfMemory}

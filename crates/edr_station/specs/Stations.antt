@@ -1,11 +1,10 @@
 -- The stations of a collection (OGC 19-086r6, locations).
 use Rattle.std.specs.Prelude.{◌≡◌, ℕ, ◌*◌, ℤ, pos, List, [], length, All, IfSome, IsUtf8, Option, None}
 use Rattle.std.specs.List.{slice_index_or}
-use Rattle.edr_base.specs.Limits.{IsCoordinate}
+use Rattle.edr_base.specs.Limits.{IsCoordinate, AreSamples}
 use Rattle.edr_base.specs.Names.{IsName}
 use Rattle.edr_axes.specs.Axes.{axis_length, IsAxis}
 use Rattle.edr_axes.specs.Instants.{IsTime}
-use Rattle.edr_chunk.specs.Samples.{AreSamples}
 use Rattle.edr_ids.specs.Ids.{AscendBy}
 
 -- a station: where it is, its times and levels, and for each parameter its values, in the order t, z

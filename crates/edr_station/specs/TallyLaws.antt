@@ -27,8 +27,5 @@ sum-append (Some x ∷ xs) ys = let more = sum-append xs ys in omega (arith, int
 pub tally-append : (xs ys : List (Option ℤ)) → tally_of (xs ++ ys) ≡ and_of (tally_of xs) (tally_of ys)
 tally-append xs ys = tally_same _ _ _ _ _ _ (length-append xs ys) (present-append xs ys) (sum-append xs ys)
 
-pub and_nothing : (a : Tally) → and_of a (tally_of []) ≡ a
-and_nothing a = tally_same _ _ _ _ _ _ (omega arith) (omega arith) (omega (arith, ints))
-
 pub and-assoc : (a b c : Tally) → and_of (and_of a b) c ≡ and_of a (and_of b c)
 and-assoc a b c = tally_same _ _ _ _ _ _ (omega arith) (omega arith) (omega (arith, ints))

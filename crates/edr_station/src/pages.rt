@@ -1,5 +1,5 @@
 //! Pages of shared stations.
-ghost use Rattle.std.specs.Prelude.{◌≡◌, ◌<◌, ◌≤◌, ◌+◌, ◌^◌, ◌++◌, ◌&&◌, length, take, option_map, option_to_list, IfOk, OnOk, SomeIff};
+ghost use Rattle.std.specs.Prelude.{◌≡◌, ◌<◌, ◌≤◌, ◌+◌, ◌^◌, ◌++◌, length, take, option_map, option_to_list, IfOk, OnOk, SomeIff};
 ghost use Rattle.std.specs.List.{slice_index_or, enumerate_from};
 ghost use Rattle.std.specs.Arc.{arc_value};
 ghost use Rattle.edr_station.specs.Stations.{StationValue};
@@ -8,7 +8,7 @@ ghost use Rattle.edr_station.specs.Boxes as boxes;
 ghost use Rattle.edr_station.specs.Shelves.{stations_of, blocks_in, splice, IsFound};
 
 use crate::station::Station;
-use edr_base::{OutOfMemory, Spot};
+use edr_base::{OutOfMemory, Spot, in_box};
 use std::alloc::Global;
 use std::marker::Model;
 use std::sync::Arc;
@@ -167,23 +167,9 @@ impl Page {
     }
 }
 
-// Whether a number is from one to another, both included.
-fn is_between(low: i64, high: i64, value: i64) -> bool
-    ensures { result ≡ boxes.is_between low high value }
-{
-    low <= value && value <= high
-}
-
-// Whether a spot is inside the box of two corners, borders included.
-fn is_in_box(lo: Spot, hi: Spot, spot: Spot) -> bool
-    ensures { result ≡ (boxes.is_between lo.x hi.x spot.x && boxes.is_between lo.y hi.y spot.y) }
-{
-    is_between(lo.x, hi.x, spot.x) && is_between(lo.y, hi.y, spot.y)
-}
-
 // Whether a station is inside the box of two corners, borders included.
 fn is_inside(lo: Spot, hi: Spot, station: &Station) -> bool
     ensures { result ≡ boxes.is_inside lo hi station.now }
 {
-    is_in_box(lo, hi, station.spot())
+    in_box(station.spot(), lo, hi)
 }

@@ -1,9 +1,9 @@
 //! The values of one parameter of a station, in packed blocks.
 ghost use Rattle.std.specs.Prelude.{◌≡◌, ◌<◌, ◌*◌, length, IfOk};
-ghost use Rattle.edr_chunk.specs.Samples.{AreSamples};
 ghost use Rattle.edr_station.specs.Blocks.{block_length, blocks_along, cut_block};
 ghost use Rattle.edr_station.specs.KeptBlocks.{Filled};
 ghost use Rattle.edr_station.specs.Tallies.{tally_of};
+ghost use Rattle.edr_base.specs.Limits.{AreSamples};
 
 use crate::few::Few;
 use crate::tallies::Tally;

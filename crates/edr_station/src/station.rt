@@ -3,7 +3,7 @@ ghost use Rattle.std.specs.Prelude.{◌≡◌, ◌<◌, ◌≤◌, ◌^◌, ◌+
 ghost use Rattle.std.specs.Arc.{arc_value};
 ghost use Rattle.std.specs.List.{flat_map};
 ghost use Rattle.edr_base.specs.Names.{IsName};
-ghost use Rattle.edr_chunk.specs.Samples.{AreSamples};
+ghost use Rattle.edr_base.specs.Limits.{AreSamples};
 ghost use Rattle.edr_station.specs.Stations.{IsPlaced, HasSeries, IsStation, values_along};
 ghost use Rattle.edr_axes.specs.Axes.{axis_length};
 ghost use Rattle.edr_station.specs.Blocks.{blocks_of, cut_block, place_in_series, series_at};

@@ -6,7 +6,7 @@ ghost use Rattle.edr_ids.specs.Ids as ids;
 ghost use Rattle.edr_ids.specs.Ids.{AscendBy, with_item, without_id};
 ghost use Rattle.std.specs.Arc.{arc_value};
 ghost use Rattle.edr_station.specs.Stations.{StationValue, IsPlaced, HasSeries, AreStations, IsStation, station_id, station_at};
-ghost use Rattle.edr_station.specs.Blocks.{blocks, blocks_of, block_of, first_block, place_at, Within, IsBlock};
+ghost use Rattle.edr_station.specs.Blocks.{blocks, blocks_of, block_of, first_block, place_at, Within, IsBlock, block_number};
 ghost use Rattle.edr_station.specs.Boxes.{places_inside};
 ghost use Rattle.edr_station.specs.Inputs.{station_of, IsInput, HasCounts, rank, Applies, AreOf};
 ghost use Rattle.edr_station.specs.Least.{HaveOwnIds};
@@ -292,7 +292,7 @@ impl Stations {
         requires station { station < length self.now.stations }
         requires parameter { parameter < self.now.parameters }
         requires block { block < blocks_of (station_at self.now.stations station) }
-        ensures number { result ≡ first_block self.now station + parameter * blocks_of (station_at self.now.stations station) + block }
+        ensures number { result ≡ block_number (first_block self.now station) (blocks_of (station_at self.now.stations station)) parameter block }
         ensures below { result < blocks self.now.parameters self.now.stations }
     {
         let first = self.parameters as u64 * self.shelf.blocks_before(station);

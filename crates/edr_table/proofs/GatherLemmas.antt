@@ -1,12 +1,7 @@
 -- Texts that are gathered before they are written.
-use Rattle.std.proofs.Common.{◌≡◌, ℕ, Option, List, [], ◌++◌, Result, sym, ap, ◌∙◌, append_assoc, append-nil}
-use Rattle.edr_base.specs.Calls.{Front, Writes}
-use Rattle.edr_base.specs.KnownBytes.{append_nothing, grew_on, front_on, front_more, writes_on}
-use Rattle.edr_table.specs.Gathering.{Gathered}
-
--- nothing is gathered beside what was
-pub gathered_same : (w : Option (List ℕ)) (p : List ℕ) → Gathered w w p (p ++ [])
-gathered_same w p = record { sent = []; grew = append_nothing w; whole = sym (append-nil p) }
+use Rattle.std.proofs.Common.{◌≡◌, ℕ, Option, List, [], ◌++◌, Result, sym, ap, ◌∙◌, append_assoc}
+use Rattle.edr_base.specs.Calls.{Front, Writes, Gathered}
+use Rattle.edr_base.specs.KnownBytes.{grew_on, front_on, front_more, writes_on}
 
 -- a text is gathered behind another
 pub gathered_on : (old mid now : Option (List ℕ)) (p q r a b : List ℕ) → Gathered old mid q (p ++ a) → Gathered mid now r (q ++ b) → Gathered old now r (p ++ (a ++ b))

@@ -4,9 +4,8 @@ use Rattle.std.proofs.lemmas.Int.{to_z-of_z}
 use Rattle.std.proofs.lemmas.List.{map-append, map_more, take_more, take-append-drop, drop-drop, length-append}
 use Rattle.std.proofs.lemmas.Grind.{flat_map-append}
 use Rattle.std.specs.List.{flat_map}
-use Rattle.edr_base.specs.Calls.{Front}
+use Rattle.edr_base.specs.Calls.{Front, Gathered}
 use Rattle.covjson_value.specs.Samples.{Node}
-use Rattle.edr_table.specs.Gathering.{Gathered}
 use Rattle.edr_table.specs.Turns.{lines_along}
 use Rattle.edr_table.proofs.GatherLemmas.{gathered_on, gathered_stop}
 use Rattle.edr_table.proofs.LineLemmas.{lines_none, lines_on}

@@ -1,14 +1,7 @@
 -- For private clauses: a text that is gathered before it is written.
-use Rattle.std.specs.Prelude.{◌≡◌, ℕ, List, ◌++◌, OnOk, OnErr, Result}
+use Rattle.std.specs.Prelude.{ℕ, List, ◌++◌, OnOk, OnErr, Result}
 use Rattle.std.specs.declared.option.Option.{Option}
-use Rattle.std.specs.Io.KnownBytes.{append_known}
-use Rattle.edr_base.specs.Calls.{Front}
-
--- what was written since, and what is gathered behind it, are the text
-pub record Gathered (old now : Option (List ℕ)) (piece text : List ℕ) : Type 0 where
-  pub sent : List ℕ
-  pub grew : now ≡ append_known old sent
-  pub whole : sent ++ piece ≡ text
+use Rattle.edr_base.specs.Calls.{Front, Gathered}
 
 -- a call put a text behind what was gathered before; after a fault a beginning of both was written
 pub record Gathers {T E : Type 0} (result : Result T E) (text : List ℕ) (old new : Option (List ℕ)) (before after : List ℕ) : Type 0 where

@@ -1,11 +1,11 @@
 -- Faults of geometries: at most one is the first that applies, and none does where there is none.
-use Rattle.std.proofs.Common.{◌≡◌, ℕ, suc, ◌<◌, ◌≤◌, subst, List, [], ◌∷◌, ◌++◌, length, refl, sym, ap, ◌∙◌, arith, ◌≤ℤ◌, ◌<ℤ◌, inl, inr}
+use Rattle.std.proofs.Common.{◌≡◌, ℕ, suc, ◌<◌, ◌≤◌, subst, List, [], ◌∷◌, ◌++◌, length, refl, sym, ap, ◌∙◌, arith, ◌≤ℤ◌, ◌<ℤ◌}
 use Rattle.std.specs.List.{AllByRecursion}
-use Rattle.std.proofs.lemmas.Bool.{cases_lt}
 use Rattle.std.proofs.lemmas.Int.{ints}
 use Rattle.edr_base.specs.FirstThatApplies.{IsLeast, NoneApplies}
 use Rattle.edr_base.specs.Limits.{position_limit}
 use Rattle.edr_base.specs.declared.places.Position.{Position}
+use Rattle.edr_base.specs.FirstLaws.{least_rank}
 use Rattle.edr_wkt.specs.declared.geometry.Geometry.{Geometry}
 use Rattle.edr_wkt.specs.declared.faults.WktFault.{WktFault}
 use Rattle.edr_wkt.specs.declared.faults.WktFault.TheVariants.{NotWkt, TooManyPositions, OutOfRange, OpenRing, DecreasingM, OutOfMemory}
@@ -128,11 +128,4 @@ same_rank g (DecreasingM p) (DecreasingM q) x y e = ap DecreasingM (first_fall-u
 same_rank g a b x y e = absurd (omega (arith, e))
 
 pub least-unique : (g : Geometry) (a b : WktFault) → IsLeast rank (Applies g) a → IsLeast rank (Applies g) b → a ≡ b
-least-unique g a b x y =
-    elim (cases_lt (rank a) (rank b)) [
-      | inl low ↦ absurd (y.none_before a low x.applies)
-      | inr from ↦ elim (cases_lt (rank b) (rank a)) [
-        | inl high ↦ absurd (x.none_before b high y.applies)
-        | inr to ↦ same_rank g a b x.applies y.applies (omega (arith, from, to))
-      ]
-    ]
+least-unique g a b x y = same_rank g a b x.applies y.applies (least_rank rank (Applies g) a b x y)

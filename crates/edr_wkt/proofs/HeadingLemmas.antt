@@ -8,9 +8,9 @@ use Rattle.edr_base.specs.SplitLaws.{IsSplit-unique}
 use Rattle.edr_wkt.specs.declared.headings.Kind.{Kind}
 use Rattle.edr_wkt.specs.declared.headings.Kind.TheVariants as k
 use Rattle.edr_wkt.specs.declared.headings.Kind.TheVariants.{Point, MultiPoint, LineString, MultiPolygon}
-use Rattle.edr_base.specs.Names.{is_blank}
+use Rattle.edr_base.specs.Names.{is_blank, IsAnyCase}
 use Rattle.edr_wkt.specs.Grammar.{is_end, AreBlanks, IsMark}
-use Rattle.edr_wkt.specs.Headings.{IsAnyCase, tag_text, dims_text, IsHeading}
+use Rattle.edr_wkt.specs.Headings.{tag_text, dims_text, IsHeading}
 use Rattle.edr_wkt.specs.HeadingReads.{HasNoLetters, BeginsWithKind, HasNoKind, BeginsWithHeading, HasNoHeading}
 use Rattle.edr_wkt.specs.Reads.{not_blank, BeginsWithWord}
 use Rattle.edr_wkt.proofs.WordLemmas.{blanks-none, blanks-all, mark-unique, word-stops}

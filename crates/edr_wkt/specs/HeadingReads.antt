@@ -2,7 +2,8 @@
 use Rattle.std.specs.Prelude.{◌≡◌, ℕ, Bool, List, ◌++◌}
 use Rattle.edr_wkt.specs.declared.headings.Kind.{Kind}
 use Rattle.edr_wkt.specs.Grammar.{IsMark}
-use Rattle.edr_wkt.specs.Headings.{IsAnyCase, tag_text, IsHeading}
+use Rattle.edr_wkt.specs.Headings.{tag_text, IsHeading}
+use Rattle.edr_base.specs.Names.{IsAnyCase}
 
 abbrev pub BeginsWithLetters : List ℕ → List ℕ → List ℕ → Type 0
 BeginsWithLetters text word rest = (letters : List ℕ) × IsAnyCase letters word × (text ≡ letters ++ rest)

@@ -12,6 +12,9 @@ use crate::words::{behind, read_mark};
 use edr_base::{Items, Position};
 use std::alloc::Global;
 
+// A ring has at least so many positions.
+const RING_LEAST: usize = 4;
+
 // The ring at the front, and what stands behind it.
 fn read_ring<'a>(
     alloc: Global,
@@ -28,7 +31,7 @@ fn read_ring<'a>(
         return Err(Stop::NotWkt);
     };
     let (positions, len, rest) = read_positions(alloc, false, has_z, has_m, inside, count)?;
-    if len < 4 {
+    if len < RING_LEAST {
         return Err(Stop::NotWkt);
     }
     Ok((positions, rest))

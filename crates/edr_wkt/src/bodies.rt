@@ -11,6 +11,9 @@ use crate::lists::{Stop, read_positions};
 use edr_base::{Items, OutOfMemory};
 use std::alloc::Global;
 
+// A line has at least so many positions.
+const LINE_LEAST: usize = 2;
+
 // The inside of POINT.
 fn read_point<'a>(
     alloc: Global,
@@ -71,7 +74,7 @@ fn read_line<'a>(
     ensures not_wkt { result ≡ Err Stop.NotWkt → HasNoBody k.LineString has_z has_m text.now }
 {
     let (positions, len, rest) = read_positions(alloc, false, has_z, has_m, text, count)?;
-    if len < 2 {
+    if len < LINE_LEAST {
         return Err(Stop::NotWkt);
     }
     let geometry = Geometry::Line {

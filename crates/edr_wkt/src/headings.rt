@@ -1,7 +1,8 @@
 //! Tags and dims.
 ghost use Rattle.std.specs.Prelude.{◌≡◌, ℕ, Bool, List, ◌++◌, map, MatchOption};
-ghost use Rattle.edr_wkt.specs.Headings.{IsAnyCase, tag_text, dims_text};
+ghost use Rattle.edr_wkt.specs.Headings.{tag_text, dims_text};
 ghost use Rattle.edr_wkt.specs.HeadingReads.{HasNoLetters, BeginsWithLetters, HasNoKind, BeginsWithKind, HasNoHeading, BeginsWithHeading};
+ghost use Rattle.edr_base.specs.Names.{IsAnyCase};
 
 use crate::words::{behind, read_word, without_blanks};
 

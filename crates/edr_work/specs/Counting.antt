@@ -10,7 +10,7 @@ use Rattle.edr_query.specs.Values.{QueryValue}
 use Rattle.edr_query.specs.Targets.{IsTarget}
 use Rattle.edr_query.specs.declared.pages.Page.{Page}
 use Rattle.edr_query.specs.declared.pages.Page.TheVariants.{Landing, Conformance, Collections, Collection, Instances, Instance, Locations, Ask}
-use Rattle.edr_select.specs.Refusals.{refused}
+use Rattle.edr_select.specs.Refusals.{IsFirstRefusal}
 use Rattle.edr_select.specs.Documents.{document}
 use Rattle.edr_select.specs.Selections.{needed}
 use Rattle.edr_station.specs.declared.tallies.Tally.{Tally}
@@ -52,7 +52,7 @@ MatchLines (Err OutOfMemory) edition = ⊤
 
 -- what is told of a query: the tally of its document's values, and how many chunks hold a selected sample
 pub record IsCount (edition : EditionValue) (query : QueryValue) (tally : Tally) (opened : ℕ) : Type 0 where
-  pub none : refused edition (Ask query) ≡ None
+  pub none : IsFirstRefusal edition (Ask query) None
   pub subject : Subject
   pub named : subject_of edition query.collection query.instance ≡ Some subject
   pub tally_is : tally ≡ tally_of (document_values (document subject query))
@@ -61,7 +61,7 @@ pub record IsCount (edition : EditionValue) (query : QueryValue) (tally : Tally)
 abbrev pub MatchCount : Result Count WorkFault → EditionValue → QueryValue → Type 0
 MatchCount (Ok count) edition query = IsCount edition query count.tally count.opened
 MatchCount (Err (NotFeed refusal)) edition query = ⊥
-MatchCount (Err (Refused refusal)) edition query = refused edition (Ask query) ≡ Some refusal
+MatchCount (Err (Refused refusal)) edition query = IsFirstRefusal edition (Ask query) (Some refusal)
 MatchCount (Err OutOfMemory) edition query = ⊤
 
 -- the editions of the feed that is made, or why it is none

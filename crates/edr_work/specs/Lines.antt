@@ -2,7 +2,6 @@
 use Rattle.std.specs.Prelude.{◌≡◌, ℕ, ℤ, codes, List, ◌++◌, length, Ok, Option, None, Some}
 use Rattle.std.specs.List.{flat_map}
 use Rattle.std.specs.Fmt.{decimal, signed_decimal}
-use Rattle.covjson_value.specs.declared.coverages.NdArray.{NdArray}
 use Rattle.covjson_value.specs.declared.coverages.Coverage.{Coverage}
 use Rattle.covjson_value.specs.declared.coverages.Document.{Document}
 use Rattle.edr_station.specs.declared.tallies.Tally.{Tally}
@@ -12,9 +11,9 @@ use Rattle.edr_edition.specs.Stores.{Subject, subject_of}
 use Rattle.edr_query.specs.Values.{QueryValue}
 use Rattle.edr_query.specs.Targets.{IsTarget}
 use Rattle.edr_query.specs.declared.pages.Page.TheVariants.{Ask}
-use Rattle.edr_select.specs.Refusals.{refused}
+use Rattle.edr_select.specs.Refusals.{IsFirstRefusal}
 use Rattle.edr_select.specs.Documents.{document}
-use Rattle.covjson_value.specs.Coverages.{coverages_in}
+use Rattle.covjson_value.specs.Coverages.{coverages_in, range_values}
 use Rattle.edr_select.specs.Selections.{needed}
 
 -- ---- the targets: a cube, a node, a station, and a corridor along a row
@@ -34,9 +33,6 @@ corridor_target = codes "/collections/grid/corridor?coords=LINESTRING(0+0,103900
 -- ---- the line of a target
 
 -- the values of a document: those of all ranges of all its coverages
-abbrev pub range_values : NdArray → List (Option ℤ)
-range_values range = range.values
-
 abbrev pub coverage_values : Coverage → List (Option ℤ)
 coverage_values coverage = flat_map range_values coverage.ranges
 
@@ -54,7 +50,7 @@ target_line target tally opened =
 pub record IsLine (edition : EditionValue) (target line : List ℕ) : Type 0 where
   pub query : QueryValue
   pub asked : IsTarget target (Ok (Ask query))
-  pub none : refused edition (Ask query) ≡ None
+  pub none : IsFirstRefusal edition (Ask query) None
   pub subject : Subject
   pub named : subject_of edition query.collection query.instance ≡ Some subject
   pub line_is : line ≡ target_line target (tally_of (document_values (document subject query))) (length (needed subject query))

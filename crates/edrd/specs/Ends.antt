@@ -1,8 +1,9 @@
 -- How a run ends: its status, what it says, and what became of the feed's files, of the doors, of the shelf's places and of the
 -- gate. Each table goes by the ending; a last row of any `ending` is that of all which have none of their own.
-use Rattle.std.specs.Prelude.{◌≡◌, ◌⊎◌, ℕ, ◌+◌, ◌-◌, ◌^◌, min, Bool, true, false, ◌++◌, ⊤, codes, List, [], ◌∷◌, length, Ok, Err, IsSome, IsSomeAnd, None, Some, option_map}
+use Rattle.std.specs.Prelude.{◌≡◌, ◌⊎◌, ℕ, ◌+◌, ◌-◌, min, Bool, true, false, ◌++◌, ⊤, codes, List, [], ◌∷◌, length, Ok, Err, IsSome, IsSomeAnd, None, Some, option_map}
 use Rattle.std.specs.declared.option.Option.{Option}
 use Rattle.edr_base.specs.Outside.{Aside, Rose}
+use Rattle.edr_base.specs.Limits.{count_limit}
 use Rattle.edr_edition.specs.Values.{EditionValue}
 use Rattle.edr_feed.specs.Feeds.{FeedStandsIn}
 use Rattle.edr_program.specs.FileReads.{IsFileRead}
@@ -72,7 +73,7 @@ pub record IsServed (settings : Settings) (before after : Moment) (gate ended : 
   pub editions : List EditionValue
   pub feed : FeedStandsIn (before.files.content settings.feed) (Ok editions)
   pub opened : after.doors.last ≡ Some (doors_asked settings)
-  pub once : after.doors.opens ≡ min (before.doors.opens + 1) (2 ^ 64 - 1)
+  pub once : after.doors.opens ≡ min (before.doors.opens + 1) count_limit
   pub closed : after.doors.closed ≡ settings.workers
   pub every : ended.seconds ≡ settings.every
   pub published : (ended.granted + 1 ≡ gate.granted + length editions) ⊎ (ended.shut ≡ true)

@@ -1,6 +1,7 @@
 //! What opens the doors through which connections come.
-ghost use Rattle.std.specs.Prelude.{◌≡◌, ◌⊎◌, ◌≤◌, ◌<◌, ◌+◌, ◌-◌, ◌^◌, ℕ, Bool, true, min, vec_len, All, IfOk, IsSomeAnd, MatchResult, Option, Some, is_ok};
+ghost use Rattle.std.specs.Prelude.{◌≡◌, ◌⊎◌, ◌≤◌, ◌<◌, ◌+◌, ◌-◌, ℕ, Bool, true, min, vec_len, All, IfOk, IsSomeAnd, MatchResult, Option, Some, is_ok};
 ghost use Rattle.edr_base.specs.Calls.{Cause};
+ghost use Rattle.edr_base.specs.Limits.{count_limit};
 ghost use Rattle.edrd.specs.Doors.{IsNew};
 ghost use Rattle.edrd.specs.declared.doors.DoorsAsked.{DoorsAsked};
 
@@ -49,7 +50,7 @@ pub trait Doors: Faults {
         ensures tried { tried self.new ≡ Some (record { port = port; count = count; connections = connections }, is_ok result) }
         ensures last { MatchResult result
             (λ _. (last self.new ≡ Some (record { port = port; count = count; connections = connections }))
-            × (opens self.new ≡ min (opens self.old + 1) (2 ^ 64 - 1)) × (closed self.new ≡ 0))
+            × (opens self.new ≡ min (opens self.old + 1) count_limit) × (closed self.new ≡ 0))
             (λ _. (last self.new ≡ last self.old) × (opens self.new ≡ opens self.old) × (closed self.new ≡ closed self.old)) }
         ensures cause { Cause result (Self.faults self.old) (Self.faults self.new) };
 

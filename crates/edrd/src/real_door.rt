@@ -2,6 +2,7 @@
 ghost use Rattle.std.specs.Prelude.{◌≡◌, ◌≤◌, ◌<◌, ◌+◌, true, false, cond, is_err};
 ghost use Rattle.edr_serve.specs.Connections.{outcome_of};
 ghost use Rattle.edrd.specs.Limits.{accept_limit};
+ghost use Rattle.edr_base.specs.Limits.{count_limit};
 
 use crate::accept::Accept;
 use edr_base::{Failed, Faults, RealSink, RealSource};
@@ -41,7 +42,7 @@ pub struct RealDoor {
     over: bool,
     faults: u64,
     ghost bound: { (given ≤ most) × (most ≤ accept_limit) × (faulted ≤ finished) × (finished ≤ given) × (given ≤ accept_limit) },
-    ghost fits: { faults ≤ 18446744073709551615 },
+    ghost fits: { faults ≤ count_limit },
 }
 
 // What is to be done where an accept failed.

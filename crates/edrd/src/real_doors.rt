@@ -1,6 +1,7 @@
 //! Doors at a port of this machine.
 ghost use Rattle.std.specs.Prelude.{◌≡◌, ◌≤◌, ◌<◌, ◌+◌, ◌^◌, min, vec_len, All, IfOk, IsSomeAnd, MatchResult, Some, None, true, false, is_ok, is_err, option_map};
 ghost use Rattle.edr_base.specs.Calls.{Cause};
+ghost use Rattle.edr_base.specs.Limits.{count_limit};
 ghost use Rattle.edrd.specs.Doors.{IsNew};
 
 use crate::accept::Accept;
@@ -23,7 +24,7 @@ pub struct RealDoors {
     opens: u64,
     closed: usize,
     faults: u64,
-    ghost fits: { faults ≤ 18446744073709551615 },
+    ghost fits: { faults ≤ count_limit },
 }
 
 impl RealDoors {

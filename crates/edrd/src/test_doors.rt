@@ -2,6 +2,7 @@
 ghost use Rattle.std.specs.Prelude.{◌≡◌, ◌≤◌, ◌<◌, ◌+◌, ◌-◌, ◌^◌, ◌⊎◌, min, vec_len, All, IfOk, IsSomeAnd, MatchResult, MatchOption, OnErr, Some, true, false, cond, is_ok, is_err};
 ghost use Rattle.edr_base.specs.Calls.{Cause};
 ghost use Rattle.edr_base.specs.Outside.{Rose};
+ghost use Rattle.edr_base.specs.Limits.{count_limit};
 ghost use Rattle.edr_serve.specs.Connections.{outcome_of};
 ghost use Rattle.edrd.specs.Limits.{accept_limit};
 ghost use Rattle.edrd.specs.Doors.{IsNew};
@@ -36,7 +37,7 @@ pub(crate) struct MemoryDoor {
     over: bool,
     faults: u64,
     ghost bound: { (given ≤ most) × (most ≤ accept_limit) × (faulted ≤ finished) × (finished ≤ given) × (given ≤ accept_limit) },
-    ghost fits: { faults ≤ 18446744073709551615 },
+    ghost fits: { faults ≤ count_limit },
 }
 
 impl MemoryDoor {
@@ -131,7 +132,7 @@ pub(crate) struct MemoryDoors {
     closed: usize,
     faults: u64,
     back: Vec<MemoryDoor>,
-    ghost fits: { faults ≤ 18446744073709551615 },
+    ghost fits: { faults ≤ count_limit },
 }
 
 impl MemoryDoors {

@@ -7,7 +7,7 @@ use Rattle.covjson_ranges.specs.Ranges.{AreRangeAxes}
 use Rattle.covjson_ranges.specs.RangeAnswers as ranges
 use Rattle.covjson_ranges.proofs.ShapeParts.{names_stand}
 use Rattle.covjson_ranges.proofs.RangeLemmas.{read_counted}
-use Rattle.covjson_ranges.proofs.RangeLaws.{range_answers, range_valid, fault_follows}
+use Rattle.covjson_ranges.proofs.RangeLaws.{range_answers, range_valid, fault_follows, nothing_stands}
 use Rattle.covjson_ranges.proofs.ranges.range_of.Goals as goal
 
 pub in_order-requires-clause-axes : goal.in_order-requires-clause-axes
@@ -34,6 +34,21 @@ returns-in_err-need_shape-clause-fault c = fault_follows c.args.read.now (view c
 
 pub returns-in_err-values-clause-fault : goal.returns-in_err-values-clause-fault
 returns-in_err-values-clause-fault c = fault_follows c.args.read.now (view c.args.tree.now) c.from_residual-in_err-values.result (search rules)
+
+pub returns-in_err-need_array-clause-stands_not : goal.returns-in_err-need_array-clause-stands_not
+returns-in_err-need_array-clause-stands_not c = nothing_stands c.args.read.now (view c.args.tree.now) c.from_residual.result (search rules)
+
+pub returns-in_err-need_integers-clause-stands_not : goal.returns-in_err-need_integers-clause-stands_not
+returns-in_err-need_integers-clause-stands_not c = nothing_stands c.args.read.now (view c.args.tree.now) c.from_residual-in_err-need_integers.result (search rules)
+
+pub returns-in_err-names-clause-stands_not : goal.returns-in_err-names-clause-stands_not
+returns-in_err-names-clause-stands_not c = nothing_stands c.args.read.now (view c.args.tree.now) c.from_residual-in_err-names.result (search rules)
+
+pub returns-in_err-need_shape-clause-stands_not : goal.returns-in_err-need_shape-clause-stands_not
+returns-in_err-need_shape-clause-stands_not c = nothing_stands c.args.read.now (view c.args.tree.now) c.from_residual-in_err-need_shape.result (search rules)
+
+pub returns-in_err-values-clause-stands_not : goal.returns-in_err-values-clause-stands_not
+returns-in_err-values-clause-stands_not c = nothing_stands c.args.read.now (view c.args.tree.now) c.from_residual-in_err-values.result (search rules)
 
 pub returns-clause-stands : goal.returns-clause-stands
 returns-clause-stands c =

@@ -1,4 +1,4 @@
-use Rattle.covjson_read.specs.NameLaws.{same_test}
+use Rattle.edr_base.specs.NameLaws.{same_test}
 use Rattle.covjson_read.proofs.parameters.is_named.Goals as goal
 
 pub returns : goal.returns

@@ -1,7 +1,6 @@
 use Rattle.std.proofs.Common.{◌≡◌, ◌-◌, ◌≤◌, ◌++◌, length, take}
-use Rattle.edr_base.specs.Calls.{SinkLent}
+use Rattle.edr_base.specs.Calls.{SinkLent, Gathered}
 use Rattle.covjson_write.specs.Pieces.{values_from}
-use Rattle.covjson_write.specs.Writers.{Gathered}
 use Rattle.covjson_write.proofs.values.send_behind.Given as goal
 
 abbrev pub invariant-loop-done : goal.invariant-loop-done

@@ -1,12 +1,12 @@
 use Rattle.std.proofs.Common.{◌+◌, rules, arith, ◌≡◌, ◌++◌, ◌∷◌, [], sym, subst, List, ℕ, Option}
 use Rattle.std.specs.Prelude.{ℤ}
 use Rattle.edr_chunk.specs.declared.shapes.GridShape.{GridShape}
-use Rattle.edr_chunk.specs.Samples.{AreSamples}
 use Rattle.edr_chunk.specs.Places.{Within, number}
 use Rattle.edr_chunk.specs.Tiles.{tiles}
 use Rattle.edr_chunk.specs.KeptTiles.{Filled, cut_values}
 use Rattle.edr_chunk.proofs.TileLaws.{cut_samples, filled_more}
 use Rattle.edr_chunk.proofs.packers.packed_tiles.Goals as goal
+use Rattle.edr_base.specs.Limits.{AreSamples}
 
 pub pack-requires : goal.pack-requires
 pack-requires c =

@@ -1,6 +1,6 @@
 use Rattle.std.proofs.Common.{◌≡◌, ◌++◌, map}
-use Rattle.edr_draft.specs.Series.{range_values}
 use Rattle.edr_draft.proofs.series.series_of.Given as goal
+use Rattle.covjson_value.specs.Coverages.{range_values}
 
 -- the values so far, and those of the ranges that are left
 abbrev pub invariant-loop-range : goal.invariant-loop-range

@@ -2,9 +2,9 @@ use Rattle.std.proofs.Common.{length, sym, ap, ◌∙◌, subst}
 use Rattle.covjson_value.specs.declared.coverages.NdArray.{NdArray}
 use Rattle.edr_chunk.specs.Grids.{Values}
 use Rattle.edr_chunk.specs.Places.{nodes}
-use Rattle.edr_chunk.specs.Samples.{AreSamples}
 use Rattle.edr_edition.proofs.PackedGrids.{packer_step}
 use Rattle.edr_edition.proofs.instances.packed.Goals as goal
+use Rattle.edr_base.specs.Limits.{AreSamples}
 
 pub add-requires-clause-whole : goal.add-requires-clause-whole
 add-requires-clause-whole c =

@@ -1,5 +1,5 @@
 use Rattle.std.proofs.Common.{◌≡◌, ◌+◌, ◌∙◌, sym, subst, take, take_all, Err}
-use Rattle.edr_select.specs.PlacesOfIds.{IsPlaceOf}
+use Rattle.edr_select.specs.PlacesOfIds.{IsPlaceOfId}
 use Rattle.edr_edition.specs.Values.{parameter_id}
 use Rattle.edr_select.specs.Samples.{id_at}
 use Rattle.edr_select.proofs.ParameterChoices.{names_more, name_unknown, names_taken, found_id, NamesFound}
@@ -8,7 +8,7 @@ use Rattle.edr_select.proofs.chosen_parameters.places_of_names.Goals as goal
 pub returns-in-Err : goal.returns-in-Err
 returns-in-Err c =
     name_unknown c.args.parameters.now c.args.names.now c.loop-name.name-index c.in-Err.field-0 c.name-item.result c.loop-name-test.true (sym c.name-item.is)
-    (subst (λ name. IsPlaceOf parameter_id name c.args.parameters.now (Err c.in-Err.field-0)) c.bytes.ensures c.in-Err.ensures)
+    (subst (λ name. IsPlaceOfId parameter_id name c.args.parameters.now (Err c.in-Err.field-0)) c.bytes.ensures c.in-Err.ensures)
 
 pub loop-name-preserved : goal.loop-name-preserved
 loop-name-preserved c =

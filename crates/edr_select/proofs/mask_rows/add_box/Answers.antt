@@ -2,9 +2,9 @@ use Rattle.std.proofs.Common.{◌≡◌, ◌∙◌, ◌+◌, ◌-◌, ◌++◌, 
 use Rattle.std.specs.Vec.{vec_len}
 use Rattle.edr_axes.specs.Axes.{value_at}
 use Rattle.edr_geometry.specs.Masks.{spot_at}
-use Rattle.edr_select.specs.Wanted.{in_box}
 use Rattle.edr_select.proofs.MaskBits.{row_in_box}
 use Rattle.edr_select.proofs.mask_rows.add_box.Goals as goal
+use Rattle.edr_base.specs.Boxes.{in_box}
 
 pub returns-then-has-2 : goal.returns-then-has-2
 returns-then-has-2 c =

@@ -1,9 +1,9 @@
 use Rattle.std.proofs.Common.{◌≡◌, ◌∙◌, ◌++◌, ap, rules, List, take_all, ℤ, to_z, of_z, w64}
 use Rattle.edr_axes.specs.Axes.{value_at}
 use Rattle.edr_geometry.specs.Masks.{row_of, spot_at}
-use Rattle.edr_select.specs.Wanted.{in_box}
 use Rattle.edr_select.proofs.MaskBits.{row_more}
 use Rattle.edr_select.proofs.mask_rows.add_each.Goals as goal
+use Rattle.edr_base.specs.Boxes.{in_box}
 
 pub loop-x-preserved : goal.loop-x-preserved
 loop-x-preserved c =

@@ -1,8 +1,7 @@
-use Rattle.std.proofs.Common.{◌≡◌, ◌∙◌, ap, sym, subst, ℕ, List, All, Some}
-use Rattle.std.specs.Prelude.{IfSome}
+use Rattle.std.proofs.Common.{◌≡◌, ◌∙◌, ap, sym, subst, ℕ, List, Some}
 use Rattle.edr_base.specs.Calls.{Writes}
 use Rattle.covjson_value.specs.declared.coverages.Document.{Document}
-use Rattle.edr_base.specs.Limits.{IsSample}
+use Rattle.edr_base.specs.Limits.{AreSamples}
 use Rattle.covjson_value.specs.Trees.{document_text}
 use Rattle.edr_chunk.specs.Tiles.{tiles}
 use Rattle.edr_edition.specs.Values.{InstanceValue}
@@ -33,7 +32,7 @@ returns-clause-text g c =
     let stands = framed_stands c.args.plan.now framing subject c.requires.framed c.requires.stands in
     let instance : InstanceValue = stands.instance in
     let held : subject.held ≡ of_grid instance = stands.held in
-    let samples : All (λ v. IfSome v IsSample) instance.grid.values = instance_samples instance (subst (λ (h : Held). IsHeld h) held c.subject_stands.ensures.held) in
+    let samples : AreSamples instance.grid.values = instance_samples instance (subst (λ (h : Held). IsHeld h) held c.subject_stands.ensures.held) in
     subst (λ (text : List ℕ). Writes c.stream_framing.result text (g.K.Sink.written c.args.sink.now) (g.K.Sink.written c.stream_framing.new.sink))
     (ap (λ (h : Held). framed_text (grid_of h) framing) held
     ∙ framed_text_is c.document_of_pieces.ensures instance.grid framing c.framing_stands.ensures.is samples

@@ -1,7 +1,7 @@
-use Rattle.std.proofs.Common.{rules, ◌≡◌, ◌∙◌, ap, subst, ℕ, List, All}
-use Rattle.std.specs.Prelude.{map, IfSome}
+use Rattle.std.proofs.Common.{rules, ◌≡◌, ◌∙◌, ap, subst, ℕ, List}
+use Rattle.std.specs.Prelude.{map}
 use Rattle.edr_base.specs.Calls.{Writes}
-use Rattle.edr_base.specs.Limits.{IsSample}
+use Rattle.edr_base.specs.Limits.{AreSamples}
 use Rattle.edr_chunk.specs.declared.shapes.GridPlace.{GridPlace}
 use Rattle.edr_chunk.specs.Grids as chunk
 use Rattle.edr_chunk.specs.Grids.{value}
@@ -36,7 +36,7 @@ returns-clause-text g c =
     let places : List GridPlace = places_of_coverages listing.parameters listing.coverages in
     let read : c.deref.result.now ≡ c.in_ok-values.values.items = search rules in
     let gathered : c.deref.result.now ≡ map (value instance.grid) places = read ∙ c.in_ok-values.ensures.values ∙ ap (λ (h : Held). map (value (grid_of h)) places) held in
-    let samples : All (λ v. IfSome v IsSample) instance.grid.values = instance_samples instance (subst (λ (h : Held). IsHeld h) held c.subject_stands.ensures.held) in
+    let samples : AreSamples instance.grid.values = instance_samples instance (subst (λ (h : Held). IsHeld h) held c.subject_stands.ensures.held) in
     subst (λ (text : List ℕ). Writes c.write_document.result text (g.K.Sink.written c.args.sink.now) (g.K.Sink.written c.write_document.new.sink))
     (text_is c.document_of_pieces.ensures instance.grid listing c.deref.result.now (document subject c.args.plan.now.query) c.listing_stands.ensures.is samples gathered stands.document)
     c.write_document.ensures.bytes

@@ -1,7 +1,6 @@
-use Rattle.std.proofs.Common.{◌≡◌, ◌∙◌, ap, subst, ℕ, List, All}
-use Rattle.std.specs.Prelude.{IfSome}
+use Rattle.std.proofs.Common.{◌≡◌, ◌∙◌, ap, subst, ℕ, List}
 use Rattle.edr_base.specs.Calls.{Writes}
-use Rattle.edr_base.specs.Limits.{IsSample}
+use Rattle.edr_base.specs.Limits.{AreSamples}
 use Rattle.edr_chunk.specs.Tiles.{tiles}
 use Rattle.edr_edition.specs.Values.{InstanceValue}
 use Rattle.edr_edition.specs.Stores.{Held, of_grid, IsHeld}
@@ -23,7 +22,7 @@ returns-clause-text g c =
     let subject = c.args.store.now.subject in
     let instance : InstanceValue = stands.instance in
     let held : subject.held ≡ of_grid instance = stands.held in
-    let samples : All (λ v. IfSome v IsSample) instance.grid.values = instance_samples instance (subst (λ (h : Held). IsHeld h) held c.subject_stands.ensures.held) in
+    let samples : AreSamples instance.grid.values = instance_samples instance (subst (λ (h : Held). IsHeld h) held c.subject_stands.ensures.held) in
     subst (λ (text : List ℕ). Writes c.stream_document.result text (g.K.Sink.written c.args.sink.now) (g.K.Sink.written c.stream_document.new.sink))
     (ap (λ (h : Held). listing_text (grid_of h) listing) held
     ∙ plan_text_is c.document_of_pieces.ensures instance.grid listing (document subject c.args.plan.now.query) c.listing_stands.ensures.is samples stands.document)

@@ -1,9 +1,8 @@
 use Rattle.std.proofs.Common.{rules, ◌≡◌, ◌++◌, ℕ, ℤ, pos, List, [], ◌∷◌, Option, get_or, map, FitsSigned, w64, to_z, of_z, sym, ap, ◌∙◌}
 use Rattle.std.proofs.lemmas.List.{nil_from_length}
 use Rattle.std.proofs.lemmas.Result.{err_from_is_err_and}
-use Rattle.edr_base.specs.Calls.{Front}
+use Rattle.edr_base.specs.Calls.{Front, Gathered}
 use Rattle.covjson_value.specs.Samples.{node}
-use Rattle.edr_table.specs.Gathering.{Gathered}
 use Rattle.edr_table.specs.Turns.{line_front, line_back, lines_along}
 use Rattle.edr_table.proofs.LineLemmas.{line_is}
 use Rattle.edr_table.proofs.TurnLemmas.{passed, node_left, node_put, node_stop, node_out}

@@ -1,6 +1,5 @@
 use Rattle.std.proofs.Common.{◌≡◌, ◌++◌, take, drop, length}
-use Rattle.edr_base.specs.Calls.{SinkLent}
-use Rattle.edr_table.specs.Gathering.{Gathered}
+use Rattle.edr_base.specs.Calls.{SinkLent, Gathered}
 use Rattle.edr_table.specs.Turns.{line_front, lines_along, row_nodes}
 use Rattle.edr_table.proofs.rows.put_row.Given as goal
 

@@ -1,7 +1,6 @@
 use Rattle.std.proofs.Common.{rules, ◌≡◌, ◌++◌, ℕ, ℤ, pos, List, get_or, drop, length, FitsSigned, w64}
 use Rattle.std.proofs.lemmas.Result.{err_from_is_err_and}
-use Rattle.edr_base.specs.Calls.{Front}
-use Rattle.edr_table.specs.Gathering.{Gathered}
+use Rattle.edr_base.specs.Calls.{Front, Gathered}
 use Rattle.edr_table.specs.Turns.{lines_along, row_nodes}
 use Rattle.edr_table.proofs.TurnLemmas.{passed, turn_left, turn_put, turn_stop}
 use Rattle.edr_table.proofs.rows.put_rows.Goals as goal

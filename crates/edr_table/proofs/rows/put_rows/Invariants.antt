@@ -1,7 +1,6 @@
 use Rattle.std.proofs.Common.{◌≡◌, ◌++◌, take, drop, length}
 use Rattle.std.specs.List.{flat_map}
-use Rattle.edr_base.specs.Calls.{SinkLent}
-use Rattle.edr_table.specs.Gathering.{Gathered}
+use Rattle.edr_base.specs.Calls.{SinkLent, Gathered}
 use Rattle.edr_table.specs.Turns.{lines_along, row_nodes}
 use Rattle.edr_table.proofs.rows.put_rows.Given as goal
 

@@ -1,8 +1,7 @@
 use Rattle.std.proofs.Common.{◌≡◌, ◌++◌, take, drop, length, map}
-use Rattle.edr_base.specs.Calls.{SinkLent}
+use Rattle.edr_base.specs.Calls.{SinkLent, Gathered}
 use Rattle.covjson_value.specs.Domains.{coordinates_of}
 use Rattle.covjson_value.specs.Samples.{tuple_node}
-use Rattle.edr_table.specs.Gathering.{Gathered}
 use Rattle.edr_table.specs.Turns.{lines_along}
 use Rattle.edr_table.proofs.rows.put_tuples.Given as goal
 

@@ -1,9 +1,8 @@
 use Rattle.std.proofs.Common.{rules, ◌++◌, ℕ, List, get_or, subst, sym}
 use Rattle.std.specs.List.{flat_map}
 use Rattle.std.proofs.lemmas.Result.{err_from_is_err_and}
-use Rattle.edr_base.specs.Calls.{Front}
+use Rattle.edr_base.specs.Calls.{Front, Gathered}
 use Rattle.covjson_value.specs.declared.coverages.Coverage.{Coverage}
-use Rattle.edr_table.specs.Gathering.{Gathered}
 use Rattle.edr_table.specs.Tables.{coverage_lines, line_text}
 use Rattle.edr_table.proofs.GatherLemmas.{gathered_on, gathered_stop}
 use Rattle.edr_table.proofs.LineLemmas.{coverages_more, coverages_all}

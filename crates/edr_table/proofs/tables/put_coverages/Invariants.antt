@@ -1,8 +1,7 @@
 use Rattle.std.proofs.Common.{◌≡◌, ◌++◌, take}
 use Rattle.std.specs.List.{flat_map}
-use Rattle.edr_base.specs.Calls.{SinkLent}
+use Rattle.edr_base.specs.Calls.{SinkLent, Gathered}
 use Rattle.edr_table.specs.Tables.{coverage_lines, line_text}
-use Rattle.edr_table.specs.Gathering.{Gathered}
 use Rattle.edr_table.proofs.tables.put_coverages.Given as goal
 
 abbrev pub invariant-loop-coverage : goal.invariant-loop-coverage

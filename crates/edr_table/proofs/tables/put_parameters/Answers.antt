@@ -1,10 +1,9 @@
 use Rattle.std.proofs.Common.{rules, ◌++◌, ℕ, ℤ, List, Option, get_or, subst, sym}
 use Rattle.std.proofs.lemmas.Result.{err_from_is_err_and}
-use Rattle.edr_base.specs.Calls.{Front}
+use Rattle.edr_base.specs.Calls.{Front, Gathered}
 use Rattle.covjson_value.specs.declared.coverages.Parameter.{Parameter}
 use Rattle.covjson_value.specs.declared.coverages.NdArray.{NdArray}
 use Rattle.covjson_value.specs.Samples.{nodes_of}
-use Rattle.edr_table.specs.Gathering.{Gathered}
 use Rattle.edr_table.specs.Turns.{lines_along}
 use Rattle.edr_table.proofs.GatherLemmas.{gathered_on, gathered_stop}
 use Rattle.edr_table.proofs.LineLemmas.{parameters_more, parameters_all}

@@ -1,7 +1,6 @@
 use Rattle.std.proofs.Common.{◌≡◌, ◌++◌, take}
-use Rattle.edr_base.specs.Calls.{SinkLent}
+use Rattle.edr_base.specs.Calls.{SinkLent, Gathered}
 use Rattle.covjson_value.specs.Samples.{nodes_of}
-use Rattle.edr_table.specs.Gathering.{Gathered}
 use Rattle.edr_table.specs.Turns.{lines_from}
 use Rattle.edr_table.proofs.tables.put_parameters.Given as goal
 

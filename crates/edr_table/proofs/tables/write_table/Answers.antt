@@ -1,6 +1,5 @@
 use Rattle.std.proofs.Common.{rules, ◌++◌, ℕ, List, [], subst}
-use Rattle.edr_base.specs.Calls.{Writes}
-use Rattle.edr_table.specs.Gathering.{Gathered}
+use Rattle.edr_base.specs.Calls.{Writes, Gathered}
 use Rattle.edr_table.specs.Tables.{table_of}
 use Rattle.edr_table.proofs.GatherLemmas.{gathered_end}
 use Rattle.edr_table.proofs.tables.write_table.Goals as goal

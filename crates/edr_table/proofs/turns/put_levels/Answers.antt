@@ -1,10 +1,9 @@
 use Rattle.std.proofs.Common.{rules, ◌≡◌, ◌<◌, ◌++◌, ℕ, ℤ, List, Option, None, get_or, drop, length, arith}
 use Rattle.std.proofs.lemmas.Result.{err_from_is_err_and}
-use Rattle.edr_base.specs.Calls.{Front}
+use Rattle.edr_base.specs.Calls.{Front, Gathered}
 use Rattle.covjson_value.specs.declared.domains.CoordinateName.TheVariants.{Z}
 use Rattle.covjson_value.specs.Domains.{axis_of}
 use Rattle.covjson_value.specs.Samples.{values_or_absent}
-use Rattle.edr_table.specs.Gathering.{Gathered}
 use Rattle.edr_table.specs.Turns.{lines_along, turn_nodes}
 use Rattle.edr_table.proofs.TurnLemmas.{turn_left, turn_put, turn_stop}
 use Rattle.edr_table.proofs.turns.put_levels.Goals as goal

@@ -1,10 +1,9 @@
 use Rattle.std.proofs.Common.{◌≡◌, ◌++◌, take, drop, length}
 use Rattle.std.specs.List.{flat_map}
-use Rattle.edr_base.specs.Calls.{SinkLent}
+use Rattle.edr_base.specs.Calls.{SinkLent, Gathered}
 use Rattle.covjson_value.specs.declared.domains.CoordinateName.TheVariants.{Z}
 use Rattle.covjson_value.specs.Domains.{axis_of}
 use Rattle.covjson_value.specs.Samples.{values_or_absent}
-use Rattle.edr_table.specs.Gathering.{Gathered}
 use Rattle.edr_table.specs.Turns.{lines_along, turn_nodes}
 use Rattle.edr_table.proofs.turns.put_levels.Given as goal
 

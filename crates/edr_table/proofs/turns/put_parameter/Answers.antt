@@ -2,11 +2,10 @@ use Rattle.std.proofs.Common.{rules, ◌≡◌, ◌<◌, ◌++◌, ℕ, ℤ, Lis
 use Rattle.std.specs.List.{flat_map}
 use Rattle.std.proofs.lemmas.List.{take_all}
 use Rattle.std.proofs.lemmas.Result.{err_from_is_err_and}
-use Rattle.edr_base.specs.Calls.{Front}
+use Rattle.edr_base.specs.Calls.{Front, Gathered}
 use Rattle.covjson_value.specs.declared.domains.CoordinateName.TheVariants.{T}
 use Rattle.covjson_value.specs.Domains.{axis_of}
 use Rattle.covjson_value.specs.Samples.{Node, values_or_absent, nodes_of}
-use Rattle.edr_table.specs.Gathering.{Gathered}
 use Rattle.edr_table.specs.Turns.{lines_along, level_nodes}
 use Rattle.edr_table.proofs.DomainLemmas.{nodes_are_levels, turn_time}
 use Rattle.edr_table.proofs.TurnLemmas.{turn_left, turn_put, turn_stop}

@@ -1,4 +1,4 @@
--- The refusal that is found first is the least by its number.
+-- Laws of the refusal that is found: it is the first by its number; for the proofs of callers.
 use Rattle.std.proofs.Common.{◌≡◌, ◌<◌, ◌≤◌, ◌+◌, ℕ, zero, suc, Bool, true, false, cond, List, [], ◌∷◌, length, Contains, Some, None, refl, ap, sym, ◌∙◌, subst, arith}
 use Rattle.std.specs.declared.option.Option.{Option}
 use Rattle.std.specs.List.{find, slice_index_or}
@@ -13,7 +13,8 @@ use Rattle.edr_query.specs.declared.pages.Page.{Page}
 use Rattle.edr_query.specs.declared.pages.Page.TheVariants.{Ask}
 use Rattle.edr_query.specs.Values.{QueryValue}
 use Rattle.edr_base.specs.RefusalTable.{rank}
-use Rattle.edr_select.specs.Refusals.{applies, applies_in, applies_if, applies_if_found, applies_to_query, collection_named, in_order, refused, IsRefusedLeast, RefusalIsLeast}
+use Rattle.edr_base.specs.RefusalLaws.{first_once}
+use Rattle.edr_select.specs.Refusals.{applies, applies_in, applies_if, applies_if_found, applies_to_query, collection_named, in_order, refused, IsFirstRefusal, RefusalIsLeast, Applies}
 
 -- ---- refusals that aren't of an edition never apply
 
@@ -122,9 +123,17 @@ covered edition page NoSamples h = (7, omega arith, refl)
 covered edition page TooLarge h = (8, omega arith, refl)
 covered edition page r h = absurd (never edition page r refl h)
 
-is_least : (edition : EditionValue) (page : Page) (o : Option Refusal) → Least (applies edition page) o → IsRefusedLeast edition page o
+is_least : (edition : EditionValue) (page : Page) (o : Option Refusal) → Least (applies edition page) o → IsFirstRefusal edition page o
 is_least edition page None h = h
 is_least edition page (Some r) h = h
 
 pub refusal_is_least : RefusalIsLeast
 refusal_is_least edition page = is_least edition page (refused edition page) (least (applies edition page) 18 in_order numbered (covered edition page))
+
+-- a refusal that is found, or none, is the first
+pub found_first : (edition : EditionValue) (page : Page) (o : Option Refusal) → refused edition page ≡ o → IsFirstRefusal edition page o
+found_first edition page o is = subst (IsFirstRefusal edition page) is (refusal_is_least edition page)
+
+-- and the first is found
+pub first_found : (edition : EditionValue) (page : Page) (o : Option Refusal) → IsFirstRefusal edition page o → refused edition page ≡ o
+first_found edition page o first = first_once (Applies edition page) (refused edition page) o (refusal_is_least edition page) first

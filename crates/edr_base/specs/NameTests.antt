@@ -1,4 +1,4 @@
--- The test of a name, as a computation.
+-- For private clauses: the test of a name, as a computation.
 use Rattle.std.specs.Prelude.{ℕ, ◌==◌, nat_le, List, [], ◌∷◌, length, Bool, true, not, ◌&&◌}
 use Rattle.std.specs.Str.{is_utf8}
 use Rattle.edr_base.specs.Limits.{name_limit}

@@ -1,4 +1,4 @@
--- The test of a name passes exactly the names.
+-- Laws of names: their test passes exactly these; for the proofs of callers.
 use Rattle.std.proofs.Common.{◌≡◌, ℕ, ◌==◌, nat_le, List, [], ◌∷◌, length, All, Bool, true, not, ◌&&◌, IsTrue, ◌↔◌, refl}
 use Rattle.std.proofs.lemmas.Bool.{and_parts, and_from, leb-true, le-leb, eqb-false, ne_eqb, not-true, not_from_false}
 use Rattle.std.proofs.lemmas.Bool.Decides.{same_from_decides}
@@ -7,7 +7,7 @@ use Rattle.std.proofs.lemmas.Str.{IsUtf8-from_is_utf8, is_utf8-from_IsUtf8}
 use Rattle.std.specs.Str.{is_utf8}
 use Rattle.edr_base.specs.Limits.{name_limit}
 use Rattle.edr_base.specs.Names.{IsNameByte, IsName}
-use Rattle.covjson_read.specs.NameTests.{is_name_byte, all_name_bytes, is_name}
+use Rattle.edr_base.specs.NameTests.{is_name_byte, all_name_bytes, is_name}
 
 -- a byte that passes the test is one of a name
 byte_tells : (byte : ℕ) → is_name_byte byte ≡ true → IsNameByte byte

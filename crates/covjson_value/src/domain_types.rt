@@ -1,0 +1,55 @@
+//! The domain types by their names.
+ghost use Rattle.std.specs.Prelude.{◌≡◌};
+ghost use Rattle.covjson_value.specs.DomainTypes.{type_by_name, type_key};
+
+/// The type of a domain (OGC 21-069r2, Domain types).
+#[derive(Clone, Copy, Debug, PartialEq, Eq)]
+pub enum DomainType {
+    /// All nodes of some axes.
+    Grid,
+    /// One place.
+    Point,
+    /// Several times at one place.
+    PointSeries,
+    /// Several levels at one place.
+    VerticalProfile,
+    /// Several places.
+    MultiPoint,
+    /// Several places at their times.
+    Trajectory,
+}
+
+/// The name of a type in CoverageJSON. It takes no memory.
+pub(crate) fn type_key(kind: DomainType) -> &'static str
+    ensures { result.now ≡ type_key kind }
+{
+    match kind {
+        DomainType::Grid => "Grid",
+        DomainType::Point => "Point",
+        DomainType::PointSeries => "PointSeries",
+        DomainType::VerticalProfile => "VerticalProfile",
+        DomainType::MultiPoint => "MultiPoint",
+        DomainType::Trajectory => "Trajectory",
+    }
+}
+
+/// The type that has a name in CoverageJSON, and none where no type has it. It takes no memory.
+pub fn type_by_name(name: &str) -> Option<DomainType>
+    ensures { result ≡ type_by_name name.now }
+{
+    if name == "Grid" {
+        Some(DomainType::Grid)
+    } else if name == "Point" {
+        Some(DomainType::Point)
+    } else if name == "PointSeries" {
+        Some(DomainType::PointSeries)
+    } else if name == "VerticalProfile" {
+        Some(DomainType::VerticalProfile)
+    } else if name == "MultiPoint" {
+        Some(DomainType::MultiPoint)
+    } else if name == "Trajectory" {
+        Some(DomainType::Trajectory)
+    } else {
+        None
+    }
+}
