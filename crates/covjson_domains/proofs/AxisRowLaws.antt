@@ -7,7 +7,7 @@ use Rattle.std.proofs.lemmas.List.{length-reverse}
 use Rattle.std.proofs.lemmas.List.Elements.{All-nil, All-cons, All-head, All-tail}
 use Rattle.serde_json.specs.Data.{Data, null, boolean, number, string, array, object, Items, no_items, item, Members, Num}
 use Rattle.serde_json.specs.Find.{get, as_object, as_array, as_number, as_str, as_integer}
-use Rattle.edr_base.specs.FirstThatApplies.{Check, Find, Gives, and_then, or_fault, check}
+use Rattle.edr_base.specs.FirstThatApplies.{Check, Find, Gives, and_then, or_fault, check, With}
 use Rattle.edr_base.specs.Limits.{coordinate_limit, node_limit, IsCoordinate}
 use Rattle.edr_axes.specs.InstantComputed.{instant_of, InstantsAreRead}
 use Rattle.edr_json.specs.Trees.{count_items, EachStands, StandsForWhole, whole_of, IsObject, IsText, IsNumber}
@@ -30,7 +30,7 @@ use Rattle.covjson_domains.specs.declared.axes.ReadAxis.{ReadAxis}
 use Rattle.covjson_domains.specs.declared.domain_types.Presence.{Presence}
 use Rattle.covjson_domains.specs.DomainTypes.{member_of, IsNeeded, IsSingle}
 use Rattle.covjson_domains.specs.Axes.{StandsForTime, HasWhole, IsRegular}
-use Rattle.covjson_domains.specs.RowWords.{CheckEach, With, IfFound}
+use Rattle.covjson_domains.specs.RowWords.{CheckEach, IfFound}
 use Rattle.covjson_domains.specs.AxisRows.{HasItems, IsTimeText, TimeRows, ListRows, HasNumber, HasWholeSteps, IsSpan, SpanRows, ListedRows, NumberRows, ValueRows, IsMonotonic, AxisRows}
 use Rattle.covjson_domains.specs.TypeAnswers.{is_needed, is_single, left_out}
 use Rattle.covjson_domains.specs.AxisAnswers.{has_some, value_items, coordinates, time_at, times_from, axis_times, number_in, has_whole_steps, is_span_within, regular, spanned, axis_numbers, axis_values, ascends, in_direction, need_count, axis_if}

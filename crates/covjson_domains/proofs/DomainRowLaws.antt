@@ -3,7 +3,7 @@ use Rattle.std.specs.Prelude.{is_some, ◌↔◌, IfOk, IfErr}
 use Rattle.std.proofs.Common.{◌≡◌, ◌≢◌, ℕ, List, Bool, false, Option, Some, None, Ok, Err, inl, inr, refl, sym, ap, ◌∙◌, subst, codes}
 use Rattle.serde_json.specs.Data.{Data, string, object}
 use Rattle.serde_json.specs.Find.{get, as_str, as_object}
-use Rattle.edr_base.specs.FirstThatApplies.{Then, Gives, and_then, or_fault, check}
+use Rattle.edr_base.specs.FirstThatApplies.{Then, Gives, and_then, or_fault, check, With}
 use Rattle.edr_axes.specs.InstantComputed.{InstantsAreRead}
 use Rattle.edr_json.specs.AnswerLaws.{and_then_ok, and_then_given, or_fault_given, check_ok, check_given}
 use Rattle.edr_json.specs.TreeLaws.{as_str_some}
@@ -29,7 +29,7 @@ use Rattle.covjson_value.specs.DomainTypes.{type_key, type_by_name}
 use Rattle.covjson_domains.specs.declared.domain_types.Presence.{Presence}
 use Rattle.covjson_domains.specs.DomainTypes.{presence, member_of}
 use Rattle.covjson_domains.specs.Domains.{StandsForDomain}
-use Rattle.covjson_domains.specs.RowWords.{With, IfFound}
+use Rattle.covjson_domains.specs.RowWords.{IfFound}
 use Rattle.covjson_domains.specs.TupleRows.{TupleRows}
 use Rattle.covjson_domains.specs.DomainRows.{HasOnlyAxes, NamedRows, CompositeRows, DomainRows}
 use Rattle.covjson_domains.specs.TypeAnswers.{is_allowed, has_no_others, left_out}

@@ -5,7 +5,7 @@ use Rattle.std.proofs.lemmas.Bool.{false≢true, leb-true, le-leb, and_parts, an
 use Rattle.serde_json.specs.Data.{Data, string, array, Items, no_items, item}
 use Rattle.serde_json.specs.Find.{get, as_array}
 use Rattle.serde_json.specs.View.{items_of}
-use Rattle.edr_base.specs.FirstThatApplies.{Check, Find, Gives, and_then, or_fault, check}
+use Rattle.edr_base.specs.FirstThatApplies.{Check, Find, Gives, and_then, or_fault, check, With}
 use Rattle.edr_base.specs.declared.places.Position.{Position}
 use Rattle.edr_axes.specs.InstantComputed.{instant_of, InstantsAreRead}
 use Rattle.edr_json.specs.Trees.{EachStands, text_or_empty, whole_of}
@@ -34,7 +34,7 @@ use Rattle.covjson_value.specs.declared.domain_types.DomainType.{DomainType}
 use Rattle.covjson_value.specs.declared.domain_types.DomainType.TheVariants.{Grid, Point, PointSeries, VerticalProfile, MultiPoint, Trajectory}
 use Rattle.covjson_domains.specs.Axes.{StandsForTime}
 use Rattle.covjson_domains.specs.Tuples.{EachCoordinate, StandsForTuple}
-use Rattle.covjson_domains.specs.RowWords.{CheckEach, With}
+use Rattle.covjson_domains.specs.RowWords.{CheckEach}
 use Rattle.covjson_domains.specs.AxisRows.{HasItems, IsTimeText}
 use Rattle.covjson_domains.specs.TupleRows.{AreCoordinates, HasCoordinates, IsOfForm, IsWhole, IsWithin, IsTimed, EachNamed, IsTupleOf, TupleRows}
 use Rattle.covjson_domains.specs.AxisAnswers.{value_items, time_at}

@@ -2,7 +2,7 @@
 use Rattle.std.specs.Prelude.{◌≡◌, ◌⊎◌, ℕ, ◌<◌, ℤ, pos, ◌-ℤ◌, ◌*ℤ◌, ◌≤ℤ◌, unsigned_abs, List, length, reverse, All, codes, ⊤, Option, None, Some, Result}
 use Rattle.serde_json.specs.Data.{Data, number, array, Items, Num}
 use Rattle.serde_json.specs.Find.{get}
-use Rattle.edr_base.specs.FirstThatApplies.{Check, Find, Then, Gives}
+use Rattle.edr_base.specs.FirstThatApplies.{Check, Find, Then, Gives, With}
 use Rattle.edr_base.specs.Limits.{node_limit, IsCoordinate}
 use Rattle.edr_axes.specs.Axes.{IsAscending}
 use Rattle.edr_json.specs.Trees.{count_items, EachStands, StandsForWhole, IsObject, IsText, IsNumber}
@@ -16,7 +16,7 @@ use Rattle.covjson_checks.specs.Places.{EachItem}
 use Rattle.covjson_domains.specs.declared.domain_types.Presence.{Presence}
 use Rattle.covjson_domains.specs.DomainTypes.{member_of, IsSingle}
 use Rattle.covjson_domains.specs.Axes.{StandsForTime, HasWhole, IsRegular}
-use Rattle.covjson_domains.specs.RowWords.{CheckEach, With}
+use Rattle.covjson_domains.specs.RowWords.{CheckEach}
 
 -- ---- listed values
 

@@ -2,7 +2,7 @@
 use Rattle.std.specs.Prelude.{◌≡◌, All, codes, ⊤, Option, Some, Result}
 use Rattle.serde_json.specs.Data.{Data, string, object, Members}
 use Rattle.serde_json.specs.Find.{get}
-use Rattle.edr_base.specs.FirstThatApplies.{Check, Find, Then, Gives}
+use Rattle.edr_base.specs.FirstThatApplies.{Check, Find, Then, Gives, With}
 use Rattle.edr_json.specs.Trees.{names_of}
 use Rattle.covjson_value.specs.declared.domains.CoordinateName.{CoordinateName}
 use Rattle.covjson_value.specs.declared.domains.CoordinateName.TheVariants.{T, Z, Y, X}
@@ -16,7 +16,7 @@ use Rattle.covjson_value.specs.declared.domain_types.DomainType.{DomainType}
 use Rattle.covjson_value.specs.DomainTypes.{type_key}
 use Rattle.covjson_domains.specs.DomainTypes.{presence, member_of, IsAxisOf}
 use Rattle.covjson_domains.specs.Domains.{StandsForDomain}
-use Rattle.covjson_domains.specs.RowWords.{With, IfFound}
+use Rattle.covjson_domains.specs.RowWords.{IfFound}
 use Rattle.covjson_domains.specs.AxisRows.{AxisRows}
 use Rattle.covjson_domains.specs.TupleRows.{TupleRows}
 

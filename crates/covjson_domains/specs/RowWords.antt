@@ -14,10 +14,6 @@ abbrev pub CheckEach : {F T : Type 0} → (Data → Type 0) → (ℕ → F) → 
 CheckEach Is fault items Next answer =
     (EachItem Is items × Next answer) ⊎ ((d : Data) × (first : IsFirstItem (λ other. ¬ (Is other)) items d) × (answer ≡ Err (fault first.place)))
 
--- a value that is there by the rows before, and the next rows
-abbrev pub With : {V F T : Type 0} → (V → Type 0) → (V → Result T F → Type 0) → Result T F → Type 0
-With {V} Is Next answer = (value : V) × Is value × Next value answer
-
 -- the rows of an axis that is found; where it isn't, it is missing if a domain of the type needs it
 abbrev pub IfFound : Presence → Member → Option Data → (Data → Result ⊤ CovFault → Type 0) → Result ⊤ CovFault → Type 0
 IfFound wanted m None Rows = Check (¬ (IsNeeded wanted)) (Missing m) (Gives tt)

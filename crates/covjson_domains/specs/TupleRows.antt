@@ -2,7 +2,7 @@
 use Rattle.std.specs.Prelude.{◌≡◌, ◌⊎◌, ℤ, List, [], ◌∷◌, map, codes, ⊤, Option, None, Some, Result, true, false}
 use Rattle.serde_json.specs.Data.{Data, string, array, Items, no_items, item}
 use Rattle.serde_json.specs.Find.{get}
-use Rattle.edr_base.specs.FirstThatApplies.{Check, Find, Gives}
+use Rattle.edr_base.specs.FirstThatApplies.{Check, Find, Gives, With}
 use Rattle.edr_json.specs.Trees.{EachStands, StandsForWhole, IsObject, IsText, IsNumber}
 use Rattle.covjson_value.specs.declared.domains.CoordinateName.{CoordinateName}
 use Rattle.covjson_value.specs.declared.domains.CoordinateName.TheVariants.{T, Z, Y, X}
@@ -17,7 +17,7 @@ use Rattle.covjson_checks.specs.Places.{EachItem}
 use Rattle.covjson_value.specs.declared.domain_types.DomainType.{DomainType}
 use Rattle.covjson_value.specs.declared.domain_types.DomainType.TheVariants.{Grid, Point, PointSeries, VerticalProfile, MultiPoint, Trajectory}
 use Rattle.covjson_domains.specs.Tuples.{StandsForTuple}
-use Rattle.covjson_domains.specs.RowWords.{CheckEach, With}
+use Rattle.covjson_domains.specs.RowWords.{CheckEach}
 use Rattle.covjson_domains.specs.AxisRows.{HasItems, IsTimeText}
 
 -- the coordinates of places, and of places at their times; those of a Trajectory have levels only where there is no axis of levels

@@ -2,7 +2,7 @@
 use Rattle.std.specs.Prelude.{◌≡◌, ◌≢◌, ◌⊎◌, ℕ, ℤ, List, [], ◌∷◌, ◌++◌, length, map, codes, ⊤, Option, Some, None, Result, Err}
 use Rattle.serde_json.specs.Data.{Data, null, number, array, object, Num}
 use Rattle.serde_json.specs.Find.{get}
-use Rattle.edr_base.specs.FirstThatApplies.{Check, Find, Then, Gives}
+use Rattle.edr_base.specs.FirstThatApplies.{Check, Find, With, Then, Gives}
 use Rattle.edr_base.specs.Limits.{AreSamples}
 use Rattle.edr_json.specs.Trees.{text_or_empty, count_items, EachStands}
 use Rattle.covjson_value.specs.declared.domains.Domain.{Domain}
@@ -63,8 +63,7 @@ ValuesRows wanted values =
 
 -- the range with these samples in the domain's order
 abbrev pub GivesInOrder : ReadDomain → List AxisName → List (Option ℤ) → Result NdArray CovFault → Type 0
-GivesInOrder read names samples answer =
-    (range : NdArray) × AreInOrder read.domain read.turned names samples range.values × Gives range answer
+GivesInOrder read names samples = With (λ (range : NdArray). AreInOrder read.domain read.turned names samples range.values) Gives
 
 -- the range of a tree over a domain, or the fault of the first check that isn't passed
 abbrev pub RangeRows : ReadDomain → Data → Result NdArray CovFault → Type 0

@@ -80,12 +80,12 @@ systems_given : (has_z : Bool) (entries : Items) (plane : Data)
 systems_given has_z entries plane =
     let given : Referencing = record { crs = system_text (codes "id") plane; vertical = vertical_name has_z entries } in
     record {
-      follows = (given, refl, vertical_stands has_z entries, refl);
+      follows = (given, (refl, vertical_stands has_z entries), refl);
       only = λ other rows.
-          let vertical = vertical_one has_z entries rows.0.vertical rows.2 in
-          let crs = rows.1 in
+          let vertical = vertical_one has_z entries rows.0.vertical rows.1.1 in
+          let crs = rows.1.0 in
           let same : rows.0 ≡ given = λ i. record { crs = crs i; vertical = vertical i } in
-          rows.3 ∙ ap Ok same;
+          rows.2 ∙ ap Ok same;
     }
 
 -- the rows have the answer
@@ -114,7 +114,7 @@ rows_tell has_z found r h =
     let g = passed_then k.1 in
     let none : NoItem IsOtherCalendar e.0 = elim g.1 [ inl w ↦ w.0 | inr w ↦ let x = w.2 in cc ] in
     let s = g.2 in
-    let same : s.0 ≡ r = let x = s.3 in cc in
+    let same : s.0 ≡ r = let x = s.2 in cc in
     record {
       entries = e.0;
       list = l.1 ∙ ap Some e.1;
@@ -123,14 +123,14 @@ rows_tell has_z found r h =
       first = p.1;
       projected = k.0;
       gregorian = none;
-      crs = subst (λ (q : Referencing). q.crs ≡ system_text (codes "id") p.0) same s.1;
-      vertical = subst (λ (q : Referencing). StandsForVertical has_z e.0 q.vertical) same s.2;
+      crs = subst (λ (q : Referencing). q.crs ≡ system_text (codes "id") p.0) same s.1.0;
+      vertical = subst (λ (q : Referencing). StandsForVertical has_z e.0 q.vertical) same s.1.1;
     }
 
 -- and systems that stand pass them
 pub rows_pass : (has_z : Bool) (found : Option Data) (r : Referencing) → StandsForReferencing has_z found r → SystemRows has_z found (Ok r)
 rows_pass has_z found r s =
-    inl (array s.entries, s.list, inl (s.entries, refl, inl (s.connections, inl (s.plane, s.first, inl (s.projected, inl (tt, inl (s.gregorian, refl), (r, s.crs, s.vertical, refl)))))))
+    inl (array s.entries, s.list, inl (s.entries, refl, inl (s.connections, inl (s.plane, s.first, inl (s.projected, inl (tt, inl (s.gregorian, refl), (r, (s.crs, s.vertical), refl)))))))
 
 -- the answer is what stands
 pub systems_are : (has_z : Bool) (found : Option Data) (r : Referencing) → (referencing_of has_z found ≡ Ok r) ↔ StandsForReferencing has_z found r

@@ -1,10 +1,11 @@
 -- CoverageJSON as it is read, row by row: what is looked at, in this order, and the fault where it isn't as it has to be. The
 -- rows of domains and of ranges stand in their own crates.
-use Rattle.std.specs.Prelude.{◌≡◌, ◌≢◌, ◌⊎◌, ℕ, List, [], ◌∷◌, codes, Bool, Result, ⊤, Option, Some, None, option_and_then, Err}
+use Rattle.std.specs.Prelude.{◌≡◌, ◌≢◌, ◌⊎◌, ℕ, List, [], ◌∷◌, codes, Bool, Result, ⊤, Option, Some, None, Err}
 use Rattle.serde_json.specs.Data.{Data, null, string, array, object, Items, no_items, item, Members, no_members, member}
-use Rattle.serde_json.specs.Find.{get, as_str}
-use Rattle.edr_base.specs.FirstThatApplies.{Check, Find, Then, Gives}
+use Rattle.serde_json.specs.Find.{get}
+use Rattle.edr_base.specs.FirstThatApplies.{Check, Find, With, Then, Gives}
 use Rattle.edr_json.specs.Json.{IsJson}
+use Rattle.edr_json.specs.Trees.{text_in}
 use Rattle.covjson_value.specs.declared.domains.CoordinateName.TheVariants.{Z}
 use Rattle.covjson_value.specs.declared.coverages.Parameter.{Parameter}
 use Rattle.covjson_value.specs.declared.coverages.Referencing.{Referencing}
@@ -35,8 +36,8 @@ CalendarRows entries answer =
 
 -- the systems of a plane's entry, and of levels
 abbrev pub GivesSystems : Bool → Items → Data → Result Referencing CovFault → Type 0
-GivesSystems has_z entries plane answer =
-    (referencing : Referencing) × (referencing.crs ≡ system_text (codes "id") plane) × StandsForVertical has_z entries referencing.vertical × Gives referencing answer
+GivesSystems has_z entries plane =
+    With (λ (referencing : Referencing). (referencing.crs ≡ system_text (codes "id") plane) × StandsForVertical has_z entries referencing.vertical) Gives
 
 abbrev pub SystemRows : Bool → Option Data → Result Referencing CovFault → Type 0
 SystemRows has_z found =
@@ -93,7 +94,7 @@ CoverageRows collection tree =
     Then (ParametersRows (lent (codes "parameters") tree collection)) (λ parameters.
     Then (RangesRows read parameters tree) (λ ranges.
     Gives (record {
-      id = option_and_then as_str (get (codes "id") tree);
+      id = text_in (codes "id") tree;
       domain = read.domain;
       referencing = referencing;
       parameters = ranges.parameters;

@@ -28,6 +28,10 @@ Check Holds fault Next answer = (Holds × Next answer) ⊎ ((¬ Holds) × (answe
 abbrev pub Find : {V F T : Type 0} → (V → Type 0) → F → (V → Result T F → Type 0) → Result T F → Type 0
 Find {V} IsFound fault Next answer = ((found : V) × IsFound found × Next found answer) ⊎ (((found : V) → ¬ (IsFound found)) × (answer ≡ Err fault))
 
+-- a value that is there by the rows before, and the next rows
+abbrev pub With : {V F T : Type 0} → (V → Type 0) → (V → Result T F → Type 0) → Result T F → Type 0
+With {V} Is Next answer = (value : V) × Is value × Next value answer
+
 -- rows of their own: with their value the next rows follow, and their fault is the answer
 abbrev pub Then : {V F T : Type 0} → (Result V F → Type 0) → (V → Result T F → Type 0) → Result T F → Type 0
 Then {V} {F} Rows Next answer = ((found : V) × Rows (Ok found) × Next found answer) ⊎ ((fault : F) × Rows (Err fault) × (answer ≡ Err fault))
