@@ -1,10 +1,9 @@
 -- Coverages and documents, or the first check that fails, as a computation.
-use Rattle.std.specs.Prelude.{◌≡◌, ◌⊎◌, ◌↔◌, ℕ, List, bytes_eq, codes, if◌then◌else◌, option_and_then, Some, Ok, Err}
+use Rattle.std.specs.Prelude.{◌≡◌, ◌⊎◌, ◌↔◌, ℕ, List, bytes_eq, codes, if◌then◌else◌, Some, Ok, Err}
 use Rattle.serde_json.specs.Data.{Data, null}
-use Rattle.serde_json.specs.Find.{get, as_str}
 use Rattle.edr_base.specs.FirstThatApplies.{and_then, check}
 use Rattle.edr_json.specs.Json.{IsJson, IsNoJson}
-use Rattle.edr_json.specs.Trees.{text_or_empty}
+use Rattle.edr_json.specs.Trees.{text_in, text_or_empty}
 use Rattle.covjson_value.specs.declared.domains.CoordinateName.TheVariants.{Z}
 use Rattle.covjson_value.specs.declared.coverages.Coverage.{Coverage}
 use Rattle.covjson_value.specs.declared.coverages.Document.{Document}
@@ -44,7 +43,7 @@ over_domain collection tree domain found =
     and_then (parameters_of (lent (codes "parameters") tree collection)) (λ parameters.
     and_then (ranges_in found parameters tree) (λ ranges.
     Ok (record {
-      id = option_and_then as_str (get (codes "id") tree);
+      id = text_in (codes "id") tree;
       domain = found.domain;
       referencing = referencing;
       parameters = ranges.parameters;

@@ -1,8 +1,8 @@
 -- Which trees stand for which coverages, and which texts for which documents (OGC 21-069r2, CoverageJSON documents).
-use Rattle.std.specs.Prelude.{◌≡◌, ℕ, ◌<◌, List, length, codes, All, Option, Some, option_and_then}
+use Rattle.std.specs.Prelude.{◌≡◌, ℕ, ◌<◌, List, length, codes, All, Option, Some}
 use Rattle.std.specs.Option.{option_or}
 use Rattle.serde_json.specs.Data.{Data, null, string, array, object, Items, Members}
-use Rattle.serde_json.specs.Find.{get, as_str}
+use Rattle.serde_json.specs.Find.{get}
 use Rattle.covjson_value.specs.declared.domains.CoordinateName.TheVariants.{Z}
 use Rattle.covjson_value.specs.declared.domains.Domain.{Domain}
 use Rattle.covjson_value.specs.declared.coverages.Parameter.{Parameter}
@@ -15,7 +15,7 @@ use Rattle.covjson_value.specs.Coverages.{ids_of}
 use Rattle.covjson_checks.specs.declared.turned.Turned.{Turned}
 use Rattle.covjson_checks.specs.Members.{lent}
 use Rattle.edr_json.specs.Json.{IsJson}
-use Rattle.edr_json.specs.Trees.{EachStands, names_of, values_of}
+use Rattle.edr_json.specs.Trees.{EachStands, names_of, text_in, values_of}
 use Rattle.covjson_domains.specs.Domains.{StandsForDomain}
 use Rattle.covjson_ranges.specs.Ranges.{StandsForRange}
 use Rattle.covjson_read.specs.Systems.{StandsForReferencing}
@@ -35,7 +35,7 @@ type_of domain tree collection = option_or (get (codes "domainType") domain) (le
 -- a tree stands for a coverage, in a collection that lends it what it lacks
 pub record StandsIn (collection tree : Data) (coverage : Coverage) : Type 0 where
   pub kind : get (codes "type") tree ≡ Some (string (codes "Coverage"))
-  pub id : coverage.id ≡ option_and_then as_str (get (codes "id") tree)
+  pub id : coverage.id ≡ text_in (codes "id") tree
   pub domain : Data
   pub domain_at : get (codes "domain") tree ≡ Some domain
   pub turned : Turned

@@ -1,8 +1,9 @@
 //! Coverages (OGC 21-069r2, Coverage objects).
-ghost use Rattle.std.specs.Prelude.{◌≡◌, ◌≢◌, IfOk, IfErr, IfSome, IsUtf8, Ok, Err, option_and_then, option_map, codes};
+ghost use Rattle.std.specs.Prelude.{◌≡◌, ◌≢◌, IfOk, IfErr, IfSome, IsUtf8, Ok, Err, option_map, codes};
 ghost use Rattle.serde_json.specs.Data.{null};
 ghost use Rattle.serde_json.specs.View.{view};
-ghost use Rattle.serde_json.specs.Find.{get, as_str};
+ghost use Rattle.serde_json.specs.Find.{get};
+ghost use Rattle.edr_json.specs.Trees.{text_in};
 ghost use Rattle.covjson_value.specs.Coverages.{HasAxes, HasTuples, IsValid};
 ghost use Rattle.covjson_checks.specs.Answers.{GivesAnswer, GivesUnlessMemory};
 ghost use Rattle.covjson_value.specs.declared.coverages.Coverage.{Coverage};
@@ -20,19 +21,16 @@ use covjson_checks::{CovFault, Member, ReadDomain, lent, need, object_at, text_w
 use covjson_domains::domain_of;
 use covjson_value::{CoordinateName, Coverage, Referencing};
 use edr_base::Text;
-use edr_json::text_or_empty;
+use edr_json::{text_in, text_or_empty};
 use serde_json::Value;
 use std::alloc::Global;
 
 // Its name, where it is a text.
 fn id_of(alloc: Global, tree: &Value) -> Result<Option<Text>, CovFault>
-    ensures value { GivesUnlessMemory (λ id. id) result (Ok (option_and_then as_str (get (codes "id") (view tree.now)))) }
+    ensures value { GivesUnlessMemory (λ id. id) result (Ok (text_in (codes "id") (view tree.now))) }
     ensures utf8 { IfOk result (λ id. IfSome id IsUtf8) }
 {
-    match tree.get("id") {
-        Some(id) => text_where_given(alloc, id.as_str()),
-        None => Ok(None),
-    }
+    text_where_given(alloc, text_in(tree, "id"))
 }
 
 // An object of type Coverage: WrongType, Missing.
