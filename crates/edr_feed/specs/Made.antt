@@ -90,9 +90,24 @@ station_line number times station =
 unfoldable pub station_lines : ℕ → ℕ → ℕ → List ℕ
 station_lines number times stations = flat_map (station_line number times) (range_with_len 0 stations)
 
--- the bytes of the feed
+-- ---- the feed
+
+-- how many rows and columns the grid has, how many stations there are, and how many times each has
+abbrev pub made_rows : ℕ
+made_rows = 500
+
+abbrev pub made_columns : ℕ
+made_columns = 1_040
+
+abbrev pub made_stations : ℕ
+made_stations = 40
+
+abbrev pub made_times : ℕ
+made_times = 300
+
+-- its bytes
 unfoldable pub made : ℕ → List ℕ
 made number =
-    collection_line (codes "grid") (codes "grid") ++ grid_line number 500 1_040
-    ++ collection_line (codes "sites") (codes "station") ++ station_lines number 300 40
+    collection_line (codes "grid") (codes "grid") ++ grid_line number made_rows made_columns
+    ++ collection_line (codes "sites") (codes "station") ++ station_lines number made_times made_stations
     ++ codes "{\"publish\":{}}\n"

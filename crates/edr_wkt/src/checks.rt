@@ -1,8 +1,7 @@
 //! The faults of geometries.
 ghost use Rattle.std.specs.Prelude.{◌≡◌, ◌+◌, ◌^◌, ◌<◌, ◌≤◌, ◌↔◌, IsTrue, ℕ, List, length, MatchOption, ◌≤ℤ◌, ◌<ℤ◌};
-ghost use Rattle.std.specs.Int.RustNames.{unsigned_abs};
 ghost use Rattle.std.specs.List.{flat_map, AllByRecursion};
-ghost use Rattle.edr_base.specs.Limits.{coordinate_limit, earliest_time, latest_time, position_limit};
+ghost use Rattle.edr_base.specs.Limits.{IsCoordinate, earliest_time, latest_time, position_limit};
 ghost use Rattle.edr_base.specs.declared.places.Position.{Position};
 ghost use Rattle.edr_wkt.specs.declared.geometry.Polygon.{Polygon};
 ghost use Rattle.edr_wkt.specs.Faults.{IsInRange, IsClosed, IsFaultless, NeverFalls, IsFirstFall, IsFirstBad};
@@ -15,7 +14,7 @@ use edr_base::{COORDINATE_LIMIT, EARLIEST_TIME, Items, LATEST_TIME, Position};
 
 // Whether a coordinate or a level is within its limit.
 fn is_within(number: i64) -> bool
-    ensures { IsTrue result ↔ (unsigned_abs number ≤ coordinate_limit) }
+    ensures { IsTrue result ↔ IsCoordinate number }
 {
     number.unsigned_abs() <= COORDINATE_LIMIT
 }
