@@ -13,7 +13,7 @@
 //! - **lent**: an object that a call takes by `&mut`. `SourceLent` and `SinkLent` say what each such call leaves:
 //!   aside and beside as they were, and a count of faults that isn't less.
 //! - **bottom** of a layer over a sink: what stood in the sink below before the layer's own first byte. Of a sink that
-//!   is no layer it is empty.
+//!   is no layer it is empty, where it is told.
 //! - **held** of a layer over lent sinks: which references they are and what they tell beside, from the uppermost down;
 //!   none of a sink that is over none.
 ghost use Rattle.std.specs.Prelude.{◌≡◌, ◌≤◌, ◌<◌, ℕ, List, [], Bool, true, length, IfOk, OnErr, IsErrOf, IsOk, is_err, Some, Option, Ok, Err, IsUtf8};

@@ -68,7 +68,7 @@ doors_asked settings = record { port = settings.port; count = settings.workers; 
 -- ---- by what is asked for
 
 -- the feed's file is a feed of these editions; all of them were published but those behind the last that the gate let pass, the
--- doors that were asked for were opened once and are closed, each served to its end
+-- doors that were asked for were opened once and are closed, as many as there were workers
 pub record IsServed (settings : Settings) (before after : Moment) (gate ended : GateState) : Type 0 where
   pub editions : List EditionValue
   pub feed : FeedStandsIn (before.files.content settings.feed) (Ok editions)
