@@ -1,7 +1,6 @@
 //! Plans of queries of grids along lines.
 ghost use Rattle.std.specs.Prelude.{IfOk, IfErr};
-ghost use Rattle.edr_select.specs.Checks.{refused_query};
-ghost use Rattle.edr_select.specs.Steps.{IsFaultOf, IsPlanIn};
+ghost use Rattle.edr_select.specs.Steps.{IsFirstFault, IsPlanOver};
 ghost use Rattle.edr_lines.specs.Asked.{IsAskedAlong};
 
 use crate::corridor_plans::stacking_of;
@@ -13,6 +12,7 @@ use std::alloc::Global;
 
 /// How the values of the reply to a query along a line are read that is asked of an instance of grids, or the first refusal that
 /// applies from that of names on. It opens no chunk. The document that is planned is valid (OGC 21-069r2).
+#[tactic(auto, using(edr_select::specs::StepLaws::plan_over, edr_select::specs::StepLaws::fault_first))]
 pub fn reply_along_line(
     alloc: Global,
     query: &Query,
@@ -20,8 +20,8 @@ pub fn reply_along_line(
     instance: &GridInstance,
 ) -> Result<Reply, PlanFault>
     requires { IsAskedAlong collection.now query.now instance.now }
-    ensures planned { IfOk result (λ reply. IsPlanIn collection.now query.now instance.now (record { query = query.now; reply = reply })) }
-    ensures refused { IfErr result (IsFaultOf (refused_query collection.now query.now)) }
+    ensures planned { IfOk result (λ reply. IsPlanOver collection.now query.now instance.now (record { query = query.now; reply = reply })) }
+    ensures refused { IfErr result (IsFirstFault collection.now query.now) }
 {
     match &query.shape {
         Shape::Trajectory(geometry) => {

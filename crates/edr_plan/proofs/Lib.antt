@@ -31,3 +31,4 @@ mod GappedSteps
 mod NoneAsked
 mod GappedReplies
 mod FoundPlans
+mod GridReplies

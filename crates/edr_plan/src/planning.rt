@@ -28,6 +28,7 @@ fn query_stands(query: &Query)
 }
 
 // How the values of the reply to a query of a collection of grids are read, or the first refusal that applies.
+#[tactic(auto, using(edr_select::specs::StepLaws::plan_in, edr_select::specs::StepLaws::first_fault))]
 fn reply_of_grids(
     alloc: Global,
     query: &Query,

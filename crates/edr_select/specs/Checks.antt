@@ -20,7 +20,7 @@ refused_query collection q = find (applies_to_query collection q) (UnknownParame
 abbrev pub grid_of : CollectionValue → InstanceValue → Subject
 grid_of collection instance = record { collection = collection; held = of_grid instance }
 
--- ---- for private clauses
+-- ---- for private clauses, of the crate that plans over an edition too
 
 abbrev pub refused_data : QueryValue → Subject → Option Refusal
 refused_data q subject = find (λ refusal. applies_to_subject q refusal subject) of_data

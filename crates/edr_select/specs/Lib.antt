@@ -22,6 +22,7 @@ pub mod Planning
 pub mod DocumentLaws
 pub mod Checks
 pub mod Steps
+pub mod StepLaws
 pub mod PlacesOfIds
 pub mod Masks
 pub mod AreaPlans

@@ -3,7 +3,7 @@ use Rattle.std.proofs.Common.{◌≡◌, ◌<◌, ◌≤◌, ◌+◌, ℕ, zero,
 use Rattle.std.specs.declared.option.Option.{Option}
 use Rattle.std.specs.List.{find, slice_index_or}
 use Rattle.std.proofs.lemmas.Bool.{false≢true}
-use Rattle.edr_base.specs.FirstThatApplies.{IsLeast, NoneApplies}
+use Rattle.edr_base.specs.FirstThatApplies.{IsLeastOrNone}
 use Rattle.edr_base.specs.declared.refusals.Refusal.{Refusal}
 use Rattle.edr_base.specs.declared.refusals.Refusal.TheVariants.{UnknownCollection, UnknownInstance, UnknownLocation, QueryNotOffered, UnknownParameterName, BadCrs, NoLevels, NoSamples, TooLarge}
 use Rattle.edr_edition.specs.Values.{CollectionValue, EditionValue, collection_id}
@@ -14,7 +14,8 @@ use Rattle.edr_query.specs.declared.pages.Page.TheVariants.{Ask}
 use Rattle.edr_query.specs.Values.{QueryValue}
 use Rattle.edr_base.specs.RefusalTable.{rank}
 use Rattle.edr_base.specs.RefusalLaws.{first_once}
-use Rattle.edr_select.specs.Refusals.{applies, applies_in, applies_if, applies_if_found, applies_to_query, collection_named, in_order, refused, IsFirstRefusal, RefusalIsLeast, Applies}
+use Rattle.edr_select.specs.Refusals.{applies, applies_in, applies_if, applies_if_found, applies_to_query, collection_named, in_order, refused, IsFirstRefusal, RefusalIsLeast, Applies, AppliesToQuery, IsFirstOfQuery}
+use Rattle.edr_select.specs.Checks.{of_data, refused_query}
 
 -- ---- refusals that aren't of an edition never apply
 
@@ -84,8 +85,7 @@ from_number n (x ∷ rs) h r zero l e = omega (arith, h.0, ap rank e)
 from_number n (x ∷ rs) h r (suc k) l e = omega (arith, from_number (n + 1) rs h.1 r k (omega arith) e)
 
 abbrev Least : (Refusal → Bool) → Option Refusal → Type 0
-Least t None = NoneApplies (λ r. t r ≡ true)
-Least t (Some r) = IsLeast rank (λ o. t o ≡ true) r
+Least t = IsLeastOrNone rank (λ r. t r ≡ true)
 
 -- what applies is among these
 abbrev Covers : (Refusal → Bool) → List Refusal → Type 0
@@ -137,3 +137,29 @@ found_first edition page o is = subst (IsFirstRefusal edition page) is (refusal_
 -- and the first is found
 pub first_found : (edition : EditionValue) (page : Page) (o : Option Refusal) → IsFirstRefusal edition page o → refused edition page ≡ o
 first_found edition page o first = first_once (Applies edition page) (refused edition page) o (refusal_is_least edition page) first
+
+-- ---- the refusals of a query, from that of names on
+
+covered_of_query : (collection : CollectionValue) (q : QueryValue) (r : Refusal) → applies_to_query collection q r ≡ true
+    → Contains (UnknownParameterName ∷ (BadCrs ∷ of_data)) r
+covered_of_query collection q UnknownParameterName h = (0, omega arith, refl)
+covered_of_query collection q BadCrs h = (1, omega arith, refl)
+covered_of_query collection q NoLevels h = (2, omega arith, refl)
+covered_of_query collection q NoSamples h = (3, omega arith, refl)
+covered_of_query collection q TooLarge h = (4, omega arith, refl)
+covered_of_query collection q r h = absurd (none_if (subject_in q.instance collection) h)
+
+is_first_of_query : (collection : CollectionValue) (q : QueryValue) (o : Option Refusal) → Least (applies_to_query collection q) o → IsFirstOfQuery collection q o
+is_first_of_query collection q None h = h
+is_first_of_query collection q (Some r) h = h
+
+query_refusal_is_first : (collection : CollectionValue) (q : QueryValue) → IsFirstOfQuery collection q (refused_query collection q)
+query_refusal_is_first collection q =
+    is_first_of_query collection q (refused_query collection q)
+    (least (applies_to_query collection q) 22 (UnknownParameterName ∷ (BadCrs ∷ of_data)) (refl, (refl, (refl, (refl, (refl, tt))))) (covered_of_query collection q))
+
+pub found_of_query : (collection : CollectionValue) (q : QueryValue) (o : Option Refusal) → refused_query collection q ≡ o → IsFirstOfQuery collection q o
+found_of_query collection q o is = subst (IsFirstOfQuery collection q) is (query_refusal_is_first collection q)
+
+pub of_query_found : (collection : CollectionValue) (q : QueryValue) (o : Option Refusal) → IsFirstOfQuery collection q o → refused_query collection q ≡ o
+of_query_found collection q o first = first_once (AppliesToQuery collection q) (refused_query collection q) o (query_refusal_is_first collection q) first

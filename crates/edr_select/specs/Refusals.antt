@@ -145,6 +145,13 @@ Applies edition page refusal = applies edition page refusal ≡ true
 abbrev pub IsFirstRefusal : EditionValue → Page → Option Refusal → Type 0
 IsFirstRefusal edition page = IsLeastOrNone rank (Applies edition page)
 
+-- the same of a query of a collection that offers it, and of the refusals from that of names on
+abbrev pub AppliesToQuery : CollectionValue → QueryValue → Refusal → Type 0
+AppliesToQuery collection q refusal = applies_to_query collection q refusal ≡ true
+
+abbrev pub IsFirstOfQuery : CollectionValue → QueryValue → Option Refusal → Type 0
+IsFirstOfQuery collection q = IsLeastOrNone rank (AppliesToQuery collection q)
+
 -- ---- the same, found; for the bytes of sessions, and private clauses
 
 -- the refusals of an edition, by their numbers

@@ -19,7 +19,7 @@ use Rattle.edr_select.specs.declared.forms.Form.TheVariants.{AtPoint, Along, Apa
 use Rattle.edr_select.specs.declared.planning.PlanFault.{PlanFault}
 use Rattle.edr_select.specs.declared.planning.PlanFault.TheVariants.{Refused, OutOfMemory}
 use Rattle.edr_select.specs.Documents.{document}
-use Rattle.edr_select.specs.Refusals.{applies_to_query, applies_to_subject, asks_levels}
+use Rattle.edr_select.specs.Refusals.{applies_to_query, applies_to_subject, asks_levels, IsFirstOfQuery}
 use Rattle.edr_select.specs.Checks.{of_data, refused_query, grid_of}
 use Rattle.edr_select.specs.Choices.{TakesEach, Chosen, chosen, IsSome}
 use Rattle.edr_select.specs.Planned.{planned_at, planned_along}
@@ -49,23 +49,35 @@ refused_known collection q = find (applies_to_query collection q) (BadCrs ∷ of
 abbrev pub refused_sizes : QueryValue → Subject → Option Refusal
 refused_sizes q subject = find (λ refusal. applies_to_subject q refusal subject) (NoSamples ∷ (TooLarge ∷ []))
 
--- a fault is the refusal; want of memory is free
-abbrev pub IsFaultOf : Option Refusal → PlanFault → Type 0
-IsFaultOf refused (Refused refusal) = refused ≡ Some refusal
-IsFaultOf refused OutOfMemory = ⊤
-
 -- levels are asked of an instance without any
 abbrev pub lacks_levels : QueryValue → InstanceValue → Bool
 lacks_levels q instance = asks_levels q && not (is_some instance.zs)
 
--- no refusal applies to the query, its document is valid, and the plan stands for it
+-- no refusal from that of names on applies to the query, its document is valid, and the plan stands for it
+pub record IsPlanOver (collection : CollectionValue) (q : QueryValue) (instance : InstanceValue) (plan : PlanValue) : Type 0 where
+  pub none : IsFirstOfQuery collection q None
+  pub query_is : plan.query ≡ q
+  pub valid : IsValidDocument (document (grid_of collection instance) q)
+  pub stands : StandsFor plan (grid_of collection instance)
+
+-- a fault is the first refusal from that of names on; want of memory is free
+abbrev pub IsFirstFault : CollectionValue → QueryValue → PlanFault → Type 0
+IsFirstFault collection q (Refused refusal) = IsFirstOfQuery collection q (Some refusal)
+IsFirstFault collection q OutOfMemory = ⊤
+
+-- a fault is the refusal that is found; want of memory is free
+abbrev pub IsFaultOf : Option Refusal → PlanFault → Type 0
+IsFaultOf refused (Refused refusal) = refused ≡ Some refusal
+IsFaultOf refused OutOfMemory = ⊤
+
+-- ---- for private clauses, of the crates that plan along lines and over an edition too
+
+-- the plan that is over an instance, by what is found
 pub record IsPlanIn (collection : CollectionValue) (q : QueryValue) (instance : InstanceValue) (plan : PlanValue) : Type 0 where
   pub none : refused_query collection q ≡ None
   pub query_is : plan.query ≡ q
   pub valid : IsValidDocument (document (grid_of collection instance) q)
   pub stands : StandsFor plan (grid_of collection instance)
-
--- ---- for private clauses
 
 -- once something is selected
 abbrev pub refused_large : QueryValue → Subject → Option Refusal

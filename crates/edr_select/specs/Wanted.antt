@@ -5,7 +5,7 @@ use Rattle.std.specs.List.{list_any, list_all, range_with_len}
 use Rattle.std.specs.Option.{option_or}
 use Rattle.edr_base.specs.declared.places.Position.{Position}
 use Rattle.edr_base.specs.declared.places.Spot.{Spot}
-use Rattle.edr_base.specs.Boxes.{in_box}
+use Rattle.edr_base.specs.Boxes.{is_between, in_box}
 use Rattle.edr_axes.specs.declared.times.Times.{Times}
 use Rattle.edr_axes.specs.declared.times.Times.TheVariants as times
 use Rattle.edr_axes.specs.declared.levels.Levels.{Levels}
@@ -54,7 +54,7 @@ count_of (negsuc n) = 0
 abbrev pub has_level : Levels → ℤ → Bool
 has_level levels.All level = true
 has_level (levels.At only) level = int_eq level only
-has_level (levels.Between low high) level = int_le low level && int_le level high
+has_level (levels.Between low high) level = is_between low high level
 has_level (levels.List these) level = list_any (int_eq level) these
 has_level (levels.Series n first step) level = list_any (λ k. int_eq level (first +ℤ pos k *ℤ step)) (range_with_len 0 (count_of n))
 

@@ -1,7 +1,6 @@
 //! Plans of queries of grids.
 ghost use Rattle.std.specs.Prelude.{◌≡◌, IfOk, IfErr};
-ghost use Rattle.edr_select.specs.Checks.{refused_query};
-ghost use Rattle.edr_select.specs.Steps.{IsAsked, IsFaultOf, IsPlanIn};
+ghost use Rattle.edr_select.specs.Steps.{IsAsked, IsFirstFault, IsPlanOver};
 
 use crate::area_plans::framing_of;
 use crate::plans::Reply;
@@ -42,6 +41,7 @@ impl From<Refusal> for PlanFault {
 
 /// How the values of the reply to a query are read that is asked of an instance of grids, or the first refusal that applies from
 /// that of names on. It opens no chunk. The document that is planned is valid (OGC 21-069r2).
+#[tactic(auto, using(crate::specs::StepLaws::plan_over, crate::specs::StepLaws::fault_first))]
 pub fn reply_over_grid(
     alloc: Global,
     query: &Query,
@@ -49,8 +49,8 @@ pub fn reply_over_grid(
     instance: &GridInstance,
 ) -> Result<Reply, PlanFault>
     requires { IsAsked collection.now query.now instance.now }
-    ensures planned { IfOk result (λ reply. IsPlanIn collection.now query.now instance.now (record { query = query.now; reply = reply })) }
-    ensures refused { IfErr result (IsFaultOf (refused_query collection.now query.now)) }
+    ensures planned { IfOk result (λ reply. IsPlanOver collection.now query.now instance.now (record { query = query.now; reply = reply })) }
+    ensures refused { IfErr result (IsFirstFault collection.now query.now) }
 {
     match &query.shape {
         Shape::Position(geometry) => {
