@@ -1,10 +1,9 @@
--- Why a run ends so: the words, a count of faults that rose, or what was read. In each table the last row is that of all commands, or
--- endings, which have none of their own.
+-- Why a run ends so: the words, a count of faults that rose, or what was read. Each table has a row for each command, or ending.
 use Rattle.std.specs.Prelude.{◌≡◌, ◌⊎◌, ℕ, Bool, true, false, ⊤, None, Some}
 use Rattle.std.specs.declared.option.Option.{Option}
 use Rattle.edr_base.specs.Outside.{Rose}
 use Rattle.edr.specs.declared.commands.Command.{Command}
-use Rattle.edr.specs.declared.commands.Command.TheVariants.{Replay, ReplayAdvance, Make, Work, Fetch}
+use Rattle.edr.specs.declared.commands.Command.TheVariants.{Ask, Replay, ReplayAdvance, Check, CheckSummary, Make, Work, Show, Fetch}
 use Rattle.edr.specs.declared.endings.Ending.{Ending}
 use Rattle.edr.specs.declared.endings.Ending.TheVariants.{Done, Usage, NotFeed, ReadFault, WriteFault, OutOfMemory, Refused, NoDocument, ConnectFault, OpenFault}
 use Rattle.edr.specs.Commands.{Asked, AskForNothing}
@@ -30,28 +29,51 @@ LinkFailed before after = Rose before.link after.link × (after.unconnected ≡ 
 
 -- a read failed: of the input, of the file, or of the peer
 abbrev pub ReadFailed : Command → Counts → Counts → Type 0
+ReadFailed Ask before after = Rose before.input after.input
 ReadFailed Replay before after = Rose before.input after.input ⊎ FileFailed before after
 ReadFailed ReplayAdvance before after = Rose before.input after.input ⊎ FileFailed before after
+ReadFailed Check before after = Rose before.input after.input
+ReadFailed CheckSummary before after = Rose before.input after.input
 ReadFailed (Make number) before after = ⊥
 ReadFailed (Work number) before after = ⊥
+ReadFailed Show before after = Rose before.input after.input
 ReadFailed Fetch before after = LinkFailed before after
-ReadFailed command before after = Rose before.input after.input
 
 -- a write failed: on the output, or to the peer
 abbrev pub WriteFailed : Command → Counts → Counts → Type 0
+WriteFailed Ask before after = Rose before.output after.output
+WriteFailed Replay before after = Rose before.output after.output
+WriteFailed ReplayAdvance before after = Rose before.output after.output
+WriteFailed Check before after = Rose before.output after.output
+WriteFailed CheckSummary before after = Rose before.output after.output
+WriteFailed (Make number) before after = Rose before.output after.output
+WriteFailed (Work number) before after = Rose before.output after.output
+WriteFailed Show before after = Rose before.output after.output
 WriteFailed Fetch before after = Rose before.output after.output ⊎ LinkFailed before after
-WriteFailed command before after = Rose before.output after.output
 
 -- a file couldn't be opened
 abbrev pub OpenFailed : Command → Counts → Counts → Type 0
+OpenFailed Ask before after = ⊥
 OpenFailed Replay before after = Rose before.files after.files × (after.closed ≡ true)
 OpenFailed ReplayAdvance before after = Rose before.files after.files × (after.closed ≡ true)
-OpenFailed command before after = ⊥
+OpenFailed Check before after = ⊥
+OpenFailed CheckSummary before after = ⊥
+OpenFailed (Make number) before after = ⊥
+OpenFailed (Work number) before after = ⊥
+OpenFailed Show before after = ⊥
+OpenFailed Fetch before after = ⊥
 
 -- a peer couldn't be connected to
 abbrev pub ConnectFailed : Command → Counts → Counts → Type 0
+ConnectFailed Ask before after = ⊥
+ConnectFailed Replay before after = ⊥
+ConnectFailed ReplayAdvance before after = ⊥
+ConnectFailed Check before after = ⊥
+ConnectFailed CheckSummary before after = ⊥
+ConnectFailed (Make number) before after = ⊥
+ConnectFailed (Work number) before after = ⊥
+ConnectFailed Show before after = ⊥
 ConnectFailed Fetch before after = Rose before.link after.link × (after.unconnected ≡ true)
-ConnectFailed command before after = ⊥
 
 -- the same of words, which may ask for nothing, and then nothing fails
 abbrev pub FailsIn : (Command → Counts → Counts → Type 0) → Option Asked → Counts → Counts → Type 0

@@ -1,5 +1,5 @@
--- How a run ends: its status, and what it leaves on each object. Each table goes by the ending, and by the command where it
--- differs from command to command; its last row is that of all which have none of their own.
+-- How a run ends: its status, and what it leaves on each object. Each table goes by the ending, and a last row of any `ending` is that
+-- of all which have none of their own; one goes by the command, and has a row for each.
 use Rattle.std.specs.Prelude.{◌≡◌, ◌⊎◌, ℕ, ◌+◌, Bool, true, false, ◌++◌, ⊤, codes, List, [], IsNone, None, Some, option_map, IfSome}
 use Rattle.std.specs.declared.option.Option.{Option}
 use Rattle.std.specs.Fmt.{decimal}
@@ -14,7 +14,7 @@ use Rattle.edr_fetch.specs.Requests.{request_of, request_text}
 use Rattle.edr_fetch.specs.Exchanges.{LinkMoment, IsUnconnected, IsUnsent, IsSent, Halted}
 use Rattle.edr_program.specs.Lines.{feed_said, Tells}
 use Rattle.edr.specs.declared.commands.Command.{Command}
-use Rattle.edr.specs.declared.commands.Command.TheVariants.{Fetch}
+use Rattle.edr.specs.declared.commands.Command.TheVariants.{Ask, Replay, ReplayAdvance, Check, CheckSummary, Make, Work, Show, Fetch}
 use Rattle.edr.specs.declared.endings.Ending.{Ending}
 use Rattle.edr.specs.declared.endings.Ending.TheVariants.{Done, Usage, NotFeed, ReadFault, WriteFault, OutOfMemory, Refused, NoDocument, ConnectFault, OpenFault}
 use Rattle.edr.specs.declared.endings.DocumentRefusal.{DocumentRefusal}
@@ -128,9 +128,16 @@ LinkEnds ending text incoming output output' before after = ⊥
 
 -- by the command: only a URL is fetched over the link
 abbrev pub LinkOf : Command → List ℕ → Ending → Option (List ℕ) → ℕ → ℕ → LinkMoment → LinkMoment → Type 0
+LinkOf Ask argument ending incoming output output' before after = ⊤
+LinkOf Replay argument ending incoming output output' before after = ⊤
+LinkOf ReplayAdvance argument ending incoming output output' before after = ⊤
+LinkOf Check argument ending incoming output output' before after = ⊤
+LinkOf CheckSummary argument ending incoming output output' before after = ⊤
+LinkOf (Make number) argument ending incoming output output' before after = ⊤
+LinkOf (Work number) argument ending incoming output output' before after = ⊤
+LinkOf Show argument ending incoming output output' before after = ⊤
 LinkOf Fetch url ending incoming output output' before after =
     IfSome (request_of url) (λ request. LinkEnds ending (request_text request) incoming output output' before after)
-LinkOf command argument ending incoming output output' before after = ⊤
 
 abbrev pub LinkBy : Option Asked → Ending → Option (List ℕ) → ℕ → ℕ → LinkMoment → LinkMoment → Type 0
 LinkBy None ending incoming output output' before after = ⊤

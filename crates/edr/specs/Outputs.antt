@@ -1,5 +1,4 @@
--- What each command gives from what it reads, and what it refuses. In each table the last row is that of all commands which have none
--- of their own.
+-- What each command gives from what it reads, and what it refuses. Each table has a row for each command.
 use Rattle.std.specs.Prelude.{◌≡◌, ℕ, true, false, codes, List, ◌++◌, length, Result, Ok, Err, None, Some}
 use Rattle.std.specs.declared.option.Option.{Option}
 use Rattle.std.specs.Fmt.{decimal}
@@ -66,32 +65,51 @@ IsOutputOf Fetch url given text = IsTableHeard given.incoming text
 -- the text of which a beginning is written where a fault comes: the replies to the requests that were begun, which are the first of
 -- the input's; a table, or nothing; and else that which is asked for
 abbrev pub IsBegunOf : Command → List ℕ → Inputs → List ℕ → Type 0
+IsBegunOf Ask argument given text = IsOutputOf Ask argument given text
 IsBegunOf Replay feed given text = IsReplayBegun false (given.content feed) given.input text
 IsBegunOf ReplayAdvance feed given text = IsReplayBegun true (given.content feed) given.input text
+IsBegunOf Check argument given text = IsOutputOf Check argument given text
+IsBegunOf CheckSummary argument given text = IsOutputOf CheckSummary argument given text
+IsBegunOf (Make number) argument given text = IsOutputOf (Make number) argument given text
+IsBegunOf (Work number) argument given text = IsOutputOf (Work number) argument given text
+IsBegunOf Show argument given text = IsOutputOf Show argument given text
 IsBegunOf Fetch url given text = IsTableBegun given.incoming text
-IsBegunOf command argument given text = IsOutputOf command argument given text
 
 -- the input is no feed, the file is none, or the feed that is made is none, for that reason
 abbrev pub IsNoInputOf : Command → List ℕ → Inputs → FeedRefusal → Type 0
+IsNoInputOf Ask argument given refusal = FeedStandsIn given.input (Err refusal)
 IsNoInputOf Replay feed given refusal = FeedStandsIn (given.content feed) (Err refusal)
 IsNoInputOf ReplayAdvance feed given refusal = FeedStandsIn (given.content feed) (Err refusal)
+IsNoInputOf Check argument given refusal = FeedStandsIn given.input (Err refusal)
+IsNoInputOf CheckSummary argument given refusal = FeedStandsIn given.input (Err refusal)
 IsNoInputOf (Make number) argument given refusal = ⊥
 IsNoInputOf (Work number) argument given refusal = IsMadeNoFeed number refusal
 IsNoInputOf Show argument given refusal = ⊥
 IsNoInputOf Fetch url given refusal = ⊥
-IsNoInputOf command argument given refusal = FeedStandsIn given.input (Err refusal)
 
 -- what is asked for is refused: the answer to the target is a refusal, or that to a target that is tried
 abbrev pub IsRefusedBy : Command → List ℕ → Inputs → Refusal → Type 0
 IsRefusedBy Ask target given refusal = IsAnswerFrom given.input target (Err refusal)
+IsRefusedBy Replay argument given refusal = ⊥
+IsRefusedBy ReplayAdvance argument given refusal = ⊥
+IsRefusedBy Check argument given refusal = ⊥
+IsRefusedBy CheckSummary argument given refusal = ⊥
+IsRefusedBy (Make number) argument given refusal = ⊥
 IsRefusedBy (Work number) argument given refusal = IsWorkRefused number refusal
-IsRefusedBy command argument given refusal = ⊥
+IsRefusedBy Show argument given refusal = ⊥
+IsRefusedBy Fetch argument given refusal = ⊥
 
 -- no document is read: what the input holds is none, or what the peer gives is no reply of data
 abbrev pub IsNoDocumentOf : Command → List ℕ → Inputs → DocumentRefusal → Type 0
+IsNoDocumentOf Ask argument given refusal = ⊥
+IsNoDocumentOf Replay argument given refusal = ⊥
+IsNoDocumentOf ReplayAdvance argument given refusal = ⊥
+IsNoDocumentOf Check argument given refusal = ⊥
+IsNoDocumentOf CheckSummary argument given refusal = ⊥
+IsNoDocumentOf (Make number) argument given refusal = ⊥
+IsNoDocumentOf (Work number) argument given refusal = ⊥
 IsNoDocumentOf Show argument given refusal = IsNoDocumentIn given.input refusal
 IsNoDocumentOf Fetch url given refusal = IsNoReplyHeard given.incoming refusal
-IsNoDocumentOf command argument given refusal = ⊥
 
 -- ---- the same of words, which may ask for nothing
 
