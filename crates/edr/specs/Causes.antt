@@ -1,4 +1,5 @@
--- Why a run ends so: the words, a count of faults that rose, or what was read. Each table has a row for each command, or ending.
+-- Why a run ends so: the words, a count of faults that rose, or what was read. Each table that goes by the command,
+-- or by the ending, has a row for each.
 use Rattle.std.specs.Prelude.{◌≡◌, ◌⊎◌, ℕ, Bool, true, false, ⊤, None, Some}
 use Rattle.std.specs.declared.option.Option.{Option}
 use Rattle.edr_base.specs.Outside.{Rose}

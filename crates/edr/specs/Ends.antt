@@ -1,5 +1,5 @@
--- How a run ends: its status, and what it leaves on each object. Each table goes by the ending, and a last row of any `ending` is that
--- of all which have none of their own; one goes by the command, and has a row for each.
+-- How a run ends: its status, and what it leaves on each object. A table that goes by the ending may have a last row of any `ending`,
+-- which is that of all without one of their own; the one that goes by the command has a row for each.
 use Rattle.std.specs.Prelude.{◌≡◌, ◌⊎◌, ℕ, ◌+◌, Bool, true, false, ◌++◌, ⊤, codes, List, [], IsNone, None, Some, option_map, IfSome}
 use Rattle.std.specs.declared.option.Option.{Option}
 use Rattle.std.specs.Fmt.{decimal}

@@ -1,4 +1,4 @@
--- What each command gives from what it reads, and what it refuses. Each table has a row for each command.
+-- What each command gives from what it reads, and what it refuses. Each table that goes by the command has a row for each.
 use Rattle.std.specs.Prelude.{◌≡◌, ℕ, true, false, codes, List, ◌++◌, length, Result, Ok, Err, None, Some}
 use Rattle.std.specs.declared.option.Option.{Option}
 use Rattle.std.specs.Fmt.{decimal}

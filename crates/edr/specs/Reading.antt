@@ -1,4 +1,4 @@
--- What each command takes from the input, and of the file that it opens. Each table has a row for each command.
+-- What each command takes from the input, and of the file that it opens. Each table that goes by the command has a row for each.
 use Rattle.std.specs.Prelude.{◌≡◌, ◌⊎◌, ℕ, ◌+◌, true, false, List, ⊤, None, Some, Bool}
 use Rattle.std.specs.declared.option.Option.{Option}
 use Rattle.std.specs.Io.KnownBytes.{IsAtEnd}

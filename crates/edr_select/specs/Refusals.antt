@@ -145,7 +145,7 @@ Applies edition page refusal = applies edition page refusal ≡ true
 abbrev pub IsFirstRefusal : EditionValue → Page → Option Refusal → Type 0
 IsFirstRefusal edition page = IsLeastOrNone rank (Applies edition page)
 
--- the same of a query of a collection that offers it, and of the refusals from that of names on
+-- the same of the refusals of a query from UnknownParameterName on; those before it, of ids and of the kind of query, aren't asked
 abbrev pub AppliesToQuery : CollectionValue → QueryValue → Refusal → Type 0
 AppliesToQuery collection q refusal = applies_to_query collection q refusal ≡ true
 
