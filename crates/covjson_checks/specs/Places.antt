@@ -1,6 +1,7 @@
 -- Items of a list, by their places.
-use Rattle.std.specs.Prelude.{◌≡◌, ℕ, ◌<◌, Some}
+use Rattle.std.specs.Prelude.{◌≡◌, ℕ, Some}
 use Rattle.serde_json.specs.Data.{Data, Items}
+use Rattle.edr_base.specs.FirstThatApplies.{IsFirstPlace}
 use Rattle.edr_json.specs.Trees.{item_at}
 
 -- the datum is one of the items
@@ -15,9 +16,12 @@ EachItem Is items = (d : Data) → IsAmong d items → Is d
 abbrev pub NoItem : (Data → Type 0) → Items → Type 0
 NoItem Is items = EachItem (λ d. ¬ (Is d)) items
 
+-- the item at a place is so
+abbrev pub IsSoAt : (Data → Type 0) → Items → ℕ → Type 0
+IsSoAt Is items place = (d : Data) × (item_at items place ≡ Some d) × Is d
+
 -- the datum is the first item that is so
-pub record IsFirstItem (Is : Data → Type 0) (items : Items) (first : Data) : Type 0 where
+pub record IsFirstItem (Is : Data → Type 0) (items : Items) (datum : Data) : Type 0 where
   pub place : ℕ
-  pub here : item_at items place ≡ Some first
-  pub is : Is first
-  pub none_before : (earlier : ℕ) (other : Data) → earlier < place → item_at items earlier ≡ Some other → ¬ (Is other)
+  pub here : item_at items place ≡ Some datum
+  pub first : IsFirstPlace (IsSoAt Is items) place

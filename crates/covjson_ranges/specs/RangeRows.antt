@@ -1,8 +1,8 @@
 -- The checks of a range in their order (docs/PROFILE.md, "CoverageJSON as read"), and the answer that they lead to.
-use Rattle.std.specs.Prelude.{◌≡◌, ◌≢◌, ◌⊎◌, ℕ, ℤ, List, [], ◌∷◌, ◌++◌, length, map, codes, ⊤, Option, Some, None, Result, Err}
+use Rattle.std.specs.Prelude.{◌≡◌, ◌≢◌, ◌⊎◌, ℕ, ℤ, List, [], length, slice_get, map, codes, ⊤, Option, Some, None, Result, Err}
 use Rattle.serde_json.specs.Data.{Data, null, number, array, object, Num}
 use Rattle.serde_json.specs.Find.{get}
-use Rattle.edr_base.specs.FirstThatApplies.{Check, Find, With, Then, Gives}
+use Rattle.edr_base.specs.FirstThatApplies.{IsFirstPlace, Check, Find, With, Then, Gives}
 use Rattle.edr_base.specs.Limits.{AreSamples}
 use Rattle.edr_json.specs.Trees.{text_or_empty, count_items, EachStands}
 use Rattle.covjson_value.specs.declared.domains.Domain.{Domain}
@@ -30,14 +30,12 @@ abbrev pub NamesRows : Domain → Option Data → Result (List AxisName) CovFaul
 NamesRows domain None = Check (IsOnePlace domain) (Missing AxisNames) (Gives [])
 NamesRows domain (Some d) = Find (λ names. NamesStand domain (Some d) names × AreRangeAxes domain names) (WrongType AxisNames) Gives
 
--- the lists are the same up to a place, at which one number is wanted and another is found
+-- at the first place where the lists differ one number is wanted and another is found
 pub record DifferFirst (lengths found : List ℕ) (wanted other : ℕ) : Type 0 where
-  pub before : List ℕ
-  pub wanted_after : List ℕ
-  pub found_after : List ℕ
-  pub lengths_are : lengths ≡ before ++ wanted ∷ wanted_after
-  pub found_are : found ≡ before ++ other ∷ found_after
-  pub apart : wanted ≢ other
+  pub place : ℕ
+  pub wanted_here : slice_get lengths place ≡ Some wanted
+  pub found_here : slice_get found place ≡ Some other
+  pub first : IsFirstPlace (λ at. slice_get lengths at ≢ slice_get found at) place
 
 -- each number is the wanted one, or the first that differs is the fault
 abbrev pub LengthsRow : List ℕ → List ℕ → Result ⊤ CovFault → Type 0

@@ -1,6 +1,7 @@
 //! Axes of coverages.
 ghost use Rattle.std.specs.Prelude.{◌≡◌, ◌<◌, ◌≤◌, ◌-◌, ℕ, length, map, take, drop, [], All, IfOk, Err, MatchOption, Contains, count_by, int_lt, int_le, max};
-ghost use Rattle.edr_axes.specs.Axes.{value_at, IsAscending, IsAxis, IsFirstFall, IsNearest, NearestIsOne, NearestIsThere, BoundsSplitAxes};
+ghost use Rattle.edr_base.specs.FirstThatApplies.{IsFirstPlace};
+ghost use Rattle.edr_axes.specs.Axes.{value_at, IsAscending, IsAxis, FallsAt, IsNearest, NearestIsOne, NearestIsThere, BoundsSplitAxes};
 
 use edr_base::OutOfMemory;
 use std::alloc::{AllocError, Global};
@@ -48,7 +49,7 @@ impl Model for Axis {
 
 // The first place whose value isn't above the one before.
 fn first_fall(values: &[i64]) -> Option<usize>
-    ensures { MatchOption result (IsAscending values.now) (λ place. IsFirstFall values.now place) }
+    ensures { MatchOption result (IsAscending values.now) (λ place. IsFirstPlace (FallsAt values.now) place) }
 {
     for place in 1..values.len() {
         if values[place] <= values[place - 1] {
@@ -112,7 +113,7 @@ impl Axis {
     pub fn of(alloc: Global, values: &[i64]) -> Result<Axis, AxisFault>
         ensures ok { IfOk result (λ axis. (axis ≡ values.now) × IsAxis values.now) }
         ensures empty { result ≡ Err AxisFault.Empty → values.now ≡ [] }
-        ensures not_ascending { (place : ℕ) → result ≡ Err (AxisFault.NotAscending place) → IsFirstFall values.now place }
+        ensures not_ascending { (place : ℕ) → result ≡ Err (AxisFault.NotAscending place) → IsFirstPlace (FallsAt values.now) place }
     {
         if values.is_empty() {
             return Err(AxisFault::Empty);

@@ -18,6 +18,10 @@ NoneApplies {F} Applies = (fault : F) → ¬ (Applies fault)
 abbrev pub IsLeastOrNone : {F : Type 0} → (F → ℕ) → (F → Type 0) → Option F → Type 0
 IsLeastOrNone rank Applies outcome = MatchOption outcome (NoneApplies Applies) (IsLeast rank Applies)
 
+-- the first place at which something is so
+abbrev pub IsFirstPlace : (ℕ → Type 0) → ℕ → Type 0
+IsFirstPlace IsAt = IsLeast (λ place. place) IsAt
+
 -- ---- where a check presupposes what those before it found: one row after another, each a relation to the answer
 
 -- a row: it holds, and the next rows follow; or it doesn't hold, and its fault is answered

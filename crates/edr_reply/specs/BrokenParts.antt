@@ -1,7 +1,7 @@
 -- Where bytes that begin with no reply break off: the first part of one that isn't there, or isn't there whole.
 use Rattle.std.specs.Prelude.{◌≡◌, ◌⊎◌, ℕ, ◌+◌, ◌-◌, ◌<◌, ◌≤◌, List, ◌++◌, length}
 use Rattle.httparse.specs.Grammar.{ResponseHead, print_response, ChunkLine, print_chunk_line, chunk_size}
-use Rattle.edr_base.specs.FirstThatApplies.{IsLeast}
+use Rattle.edr_base.specs.FirstThatApplies.{IsFirstPlace}
 use Rattle.edr_http.specs.Chunks.{crlf}
 use Rattle.edr_reply.specs.declared.framing.Framing.{Framing}
 use Rattle.edr_reply.specs.declared.framing.Framing.TheVariants.{Chunked, Sized, TooLong, ToEnd}
@@ -69,4 +69,4 @@ BreaksAt bytes place = (LacksHead bytes × (place ≡ 0)) ⊎ BreaksBehindHead b
 
 -- the first such place
 abbrev pub IsFirstBreak : List ℕ → ℕ → Type 0
-IsFirstBreak bytes place = IsLeast (λ other. other) (BreaksAt bytes) place
+IsFirstBreak bytes place = IsFirstPlace (BreaksAt bytes) place

@@ -1,10 +1,11 @@
 //! The faults of geometries.
 ghost use Rattle.std.specs.Prelude.{◌≡◌, ◌+◌, ◌^◌, ◌<◌, ◌≤◌, ◌↔◌, IsTrue, ℕ, List, length, MatchOption, ◌≤ℤ◌, ◌<ℤ◌};
 ghost use Rattle.std.specs.List.{flat_map, AllByRecursion};
+ghost use Rattle.edr_base.specs.FirstThatApplies.{IsFirstPlace};
 ghost use Rattle.edr_base.specs.Limits.{IsCoordinate, earliest_time, latest_time, position_limit};
 ghost use Rattle.edr_base.specs.declared.places.Position.{Position};
 ghost use Rattle.edr_wkt.specs.declared.geometry.Polygon.{Polygon};
-ghost use Rattle.edr_wkt.specs.Faults.{IsInRange, IsClosed, IsFaultless, NeverFalls, IsFirstFall, IsFirstBad};
+ghost use Rattle.edr_wkt.specs.Faults.{IsInRange, IsClosed, IsFaultless, NeverFalls, FallsAt, IsBadAt};
 ghost use Rattle.edr_wkt.specs.Checks.{IsFound, MatchGood};
 ghost use Rattle.edr_wkt.specs.Geometries.{positions_of, rings_of, line_of};
 
@@ -130,7 +131,7 @@ fn is_below(a: &Position, b: &Position) -> bool
 
 // The first position whose m is below that of the one before.
 fn first_fall(positions: &[Position]) -> Option<usize>
-    ensures { MatchOption result (NeverFalls positions.now) (λ place. IsFirstFall positions.now place) }
+    ensures { MatchOption result (NeverFalls positions.now) (λ place. IsFirstPlace (FallsAt positions.now) place) }
 {
     for i in 1..positions.len() {
         if is_below(&positions[i], &positions[i - 1]) {
@@ -144,7 +145,7 @@ fn first_fall(positions: &[Position]) -> Option<usize>
 fn first_out(geometry: &Geometry) -> Option<usize>
     requires { length (positions_of geometry.now) ≤ position_limit }
     ensures { MatchOption result (AllByRecursion IsInRange (positions_of geometry.now))
-        (λ place. IsFirstBad IsInRange (positions_of geometry.now) place) }
+        (λ place. IsFirstPlace (IsBadAt IsInRange (positions_of geometry.now)) place) }
 {
     let checked = match geometry {
         Geometry::Points { positions, .. } => check_positions(positions.items(), 0),
@@ -158,7 +159,7 @@ fn first_out(geometry: &Geometry) -> Option<usize>
 fn first_open(geometry: &Geometry) -> Option<usize>
     requires { length (rings_of geometry.now) ≤ position_limit }
     ensures { MatchOption result (AllByRecursion IsClosed (rings_of geometry.now))
-        (λ place. IsFirstBad IsClosed (rings_of geometry.now) place) }
+        (λ place. IsFirstPlace (IsBadAt IsClosed (rings_of geometry.now)) place) }
 {
     match geometry {
         Geometry::Polygons { polygons, .. } => check_all_closed(polygons.items(), 0).err(),
@@ -168,7 +169,7 @@ fn first_open(geometry: &Geometry) -> Option<usize>
 
 // The first position along a line whose m is below that of the one before.
 fn first_decrease(geometry: &Geometry) -> Option<usize>
-    ensures { MatchOption result (NeverFalls (line_of geometry.now)) (λ place. IsFirstFall (line_of geometry.now) place) }
+    ensures { MatchOption result (NeverFalls (line_of geometry.now)) (λ place. IsFirstPlace (FallsAt (line_of geometry.now)) place) }
 {
     match geometry {
         Geometry::Line { positions, .. } => first_fall(positions.items()),
