@@ -1,7 +1,9 @@
 -- What is answered where several faults may apply: the first that does, in one of two forms.
-use Rattle.std.specs.Prelude.{◌≡◌, ◌⊎◌, ℕ, ◌<◌, ⊤, Bool, true, false, Result, Ok, Err, MatchResult, MatchOption}
+use Rattle.std.specs.Prelude.{◌≡◌, ◌≢◌, ◌⊎◌, ℕ, ◌<◌, ⊤, Bool, true, false, List, Result, Ok, Err, MatchResult, MatchOption}
 use Rattle.std.specs.declared.option.Option.{Option}
+use Rattle.std.specs.declared.cmp.Ordering.TheVariants.{Less}
 use Rattle.std.specs.Prelude.{None, Some}
+use Rattle.edr_base.specs.Names.{order}
 
 -- ---- where each fault can be asked of the whole input: the least of them
 
@@ -21,6 +23,11 @@ IsLeastOrNone rank Applies outcome = MatchOption outcome (NoneApplies Applies) (
 -- the first place at which something is so
 abbrev pub IsFirstPlace : (ℕ → Type 0) → ℕ → Type 0
 IsFirstPlace IsAt = IsLeast (λ place. place) IsAt
+
+-- an id is so, and none before it in byte order is
+pub record IsLeastId (IsSo : List ℕ → Type 0) (id : List ℕ) : Type 0 where
+  pub so : IsSo id
+  pub none_before : (other : List ℕ) → IsSo other → order other id ≢ Less
 
 -- ---- where a check presupposes what those before it found: one row after another, each a relation to the answer
 

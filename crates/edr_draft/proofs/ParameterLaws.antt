@@ -100,15 +100,15 @@ back_ascends (q ∷ front) ps up = back_ascends front ps (tail_ascends parameter
 -- ---- the first difference of two lists
 
 turned : (one other : List Parameter) (id : List ℕ) → DifferFirstAt one other id → DifferFirstAt other one id
-turned one other id d = record { differ = λ h. d.differ (sym h); same_below = λ lower less. sym (d.same_below lower less) }
+turned one other id d = record { so = λ h. d.so (sym h); none_before = λ lower differ. d.none_before lower (λ h. differ (sym h)) }
 
 -- at a parameter behind a common front, which the other list hasn't, nor anything below it
 first_at : (front : List Parameter) (a : Parameter) (left right : List Parameter) → AscendById (front ++ a ∷ left) → ((id : List ℕ) → order id a.id ≡ Less → parameter_in right id ≡ None)
     → parameter_in right a.id ≢ Some a → DifferFirstAt (front ++ a ∷ left) (front ++ right) a.id
 first_at front a left right up none other = record {
-  differ = λ h. (let low = front_below front a left up in
+  so = λ h. (let low = front_below front a left up in
       other (sym (behind front right a.id low) ∙ (sym h ∙ (behind front (a ∷ left) a.id low ∙ first_has_it a left a.id refl))));
-  same_below = λ lower less. same_behind front (a ∷ left) right lower (absent_below lower a left (back_ascends front (a ∷ left) up) less ∙ sym (none lower less));
+  none_before = λ lower differ less. differ (same_behind front (a ∷ left) right lower (absent_below lower a left (back_ascends front (a ∷ left) up) less ∙ sym (none lower less)));
 }
 
 -- the lower of two ids
@@ -202,10 +202,10 @@ pub first_difference_once : (one other : List Parameter) (a b : List ℕ) → Di
 first_difference_once one other a b first first' = by_order (order a b) refl
   where
     by_order : (o : Ordering) → order a b ≡ o → a ≡ b
-    by_order Less h = absurd (first.differ (first'.same_below a h))
+    by_order Less h = absurd (first'.none_before a first.so h)
     by_order Equal h = order_same a b h
-    by_order Greater h = absurd (first'.differ (first.same_below b (order_greater_flips a b h)))
+    by_order Greater h = absurd (first.none_before b first'.so (order_greater_flips a b h))
 
 -- the same parameters don't differ
 pub same_never_differ : (one other : List Parameter) (id : List ℕ) → one ≡ other → ¬ (DifferFirstAt one other id)
-same_never_differ one other id same h = h.differ (ap (λ (ps : List Parameter). parameter_in ps id) same)
+same_never_differ one other id same h = h.so (ap (λ (ps : List Parameter). parameter_in ps id) same)

@@ -1,8 +1,7 @@
 -- Where lists of parameters differ.
-use Rattle.std.specs.Prelude.{◌≡◌, ◌≢◌, ℕ, List, Option}
-use Rattle.std.specs.declared.cmp.Ordering.TheVariants.{Less}
+use Rattle.std.specs.Prelude.{◌≢◌, ℕ, List, Option}
 use Rattle.covjson_value.specs.declared.coverages.Parameter.{Parameter}
-use Rattle.edr_base.specs.Names.{order}
+use Rattle.edr_base.specs.FirstThatApplies.{IsLeastId}
 use Rattle.edr_ids.specs.Ids.{item_of}
 use Rattle.edr_edition.specs.Values.{parameter_id}
 
@@ -14,7 +13,6 @@ parameter_in parameters id = item_of parameter_id id parameters
 abbrev pub DifferAt : List Parameter → List Parameter → List ℕ → Type 0
 DifferAt one other id = parameter_in one id ≢ parameter_in other id
 
--- they differ at the id, and at none below it, byte by byte
-pub record DifferFirstAt (one other : List Parameter) (id : List ℕ) : Type 0 where
-  pub differ : DifferAt one other id
-  pub same_below : (lower : List ℕ) → order lower id ≡ Less → parameter_in one lower ≡ parameter_in other lower
+-- the least id at which they differ
+abbrev pub DifferFirstAt : List Parameter → List Parameter → List ℕ → Type 0
+DifferFirstAt one other = IsLeastId (DifferAt one other)

@@ -6,11 +6,11 @@ use Rattle.std.proofs.lemmas.Bool.{cases_eq}
 use Rattle.std.proofs.lemmas.List.{get_or_default}
 use Rattle.edr_base.specs.Names.{order}
 use Rattle.edr_ids.specs.ListLaws.{order_itself}
-use Rattle.edr_base.specs.FirstThatApplies.{IsLeast}
+use Rattle.edr_base.specs.FirstThatApplies.{IsLeast, IsLeastId}
 use Rattle.edr_station.specs.declared.inputs.StationInput.{StationInput}
 use Rattle.edr_station.specs.declared.inputs.StationFault.{StationFault}
 use Rattle.edr_station.specs.declared.inputs.StationFault.TheVariants.{SameId, WrongCount, OutOfMemory}
-use Rattle.edr_station.specs.Inputs.{no_input, input_at, id_at, HasCounts, IsRepeated, IsMiscounted, IsLeastId, rank, Applies}
+use Rattle.edr_station.specs.Inputs.{no_input, input_at, id_at, HasCounts, IsRepeated, IsMiscounted, rank, Applies}
 use Rattle.edr_station.specs.Least.{IsRepeatAt, IsMiscountedAt, IsBelow, IsLeastPlace, IsLesser, HaveOwnIds}
 
 not_below_itself : (inputs : List StationInput) (place : ℕ) → IsBelow inputs place place → ⊥

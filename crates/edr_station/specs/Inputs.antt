@@ -1,8 +1,7 @@
 -- Which inputs are the stations of a collection, and why others aren't.
-use Rattle.std.specs.Prelude.{◌≡◌, ◌≢◌, ◌↔◌, ℕ, pos, ◌<◌, List, [], length, map, All, Contains, None}
+use Rattle.std.specs.Prelude.{◌≡◌, ◌↔◌, ℕ, pos, ◌<◌, List, [], length, map, All, Contains, None}
 use Rattle.std.specs.List.{slice_index_or}
-use Rattle.std.specs.declared.cmp.Ordering.TheVariants.{Less}
-use Rattle.edr_base.specs.Names.{order}
+use Rattle.edr_base.specs.FirstThatApplies.{IsLeastId}
 use Rattle.edr_base.specs.Limits.{AreSamples}
 use Rattle.edr_station.specs.declared.inputs.StationInput.{StationInput}
 use Rattle.edr_station.specs.declared.inputs.StationFault.{StationFault}
@@ -57,11 +56,6 @@ pub record IsMiscounted (parameters : ℕ) (inputs : List StationInput) (id : Li
   pub inside : place < length inputs
   pub has : id_at inputs place ≡ id
   pub differs : ¬ (HasCounts parameters (input_at inputs place))
-
--- an id is so, and none before it in byte order is
-pub record IsLeastId (IsSo : List ℕ → Type 0) (id : List ℕ) : Type 0 where
-  pub so : IsSo id
-  pub none_before : (other : List ℕ) → IsSo other → order other id ≢ Less
 
 -- the place of a fault in their order
 abbrev pub rank : StationFault → ℕ
