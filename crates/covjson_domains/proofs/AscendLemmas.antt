@@ -4,7 +4,7 @@ use Rattle.std.proofs.lemmas.Bool.{and_parts, and_from, cases_Bool}
 use Rattle.std.proofs.lemmas.Int.{ints}
 use Rattle.serde_json.specs.View.{items_view}
 use Rattle.serde_json.specs.declared.value.Value.{Value}
-use Rattle.edr_axes.specs.Axes.{value_at, IsAscending, IsFirstFall}
+use Rattle.edr_axes.specs.Axes.{value_at, IsAscending, FallsAt}
 use Rattle.covjson_checks.specs.declared.faults.Member.{Member}
 use Rattle.covjson_checks.specs.declared.faults.CovFault.TheVariants.{NotMonotonic}
 use Rattle.covjson_domains.specs.AxisAnswers.{has_some, ascends, in_direction}
@@ -39,7 +39,7 @@ ascends_given (v ∷ (w ∷ ws)) h =
     rw add-one up))
 
 -- of ascending values none is at most the one before
-no_fall : (values : List ℤ) (place : ℕ) → IsAscending values → ¬ (IsFirstFall values place)
+no_fall : (values : List ℤ) (place : ℕ) → IsAscending values → ¬ (FallsAt values place)
 no_fall values zero h fall = absurd (omega (arith, fall.inside.0))
 no_fall values (suc place) h fall =
     let up : value_at values place <ℤ value_at values (suc place) = rw add-one at (h place (omega (arith, fall.inside.1))) in
@@ -47,7 +47,7 @@ no_fall values (suc place) h fall =
     omega (arith, ints, up, rw back at fall.falls)
 
 -- values of which one is at most the one before don't ascend
-pub fall_not : (values : List ℤ) (place : ℕ) → IsFirstFall values place → ascends values ≡ false
+pub fall_not : (values : List ℤ) (place : ℕ) → FallsAt values place → ascends values ≡ false
 fall_not values place fall = elim (cases_Bool (ascends values)) [
   | inl up ↦ absurd (no_fall values place (ascends_tells values up) fall)
   | inr other ↦ other
@@ -63,6 +63,6 @@ pub read_turned : (m : Member) (values : List ℤ) → ascends values ≡ false 
 read_turned m values falls h = rw (falls, ascends_given (reverse values) h) refl
 
 -- and of values that neither ascend nor descend that is said
-pub read_neither : (m : Member) (values : List ℤ) (place : ℕ) → ascends values ≡ false → IsFirstFall (reverse values) place
+pub read_neither : (m : Member) (values : List ℤ) (place : ℕ) → ascends values ≡ false → FallsAt (reverse values) place
     → in_direction m values ≡ Err (NotMonotonic m)
 read_neither m values place falls h = rw (falls, fall_not (reverse values) place h) refl

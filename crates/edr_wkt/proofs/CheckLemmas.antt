@@ -1,10 +1,14 @@
 -- The first bad place of a list, and of a list that is made of lists.
-use Rattle.std.proofs.Common.{◌≡◌, ℕ, subst, ◌+◌, ◌<◌, ◌≤◌, List, [], ◌∷◌, ◌++◌, length, take, drop, get_or, refl, sym, ap, ◌∙◌, arith, append_assoc, ℤ, ◌≤ℤ◌, ◌<ℤ◌, Ok, Err, FitsSigned, w64, to_z, of_z}
-use Rattle.std.proofs.lemmas.Int.{to_z-of_z, by_lt_z}
-use Rattle.std.specs.List.{flat_map, AllByRecursion}
+use Rattle.std.proofs.Common.{◌≡◌, ℕ, zero, suc, inl, inr, subst, ◌+◌, ◌-◌, ◌<◌, ◌≤◌, List, [], ◌∷◌, ◌++◌, length, take, drop, get_or, refl, sym, ap, ◌∙◌, arith, append_assoc, ℤ, ◌≤ℤ◌, ◌<ℤ◌, Some, Ok, Err, FitsSigned, w64, to_z, of_z}
+use Rattle.std.proofs.ByRecursion.{All-get_or}
+use Rattle.std.proofs.lemmas.Bool.{cases_lt}
+use Rattle.std.proofs.lemmas.Int.{ints, to_z-of_z, by_lt_z}
 use Rattle.std.proofs.lemmas.List.{length-append, length-take-le, take-append-drop, take_more, take_all, drop_more}
+use Rattle.std.proofs.lemmas.Option.{none-some, same_Some, slice_get_within, slice_get-get_or, get_or_from_slice_get}
+use Rattle.std.specs.List.{flat_map, AllByRecursion, slice_get}
+use Rattle.edr_base.specs.FirstThatApplies.{IsFirstPlace}
 use Rattle.edr_base.specs.declared.places.Position.{Position}
-use Rattle.edr_wkt.specs.Faults.{IsFirstBad, NeverFalls, IsFirstFall}
+use Rattle.edr_wkt.specs.Faults.{NeverFalls, IsBadAt, FallsAt}
 use Rattle.edr_wkt.specs.Checks.{MatchGood}
 
 pub all-append : {A : Type 0} (P : A → Type 0) (a b : List A) → AllByRecursion P a → AllByRecursion P b → AllByRecursion P (a ++ b)
@@ -20,22 +24,46 @@ all-take_all {A} P xs i h all = let Q : List A → Type 0 = λ l. AllByRecursion
 split-at : {A : Type 0} (xs : List A) (i : ℕ) (d : A) → i < length xs → xs ≡ take i xs ++ get_or xs i d ∷ drop (i + 1) xs
 split-at xs i d h = sym (take-append-drop i xs) ∙ ap (λ l. take i xs ++ l) (drop_more xs i d h)
 
--- the place of a first item that isn't good
-pub first_bad-at : {A : Type 0} (Good : A → Type 0) (xs : List A) (i : ℕ) (d : A) → i < length xs → AllByRecursion Good (take i xs) → ¬ (Good (get_or xs i d)) → IsFirstBad Good xs (i + 1)
-first_bad-at Good xs i d h all bad = record
-    { front = take i xs; bad = get_or xs i d; rest = drop (i + 1) xs; items_are = split-at xs i d h; front_good = all; is_bad = bad; place_is = omega (arith, length-take-le i xs (omega arith)) }
+get-left : {A : Type 0} (a b : List A) (k : ℕ) → k < length a → slice_get (a ++ b) k ≡ slice_get a k
+get-left [] b k h = absurd (omega arith)
+get-left (x ∷ a) b zero h = refl
+get-left (x ∷ a) b (suc k) h = get-left a b k (omega arith)
 
--- behind good items, and before others
-pub first_bad-behind : {A : Type 0} (Good : A → Type 0) (a b rest : List A) (place : ℕ) → AllByRecursion Good a → IsFirstBad Good b place → IsFirstBad Good (a ++ (b ++ rest)) (length a + place)
-first_bad-behind Good a b rest place all f = record {
-  front = a ++ f.front;
-  bad = f.bad;
-  rest = f.rest ++ rest;
-  items_are = ap (λ l. a ++ (l ++ rest)) f.items_are ∙ ap (λ l. a ++ l) (append_assoc f.front (f.bad ∷ f.rest) rest) ∙ sym (append_assoc a f.front (f.bad ∷ (f.rest ++ rest)));
-  front_good = all-append Good a f.front all f.front_good;
-  is_bad = f.is_bad;
-  place_is = omega (arith, f.place_is, length-append a f.front);
-}
+get-right : {A : Type 0} (a b : List A) (k : ℕ) → slice_get (a ++ b) (length a + k) ≡ slice_get b k
+get-right [] b k = let e : 0 + k ≡ k = omega arith in ap (slice_get b) e
+get-right (x ∷ a) b k = let e : suc (length a) + k ≡ suc (length a + k) = omega arith in ap (slice_get (x ∷ (a ++ b))) e ∙ get-right a b k
+
+-- of good items none is bad
+pub not_bad : {A : Type 0} (Good : A → Type 0) (xs : List A) (place : ℕ) → AllByRecursion Good xs → ¬ (IsBadAt Good xs place)
+not_bad Good xs place all bad =
+    let here : get_or xs (place - 1) bad.item ≡ bad.item = get_or_from_slice_get xs (place - 1) bad.item bad.item bad.here in
+    bad.is_bad (subst Good here (All-get_or Good xs (place - 1) bad.item (slice_get_within xs (place - 1) bad.item bad.here) all))
+
+-- the same item, at a place of another list
+bad-moved : {A : Type 0} (Good : A → Type 0) (xs ys : List A) (p q : ℕ) → IsBadAt Good xs p → 0 < q → slice_get ys (q - 1) ≡ slice_get xs (p - 1) → IsBadAt Good ys q
+bad-moved Good xs ys p q bad counted same = record { item = bad.item; counted = counted; here = same ∙ bad.here; is_bad = bad.is_bad }
+
+-- the first bad place, behind good items and before others
+pub first_bad-behind : {A : Type 0} (Good : A → Type 0) (a b rest : List A) (place : ℕ) → AllByRecursion Good a → IsFirstPlace (IsBadAt Good b) place → IsFirstPlace (IsBadAt Good (a ++ (b ++ rest))) (length a + place)
+first_bad-behind Good a b rest place all f =
+    let list = a ++ (b ++ rest) in
+    let inside : place - 1 < length b = slice_get_within b (place - 1) f.applies.item f.applies.here in
+    let same : (n k : ℕ) → n ≡ length a + k → k < length b → slice_get list n ≡ slice_get b k = λ n k e h. ap (slice_get list) e ∙ get-right a (b ++ rest) k ∙ get-left b rest k h in
+    record {
+      applies = bad-moved Good b list place (length a + place) f.applies (omega (arith, f.applies.counted)) (same _ _ (omega (arith, f.applies.counted)) inside);
+      none_before = λ other below bad. elim (cases_lt (length a) other) [
+        | inl behind ↦ f.none_before (other - length a) (omega (arith, below, behind)) (bad-moved Good list b other (other - length a) bad (omega (arith, behind)) (sym (same _ _ (omega (arith, behind)) (omega (arith, below, behind, inside)))))
+        | inr le ↦ not_bad Good a other all (bad-moved Good list a other other bad bad.counted (sym (get-left a (b ++ rest) (other - 1) (omega (arith, bad.counted, le)))))
+      ];
+    }
+
+-- an item that isn't good, behind good ones
+pub first_bad-at : {A : Type 0} (Good : A → Type 0) (xs : List A) (i : ℕ) (d : A) → i < length xs → AllByRecursion Good (take i xs) → ¬ (Good (get_or xs i d)) → IsFirstPlace (IsBadAt Good xs) (i + 1)
+first_bad-at {A} Good xs i d h all bad =
+    let alone : IsFirstPlace (IsBadAt Good (get_or xs i d ∷ [])) 1 = record { applies = record { item = get_or xs i d; counted = omega arith; here = refl; is_bad = bad }; none_before = λ other below before. omega (arith, below, before.counted) } in
+    let P : List A → ℕ → Type 0 = λ l n. IsFirstPlace (IsBadAt Good l) n in
+    let place : length (take i xs) + 1 ≡ i + 1 = omega (arith, length-take-le i xs (omega arith)) in
+    subst (λ l. P l (i + 1)) (sym (split-at xs i d h)) (subst (P _) place (first_bad-behind Good (take i xs) (get_or xs i d ∷ []) (drop (i + 1) xs) 1 all alone))
 
 pub flat_map-append : {A B : Type 0} (f : A → List B) (xs ys : List A) → flat_map f (xs ++ ys) ≡ flat_map f xs ++ flat_map f ys
 flat_map-append f [] ys = refl
@@ -76,7 +104,7 @@ pub good-bad : {A B : Type 0} (Good : B → Type 0) (f : A → List B) (xs : Lis
     → MatchGood (Err m) Good (flat_map f xs) before
 good-bad {A} {B} Good f xs before i n m d h g (place, bad, e) =
     let front = flat_map f (take i xs) in
-    let Q : List B → Type 0 = λ l. IsFirstBad Good l (length front + place) in
+    let Q : List B → Type 0 = λ l. IsFirstPlace (IsBadAt Good l) (length front + place) in
     (length front + place, subst Q (sym (flat_map-split f xs i d h)) (first_bad-behind Good front (f (get_or xs i d)) (flat_map f (drop (i + 1) xs)) place g.good bad), omega (arith, e, g.count_is))
 
 pub good-end : {A B : Type 0} (Good : B → Type 0) (f : A → List B) (xs : List A) (before i n : ℕ) → length xs ≤ i → AreGood Good f xs before i n → MatchGood (Ok n) Good (flat_map f xs) before
@@ -87,51 +115,54 @@ good-end {A} {B} Good f xs before i n h g =
 
 -- m along a line
 
-never_falls-push : (ps : List Position) (a b : Position) → NeverFalls (ps ++ a ∷ []) → a.m ≤ℤ b.m → NeverFalls (ps ++ a ∷ (b ∷ []))
-never_falls-push [] a b f h = (h, tt)
-never_falls-push (p ∷ []) a b f h = (f.0, (h, tt))
-never_falls-push (p ∷ (q ∷ ps)) a b f h = (f.0, never_falls-push (q ∷ ps) a b f.1 h)
+pub rising-at : (ps : List Position) (k : ℕ) (a b : Position) → NeverFalls ps → slice_get ps k ≡ Some a → slice_get ps (suc k) ≡ Some b → a.m ≤ℤ b.m
+rising-at [] k a b f here next = absurd (none-some a here)
+rising-at (p ∷ []) k a b f here next = absurd (none-some b next)
+rising-at (p ∷ (q ∷ ps)) zero a b f here next = rw (sym (same_Some p a here), sym (same_Some q b next)) f.0
+rising-at (p ∷ (q ∷ ps)) (suc k) a b f here next = rising-at (q ∷ ps) k a b f.1 here next
 
-pub never_falls-first : (ps : List Position) → NeverFalls (take 1 ps)
-never_falls-first [] = tt
-never_falls-first (p ∷ ps) = tt
+-- where m never falls, it falls at no place
+pub not_falls : (ps : List Position) (place : ℕ) → NeverFalls ps → ¬ (FallsAt ps place)
+not_falls ps place f fall =
+    let next : place - 1 ≡ suc (place - 2) = omega (arith, fall.counted) in
+    omega (arith, ints, fall.is_below, rising-at ps (place - 2) fall.before fall.position f fall.before_here (ap (slice_get ps) (sym next) ∙ fall.here))
 
-two-more : (ps : List Position) (k : ℕ) (d : Position) → k + 1 < length ps → take (k + 1 + 1) ps ≡ take k ps ++ get_or ps k d ∷ (get_or ps (k + 1) d ∷ [])
-two-more ps k d h = take_more ps (k + 1) d h ∙ ap (λ l. l ++ get_or ps (k + 1) d ∷ []) (take_more ps k d (omega arith)) ∙ append_assoc (take k ps) (get_or ps k d ∷ []) (get_or ps (k + 1) d ∷ [])
+never_falls-steps : (ps : List Position) → ((k : ℕ) (a b : Position) → slice_get ps k ≡ Some a → slice_get ps (suc k) ≡ Some b → a.m ≤ℤ b.m) → NeverFalls ps
+never_falls-steps [] h = tt
+never_falls-steps (p ∷ []) h = tt
+never_falls-steps (p ∷ (q ∷ ps)) h = (h 0 p q refl refl, never_falls-steps (q ∷ ps) (λ k. h (suc k)))
 
-pub never_falls-next : (ps : List Position) (k : ℕ) (d : Position) → k + 1 < length ps → NeverFalls (take (k + 1) ps) → (get_or ps k d).m ≤ℤ (get_or ps (k + 1) d).m → NeverFalls (take (k + 1 + 1) ps)
-never_falls-next ps k d h f le =
-    let Q : List Position → Type 0 = λ l. NeverFalls l in
-    subst Q (sym (two-more ps k d h)) (never_falls-push (take k ps) (get_or ps k d) (get_or ps (k + 1) d) (subst Q (take_more ps k d (omega arith)) f) le)
+falls-at : (ps : List Position) (place k : ℕ) (a b : Position) → place ≡ k + 2 → slice_get ps k ≡ Some a → slice_get ps (suc k) ≡ Some b → b.m <ℤ a.m → FallsAt ps place
+falls-at ps place k a b e here next below =
+    let two : place - 2 ≡ k = omega (arith, e) in
+    let one : place - 1 ≡ suc k = omega (arith, e) in
+    record { before = a; position = b; counted = omega (arith, e); before_here = ap (slice_get ps) two ∙ here; here = ap (slice_get ps) one ∙ next; is_below = below }
 
-pub first_fall-at : (ps : List Position) (k : ℕ) (d : Position) → k + 1 < length ps → NeverFalls (take (k + 1) ps) → (get_or ps (k + 1) d).m <ℤ (get_or ps k d).m → IsFirstFall ps (k + 1 + 1)
-first_fall-at ps k d h f lt =
-    let Q : List Position → Type 0 = λ l. NeverFalls l in
+-- a place where m falls, and it fell at none before
+pub first_fall-at : (ps : List Position) (i k : ℕ) (d : Position) → i ≡ k + 1 → i < length ps → ((place : ℕ) → place ≤ i → ¬ (FallsAt ps place)) → (get_or ps i d).m <ℤ (get_or ps k d).m → IsFirstPlace (FallsAt ps) (i + 1)
+first_fall-at ps i k d e h none below =
+    let next : suc k ≡ i = omega (arith, e) in
     record {
-      front = take k ps;
-      before = get_or ps k d;
-      falls = get_or ps (k + 1) d;
-      rest = drop (k + 1 + 1) ps;
-      positions_are = sym (take-append-drop (k + 1 + 1) ps) ∙ ap (λ l. l ++ drop (k + 1 + 1) ps) (two-more ps k d h) ∙ append_assoc (take k ps) (get_or ps k d ∷ (get_or ps (k + 1) d ∷ [])) (drop (k + 1 + 1) ps);
-      front_good = subst Q (take_more ps k d (omega arith)) f;
-      is_below = lt;
-      place_is = omega (arith, length-take-le k ps (omega arith));
+      applies = falls-at ps (i + 1) k (get_or ps k d) (get_or ps i d) (omega (arith, e)) (slice_get-get_or ps k d (omega (arith, e, h))) (ap (slice_get ps) next ∙ slice_get-get_or ps i d h) below;
+      none_before = λ other before. none other (omega (arith, before));
     }
 
--- the same at the place behind k
-pub first_fall-behind : (ps : List Position) (i k : ℕ) (d : Position) → i ≡ k + 1 → i < length ps → NeverFalls (take i ps) → (get_or ps i d).m <ℤ (get_or ps k d).m → IsFirstFall ps (i + 1)
-first_fall-behind ps i k d e =
-    let Q : ℕ → Type 0 = λ j. j < length ps → NeverFalls (take j ps) → (get_or ps j d).m <ℤ (get_or ps k d).m → IsFirstFall ps (j + 1) in
-    subst Q (sym e) (first_fall-at ps k d)
+-- a place where it doesn't
+pub no_fall-next : (ps : List Position) (i k : ℕ) (d : Position) → i ≡ k + 1 → ((place : ℕ) → place ≤ i → ¬ (FallsAt ps place)) → ¬ ((get_or ps i d).m <ℤ (get_or ps k d).m) → (place : ℕ) → place ≤ i + 1 → ¬ (FallsAt ps place)
+no_fall-next ps i k d e none not_below place le fall = elim (cases_lt i place) [
+  | inl behind ↦ (let one : i ≡ place - 1 = omega (arith, behind, le) in
+      let two : k ≡ place - 2 = omega (arith, behind, le, e) in
+      let here : get_or ps i d ≡ fall.position = get_or_from_slice_get ps i fall.position d (ap (slice_get ps) one ∙ fall.here) in
+      let before : get_or ps k d ≡ fall.before = get_or_from_slice_get ps k fall.before d (ap (slice_get ps) two ∙ fall.before_here) in
+      not_below (rw (here, before) fall.is_below))
+  | inr within ↦ none place within fall
+]
 
-pub never_falls-behind : (ps : List Position) (i k : ℕ) (d : Position) → i ≡ k + 1 → i < length ps → NeverFalls (take i ps) → ¬ ((get_or ps i d).m <ℤ (get_or ps k d).m) → NeverFalls (take (i + 1) ps)
-never_falls-behind ps i k d e h f not_below =
-    let le : (get_or ps k d).m ≤ℤ (get_or ps i d).m = by_lt_z (get_or ps i d).m (get_or ps k d).m (λ lt. absurd (not_below lt)) (λ ge. ge) in
-    let Q : ℕ → Type 0 = λ j. j < length ps → NeverFalls (take j ps) → (get_or ps k d).m ≤ℤ (get_or ps j d).m → NeverFalls (take (j + 1) ps) in
-    subst Q (sym e) (never_falls-next ps k d) h f le
-
-pub never_falls-whole : (ps : List Position) (i : ℕ) → length ps ≤ i → NeverFalls (take i ps) → NeverFalls ps
-never_falls-whole ps i h f = let Q : List Position → Type 0 = λ l. NeverFalls l in subst Q (take_all i ps h) f
+-- and where it falls at no place, it never falls
+pub never_falls-whole : (ps : List Position) (i : ℕ) → length ps ≤ i → ((place : ℕ) → place ≤ i → ¬ (FallsAt ps place)) → NeverFalls ps
+never_falls-whole ps i h none = never_falls-steps ps (λ k a b here next. by_lt_z b.m a.m
+    (λ lt. absurd (none (k + 2) (omega (arith, h, slice_get_within ps (suc k) b next)) (falls-at ps (k + 2) k a b refl here next lt)))
+    (λ le. le))
 
 -- a number that is passed is itself
 pub passed : (P : ℤ → Type 0) (z : ℤ) → FitsSigned w64 z → P (to_z w64 (of_z w64 z)) → P z

@@ -2,6 +2,7 @@
 use Rattle.std.proofs.Common.{◌≡◌, ℕ, subst, ◌<◌, ◌≤◌, Bool, true, false, List, [], ◌∷◌, length, refl, sym, ap, ◌∙◌, arith, ℤ, inl, inr, Result, Ok, Err}
 use Rattle.std.specs.List.{flat_map, AllByRecursion}
 use Rattle.std.proofs.lemmas.List.{length-append, append-nil}
+use Rattle.edr_base.specs.FirstThatApplies.{IsFirstPlace}
 use Rattle.edr_base.specs.declared.places.Position.{Position}
 use Rattle.edr_base.specs.NumberParts.{IsSplit}
 use Rattle.edr_base.specs.SplitLaws.{IsSplit-unique}
@@ -18,7 +19,7 @@ use Rattle.edr_wkt.specs.Wkt.{has_z_of, has_m_of, IsInside, IsWkt}
 use Rattle.edr_wkt.specs.Reads.{not_blank}
 use Rattle.edr_wkt.specs.HeadingReads.{BeginsWithHeading}
 use Rattle.edr_wkt.specs.BodyReads.{kept_geometry, IsBodyRead}
-use Rattle.edr_wkt.specs.Faults.{IsInRange, IsFirstBad, IsFaultless, IsAbsent, HasOnly, IsLong, HasRings, HasCounts, IsGeometry, MatchWkt}
+use Rattle.edr_wkt.specs.Faults.{IsInRange, IsBadAt, IsFaultless, IsAbsent, HasOnly, IsLong, HasRings, HasCounts, IsGeometry, MatchWkt}
 use Rattle.edr_wkt.specs.Checks.{IsFound}
 use Rattle.edr_wkt.specs.declared.lists.Stop.{Stop}
 use Rattle.edr_wkt.specs.declared.lists.Stop.TheVariants as stops
@@ -151,7 +152,7 @@ found-kept NotWkt g f = f
 found-kept OutOfMemory g f = f
 found-kept TooManyPositions g f = omega (arith, length-kept g, f)
 found-kept (OutOfRange place) g f =
-    let P : List Position → Type 0 = λ l. IsFirstBad IsInRange l place in
+    let P : List Position → Type 0 = λ l. IsFirstPlace (IsBadAt IsInRange l) place in
     (few-kept g f.0, first_bad-kept (positions_of g) place (subst P (positions_of-kept g) f.1))
 found-kept (OpenRing place) g f = found-along (OpenRing place) (kept_geometry g) g (geometry-kept_same g f.1) f
 found-kept (DecreasingM place) g f = found-along (DecreasingM place) (kept_geometry g) g (geometry-kept_same g f.1) f

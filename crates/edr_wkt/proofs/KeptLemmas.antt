@@ -1,7 +1,10 @@
 -- A geometry as it is kept has the faults of the geometry, and where its numbers are within the limits it is the geometry.
-use Rattle.std.proofs.Common.{◌≡◌, ℕ, subst, ◌≤◌, List, [], ◌∷◌, ◌++◌, length, map, refl, sym, ap, ap₂, ◌∙◌, arith, ℤ, pos, negsuc, neg_ℤ, ◌≤ℤ◌}
+use Rattle.std.proofs.Common.{◌≡◌, ℕ, subst, ◌-◌, ◌≤◌, Option, None, Some, List, [], ◌∷◌, ◌++◌, length, map, refl, sym, ap, ap₂, ◌∙◌, arith, ℤ, pos, negsuc, neg_ℤ, ◌≤ℤ◌}
 use Rattle.std.specs.Int.RustNames.{unsigned_abs}
-use Rattle.std.specs.List.{flat_map, AllByRecursion}
+use Rattle.std.specs.List.{flat_map, AllByRecursion, slice_get}
+use Rattle.std.specs.Option.{option_map}
+use Rattle.std.proofs.lemmas.Option.{none-some, same_Some, slice_get-map}
+use Rattle.edr_base.specs.FirstThatApplies.{IsFirstPlace}
 use Rattle.std.proofs.lemmas.List.{length-map, map-append}
 use Rattle.std.proofs.lemmas.Int.{ints, by_lt_z}
 use Rattle.edr_base.specs.declared.places.Position.{Position}
@@ -10,7 +13,7 @@ use Rattle.edr_wkt.specs.declared.geometry.Geometry.{Geometry}
 use Rattle.edr_wkt.specs.declared.geometry.Geometry.TheVariants.{Points, Line, Polygons}
 use Rattle.edr_wkt.specs.Kept.{kept_number, kept, kept_polygon}
 use Rattle.edr_wkt.specs.Geometries.{positions_of, rings_of}
-use Rattle.edr_wkt.specs.Faults.{IsInRange, IsFirstBad}
+use Rattle.edr_wkt.specs.Faults.{IsInRange, IsBadAt}
 use Rattle.edr_wkt.specs.BodyReads.{kept_geometry}
 use Rattle.edr_wkt.proofs.PositionLemmas.{kept_number-inside, kept_number-outside}
 
@@ -120,50 +123,18 @@ geometry-kept_same (Polygons multi z m ps) all = ap (Polygons multi z m) (polygo
 
 -- the first kept position beyond the limits is the first one
 
-record Parts (ps front : List Position) (bad : Position) (rest : List Position) : Type 0 where
-  left : List Position
-  middle : Position
-  right : List Position
-  ps_are : ps ≡ left ++ middle ∷ right
-  front_is : front ≡ map kept left
-  bad_is : bad ≡ kept middle
+from_mapped : {A B : Type 0} (f : A → B) (seen : Option A) (y : B) → option_map f seen ≡ Some y → (x : A) × (seen ≡ Some x) × (f x ≡ y)
+from_mapped f None y e = absurd (none-some y e)
+from_mapped f (Some x) y e = (x, refl, same_Some (f x) y e)
 
-heads : (a b : Position) (x y : List Position) → a ∷ x ≡ b ∷ y → a ≡ b
-heads a b x y e = cc
+bad-to_kept : (ps : List Position) (place : ℕ) → IsBadAt IsInRange ps place → IsBadAt IsInRange (map kept ps) place
+bad-to_kept ps place bad =
+    record { item = kept bad.item; counted = bad.counted; here = slice_get-map kept ps (place - 1) ∙ ap (option_map kept) bad.here; is_bad = λ r. bad.is_bad (range-from_kept bad.item r) }
 
-tails : (a b : Position) (x y : List Position) → a ∷ x ≡ b ∷ y → x ≡ y
-tails a b x y e = cc
+bad-from_kept : (ps : List Position) (place : ℕ) → IsBadAt IsInRange (map kept ps) place → IsBadAt IsInRange ps place
+bad-from_kept ps place bad =
+    let from = from_mapped kept (slice_get ps (place - 1)) bad.item (sym (slice_get-map kept ps (place - 1)) ∙ bad.here) in
+    record { item = from.0; counted = bad.counted; here = from.1; is_bad = λ r. bad.is_bad (subst IsInRange from.2 (range-to_kept from.0 r)) }
 
-parts : (ps front : List Position) (bad : Position) (rest : List Position) → map kept ps ≡ front ++ bad ∷ rest → Parts ps front bad rest
-parts [] [] bad rest e = absurd (omega (arith, ap length e))
-parts [] (p ∷ front) bad rest e = absurd (omega (arith, ap length e))
-parts (p ∷ ps) [] bad rest e = record { left = []; middle = p; right = ps; ps_are = refl; front_is = refl; bad_is = sym (heads _ _ _ _ e) }
-parts (p ∷ ps) (q ∷ front) bad rest e =
-    let later = parts ps front bad rest (tails _ _ _ _ e) in
-    record {
-      left = p ∷ later.left;
-      middle = later.middle;
-      right = later.right;
-      ps_are = ap (λ l. p ∷ l) later.ps_are;
-      front_is = ap₂ (λ a b. a ∷ b) (sym (heads _ _ _ _ e)) later.front_is;
-      bad_is = later.bad_is;
-    }
-
-all-from_kept : (ps : List Position) → AllByRecursion IsInRange (map kept ps) → AllByRecursion IsInRange ps
-all-from_kept [] all = tt
-all-from_kept (p ∷ ps) all = (range-from_kept p all.0, all-from_kept ps all.1)
-
-pub first_bad-kept : (ps : List Position) (place : ℕ) → IsFirstBad IsInRange (map kept ps) place → IsFirstBad IsInRange ps place
-first_bad-kept ps place f =
-    let p = parts ps f.front f.bad f.rest f.items_are in
-    let P : List Position → Type 0 = λ l. AllByRecursion IsInRange l in
-    let Q : Position → Type 0 = λ q. ¬ (IsInRange q) in
-    record {
-      front = p.left;
-      bad = p.middle;
-      rest = p.right;
-      items_are = p.ps_are;
-      front_good = all-from_kept p.left (subst P p.front_is f.front_good);
-      is_bad = λ r. subst Q p.bad_is f.is_bad (range-to_kept p.middle r);
-      place_is = omega (arith, f.place_is, ap length p.front_is, length-map p.left kept);
-    }
+pub first_bad-kept : (ps : List Position) (place : ℕ) → IsFirstPlace (IsBadAt IsInRange (map kept ps)) place → IsFirstPlace (IsBadAt IsInRange ps) place
+first_bad-kept ps place f = record { applies = bad-from_kept ps place f.applies; none_before = λ other before bad. f.none_before other before (bad-to_kept ps other bad) }

@@ -1,5 +1,5 @@
 use Rattle.std.proofs.Common.{◌≡◌, ◌∙◌, ℤ, List, Err, ap, subst}
-use Rattle.edr_axes.specs.Axes.{IsAscending, IsFirstFall}
+use Rattle.edr_axes.specs.Axes.{IsAscending, FallsAt}
 use Rattle.edr_axes.specs.declared.axis.AxisFault.TheVariants.{NotAscending}
 use Rattle.covjson_domains.proofs.AscendLemmas.{read_ahead, fall_not}
 use Rattle.covjson_domains.proofs.axes.in_direction.Goals as goal
@@ -14,4 +14,4 @@ pub turned_round-requires : goal.turned_round-requires
 turned_round-requires c =
     let place = c.in-Err-NotAscending.field-0-0 in
     let was : c.of.result ≡ Err (NotAscending place) = c.in-Err-NotAscending.is ∙ ap Err c.in-Err-NotAscending.field-0-is in
-    fall_not c.args.values.items place (subst (λ (vs : List ℤ). IsFirstFall vs place) c.deref.ensures.value (c.of.ensures.not_ascending place was))
+    fall_not c.args.values.items place (subst (λ (vs : List ℤ). FallsAt vs place) c.deref.ensures.value (c.of.ensures.not_ascending place was).applies)

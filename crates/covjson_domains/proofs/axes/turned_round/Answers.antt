@@ -1,5 +1,5 @@
 use Rattle.std.proofs.Common.{◌≡◌, ◌∙◌, ℤ, List, reverse, Err, inl, ap, subst}
-use Rattle.edr_axes.specs.Axes.{IsAscending, IsFirstFall}
+use Rattle.edr_axes.specs.Axes.{IsAscending, FallsAt}
 use Rattle.edr_axes.specs.declared.axis.AxisFault.TheVariants.{NotAscending}
 use Rattle.covjson_domains.proofs.AscendLemmas.{read_turned, read_neither}
 use Rattle.covjson_domains.proofs.axes.turned_round.Goals as goal
@@ -17,5 +17,5 @@ returns-in-Err-NotAscending c =
     let same : c.deref.result.now ≡ reverse values = c.deref.ensures.value ∙ c.reverse.ensures.items in
     let place = c.in-Err-NotAscending.field-0-0 in
     let was : c.of.result ≡ Err (NotAscending place) = c.in-Err-NotAscending.is ∙ ap Err c.in-Err-NotAscending.field-0-is in
-    let fall : IsFirstFall (reverse values) place = subst (λ (vs : List ℤ). IsFirstFall vs place) same (c.of.ensures.not_ascending place was) in
+    let fall : FallsAt (reverse values) place = subst (λ (vs : List ℤ). FallsAt vs place) same (c.of.ensures.not_ascending place was).applies in
     inl (read_neither c.args.member values place c.requires fall)
