@@ -1,10 +1,10 @@
 -- Laws of items of a list, by their places.
-use Rattle.std.proofs.Common.{◌≡◌, ℕ, zero, suc, ◌<◌, Bool, true, ◌&&◌, Decides, Some, inl, inr, refl, sym, ◌∙◌, subst, arith}
-use Rattle.std.proofs.lemmas.Bool.{and_parts, and_from, cases_lt}
-use Rattle.std.proofs.Math.Nat.{eq-or-lt_of_le}
+use Rattle.std.proofs.Common.{◌≡◌, ℕ, zero, suc, ◌<◌, Bool, true, ◌&&◌, Decides, Some, refl, sym, ◌∙◌, subst, arith}
+use Rattle.std.proofs.lemmas.Bool.{and_parts, and_from}
 use Rattle.serde_json.specs.Data.{Data, Items, no_items, item}
+use Rattle.edr_base.specs.FirstLaws.{least_rank}
 use Rattle.edr_json.specs.Trees.{item_at}
-use Rattle.covjson_checks.specs.Places.{IsAmong, EachItem, IsFirstItem}
+use Rattle.covjson_checks.specs.Places.{IsAmong, EachItem, IsSoAt, IsFirstItem}
 
 -- ---- each item
 
@@ -39,9 +39,26 @@ each_decides Is test all none more one (item d ds) =
 
 -- ---- the first item
 
+-- it is so
+pub first_is : (Is : Data → Type 0) (items : Items) (first : Data) → IsFirstItem Is items first → Is first
+first_is Is items first at =
+    let so = at.first.applies in
+    let there : item_at items at.place ≡ Some so.0 = so.1 in
+    let here : item_at items at.place ≡ Some first = at.here in
+    let same : so.0 ≡ first = cc in
+    subst Is same so.2
+
+-- and none before it is
+pub none_before : (Is : Data → Type 0) (items : Items) (first : Data) (at : IsFirstItem Is items first) (earlier : ℕ) (other : Data) → earlier < at.place → item_at items earlier ≡ Some other → ¬ (Is other)
+none_before Is items first at earlier other low there is = at.first.none_before earlier low (other, there, is)
+
 -- it is the first of all
 pub first_here : (Is : Data → Type 0) (d : Data) (ds : Items) → Is d → IsFirstItem Is (item d ds) d
-first_here Is d ds is = record { place = 0; here = refl; is = is; none_before = λ earlier other before at. absurd (omega arith) }
+first_here Is d ds is = record {
+  place = 0;
+  here = refl;
+  first = record { applies = (d, refl, is); none_before = λ earlier low so. absurd (omega (arith, low)) };
+}
 
 -- at place 0
 pub first_here_place : (Is : Data → Type 0) (d : Data) (ds : Items) (is : Is d) → (first_here Is d ds is).place ≡ 0
@@ -49,14 +66,17 @@ unfolding first_here
 first_here_place Is d ds is = refl
 
 -- none before a place after the first item is so
-before : (Is : Data → Type 0) (d : Data) (ds : Items) (first : Data) → ¬ (Is d) → (later : IsFirstItem Is ds first) (earlier : ℕ) (other : Data) → earlier < suc later.place
-    → item_at (item d ds) earlier ≡ Some other → ¬ (Is other)
-before Is d ds first not later zero other h at is = let same : other ≡ d = cc in not (subst Is same is)
-before Is d ds first not later (suc earlier) other h at is = later.none_before earlier other (omega arith) at is
+before : (Is : Data → Type 0) (d : Data) (ds : Items) (first : Data) → ¬ (Is d) → (later : IsFirstItem Is ds first) (earlier : ℕ) → earlier < suc later.place → ¬ (IsSoAt Is (item d ds) earlier)
+before Is d ds first not later zero low (other, at, is) = let same : other ≡ d = cc in not (subst Is same is)
+before Is d ds first not later (suc earlier) low so = later.first.none_before earlier (omega (arith, low)) so
 
 -- or the first of the others
 pub first_later : (Is : Data → Type 0) (d : Data) (ds : Items) (first : Data) → ¬ (Is d) → IsFirstItem Is ds first → IsFirstItem Is (item d ds) first
-first_later Is d ds first not later = record { place = suc later.place; here = later.here; is = later.is; none_before = before Is d ds first not later }
+first_later Is d ds first not later = record {
+  place = suc later.place;
+  here = later.here;
+  first = record { applies = later.first.applies; none_before = before Is d ds first not later };
+}
 
 -- one place on
 pub first_later_place : (Is : Data → Type 0) (d : Data) (ds : Items) (first : Data) (not : ¬ (Is d)) (later : IsFirstItem Is ds first) → (first_later Is d ds first not later).place ≡ suc later.place
@@ -65,13 +85,7 @@ first_later_place Is d ds first not later = refl
 
 -- the first stands at one place
 pub first_place : (Is : Data → Type 0) (items : Items) (one other : Data) (a : IsFirstItem Is items one) (b : IsFirstItem Is items other) → a.place ≡ b.place
-first_place Is items one other a b = elim (cases_lt a.place b.place) [
-  | inl below ↦ absurd (b.none_before a.place one below a.here a.is)
-  | inr from ↦ elim (eq-or-lt_of_le from) [
-    | inl equal ↦ sym equal
-    | inr above ↦ absurd (a.none_before b.place other above b.here b.is)
-  ]
-]
+first_place Is items one other a b = least_rank (λ place. place) (IsSoAt Is items) a.place b.place a.first b.first
 
 -- the first that isn't so is one of the items
 pub first_among : (Is : Data → Type 0) (items : Items) (first : Data) → IsFirstItem Is items first → IsAmong first items

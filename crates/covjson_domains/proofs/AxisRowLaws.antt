@@ -24,7 +24,7 @@ use Rattle.covjson_checks.specs.Answers.{Answer, each}
 use Rattle.covjson_checks.specs.Members.{part, object_at, list_at, number_at, held_whole, is_within, whole_within, is_wanted, all_wanted}
 use Rattle.covjson_checks.specs.CheckLaws.{first_given, all_wanted_given}
 use Rattle.covjson_checks.specs.Places.{EachItem, IsFirstItem}
-use Rattle.covjson_checks.specs.PlaceLaws.{each_none, each_more, each_head, each_tail, each_decides, first_here, first_here_place, first_later, first_later_place, first_place, first_among}
+use Rattle.covjson_checks.specs.PlaceLaws.{each_none, each_more, each_head, each_tail, each_decides, first_is, first_here, first_here_place, first_later, first_later_place, first_place, first_among}
 use Rattle.covjson_checks.specs.RowLaws.{HaveAnswer, Finds, option_finds, find_answers, check_answers, then_within, check_within, gives_answers, told, and_then_assoc, ok_fault, option_fault, check_fault, then_fault}
 use Rattle.covjson_domains.specs.declared.axes.ReadAxis.{ReadAxis}
 use Rattle.covjson_domains.specs.declared.domain_types.Presence.{Presence}
@@ -70,7 +70,7 @@ check_each_answers R Is ds Next answer next (inl h) rows =
       follows = inl (h.3, has.follows);
       only = λ other k. elim k [
         | inl w ↦ has.only other w.1
-        | inr w ↦ absurd (w.1.is (h.3 w.0 (first_among (λ e. ¬ (Is e)) ds w.0 w.1)))
+        | inr w ↦ absurd (first_is (λ e. ¬ (Is e)) ds w.0 w.1 (h.3 w.0 (first_among (λ e. ¬ (Is e)) ds w.0 w.1)))
       ];
     } in
     subst (λ a. HaveAnswer (CheckEach Is BadTime ds Next) (and_then a next)) (sym h.1) given
@@ -81,7 +81,7 @@ check_each_answers {V} {T} R Is ds Next answer next (inr h) rows =
     let given : HaveAnswer (CheckEach Is BadTime ds Next) (fault (0 + first.place)) = record {
       follows = inr (h.0, first, ap fault at);
       only = λ other k. elim k [
-        | inl w ↦ absurd (first.is (w.0 h.0 (first_among (λ e. ¬ (Is e)) ds h.0 first)))
+        | inl w ↦ absurd (first_is (λ e. ¬ (Is e)) ds h.0 first (w.0 h.0 (first_among (λ e. ¬ (Is e)) ds h.0 first)))
         | inr w ↦ w.2 ∙ ap fault (first_place (λ e. ¬ (Is e)) ds w.0 h.0 w.1 first ∙ sym at)
       ];
     } in

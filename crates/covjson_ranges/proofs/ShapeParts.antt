@@ -1,12 +1,12 @@
 -- The names of the axes of a range and their lengths: the rows of their checks, and the computed answers.
-use Rattle.std.proofs.Common.{◌≡◌, ◌≢◌, ◌==◌, ◌⊎◌, inl, inr, ℕ, Bool, true, false, List, [], ◌∷◌, ◌++◌, length, map, Option, Some, None, Ok, Err, refl, sym, ap, ◌∙◌, subst, arith}
-use Rattle.std.specs.Prelude.{Result, IfErr, ⊤, is_some}
+use Rattle.std.proofs.Common.{◌≡◌, ◌≢◌, ◌==◌, inl, inr, ℕ, zero, suc, ◌<◌, Bool, true, false, List, [], ◌∷◌, length, map, Option, Some, None, Ok, Err, refl, sym, ap, ◌∙◌, subst, arith}
+use Rattle.std.specs.Prelude.{Result, IfErr, ⊤, is_some, slice_get}
 use Rattle.std.proofs.lemmas.Bool.{eqb-true, eqb-false, eq-eqb, and_parts}
 use Rattle.std.proofs.lemmas.List.Elements.{All-nil}
 use Rattle.std.proofs.lemmas.List.{length-map}
 use Rattle.serde_json.specs.Data.{Data, Items, no_items, item}
 use Rattle.serde_json.specs.Find.{as_array}
-use Rattle.edr_base.specs.FirstThatApplies.{Check, Find, Gives, and_then, or_fault, check}
+use Rattle.edr_base.specs.FirstThatApplies.{IsFirstPlace, Check, Find, Gives, and_then, or_fault, check}
 use Rattle.edr_json.specs.Trees.{natural_of, count_items, EachStands}
 use Rattle.edr_json.specs.AnswerLaws.{and_then_ok, check_ok}
 use Rattle.edr_json.specs.TreeLaws.{as_array_some}
@@ -110,37 +110,60 @@ natural_some : (o : Option ℕ) → is_some o ≡ true → (n : ℕ) × (o ≡ S
 natural_some None h = cc
 natural_some (Some n) h = (n, refl)
 
--- a list that goes on isn't empty
-not_empty : (before after : List ℕ) (x : ℕ) → [] ≡ before ++ x ∷ after → ⊥
-not_empty [] after x h = cc
-not_empty (b ∷ before) after x h = cc
+-- an empty list has no number at any place
+none_there : (place n : ℕ) → ¬ (slice_get [] place ≡ Some n)
+none_there place n h = cc
 
 -- numbers that differ first after an equal one differ first after that
+none_earlier : (n : ℕ) (ws ns : List ℕ) (wanted other : ℕ) (h : DifferFirst ws ns wanted other) (earlier : ℕ) → earlier < suc h.place
+    → ¬ (slice_get (n ∷ ws) earlier ≢ slice_get (n ∷ ns) earlier)
+none_earlier n ws ns wanted other h zero low apart = apart refl
+none_earlier n ws ns wanted other h (suc earlier) low apart = h.first.none_before earlier (omega (arith, low)) apart
+
 differ_more : (n : ℕ) (ws ns : List ℕ) (wanted other : ℕ) → DifferFirst ws ns wanted other → DifferFirst (n ∷ ws) (n ∷ ns) wanted other
 differ_more n ws ns wanted other h = record {
-  before = n ∷ h.before;
-  wanted_after = h.wanted_after;
-  found_after = h.found_after;
-  lengths_are = ap (λ (ks : List ℕ). n ∷ ks) h.lengths_are;
-  found_are = ap (λ (ks : List ℕ). n ∷ ks) h.found_are;
-  apart = h.apart;
+  place = suc h.place;
+  wanted_here = h.wanted_here;
+  found_here = h.found_here;
+  first = record { applies = h.first.applies; none_before = none_earlier n ws ns wanted other h };
 }
 
--- and the first that differ are these, or they are among the rest
-differ_cases : (w n : ℕ) (ws ns : List ℕ) (wanted other : ℕ) (before after found : List ℕ) → w ∷ ws ≡ before ++ wanted ∷ after → n ∷ ns ≡ before ++ other ∷ found
-    → wanted ≢ other → ((w ≡ wanted) × (n ≡ other)) ⊎ ((w ≡ n) × DifferFirst ws ns wanted other)
-differ_cases w n ws ns wanted other [] after found here there apart = inl (cc, cc)
-differ_cases w n ws ns wanted other (b ∷ before) after found here there apart = inr (
-  cc,
-  record {
-    before = before;
-    wanted_after = after;
-    found_after = found;
-    lengths_are = cc;
-    found_are = cc;
-    apart = apart;
-  },
-)
+-- numbers that aren't the same aren't the same at a place
+numbers_differ : (w n : ℕ) → n ≢ w → Some w ≢ Some n
+numbers_differ w n apart e = let same : n ≡ w = cc in apart same
+
+-- so where the first ones aren't, the lists differ first at them
+differ_here : (w n : ℕ) (ws ns : List ℕ) → n ≢ w → DifferFirst (w ∷ ws) (n ∷ ns) w n
+differ_here w n ws ns apart = record {
+  place = 0;
+  wanted_here = refl;
+  found_here = refl;
+  first = record { applies = numbers_differ w n apart; none_before = λ earlier low so. absurd (omega (arith, low)) };
+}
+
+module _ (w n : ℕ) (ws ns : List ℕ) (wanted other : ℕ) where
+  -- behind an equal number those that differ first are among the rest
+  rest_at : n ≡ w → (place : ℕ) → slice_get (w ∷ ws) place ≡ Some wanted → slice_get (n ∷ ns) place ≡ Some other
+      → IsFirstPlace (λ at. slice_get (w ∷ ws) at ≢ slice_get (n ∷ ns) at) place → DifferFirst ws ns wanted other
+  rest_at same zero here there first = absurd (first.applies (ap Some (sym same)))
+  rest_at same (suc place) here there first = record {
+    place = place;
+    wanted_here = here;
+    found_here = there;
+    first = record { applies = first.applies; none_before = λ earlier low. first.none_before (suc earlier) (omega (arith, low)) };
+  }
+
+  differ_rest : n ≡ w → DifferFirst (w ∷ ws) (n ∷ ns) wanted other → DifferFirst ws ns wanted other
+  differ_rest same h = rest_at same h.place h.wanted_here h.found_here h.first
+
+  -- and another number is itself the first that differs
+  here_at : n ≢ w → (place : ℕ) → slice_get (w ∷ ws) place ≡ Some wanted → slice_get (n ∷ ns) place ≡ Some other
+      → IsFirstPlace (λ at. slice_get (w ∷ ws) at ≢ slice_get (n ∷ ns) at) place → (w ≡ wanted) × (n ≡ other)
+  here_at apart zero here there first = (cc, cc)
+  here_at apart (suc place) here there first = absurd (first.none_before 0 (omega arith) (numbers_differ w n apart))
+
+  only_here : n ≢ w → DifferFirst (w ∷ ws) (n ∷ ns) wanted other → (w ≡ wanted) × (n ≡ other)
+  only_here apart h = here_at apart h.place h.wanted_here h.found_here h.first
 
 -- an equal number before both leaves the row
 row_more : (w n : ℕ) (ws ns : List ℕ) (answer : Answer ⊤) → n ≡ w → LengthsRow ws ns answer → LengthsRow (w ∷ ws) (n ∷ ns) answer
@@ -151,20 +174,14 @@ row_more w n ws ns answer same (inr h) =
 -- also the other way
 row_rest : (w n : ℕ) (ws ns : List ℕ) (answer : Answer ⊤) → n ≡ w → LengthsRow (w ∷ ws) (n ∷ ns) answer → LengthsRow ws ns answer
 row_rest w n ws ns answer same (inl h) = inl (cc (h.0), h.1)
-row_rest w n ws ns answer same (inr h) =
-    elim (differ_cases w n ws ns h.0 h.1 h.2.before h.2.wanted_after h.2.found_after h.2.lengths_are h.2.found_are h.2.apart) [
-      | inl e ↦ absurd (h.2.apart (sym e.0 ∙ sym same ∙ e.1))
-      | inr e ↦ inr (h.0, h.1, e.1, h.3)
-    ]
+row_rest w n ws ns answer same (inr h) = inr (h.0, h.1, differ_rest w n ws ns h.0 h.1 same h.2, h.3)
 
 -- another number is the first that differs
 row_here : (w n : ℕ) (ws ns : List ℕ) (answer : Answer ⊤) → n ≢ w → LengthsRow (w ∷ ws) (n ∷ ns) answer → answer ≡ Err (WrongCount Shape w n)
 row_here w n ws ns answer apart (inl h) = absurd (apart (cc (h.0)))
 row_here w n ws ns answer apart (inr h) =
-    elim (differ_cases w n ws ns h.0 h.1 h.2.before h.2.wanted_after h.2.found_after h.2.lengths_are h.2.found_are h.2.apart) [
-      | inl e ↦ h.3 ∙ ap (λ k. Err (WrongCount Shape k h.1)) (sym e.0) ∙ ap (λ k. Err (WrongCount Shape w k)) (sym e.1)
-      | inr e ↦ absurd (apart (sym e.0))
-    ]
+    let e = only_here w n ws ns h.0 h.1 apart h.2 in
+    h.3 ∙ ap (λ k. Err (WrongCount Shape k h.1)) (sym e.0) ∙ ap (λ k. Err (WrongCount Shape w k)) (sym e.1)
 
 -- the row of a number more
 more_leads : (w n : ℕ) (ws ns : List ℕ) (rest : Answer ⊤) → LeadTo (LengthsRow ws ns) rest → (b : Bool) → (n == w) ≡ b
@@ -178,19 +195,7 @@ more_leads w n ws ns rest lead true test =
 more_leads w n ws ns rest lead false test =
     let apart : n ≢ w = eqb-false n w test in
     record {
-      follows = inr (
-        w,
-        n,
-        record {
-          before = [];
-          wanted_after = ws;
-          found_after = ns;
-          lengths_are = refl;
-          found_are = refl;
-          apart = λ e. apart (sym e);
-        },
-        refl,
-      );
+      follows = inr (w, n, differ_here w n ws ns apart, refl);
       only = λ other h. row_here w n ws ns other apart h;
     }
 
@@ -198,7 +203,7 @@ more_leads w n ws ns rest lead false test =
 lengths_lead : (lengths found : List ℕ) (ds : Items) → EachStands StandsForLength ds found → length found ≡ length lengths → LeadTo (LengthsRow lengths found) (lengths_are lengths ds)
 lengths_lead [] [] ds stand counted = record {
   follows = inl (refl, refl);
-  only = λ other h. elim h [ inl k ↦ k.1 | inr k ↦ absurd (not_empty k.2.before k.2.wanted_after k.0 k.2.lengths_are) ];
+  only = λ other h. elim h [ inl k ↦ k.1 | inr k ↦ absurd (none_there k.2.place k.0 k.2.wanted_here) ];
 }
 lengths_lead [] (n ∷ ns) ds stand counted = absurd (omega arith)
 lengths_lead (w ∷ ws) [] ds stand counted = absurd (omega arith)

@@ -7,6 +7,7 @@ use Rattle.serde_json.specs.Find.{as_str}
 use Rattle.edr_json.specs.Trees.{item_at, is_text}
 use Rattle.edr_json.specs.TreeLaws.{as_str_some}
 use Rattle.covjson_checks.specs.Places.{IsAmong, EachItem, NoItem, IsFirstItem}
+use Rattle.covjson_checks.specs.PlaceLaws.{first_is, none_before, first_here, first_later}
 use Rattle.covjson_read.specs.SystemAnswers.{all_that, first_that, has_text}
 
 -- the test is passed by exactly those that are so
@@ -41,20 +42,14 @@ module _ (test : Data → Bool) (Is : Data → Type 0) (t : Tells test Is) where
   fails : (d : Data) → ¬ (Is d) → test d ≡ false
   fails d not = false_of (test d) (λ h. not (t.tells d h))
 
-  before : (d : Data) (ds : Items) → ¬ (Is d) → (place : ℕ) → ((earlier : ℕ) (other : Data) → earlier < place → item_at ds earlier ≡ Some other → ¬ (Is other))
-      → (earlier : ℕ) (other : Data) → earlier < suc place → item_at (item d ds) earlier ≡ Some other → ¬ (Is other)
-  before d ds not place rest zero other h at is = let same : d ≡ other = cc in not (subst Is (sym same) is)
-  before d ds not place rest (suc earlier) other h at is = rest earlier other (omega arith) at is
-
   first_by : (b : Bool) (d : Data) (ds : Items) (first : Data) → test d ≡ b → (first_that test ds ≡ Some first → IsFirstItem Is ds first)
       → (if b then Some d else first_that test ds) ≡ Some first → IsFirstItem Is (item d ds) first
   first_by true d ds first passed rest h =
       let same : d ≡ first = cc in
-      record { place = 0; here = ap Some same; is = subst Is same (t.tells d passed); none_before = λ earlier other below at is. absurd (omega arith) }
+      subst (IsFirstItem Is (item d ds)) same (first_here Is d ds (t.tells d passed))
   first_by false d ds first passed rest h =
-      let f = rest h in
       let not : Is d → ⊥ = λ is. let e = t.passes d is in cc in
-      record { place = suc f.place; here = f.here; is = f.is; none_before = before d ds not f.place f.none_before }
+      first_later Is d ds first not (rest h)
 
   pub first_tells : (ds : Items) (first : Data) → first_that test ds ≡ Some first → IsFirstItem Is ds first
   first_tells no_items first h = cc
@@ -70,7 +65,7 @@ module _ (test : Data → Bool) (Is : Data → Type 0) (t : Tells test Is) where
       rw (fails d (none 0 d (omega arith) refl)) (first_at ds place first at is (λ earlier other below here. none (suc earlier) other (omega arith) here))
 
   pub first_passes : (ds : Items) (first : Data) → IsFirstItem Is ds first → first_that test ds ≡ Some first
-  first_passes ds first f = first_at ds f.place first f.here f.is f.none_before
+  first_passes ds first f = first_at ds f.place first f.here (first_is Is ds first f) (none_before Is ds first f)
 
   -- ---- where none is
 

@@ -15,7 +15,7 @@ use Rattle.serde_json.specs.Find.{get, as_str}
 use Rattle.edr_base.specs.declared.places.Position.{Position}
 use Rattle.edr_json.specs.ReadTrees.{IsTree, AreTrees, NameTrees, TextsHaveTrees}
 use Rattle.edr_json.specs.ReadTreeLaws.{tree_at, named_tree, tree_of_item, text_utf8, text_or_empty_utf8, found_tree, then_found_tree}
-use Rattle.edr_json.specs.Trees.{EachStands, count_items, names_of, values_of}
+use Rattle.edr_json.specs.Trees.{EachStands, count_items, names_of, text_in, values_of}
 use Rattle.covjson_value.specs.declared.domains.CoordinateName.{CoordinateName}
 use Rattle.covjson_value.specs.declared.domains.Domain.{Domain}
 use Rattle.covjson_value.specs.declared.coverages.Referencing.{Referencing}
@@ -54,6 +54,11 @@ found_text : (found : Option Data) → IfSome found IsTree → IfSome (option_an
 found_text None is = tt
 found_text (Some d) is = text_utf8 d is
 
+-- and that of a member of what was found
+then_found_text : (key : List ℕ) (found : Option Data) → IfSome found IsTree → IfSome (option_and_then (text_in key) found) IsUtf8
+then_found_text key None is = tt
+then_found_text key (Some tree) is = found_text (get key tree) (found_tree key tree is)
+
 -- what was found is a tree
 some_tree : (found : Option Data) (d : Data) → IfSome found IsTree → found ≡ Some d → IsTree d
 some_tree found d is h = subst (λ (o : Option Data). IfSome o IsTree) h is
@@ -91,8 +96,7 @@ system_utf8 name entry is =
     text_or_empty_utf8 (option_and_then (get name) (get (codes "system") entry)) (then_found_tree name (get (codes "system") entry) (found_tree (codes "system") entry is))
 
 name_utf8 : (entry : Data) → IsTree entry → IfSome (system_name entry) IsUtf8
-name_utf8 entry is =
-    found_text (option_and_then (get (codes "id")) (get (codes "system") entry)) (then_found_tree (codes "id") (get (codes "system") entry) (found_tree (codes "system") entry is))
+name_utf8 entry is = then_found_text (codes "id") (get (codes "system") entry) (found_tree (codes "system") entry is)
 
 vertical_valid : (has_z : Bool) (entries : Items) (vertical : Option (List ℕ)) → AreTrees entries → StandsForVertical has_z entries vertical → IfSome vertical IsUtf8
 vertical_valid true entries vertical are s =

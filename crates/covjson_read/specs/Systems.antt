@@ -1,8 +1,8 @@
 -- Reference systems (OGC 21-069r2, reference system objects): which trees stand for which.
 use Rattle.std.specs.Prelude.{◌≡◌, ◌≢◌, ◌⊎◌, ℕ, List, codes, Bool, true, false, Option, Some, None, option_and_then}
 use Rattle.serde_json.specs.Data.{Data, string, array, Items}
-use Rattle.serde_json.specs.Find.{get, as_str}
-use Rattle.edr_json.specs.Trees.{text_or_empty}
+use Rattle.serde_json.specs.Find.{get}
+use Rattle.edr_json.specs.Trees.{text_in, text_or_empty}
 use Rattle.covjson_checks.specs.Places.{IsAmong, EachItem, NoItem, IsFirstItem}
 use Rattle.covjson_value.specs.declared.coverages.Referencing.{Referencing}
 use Rattle.covjson_value.specs.declared.domains.CoordinateName.TheVariants.{X, Y, Z}
@@ -27,7 +27,7 @@ system_text name entry = text_or_empty (option_and_then (get name) (get (codes "
 
 -- the name of an entry's system, where it is a text
 abbrev pub system_name : Data → Option (List ℕ)
-system_name entry = option_and_then as_str (option_and_then (get (codes "id")) (get (codes "system") entry))
+system_name entry = option_and_then (text_in (codes "id")) (get (codes "system") entry)
 
 -- an entry of both coordinates of the plane
 abbrev pub IsPlane : Data → Type 0

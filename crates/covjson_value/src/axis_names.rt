@@ -36,15 +36,15 @@ pub fn axis_key(name: AxisName) -> &'static str
 pub fn axis_by_name(name: &str) -> Option<AxisName>
     ensures { result ≡ axis_by_name name.now }
 {
-    if name == "t" {
+    if name == axis_key(AxisName::T) {
         Some(AxisName::T)
-    } else if name == "z" {
+    } else if name == axis_key(AxisName::Z) {
         Some(AxisName::Z)
-    } else if name == "y" {
+    } else if name == axis_key(AxisName::Y) {
         Some(AxisName::Y)
-    } else if name == "x" {
+    } else if name == axis_key(AxisName::X) {
         Some(AxisName::X)
-    } else if name == "composite" {
+    } else if name == axis_key(AxisName::Composite) {
         Some(AxisName::Composite)
     } else {
         None
