@@ -2,7 +2,7 @@ use Rattle.std.proofs.Common.{rules, ◌≡◌, [], ◌∷◌, ◌++◌, List, A
 use Rattle.std.proofs.lemmas.List.Elements.{All-push}
 use Rattle.edr_station.specs.declared.inputs.StationInput.{StationInput}
 use Rattle.edr_station.specs.Inputs.{IsInput}
-use Rattle.edr_feed_tests.proofs.stations.inputs_of.Goals as goal
+use Rattle.edr_data_tests.proofs.stations.inputs_of.Goals as goal
 
 pub loop-text-preserved-in_ok-ok : goal.loop-text-preserved-in_ok-ok
 loop-text-preserved-in_ok-ok c =

@@ -2,7 +2,7 @@ use Rattle.std.proofs.Common.{rules, ◌≡◌, [], ◌∷◌, ◌++◌, ℤ, Li
 use Rattle.std.proofs.lemmas.List.Elements.{All-push}
 use Rattle.edr_axes.specs.Instants.{IsTime}
 use Rattle.edr_base.specs.Limits.{IsCoordinate}
-use Rattle.edr_feed_tests.proofs.words.steps.Goals as goal
+use Rattle.edr_data_tests.proofs.words.steps.Goals as goal
 
 pub loop-place-preserved : goal.loop-place-preserved
 loop-place-preserved c =
