@@ -333,6 +333,22 @@ impl CollectionData {
         }
     }
 
+    // The same collection with an instance, in place of one of its id.
+    fn with_instance(
+        &self,
+        alloc: Global,
+        instance: GridInstance,
+    ) -> Result<CollectionData, OutOfMemory>
+        requires kind { self.now.kind ≡ Grid }
+        requires same { without_id instance_id instance.id self.now.instances ≢ [] → self.now.parameters ≡ instance.parameters }
+        ensures { IfOk result (λ collection. collection ≡ with_instance instance self.now) }
+    {
+        let parameters = instance.share_parameters()?;
+        let mut instances = self.instances.share()?;
+        instances.put(alloc, instance)?;
+        self.with(Some(parameters), instances, None)
+    }
+
     /// Sets an instance, in place of one of its id. Other instances have the same parameters.
     ///
     /// After want of memory, its only error, the collection is as it was, and the instance is given up.
@@ -342,10 +358,7 @@ impl CollectionData {
         ensures set { OnOk result (self.new ≡ with_instance instance self.old) }
         ensures kept { OnErr result (self.new ≡ self.old) }
     {
-        let parameters = instance.share_parameters()?;
-        let mut instances = self.instances.share()?;
-        instances.put(alloc, instance)?;
-        *self = self.with(Some(parameters), instances, None)?;
+        *self = self.with_instance(alloc, instance)?;
         Ok(())
     }
 
@@ -363,6 +376,29 @@ impl CollectionData {
         let parameters = self.share_parameters(instances.len())?;
         *self = self.with(parameters, instances, None)?;
         Ok(was)
+    }
+
+    // The same collection with a station of some parameters, in place of one of its id.
+    fn with_station(
+        &self,
+        alloc: Global,
+        parameters: Items<Parameter>,
+        input: StationInput,
+    ) -> Result<CollectionData, OutOfMemory>
+        requires kind { self.now.kind ≡ Station }
+        requires parameters { AreParameters parameters }
+        requires input { IsInput input }
+        requires counts { HasCounts (length parameters) input }
+        requires few { values_along (station_of input) ≤ node_limit }
+        requires same { without_id station_id input.id self.now.stations ≢ [] → self.now.parameters ≡ parameters }
+        requires alike { All (λ (s : StationValue). is_some s.zs ≡ is_some input.levels) (without_id station_id input.id self.now.stations) }
+        ensures { IfOk result (λ collection. collection ≡ with_station parameters (station_of input) self.now) }
+    {
+        let _ = &self.head;
+        let mut stations = self.stations_beside(input.id.bytes(), parameters.items().len())?;
+        stations.set(alloc, input)?;
+        let parameters = Arc::new(alloc, parameters)?;
+        self.with(Some(parameters), ById::empty(), Some(stations))
     }
 
     /// Sets a station of some parameters, in place of one of its id. Other stations have the same parameters, and levels
@@ -385,11 +421,7 @@ impl CollectionData {
         ensures set { OnOk result (self.new ≡ with_station parameters (station_of input) self.old) }
         ensures kept { OnErr result (self.new ≡ self.old) }
     {
-        let _ = &self.head;
-        let mut stations = self.stations_beside(input.id.bytes(), parameters.items().len())?;
-        stations.set(alloc, input)?;
-        let parameters = Arc::new(alloc, parameters)?;
-        *self = self.with(Some(parameters), ById::empty(), Some(stations))?;
+        *self = self.with_station(alloc, parameters, input)?;
         Ok(())
     }
 

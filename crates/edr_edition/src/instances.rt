@@ -3,7 +3,7 @@ ghost use Rattle.std.specs.Prelude.{◌≡◌, option_map, length, All, IfOk};
 ghost use Rattle.edr_chunk.specs.Places.{IsShape};
 ghost use Rattle.covjson_value.specs.declared.coverages.NdArray.{NdArray as NdArrayValue};
 ghost use Rattle.edr_base.specs.Names.{IsName};
-ghost use Rattle.edr_edition.specs.Instances.{IsTimedGrid, instance_of, values_of, IsInstance, shape_over, FillsNodes};
+ghost use Rattle.edr_edition.specs.Instances.{IsTimedGrid, instance_of, values_of, IsInstance, shape_of, shape_over, FillsNodes};
 ghost use Rattle.edr_station.specs.Tallies.{tally_of};
 ghost use Rattle.std.specs.Arc.{arc_value};
 
@@ -102,6 +102,25 @@ fn packed(alloc: Global, shape: GridShape, ranges: &[NdArray]) -> Result<PackedG
     Ok(packer.finish())
 }
 
+// The grid of the values of a coverage's ranges over its axes.
+fn grid_of(alloc: Global, coverage: &Coverage) -> Result<PackedGrid, OutOfMemory>
+    requires { IsTimedGrid coverage.now }
+    ensures { IfOk result (λ grid. grid ≡ record { shape = shape_of coverage.now; values = values_of coverage.now.ranges }) }
+{
+    match &coverage.domain {
+        Domain::Grid {
+            t: Some(times),
+            z: levels,
+            y: ys,
+            x: xs,
+        } => {
+            let shape = shape_of(coverage.parameters.items().len(), times, levels, ys, xs);
+            packed(alloc, shape, coverage.ranges.items())
+        }
+        _ => unreachable!(),
+    }
+}
+
 // The tally of all values.
 fn tally_of(ranges: &[NdArray]) -> Result<Tally, OutOfMemory>
     ensures { IfOk result (λ tally. tally ≡ tally_of (values_of ranges.now)) }
@@ -128,12 +147,12 @@ impl GridInstance {
         requires grid { IsTimedGrid coverage }
         ensures { IfOk result (λ instance. instance ≡ instance_of id coverage) }
     {
+        let grid = grid_of(alloc, &coverage)?;
+        let tally = tally_of(coverage.ranges.items())?;
         let Coverage {
-            id: _,
             domain,
-            referencing: _,
             parameters,
-            ranges,
+            ..
         } = coverage;
         let Domain::Grid {
             t,
@@ -145,9 +164,6 @@ impl GridInstance {
             unreachable!()
         };
         let Some(times) = t else { unreachable!() };
-        let shape = shape_of(parameters.items().len(), &times, &levels, &ys, &xs);
-        let grid = packed(alloc, shape, ranges.items())?;
-        let tally = tally_of(ranges.items())?;
         let parameters = Arc::new(alloc, parameters)?;
         Ok(GridInstance {
             id,

@@ -6,7 +6,7 @@ use Rattle.edr_edition.specs.Instances.{IsInstance}
 use Rattle.edr_edition.specs.Editions.{IsCollection}
 use Rattle.edr_edition.specs.CollectionLaws.{set_instance_keeps}
 use Rattle.edr_edition.proofs.CollectionInstances.{instance_set}
-use Rattle.edr_edition.proofs.collections.CollectionData.set_instance.Goals as goal
+use Rattle.edr_edition.proofs.collections.CollectionData.with_instance.Goals as goal
 
 pub with-requires-clause-collection : goal.with-requires-clause-collection
 with-requires-clause-collection c =
