@@ -1,8 +1,9 @@
 -- Lists of samples.
-use Rattle.std.proofs.Common.{◌≡◌, ℕ, ℤ, ◌+◌, ◌<◌, ◌≤ℤ◌, List, Option, All, length, get_or, take, replicate, sym, ◌∙◌, rules}
-use Rattle.std.proofs.lemmas.List.{same_lists, get_or-replicate, length-replicate}
+use Rattle.std.proofs.Common.{◌≡◌, ℕ, ℤ, pos, ◌+◌, ◌<◌, ◌≤ℤ◌, ◌+ℤ◌, List, Option, Some, None, All, length, get_or, take, replicate, map, FitsSigned, to_z, of_z, w64, sym, ap, subst, ◌∙◌, arith, rules}
+use Rattle.std.proofs.lemmas.Int.{ints, to_z-of_z}
+use Rattle.std.proofs.lemmas.List.{same_lists, get_or-replicate, length-replicate, length-map}
 use Rattle.std.proofs.lemmas.List.Elements.{All-more}
-use Rattle.edr_chunk.specs.Codes.{IsBetween, AreBetween}
+use Rattle.edr_chunk.specs.Codes.{IsFloor, IsBetween, AreBetween, HasCode}
 
 -- a list of one item again and again
 pub replicated : {X : Type 0} (xs : List X) (x : X) → All (λ y. y ≡ x) xs → xs ≡ replicate (length xs) x
@@ -17,3 +18,23 @@ pub between_more : (l g l' g' : ℤ) (xs : List (Option ℤ)) (i : ℕ) (d : Opt
     → AreBetween l g (take i xs) → IsBetween l' g' (get_or xs i d) → AreBetween l' g' (take (i + 1) xs)
 between_more l g l' g' xs i d inside low high before here =
     All-more (IsBetween l' g') xs i d inside (λ k e h. wider l g l' g' (get_or (take i xs) k e) low high (before k e h)) here
+
+-- ---- samples that are kept as codes
+-- a floor that is passed is one
+pub floor_back : (floor : ℤ) → IsFloor floor → IsFloor (to_z w64 (of_z w64 floor))
+floor_back floor is = subst IsFloor (sym (to_z-of_z w64 floor (omega (arith, ints)))) is
+
+-- there are as many samples as codes
+pub codes_long : {X Y : Type 0} (f : X → Y) (codes kept : List X) (whole : List Y) → codes ≡ kept → map f kept ≡ whole → length whole ≡ length codes
+codes_long f codes kept whole same is = ap length (sym is) ∙ length-map kept f ∙ ap length (sym same)
+
+has_code : (most : ℕ) (floor greatest : ℤ) (value : Option ℤ) → greatest ≤ℤ (floor +ℤ pos most) → IsBetween (floor +ℤ pos 1) greatest value → HasCode most floor value
+has_code most floor greatest None high between = between
+has_code most floor greatest (Some v) high between = (omega (arith, ints, between.0), omega (arith, ints, between.1))
+
+-- samples above a floor have codes up to a greatest one
+pub have_codes : (most : ℕ) (floor greatest : ℤ) (values : List (Option ℤ)) → FitsSigned w64 floor → AreBetween (floor +ℤ pos 1) greatest values
+    → greatest ≤ℤ (floor +ℤ pos most) → All (HasCode most (to_z w64 (of_z w64 floor))) values
+have_codes most floor greatest values fits between high =
+    let P : ℤ → Type 0 = λ f. All (HasCode most f) values in
+    subst P (sym (to_z-of_z w64 floor fits)) (λ k d h. has_code most floor greatest (get_or values k d) high (between k d h))

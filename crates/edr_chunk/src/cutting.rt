@@ -26,7 +26,6 @@ fn row_from(
     &values[first..first + width as usize]
 }
 
-#[tactic(auto, using(crate::proofs::Lists::flat_map_range_more))]
 /// The values of one tile, row by row, or want of memory.
 pub fn cut(
     alloc: Global,

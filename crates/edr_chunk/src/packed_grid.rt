@@ -37,7 +37,6 @@ impl Model for PackedGrid {
 }
 
 impl PackedGrid {
-    #[tactic(auto, using(crate::proofs::ParameterLaws::part_inside, crate::proofs::PlaceNumbers::one_shape))]
     /// A grid of these values, in the order parameter, t, z, y, x, or want of memory.
     pub fn pack(
         alloc: Global,

@@ -36,7 +36,6 @@ pub struct GridPlace {
 }
 
 impl GridShape {
-    #[tactic(auto, using(crate::proofs::Numbers::number_steps))]
     /// The number of a place's value among all, in the order parameter, t, z, y, x. It takes no memory.
     pub fn number(self, place: GridPlace) -> u64
         requires shape { IsShape self }

@@ -72,7 +72,7 @@ pub fn nodes_of(shape: GridShape) -> u64
     rows * shape.columns as u64
 }
 
-#[tactic(auto, using(crate::proofs::PlaceNumbers::tiles_le, crate::proofs::PlaceNumbers::one_shape))]
+#[tactic(auto, using(crate::proofs::PlaceNumbers::one_shape))]
 /// How many tiles a shape has. It takes no memory.
 pub fn tiles_in(shape: GridShape) -> u64
     requires shape { IsShape shape }
