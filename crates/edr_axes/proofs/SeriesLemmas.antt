@@ -1,8 +1,9 @@
 -- Whether a level is in a series.
-use Rattle.std.proofs.Common.{◌≡◌, ◌↔◌, IsTrue, Bool, ℕ, zero, suc, ◌*◌, ◌/◌, ◌%◌, ◌<◌, ◌≤◌, nat_lt, int_le, refl, sym, ap, ◌∙◌, arith, ℤ, pos, negsuc, neg_ℤ, ◌+ℤ◌, ◌-ℤ◌, ◌*ℤ◌, ◌<ℤ◌, ◌≤ℤ◌, FitsSigned, w64}
+use Rattle.std.proofs.Common.{◌≡◌, ◌↔◌, IsTrue, Bool, false, ℕ, zero, suc, ◌*◌, ◌/◌, ◌%◌, ◌<◌, ◌≤◌, nat_lt, int_le, refl, sym, ap, ◌∙◌, arith, ℤ, pos, negsuc, neg_ℤ, ◌+ℤ◌, ◌-ℤ◌, ◌*ℤ◌, ◌<ℤ◌, ◌≤ℤ◌, FitsSigned, w64}
 use Rattle.std.specs.Int.RustNames.{unsigned_abs}
 use Rattle.std.proofs.Math.Nat.{div-eq_of_eq-mul_left, mul-le-mul}
 use Rattle.std.proofs.lemmas.Int.{ints, unsigned_abs-mul, fits_signed_from_abs}
+use Rattle.std.proofs.lemmas.Bool.{false≢true}
 use Rattle.std.proofs.lemmas.Bool.Decides.{nat_tests}
 use Rattle.jiff_core.proofs.SignedLemmas.{signed_arith, one_part}
 use Rattle.edr_base.specs.Limits.{coordinate_limit}
@@ -68,6 +69,22 @@ falling n first step level distance size b some down below far h =
           let is : distance ≡ w.0 * unsigned_abs step = omega (arith, signed_arith, below, d, product, w.2, one_part (level -ℤ first)) in
           h.1 (w.0, omega (arith, signed_arith, w.1, count_is), is ∙ ap (λ s. w.0 * s) (sym far.size_is))),
     )
+
+-- a level that lies on the other side of the first
+rises_from : (n first step level : ℤ) → pos 0 <ℤ step → level <ℤ first → ¬ (IsInSeries n first step level)
+rises_from n first step level up below w = omega (arith, signed_arith, below, positive_product w.0 step up, w.2)
+
+falls_from : (n first step level : ℤ) → step <ℤ pos 0 → first <ℤ level → ¬ (IsInSeries n first step level)
+falls_from n first step level down above w = omega (arith, signed_arith, above, negative_product w.0 step down, w.2)
+
+not_in_series : (n first step level : ℤ) (b : Bool) → b ≡ false → ¬ (IsInSeries n first step level) → IsTrue b ↔ IsInSeries n first step level
+not_in_series n first step level b is other = (λ t. absurd (false≢true (sym is ∙ t)), λ w. absurd (other w))
+
+pub below_first : (n first step level : ℤ) (b : Bool) → b ≡ false → pos 0 <ℤ step → level <ℤ first → IsTrue b ↔ IsInSeries n first step level
+below_first n first step level b is up below = not_in_series n first step level b is (rises_from n first step level up below)
+
+pub above_first : (n first step level : ℤ) (b : Bool) → b ≡ false → step <ℤ pos 0 → first <ℤ level → IsTrue b ↔ IsInSeries n first step level
+above_first n first step level b is down above = not_in_series n first step level b is (falls_from n first step level down above)
 
 -- ---- the numbers of a series
 
