@@ -1,5 +1,6 @@
 pub mod WordLemmas
 pub mod PositionLemmas
+mod PushLemmas
 pub mod ListLemmas
 pub mod MemberLemmas
 pub mod FaultLemmas
