@@ -4,6 +4,8 @@ pub mod InTime
 pub mod RegularGaps
 pub mod InOrder
 pub mod TimeTexts
+pub mod Gathered
+pub mod AxisValues
 pub mod NamedParts
 pub mod SampleRows
 pub mod PlainJson
