@@ -180,13 +180,12 @@ fn domain_formed(kind: DomainType, read: ReadAxes) -> Domain
     ensures formed { result ≡ domains.domain_formed kind read }
     ensures counted { AreCounted result }
 {
-    let mut read = read;
     match kind {
         DomainType::Grid => Domain::Grid {
-            t: axis_in(read.t.take()),
-            z: axis_in(read.z.take()),
-            y: axis_of(read.y.take()),
-            x: axis_of(read.x.take()),
+            t: axis_in(read.t),
+            z: axis_in(read.z),
+            y: axis_of(read.y),
+            x: axis_of(read.x),
         },
         DomainType::Point => Domain::Point {
             t: value_in(&read.t),
@@ -195,19 +194,19 @@ fn domain_formed(kind: DomainType, read: ReadAxes) -> Domain
             x: value_of(&read.x),
         },
         DomainType::PointSeries => Domain::PointSeries {
-            t: axis_of(read.t.take()),
+            t: axis_of(read.t),
             z: value_in(&read.z),
             y: value_of(&read.y),
             x: value_of(&read.x),
         },
         DomainType::VerticalProfile => Domain::VerticalProfile {
             t: value_in(&read.t),
-            z: axis_of(read.z.take()),
+            z: axis_of(read.z),
             y: value_of(&read.y),
             x: value_of(&read.x),
         },
         DomainType::MultiPoint => {
-            let places = tuples_of(read.composite.take());
+            let places = tuples_of(read.composite);
             Domain::MultiPoint {
                 t: value_in(&read.t),
                 has_z: places.has_z,
@@ -215,7 +214,7 @@ fn domain_formed(kind: DomainType, read: ReadAxes) -> Domain
             }
         }
         DomainType::Trajectory => {
-            let places = tuples_of(read.composite.take());
+            let places = tuples_of(read.composite);
             Domain::Trajectory {
                 z: value_in(&read.z),
                 has_z: places.has_z,

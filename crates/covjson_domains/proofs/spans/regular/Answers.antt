@@ -7,6 +7,14 @@ use Rattle.covjson_domains.specs.AxisAnswers as axes
 use Rattle.covjson_domains.proofs.SpanLemmas.{span_tells, last_reached}
 use Rattle.covjson_domains.proofs.spans.regular.Goals as goal
 
+pub step_of-step-requires-clause-even : goal.step_of-step-requires-clause-even
+step_of-step-requires-clause-even c =
+    rw (to_z-of_z w128 c.args.first c.ranges.first, to_z-of_z w128 c.args.last c.ranges.last, to_z-of_z w128 c.args.count c.ranges.count) c.requires.even
+
+pub step_of-step-requires-clause-within : goal.step_of-step-requires-clause-within
+step_of-step-requires-clause-within c =
+    rw (to_z-of_z w128 c.args.first c.ranges.first, to_z-of_z w128 c.args.last c.ranges.last, to_z-of_z w128 c.args.count c.ranges.count) c.requires.within
+
 pub stepped-requires-clause-some : goal.stepped-requires-clause-some
 stepped-requires-clause-some c =
     let span = span_tells c.args.first c.args.last c.args.count c.requires.within in
