@@ -11,7 +11,7 @@ use Rattle.covjson_ranges.specs.declared.orders.Row.{Row}
 use Rattle.covjson_ranges.specs.declared.places.Places.{Places}
 use Rattle.covjson_value.specs.declared.axis_names.AxisName.{AxisName}
 use Rattle.covjson_value.specs.declared.axis_names.AxisName.TheVariants.{T, Z, Y, X, Composite}
-use Rattle.covjson_ranges.specs.Ranges.{length_of, tree_place, tree_number, AreRangeAxes}
+use Rattle.covjson_ranges.specs.Ranges.{length_of, tree_place, tree_number, AreInside, AreRangeAxes}
 use Rattle.edr_chunk.specs.RowMajor.{row_major}
 use Rattle.covjson_ranges.specs.Orders.{below, places_at, value_in_tree, in_row, StaysInside, AreRows}
 use Rattle.covjson_ranges.proofs.PlaceLemmas.{count_whole, all_some, tree_number_inside, places_at_inside}
@@ -44,6 +44,13 @@ tree_number_on domain turned names near far second k each =
 abbrev pub second_tuple : Places
 second_tuple = record { t = 0; z = 0; y = 0; x = 0; tuple = 1 }
 
+pub second_tuple_inside : (domain : Domain) → 0 < count_of domain → 1 < length_of domain Composite → AreInside domain second_tuple
+second_tuple_inside domain some long T = (all_some domain 0 some).0
+second_tuple_inside domain some long Z = (all_some domain 0 some).1
+second_tuple_inside domain some long Y = (all_some domain 0 some).2
+second_tuple_inside domain some long X = (all_some domain 0 some).3
+second_tuple_inside domain some long Composite = long
+
 -- a tuple at a node
 abbrev tuple_at : Domain → ℕ → ℕ → Places
 tuple_at domain node tuple = record {
@@ -73,6 +80,13 @@ tuple_on domain turned node k Composite = omega arith
 -- the second column
 abbrev pub second_column : Places
 second_column = record { t = 0; z = 0; y = 0; x = 1; tuple = 0 }
+
+pub second_column_inside : (domain : Domain) → 0 < count_of domain → 1 < length_of domain X → AreInside domain second_column
+second_column_inside domain some long T = (all_some domain 0 some).0
+second_column_inside domain some long Z = (all_some domain 0 some).1
+second_column_inside domain some long Y = (all_some domain 0 some).2
+second_column_inside domain some long X = long
+second_column_inside domain some long Composite = (all_some domain 0 some).4
 
 -- a column in a line
 abbrev column_at : Domain → ℕ → ℕ → Places
@@ -234,7 +248,7 @@ row_stays domain turned names row number first count axes rows below is_count is
 })
 
 -- one value more
-value_more : (value : ℕ → Option ℤ) (place : ℕ) → map value (below (place + 1)) ≡ map value (below place) ++ value place ∷ []
+pub value_more : (value : ℕ → Option ℤ) (place : ℕ) → map value (below (place + 1)) ≡ map value (below place) ++ value place ∷ []
 value_more value place = ap (λ n. map value (below n)) (add-one place) ∙ map-append value (below place) (place ∷ [])
 
 -- the values of a row more

@@ -1,8 +1,22 @@
 use Rattle.std.proofs.Common.{◌≤◌, arith}
 use Rattle.covjson_value.specs.declared.axis_names.AxisName.TheVariants.{Composite}
 use Rattle.covjson_ranges.specs.Ranges.{length_of}
-use Rattle.covjson_ranges.proofs.RowLemmas.{tuple_rows, column_rows}
+use Rattle.covjson_ranges.proofs.RowLemmas.{second_tuple_inside, second_column_inside, tuple_rows, column_rows}
 use Rattle.covjson_ranges.proofs.orders.row_of.Goals as goal
+
+pub step_to-requires : goal.step_to-requires
+step_to-requires c = record {
+  axes = c.requires.axes;
+  few = c.requires.few;
+  inside = second_tuple_inside c.args.domain.now c.requires.some (omega (arith, c.axis_len-tuples.ensures, c.if-tuples-gt1.true));
+}
+
+pub step_to-requires-then-columns-gt1 : goal.step_to-requires-then-columns-gt1
+step_to-requires-then-columns-gt1 c = record {
+  axes = c.requires.axes;
+  few = c.requires.few;
+  inside = second_column_inside c.args.domain.now c.requires.some (omega (arith, c.axis_len-columns.ensures, c.if-columns-gt1.true));
+}
 
 pub returns-then-tuples-gt1 : goal.returns-then-tuples-gt1
 returns-then-tuples-gt1 c =

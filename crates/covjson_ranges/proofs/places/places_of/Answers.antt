@@ -17,6 +17,31 @@ nonzero_div-level c =
     let some : 0 < c.axis_len-rows.result = rw c.axis_len-rows.ensures (all_some c.args.domain.now c.args.number c.requires).2 in
     omega (arith, some)
 
+pub nonzero_div-result : goal.nonzero_div-result
+nonzero_div-result c =
+    let some : 0 < c.axis_len-levels.result = rw c.axis_len-levels.ensures (all_some c.args.domain.now c.args.number c.requires).1 in
+    omega (arith, some)
+
+pub nonzero_rem-result : goal.nonzero_rem-result
+nonzero_rem-result c =
+    let some : 0 < c.axis_len-levels.result = rw c.axis_len-levels.ensures (all_some c.args.domain.now c.args.number c.requires).1 in
+    omega (arith, some)
+
+pub nonzero_rem-result-2 : goal.nonzero_rem-result-2
+nonzero_rem-result-2 c =
+    let some : 0 < c.axis_len-rows.result = rw c.axis_len-rows.ensures (all_some c.args.domain.now c.args.number c.requires).2 in
+    omega (arith, some)
+
+pub nonzero_rem-result-3 : goal.nonzero_rem-result-3
+nonzero_rem-result-3 c =
+    let some : 0 < c.axis_len-columns.result = rw c.axis_len-columns.ensures (all_some c.args.domain.now c.args.number c.requires).3 in
+    omega (arith, some)
+
+pub nonzero_rem-result-4 : goal.nonzero_rem-result-4
+nonzero_rem-result-4 c =
+    let some : 0 < c.axis_len-tuples.result = rw c.axis_len-tuples.ensures (all_some c.args.domain.now c.args.number c.requires).4 in
+    omega (arith, some)
+
 pub returns-clause-places : goal.returns-clause-places
 returns-clause-places c =
     rw (c.axis_len-tuples.ensures, c.axis_len-columns.ensures, c.axis_len-rows.ensures, c.axis_len-levels.ensures) refl
