@@ -1,71 +1,38 @@
 //! A draft from its first change to its second edition. The faults of changes are tested by the lines of feeds.
-use covjson_value::{Coverage, Domain, NdArray, Parameter, Referencing};
-use edr_axes::{Axis, AxisFault};
-use edr_base::{Items, OutOfMemory, Text};
+use crate::documents::document;
+use covjson_value::{Coverage, Document};
+use edr_base::OutOfMemory;
 use edr_chunk::Reads;
 use edr_draft::{Change, Draft, drafts_cross_threads};
 use edr_edition::{Edition, GridInstance, Kind, Store};
 use std::alloc::Global;
 use std::rt::HostRuntime;
 
-fn parameters(alloc: Global, label: &[u8]) -> Result<Items<Parameter>, OutOfMemory> {
-    let mut parameters = Vec::new(alloc);
-    parameters.push(Parameter {
-        id: Text::of(alloc, b"temp")?,
-        lang: Text::of(alloc, b"en")?,
-        label: Text::of(alloc, label)?,
-        unit: None,
-    })?;
-    Ok(Items::of(parameters))
-}
-
-// Numbers with blanks between, `-` for an absent one.
-fn ranges(alloc: Global, numbers: &str) -> Result<Items<NdArray>, OutOfMemory> {
-    let mut values = Vec::new(alloc);
-    for number in numbers.split(' ') {
-        values.push(number.parse::<i64>().ok())?;
-    }
-    let mut ranges = Vec::new(alloc);
-    ranges.push(NdArray {
-        values: Items::of(values),
-    })?;
-    Ok(Items::of(ranges))
-}
-
-fn domain(alloc: Global) -> Result<Domain, AxisFault> {
-    Ok(Domain::Grid {
-        t: Some(Axis::of(alloc, &[0, 3600])?),
-        z: None,
-        y: Axis::of(alloc, &[0, 100])?,
-        x: Axis::of(alloc, &[0, 100, 200])?,
-    })
-}
-
 // A bare grid of two times, two rows and three columns.
-fn coverage(alloc: Global, label: &[u8]) -> Result<Coverage, OutOfMemory> {
-    Ok(Coverage {
-        id: None,
-        domain: domain(alloc).or(Err(OutOfMemory))?,
-        referencing: Referencing {
-            crs: Text::of(alloc, b"local")?,
-            vertical: None,
-        },
-        parameters: parameters(alloc, label)?,
-        ranges: ranges(alloc, "10 11 12 13 - 15 20 21 22 23 24 25")?,
-    })
+const GRID: &str =
+    "Grid t=0,3600 y=0,100 x=0,100,200 crs=local values=10,11,12,13,-,15,20,21,22,23,24,25";
+
+// The bare grid whose parameter has the id and the label of these words.
+fn coverage(alloc: Global, parameter: &str) -> Option<Coverage> {
+    match document(alloc, GRID, parameter)? {
+        Document::One(coverage) => Some(coverage),
+        Document::Many(_) => None,
+    }
 }
 
-// Sets the bare grid whose parameter has this label, and says whether it could.
-fn is_set(alloc: Global, draft: &mut Draft, label: &[u8]) -> Result<bool, OutOfMemory> {
-    let coverage = coverage(alloc, label)?;
-    Ok(coverage.is_valid() && draft.apply(Change::Bare(coverage)).is_ok())
+// Sets the bare grid of this parameter, and says whether it could.
+fn is_set(alloc: Global, draft: &mut Draft, parameter: &str) -> bool {
+    match coverage(alloc, parameter) {
+        Some(coverage) => coverage.is_valid() && draft.apply(Change::Bare(coverage)).is_ok(),
+        None => false,
+    }
 }
 
 // The edition 1 of one bare grid; of none where it isn't set.
-fn first_edition(alloc: Global) -> Result<Edition, OutOfMemory> {
+fn first_edition(alloc: Global) -> Edition {
     let mut draft = Draft::empty(alloc);
-    let _ = is_set(alloc, &mut draft, b"Temperature")?;
-    Ok(draft.finish(1))
+    let _ = is_set(alloc, &mut draft, "temp:en:Temperature");
+    draft.finish(1)
 }
 
 // The newest instance of the collection of bare grids.
@@ -96,7 +63,7 @@ fn is_summed(edition: &Edition) -> bool {
 // Whether an edition stays as it is where a second one is made from it.
 fn stays(alloc: Global, first: &Edition) -> Result<bool, OutOfMemory> {
     let mut draft = Draft::from_edition(alloc, first)?;
-    let is_set = is_set(alloc, &mut draft, b"Heat")?;
+    let is_set = is_set(alloc, &mut draft, "temp:en:Heat");
     let second = draft.finish(2);
     Ok(is_set && has_label(first, b"Temperature") && has_label(&second, b"Heat"))
 }
@@ -117,6 +84,10 @@ fn opened(alloc: Global, edition: &Edition) -> Result<Reads, OutOfMemory> {
     Ok(store.into_reads())
 }
 
+fn opens_its_first_tile(alloc: Global, edition: &Edition) -> Result<bool, OutOfMemory> {
+    Ok(opened(alloc, edition)?.numbers() == [0u64].as_slice())
+}
+
 fn is_shared_by_threads<T: Send + Sync + Drop>(_: &T) {}
 
 fn drafts_are_shared_by_threads(draft: &Draft) {
@@ -125,13 +96,12 @@ fn drafts_are_shared_by_threads(draft: &Draft) {
 }
 
 #[test]
-fn editions_stay_and_are_counted(rt: HostRuntime) -> Result<(), OutOfMemory> {
+fn editions_stay_and_are_counted(rt: HostRuntime) {
     let alloc = rt.alloc();
-    let first = first_edition(alloc)?;
-    assert!(rt; stays(alloc, &first)?);
+    let first = first_edition(alloc);
     assert!(rt; is_summed(&first));
-    assert!(rt; opened(alloc, &first)?.numbers() == [0u64].as_slice());
-    Ok(())
+    assert!(rt; stays(alloc, &first) == Ok(true));
+    assert!(rt; opens_its_first_tile(alloc, &first) == Ok(true));
 }
 
 #[test]
