@@ -462,7 +462,3 @@ axes_listed data_of before behind domain start one two three four five new times
     ∙ ap (λ t. axis_item data_of begin domain times Z ++ t) (axis_begun data_of levels rows begin end Y (range_axis_of domain Y) (below_rows domain) rows_is
     ∙ ap (λ t. axis_item data_of begin domain levels Y ++ t) (axis_begun data_of rows columns begin end X (range_axis_of domain X) (composite_alone (range_tuples_of domain)) columns_is
     ∙ ap (λ t. axis_item data_of begin domain rows X ++ t) (tuples_begun data_of columns some begin end (range_tuples_of domain) some_is)))))
-
-pub composite_item_put : (start begin : List ℕ) (later : Bool) → (start ++ item_before later begin) ++ codes "\"composite\"" ≡ start ++ item_text later begin (Some (quoted (axis_key Composite)))
-unfolding json_on_literals
-composite_item_put start begin later = append_assoc start (item_before later begin) (codes "\"composite\"")

@@ -3,3 +3,4 @@ pub mod HeadTextLemmas
 pub mod PlaceLemmas
 pub mod ValueLemmas
 pub mod SendLemmas
+pub mod AxisItems

@@ -64,7 +64,6 @@ fn push_length(
 }
 
 // The name of the composite axis, where that is one.
-#[tactic(auto, using(crate::proofs::HeadTextLemmas::composite_item_put))]
 fn push_composite(text: &mut Vec<u8>, later: bool, domain: &Domain) -> Result<bool, OutOfMemory>
     ensures text { OnOk result (text.new.items ≡ text.old.items
         ++ item_text later (codes "\"axisNames\":[") (option_map (λ _. quoted (axis_key Composite)) (range_tuples_of domain.now))) }

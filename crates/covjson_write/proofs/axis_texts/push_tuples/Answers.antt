@@ -1,0 +1,14 @@
+use Rattle.std.proofs.Common.{codes}
+use Rattle.covjson_value.specs.Domains.{range_tuples_of}
+use Rattle.covjson_write.specs.HeadTexts.{length_text}
+use Rattle.covjson_write.proofs.AxisItems.{given_put, some_stand}
+use Rattle.covjson_write.proofs.axis_texts.push_tuples.Goals as goal
+
+pub returns : goal.returns
+returns c =
+    let given = range_tuples_of c.args.domain.now in
+    record {
+      text = given_put length_text given c.in-Some.tuples.now c.args.later (codes ",\"shape\":[") c.args.text.now.items c.push_before.new.text.items c.push_number.new.text.items
+          c.in-Some.ensures c.in_ok-push_before.ensures c.in_ok-push_number.ensures;
+      later = some_stand given c.in-Some.tuples.now c.args.later c.in-Some.ensures;
+    }
