@@ -1,7 +1,7 @@
 use Rattle.std.proofs.Common.{◌≡◌, codes, get_or, pos, length, ◌-◌, w64, SFits, ap, ◌∙◌, rules}
 use Rattle.std.proofs.lemmas.Int.{to_z-of_z}
 use Rattle.serde_json.specs.Data.{Data, object, Members, no_members, member, put}
-use Rattle.serde_json.specs.View.{view, members_view}
+use Rattle.serde_json.specs.View.{members_view}
 use Rattle.serde_json.proofs.Views.{view-Object}
 use Rattle.covjson_value.specs.Trees.{integer}
 use Rattle.covjson_value.proofs.regular_axes.span_tree.Goals as goal
