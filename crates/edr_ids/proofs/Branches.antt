@@ -1,5 +1,5 @@
 -- A tree that isn't empty, as the items before the one at its top, it, and those behind it.
-use Rattle.std.proofs.Common.{◌≡◌, ◌<◌, ℕ, List, ◌∷◌, ◌++◌, length, length-append, Option, Some, Result, Ok, Err, IfOk, sym, ap, ◌∙◌, subst, arith}
+use Rattle.std.proofs.Common.{◌≡◌, ◌<◌, ℕ, List, ◌∷◌, ◌++◌, length, length-append, append_assoc, Option, Some, Result, Ok, Err, IfOk, sym, ap, ◌∙◌, subst, arith}
 use Rattle.std.specs.Arc.{arc_value}
 use Rattle.std.specs.declared.sync.Arc.{Arc}
 use Rattle.std.specs.declared.alloc.Global.{Global}
@@ -37,3 +37,16 @@ joined_is (Ok tree) before before' item item' behind behind' whole made front mi
 pub followed_is : {T E : Type 0} (r : Result (List T) E) (list whole : List T) → IfOk r (λ tree. tree ≡ list) → list ≡ whole → IfOk r (λ tree. tree ≡ whole)
 followed_is (Err e) list whole made is = tt
 followed_is (Ok tree) list whole made is = made ∙ is
+
+-- ---- the items of a tree whose sides are turned
+-- two sides that share the items between them
+pub divided_is : {T : Type 0} (before low high outer inner front back : List T) (item middle top : T) → inner ≡ low ++ middle ∷ high → front ≡ before ++ item ∷ low → back ≡ high ++ top ∷ outer
+    → front ++ middle ∷ back ≡ (before ++ item ∷ inner) ++ top ∷ outer
+divided_is before low high outer inner front back item middle top inner_is front_is back_is =
+    ap (λ list. list ++ middle ∷ back) front_is ∙ ap (λ list. (before ++ item ∷ low) ++ middle ∷ list) back_is
+    ∙ sym (append_assoc (before ++ item ∷ low) (middle ∷ high) (top ∷ outer))
+    ∙ ap (λ list. list ++ top ∷ outer) (append_assoc before (item ∷ low) (middle ∷ high) ∙ ap (λ list. before ++ item ∷ list) (sym inner_is))
+
+-- a side behind another item
+pub behind_is : {T : Type 0} (before inner outer behind : List T) (item top : T) → behind ≡ inner ++ top ∷ outer → (before ++ item ∷ inner) ++ top ∷ outer ≡ before ++ item ∷ behind
+behind_is before inner outer behind item top is = append_assoc before (item ∷ inner) (top ∷ outer) ∙ ap (λ list. before ++ item ∷ list) (sym is)

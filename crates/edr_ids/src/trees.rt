@@ -152,7 +152,28 @@ fn joined<T: Drop>(
     })
 }
 
-// The same, where the side behind the item weighs too much: it gives up its front.
+// A tree of the items before one, it, those between it and another, the other, and those behind that: what is between is
+// divided among the two sides.
+fn divided<T: Drop>(
+    alloc: Global,
+    before: Tree<T>,
+    item: Arc<T>,
+    inner: Tree<T>,
+    top: Arc<T>,
+    outer: Tree<T>,
+) -> Result<Tree<T>, OutOfMemory>
+    ensures { IfOk result (λ tree. tree ≡ before ++ arc_value item ∷ inner ++ arc_value top ∷ outer) }
+{
+    let Some((low, middle, high)) = inner.parts()? else {
+        let back = joined(alloc, inner, top, outer)?;
+        return joined(alloc, before, item, back);
+    };
+    let front = joined(alloc, before, item, low)?;
+    let back = joined(alloc, high, top, outer)?;
+    joined(alloc, front, middle, back)
+}
+
+// The same as `joined`, where the side behind the item weighs too much: it gives up its front.
 fn turned_to_front<T: Drop>(
     alloc: Global,
     before: Tree<T>,
@@ -168,12 +189,7 @@ fn turned_to_front<T: Drop>(
         let front = joined(alloc, before, item, inner)?;
         return joined(alloc, front, top, outer);
     }
-    let Some((low, middle, high)) = inner.parts()? else {
-        return joined(alloc, before, item, behind);
-    };
-    let front = joined(alloc, before, item, low)?;
-    let back = joined(alloc, high, top, outer)?;
-    joined(alloc, front, middle, back)
+    divided(alloc, before, item, inner, top, outer)
 }
 
 // The same, where the side before the item weighs too much: it gives up its back.
@@ -192,12 +208,7 @@ fn turned_to_back<T: Drop>(
         let back = joined(alloc, inner, item, behind)?;
         return joined(alloc, outer, top, back);
     }
-    let Some((low, middle, high)) = inner.parts()? else {
-        return joined(alloc, before, item, behind);
-    };
-    let front = joined(alloc, outer, top, low)?;
-    let back = joined(alloc, high, item, behind)?;
-    joined(alloc, front, middle, back)
+    divided(alloc, outer, top, inner, item, behind)
 }
 
 // The same, of sides that may differ by one change from those of a balanced tree.
