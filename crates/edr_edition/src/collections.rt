@@ -1,6 +1,7 @@
 //! Collections.
 ghost use Rattle.std.specs.Prelude.{◌≡◌, ◌≢◌, ◌<◌, ◌≤◌, [], None, Some, length, All, Contains, is_some, option_map, IfOk, IfSome, OnOk, OnErr, MatchOption, IsUtf8, nat_lt, if◌then◌else◌};
 ghost use Rattle.std.specs.List.{slice_index_or};
+ghost use Rattle.std.specs.Arc.{arc_value};
 ghost use Rattle.covjson_value.specs.Coverages.{IsReferencing};
 ghost use Rattle.edr_base.specs.Limits.{node_limit};
 ghost use Rattle.edr_base.specs.Names.{IsName};
@@ -333,6 +334,17 @@ impl CollectionData {
         }
     }
 
+    // What is shared when an instance is set: its parameters, and the instances that there are.
+    fn shared_for(
+        &self,
+        instance: &GridInstance,
+    ) -> Result<(Arc<Items<Parameter>>, ById<GridInstance>), OutOfMemory>
+        ensures parameters { IfOk result (λ shared. arc_value shared.0 ≡ instance.now.parameters) }
+        ensures instances { IfOk result (λ shared. shared.1 ≡ self.now.instances) }
+    {
+        Ok((instance.share_parameters()?, self.instances.share()?))
+    }
+
     // The same collection with an instance, in place of one of its id.
     fn with_instance(
         &self,
@@ -343,8 +355,8 @@ impl CollectionData {
         requires same { without_id instance_id instance.id self.now.instances ≢ [] → self.now.parameters ≡ instance.parameters }
         ensures { IfOk result (λ collection. collection ≡ with_instance instance self.now) }
     {
-        let parameters = instance.share_parameters()?;
-        let mut instances = self.instances.share()?;
+        let _ = &self.head;
+        let (parameters, mut instances) = self.shared_for(&instance)?;
         instances.put(alloc, instance)?;
         self.with(Some(parameters), instances, None)
     }

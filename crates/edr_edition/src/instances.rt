@@ -132,6 +132,24 @@ fn tally_of(ranges: &[NdArray]) -> Result<Tally, OutOfMemory>
     Ok(tally)
 }
 
+// The grid of a coverage's values, and their tally.
+fn packed_and_told(alloc: Global, coverage: &Coverage) -> Result<(PackedGrid, Tally), OutOfMemory>
+    requires { IsTimedGrid coverage.now }
+    ensures grid { IfOk result (λ made. made.0 ≡ record { shape = shape_of coverage.now; values = values_of coverage.now.ranges }) }
+    ensures tally { IfOk result (λ made. made.1 ≡ tally_of (values_of coverage.now.ranges)) }
+{
+    let tally = tally_of(coverage.ranges.items())?;
+    Ok((grid_of(alloc, coverage)?, tally))
+}
+
+// What an instance keeps of a coverage beside its values.
+fn domain_and_parameters(coverage: Coverage) -> (Domain, Items<Parameter>)
+    ensures domain { result.0 ≡ coverage.domain }
+    ensures parameters { result.1 ≡ coverage.parameters }
+{
+    (coverage.domain, coverage.parameters)
+}
+
 impl Identified for GridInstance {
     ghost id_of = { λ instance. instance.id };
 
@@ -147,13 +165,9 @@ impl GridInstance {
         requires grid { IsTimedGrid coverage }
         ensures { IfOk result (λ instance. instance ≡ instance_of id coverage) }
     {
-        let grid = grid_of(alloc, &coverage)?;
-        let tally = tally_of(coverage.ranges.items())?;
-        let Coverage {
-            domain,
-            parameters,
-            ..
-        } = coverage;
+        let (grid, tally) = packed_and_told(alloc, &coverage)?;
+        let (domain, parameters) = domain_and_parameters(coverage);
+        let parameters = Arc::new(alloc, parameters)?;
         let Domain::Grid {
             t,
             z: levels,
@@ -164,7 +178,6 @@ impl GridInstance {
             unreachable!()
         };
         let Some(times) = t else { unreachable!() };
-        let parameters = Arc::new(alloc, parameters)?;
         Ok(GridInstance {
             id,
             times,

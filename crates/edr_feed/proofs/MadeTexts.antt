@@ -1,16 +1,18 @@
 -- The texts of the made feed, piece by piece.
-use Rattle.std.proofs.Common.{◌≡◌, ℕ, ◌+◌, ◌-◌, ◌*◌, ◌<◌, ◌≤◌, List, [], ◌∷◌, ◌++◌, codes, sym, subst, ap, ◌∙◌, append_assoc, append-nil, arith}
+use Rattle.std.proofs.Common.{◌≡◌, ℕ, ◌+◌, ◌-◌, ◌*◌, ◌<◌, ◌≤◌, List, [], ◌∷◌, ◌++◌, codes, length, sym, subst, ap, ◌∙◌, append_assoc, append-nil, arith}
 use Rattle.std.specs.declared.option.Option.{Option}
 use Rattle.std.specs.Prelude.{ℤ, Result, IsErr}
 use Rattle.std.specs.List.{flat_map, range_with_len}
 use Rattle.std.specs.Io.KnownBytes.{append_known}
 use Rattle.std.proofs.lemmas.Result.{IfOk-from_err}
+use Rattle.std.proofs.lemmas.List.{length-map}
 use Rattle.std.proofs.Math.Nat.{zero-mul, one-mul, add-mul, mul-le-mul_right}
 use Rattle.edr_base.specs.Calls.{Front, Writes}
 use Rattle.edr_base.specs.KnownBytes.{grew_on, front_on, front_more, writes_on}
 use Rattle.covjson_value.specs.declared.domains.Domain.{Domain}
 use Rattle.covjson_value.specs.declared.coverages.Coverage.{Coverage}
-use Rattle.covjson_value.specs.Coverages.{IsValid}
+use Rattle.covjson_value.specs.declared.coverages.Parameter.{Parameter}
+use Rattle.covjson_value.specs.Coverages.{ids_of, IsValid}
 use Rattle.covjson_value.specs.Trees.{coverage_text}
 use Rattle.covjson_write.specs.Pieces.{head_of, range_begin, range_end, coverage_begin, values_from}
 use Rattle.covjson_write.specs.PieceLaws.{coverage_parts, values_on}
@@ -19,6 +21,10 @@ use Rattle.edr_feed.specs.Made.{coverage_over, row_values, grid_values, grid_tex
 use Rattle.edr_feed.specs.MadeParts.{opening, closing, around}
 use Rattle.edr_feed.proofs.MadeLists.{next_list}
 use Rattle.edr_feed.proofs.MadeHeads.{row_long, grid_is_valid, series_is_valid}
+
+-- a head has a key for each parameter
+pub as_many_keys : (coverage : Coverage) → length (head_of coverage).keys ≡ length coverage.parameters
+as_many_keys coverage = length-map (ids_of coverage.parameters) _ ∙ length-map coverage.parameters (λ (p : Parameter). p.id)
 
 -- ---- pieces in a row
 

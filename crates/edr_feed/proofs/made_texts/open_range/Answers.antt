@@ -1,4 +1,4 @@
-use Rattle.std.proofs.Common.{◌≡◌, ◌++◌, subst}
+use Rattle.std.proofs.Common.{◌≡◌, ℕ, ◌<◌, ◌++◌, length, sym, ap, ◌∙◌, subst}
 use Rattle.std.specs.Io.KnownBytes.{append_known}
 use Rattle.serde_json.specs.Written.{comma_if}
 use Rattle.edr_base.specs.Calls.{Front, Writes}
@@ -7,7 +7,7 @@ use Rattle.covjson_value.specs.declared.coverages.Coverage.{Coverage}
 use Rattle.covjson_write.specs.Pieces.{coverage_begin, head_of, range_begin}
 use Rattle.covjson_write.specs.Writers.{WriterValue}
 use Rattle.edr_feed.specs.MadeParts.{opening}
-use Rattle.edr_feed.proofs.MadeTexts.{stops}
+use Rattle.edr_feed.proofs.MadeTexts.{as_many_keys, stops}
 use Rattle.edr_feed.proofs.made_texts.open_range.Goals as goal
 
 pub returns-in_err-coverage-clause-bytes : goal.returns-in_err-coverage-clause-bytes
@@ -28,3 +28,7 @@ returns-clause-bytes g c =
     subst (λ (w : WriterValue). written c.coverage.new.sink ≡ append_known (written c.args.sink.now) (comma_if w.begun ++ coverage_begin head)) c.requires.started c.in_ok-coverage.ensures.bytes.whole in
     writes_on c.range_begin.result (written c.args.sink.now) (written c.coverage.new.sink) (written c.range_begin.new.sink) (coverage_begin head) (range_begin (head_of head) 0) begun
     (subst (λ (w : WriterValue). Writes c.range_begin.result (range_begin w.head 0) (written c.coverage.new.sink) (written c.range_begin.new.sink)) c.in_ok-coverage.ensures.writer c.range_begin.ensures.bytes)
+
+pub range_begin-requires-clause-one : goal.range_begin-requires-clause-one
+range_begin-requires-clause-one g c =
+    subst (λ (n : ℕ). 0 < n) (sym (ap (λ (w : WriterValue). length w.head.keys) c.in_ok-coverage.ensures.writer ∙ as_many_keys c.args.head.now)) c.requires.head.valid.some

@@ -6,7 +6,7 @@ use Rattle.covjson_write.specs.declared.range_heads.RangeHead.{RangeHead}
 use Rattle.covjson_write.specs.Pieces.{head_of, values_from}
 use Rattle.covjson_write.specs.Writers.{WriterValue}
 use Rattle.edr_feed.specs.MadeParts.{opening, closing}
-use Rattle.edr_feed.proofs.MadeTexts.{stopped_first, stopped, wrote_third}
+use Rattle.edr_feed.proofs.MadeTexts.{as_many_keys, stopped_first, stopped, wrote_third}
 use Rattle.edr_feed.proofs.made_texts.write_coverage.Goals as goal
 
 pub returns-in_err-writer-clause-text : goal.returns-in_err-writer-clause-text
@@ -44,3 +44,8 @@ returns-clause-text g c =
     wrote_third c.end_coverage.result (g.K.Sink.written c.args.sink.now) begun done after (opening c.args.head.now) (values_from 0 c.args.values.now) (closing (head_of c.args.head.now)) c.in_ok-writer.ensures.bytes.whole
     (subst (λ (w : WriterValue). done ≡ append_known begun (values_from w.values c.args.values.now)) c.in_ok-writer.ensures.writer c.in_ok-values.ensures.bytes.whole)
     (subst (λ (h : RangeHead). Writes c.end_coverage.result (closing h) done after) kept c.end_coverage.ensures.bytes)
+
+pub end_coverage-requires-clause-one : goal.end_coverage-requires-clause-one
+end_coverage-requires-clause-one g c =
+    ap (λ (w : WriterValue). length w.head.keys) c.in_ok-values.ensures.writer
+    ∙ (ap (λ (w : WriterValue). length w.head.keys) c.in_ok-writer.ensures.writer ∙ (as_many_keys c.args.head.now ∙ c.requires.one))

@@ -1,11 +1,11 @@
-use Rattle.std.proofs.Common.{◌≡◌, ◌+◌, ◌*◌, subst, ap, ◌∙◌, arith}
+use Rattle.std.proofs.Common.{◌≡◌, length, ◌+◌, ◌*◌, subst, ap, ◌∙◌, arith}
 use Rattle.edr_base.specs.Calls.{Writes}
 use Rattle.covjson_value.specs.Domains.{count_of}
 use Rattle.covjson_write.specs.declared.range_heads.RangeHead.{RangeHead}
 use Rattle.covjson_write.specs.Pieces.{head_of, values_from}
 use Rattle.covjson_write.specs.Writers.{WriterValue}
 use Rattle.edr_feed.specs.MadeParts.{opening, closing}
-use Rattle.edr_feed.proofs.MadeTexts.{stopped_first, stopped, wrote_third}
+use Rattle.edr_feed.proofs.MadeTexts.{as_many_keys, stopped_first, stopped, wrote_third}
 use Rattle.edr_feed.specs.Made.{grid_values}
 use Rattle.edr_feed.proofs.made_texts.write_grid_coverage.Goals as goal
 
@@ -40,3 +40,8 @@ returns-clause-text g c =
     wrote_third c.end_coverage.result (g.K.Sink.written c.args.sink.now) (g.K.Sink.written c.begin_coverage.new.sink) done after
     (opening c.args.head.now) (values_from 0 (grid_values c.args.number c.args.rows c.args.columns)) (closing (head_of c.args.head.now)) c.in_ok-writer.ensures.bytes.whole c.in_ok-write_rows.ensures.bytes.whole
     (subst (λ (h : RangeHead). Writes c.end_coverage.result (closing h) done after) kept c.end_coverage.ensures.bytes)
+
+pub end_coverage-requires-clause-one : goal.end_coverage-requires-clause-one
+end_coverage-requires-clause-one g c =
+    ap (λ (w : WriterValue). length w.head.keys) c.in_ok-write_rows.ensures.writer
+    ∙ (ap (λ (w : WriterValue). length w.head.keys) c.in_ok-writer.ensures.writer ∙ (as_many_keys c.args.head.now ∙ c.requires.one))

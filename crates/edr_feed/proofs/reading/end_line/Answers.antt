@@ -15,6 +15,23 @@ returns-in_err-take_line-clause-read c = λ bytes h.
     let p = err_from_is_err_and c.from_residual.result c.from_residual.ensures.1 in
     rw (p.1, p.2) (line_fault bytes c.args.now.now _ h c.in_err-take_line.ensures.takes below)
 
+pub overflow_add-now : goal.overflow_add-now
+overflow_add-now c =
+    let h = c.requires.read in
+    omega (arith, read_length c.requires.bytes c.args.now.now h, h.within)
+
+pub overflow_add-now-2 : goal.overflow_add-now-2
+overflow_add-now-2 c =
+    let h = c.requires.read in
+    let same = ap (λ (r : Reading). r.length) c.in_ok-take_line.ensures.takes.1 in
+    omega (arith, same, read_length c.requires.bytes c.args.now.now h, h.within)
+
+pub overflow_add-now-3 : goal.overflow_add-now-3
+overflow_add-now-3 c =
+    let h = c.requires.read in
+    let same = ap (λ (r : Reading). r.ended + r.length) c.in_ok-take_line.ensures.takes.1 in
+    omega (arith, same, read_length c.requires.bytes c.args.now.now h, h.within)
+
 pub overflow_add-now-4 : goal.overflow_add-now-4
 overflow_add-now-4 c =
     let h = c.requires.read in

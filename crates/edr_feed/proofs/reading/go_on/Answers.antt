@@ -11,6 +11,16 @@ returns-then-part-now-clause-read c = λ bytes h rest.
     let beyond : feed_limit < length bytes + length part = omega arith in
     too_long bytes part rest c.args.now.now h c.requires.plain (omega arith) (omega (arith, length-append (bytes ++ part) rest, length-append bytes part))
 
+pub overflow_sub-now : goal.overflow_sub-now
+overflow_sub-now c =
+    let h = c.requires.reading.read in
+    omega (arith, read_length c.requires.reading.bytes c.args.now.now h, h.within)
+
+pub overflow_sub-now-2 : goal.overflow_sub-now-2
+overflow_sub-now-2 c =
+    let h = c.requires.reading.read in
+    omega (arith, read_length c.requires.reading.bytes c.args.now.now h, h.within)
+
 pub overflow_sub-room : goal.overflow_sub-room
 overflow_sub-room c =
     let h = c.requires.reading.read in

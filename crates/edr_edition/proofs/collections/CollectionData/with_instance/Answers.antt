@@ -13,7 +13,7 @@ with-requires-clause-collection c =
     let collection = c.args.self.now in
     let is : IsCollection collection = subst IsCollection c.self.view_is c.self.invariant.0 in
     let one : IsInstance c.args.instance = subst IsInstance c.instance.view_is c.instance.invariant.0 in
-    let list : c.in_ok-instances.instances ≡ collection.instances = c.in_ok-instances.ensures ∙ ap (λ (b : CollectionValue). b.instances) c.self.view_is in
+    let list : c.in_ok-parameters.instances ≡ collection.instances = c.in_ok-parameters.ensures.instances in
     let set : c.put.new.self ≡ with_item instance_id c.args.instance collection.instances = c.in_ok-put.ensures.put ∙ ap (with_item instance_id c.args.instance) list in
-    subst IsCollection (sym (instance_set collection is c.requires.kind (arc_value c.in_ok-parameters.parameters) c.put.new.self c.args.instance c.in_ok-parameters.ensures set))
+    subst IsCollection (sym (instance_set collection is c.requires.kind (arc_value c.in_ok-parameters.parameters) c.put.new.self c.args.instance c.in_ok-parameters.ensures.parameters set))
     (set_instance_keeps collection c.args.instance is one c.requires.kind c.requires.same)
