@@ -59,3 +59,6 @@ returns-clause-reads c =
         counts = wanted ∙ (sym c.has_members.ensures ∙ c.if-not-has_members.false);
       }),
     )
+
+pub returns-clause-is : goal.returns-clause-is
+returns-clause-is c = (c.in_ok-id.ensures.1, (c.in_ok-title.ensures.utf8, (c.in_ok-crs.ensures.utf8, c.in_ok-vertical.ensures.utf8)))

@@ -67,3 +67,6 @@ returns-clause-reads c =
       }),
       c.in_ok-coverage.ensures.stands,
     )
+
+pub returns-clause-is : goal.returns-clause-is
+returns-clause-is c = (c.in_ok-collection.ensures.1, (c.in_ok-id.ensures.1, (c.in_ok-label.ensures.utf8, c.in_ok-coverage.ensures.valid)))
