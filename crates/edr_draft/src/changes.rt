@@ -6,7 +6,7 @@ use edr_base::{OutOfMemory, Text};
 use edr_edition::Kind;
 
 /// One change of the collections of a draft. Ids are names, other texts are UTF-8, and coverages are valid.
-#[derive(Debug, Drop)]
+#[derive(Drop)]
 pub enum Change {
     /// A new empty collection.
     Collection {

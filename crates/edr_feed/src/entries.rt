@@ -3,7 +3,7 @@
 use edr_draft::Change as DraftChange;
 
 /// What a line says.
-#[derive(Debug, Drop)]
+#[derive(Drop)]
 pub enum Entry {
     /// A change of the draft. A bare coverage is published at once.
     Change(DraftChange),
