@@ -1,5 +1,5 @@
-//! Tests of documents, which are written, read, and written as tables, and of stations, of editions, of drafts of them, and
-//! of feeds.
+//! Tests of the outside, of names and refusals, of digits and of texts; of documents, which are written, read, and written as
+//! tables; and of stations, of editions, of drafts of them, and of feeds.
 #![tactic(auto)]
 
 #[cfg(test)]
@@ -15,11 +15,15 @@ mod feeds;
 #[cfg(test)]
 mod lines;
 #[cfg(test)]
+mod outside;
+#[cfg(test)]
 mod reading;
 #[cfg(test)]
 mod stations;
 #[cfg(test)]
 mod tables;
+#[cfg(test)]
+mod texts;
 #[cfg(test)]
 mod validity;
 #[cfg(test)]

@@ -91,16 +91,16 @@ fn written(
     document: &Document,
     fails: &[u64],
     end: Result<(), SendFault>,
-) -> Option<MemorySink> {
+) -> Option<Vec<u8>> {
     if !document.is_valid() {
         return None;
     }
-    let mut sink = MemorySink::of(alloc, 1_000_000, Vec::from_slice(alloc, fails).ok()?);
-    if write_table(alloc, document, &mut sink) == end {
-        Some(sink)
-    } else {
-        None
+    let fails = Vec::from_slice(alloc, fails).ok()?;
+    let mut sink = MemorySink::of(alloc, 1_000_000, fails);
+    if write_table(alloc, document, &mut sink) != end {
+        return None;
     }
+    Vec::from_slice(alloc, sink.written()).ok()
 }
 
 // Whether a long table begins with two pieces of some 8,192 bytes.
@@ -116,7 +116,7 @@ fn goes_out_in_pieces(alloc: Global) -> Option<bool> {
     let document = row(alloc, 2_000)?;
     let whole = written(alloc, &document, &[], Ok(()))?;
     let broken = written(alloc, &document, &[3], Err(SendFault::WriteFault))?;
-    Some(begins_with_pieces(whole.written(), broken.written()))
+    Some(begins_with_pieces(&whole, &broken))
 }
 
 #[test]

@@ -42,61 +42,41 @@ pub fn add_collection(
     Ok(())
 }
 
-// The collection of an id, shared, where a grid may become its instance of an id, or the first fault.
-fn held_for_grid(
+// The collection of an id, where a grid may become its instance of an id, or the first fault.
+fn held_for_grid<'a>(
     alloc: Global,
-    collections: &ById<CollectionData>,
+    collections: &'a ById<CollectionData>,
     collection: &[u8],
     id: &[u8],
     coverage: &Coverage,
-) -> Result<CollectionData, ChangeFault>
+) -> Result<&'a CollectionData, ChangeFault>
     requires collections { AreCollections collections.now }
     requires coverage { IsValid coverage.now }
     ensures finds { Finds (AppliesToSet (as_instance id.now) (collection_in collections.now collection.now) coverage.now) result }
-    ensures held { IfOk result (λ held. collection_in collections.now collection.now ≡ Some held) }
-    ensures fits { IfOk result (λ held. Fits (as_instance id.now) held coverage.now) }
+    ensures held { IfOk result (λ held. collection_in collections.now collection.now ≡ Some held.now) }
+    ensures fits { IfOk result (λ held. Fits (as_instance id.now) held.now coverage.now) }
 {
     let Some(held) = collections.item_of(collection) else {
         return Err(ChangeFault::UnknownCollection);
     };
     check_grid(alloc, held, id, coverage)?;
-    Ok(held.share()?)
+    Ok(held)
 }
 
-// Sets the instance that a grid is, in a collection that it fits.
-fn set_grid(
+// A collection with the instance that a grid is, which fits it.
+fn with_grid(
     alloc: Global,
-    collection: &mut CollectionData,
+    collection: &CollectionData,
     id: Text,
     coverage: Coverage,
-) -> Result<(), OutOfMemory>
+) -> Result<CollectionData, OutOfMemory>
     requires id { IsName id }
     requires coverage { IsValid coverage }
-    requires fits { Fits (as_instance id) collection.old coverage }
-    ensures set { OnOk result (collection.new ≡ with_grid id coverage collection.old) }
-    ensures kept { OnErr result (collection.new ≡ collection.old) }
+    requires fits { Fits (as_instance id) collection.now coverage }
+    ensures { IfOk result (λ set. set ≡ with_grid id coverage collection.now) }
 {
     let instance = GridInstance::of(alloc, id, coverage)?;
-    collection.set_instance(alloc, instance)
-}
-
-// Sets an instance of a collection that it fits, and sets that among the collections.
-fn put_with_grid(
-    alloc: Global,
-    collections: &mut ById<CollectionData>,
-    collection: CollectionData,
-    id: Text,
-    coverage: Coverage,
-) -> Result<(), OutOfMemory>
-    requires id { IsName id }
-    requires coverage { IsValid coverage }
-    requires fits { Fits (as_instance id) collection coverage }
-    ensures put { OnOk result (collections.new ≡ with_item collection_id (with_grid id coverage collection) collections.old) }
-    ensures kept { OnErr result (collections.new ≡ collections.old) }
-{
-    let mut collection = collection;
-    set_grid(alloc, &mut collection, id, coverage)?;
-    collections.put(alloc, collection)
+    collection.with_instance(alloc, instance)
 }
 
 /// Sets an instance: UnknownCollection, and then as the grid is.
@@ -113,45 +93,45 @@ pub fn set_instance(
     ensures made { IsMade collections.old (Grid collection.now id coverage) result collections.new }
 {
     let held = held_for_grid(alloc, collections, collection, id.bytes(), &coverage)?;
-    put_with_grid(alloc, collections, held, id, coverage)?;
+    let set = with_grid(alloc, held, id, coverage)?;
+    collections.put(alloc, set)?;
     Ok(())
 }
 
-// The collection of an id, shared, where a series may become its station of an id, or the first fault.
-fn held_for_series(
+// The collection of an id, where a series may become its station of an id, or the first fault.
+fn held_for_series<'a>(
     alloc: Global,
-    collections: &ById<CollectionData>,
+    collections: &'a ById<CollectionData>,
     collection: &[u8],
     id: &[u8],
     coverage: &Coverage,
-) -> Result<CollectionData, ChangeFault>
+) -> Result<&'a CollectionData, ChangeFault>
     requires collections { AreCollections collections.now }
     requires coverage { IsValid coverage.now }
     ensures finds { Finds (AppliesToSet (as_station id.now) (collection_in collections.now collection.now) coverage.now) result }
-    ensures held { IfOk result (λ held. collection_in collections.now collection.now ≡ Some held) }
-    ensures fits { IfOk result (λ held. Fits (as_station id.now) held coverage.now) }
+    ensures held { IfOk result (λ held. collection_in collections.now collection.now ≡ Some held.now) }
+    ensures fits { IfOk result (λ held. Fits (as_station id.now) held.now coverage.now) }
 {
     let Some(held) = collections.item_of(collection) else {
         return Err(ChangeFault::UnknownCollection);
     };
     check_series(alloc, held, id, coverage)?;
-    Ok(held.share()?)
+    Ok(held)
 }
 
-// Sets the station that a series is, in a collection that it fits.
-fn set_series(
+// A collection with the station that a series is, which fits it.
+fn with_series(
     alloc: Global,
-    collection: &mut CollectionData,
+    collection: &CollectionData,
     id: Text,
     label: Text,
     coverage: Coverage,
-) -> Result<(), OutOfMemory>
+) -> Result<CollectionData, OutOfMemory>
     requires id { IsName id }
     requires label { IsUtf8 label }
     requires coverage { IsValid coverage }
-    requires fits { Fits (as_station id) collection.old coverage }
-    ensures set { OnOk result (collection.new ≡ with_series id label coverage collection.old) }
-    ensures kept { OnErr result (collection.new ≡ collection.old) }
+    requires fits { Fits (as_station id) collection.now coverage }
+    ensures { IfOk result (λ set. set ≡ with_series id label coverage collection.now) }
 {
     let Coverage {
         id: _,
@@ -161,7 +141,7 @@ fn set_series(
         ranges,
     } = coverage;
     let input = input_of(alloc, id, label, domain, ranges)?;
-    collection.set_station(alloc, parameters, input)
+    collection.with_station(alloc, parameters, input)
 }
 
 /// Sets a station: UnknownCollection, and then as the series is.
@@ -179,9 +159,9 @@ pub fn set_station(
     requires coverage { IsValid coverage }
     ensures made { IsMade collections.old (Station collection.now id label coverage) result collections.new }
 {
-    let mut held = held_for_series(alloc, collections, collection, id.bytes(), &coverage)?;
-    set_series(alloc, &mut held, id, label, coverage)?;
-    collections.put(alloc, held)?;
+    let held = held_for_series(alloc, collections, collection, id.bytes(), &coverage)?;
+    let set = with_series(alloc, held, id, label, coverage)?;
+    collections.put(alloc, set)?;
     Ok(())
 }
 
@@ -217,11 +197,9 @@ pub fn drop_instance(
     if held.kind() != Kind::Grid {
         return Err(ChangeFault::WrongKind);
     }
-    let mut left = held.share()?;
-    let there = left.take_instance(alloc, id)?;
-    if !there {
+    let Some(left) = held.without_instance(alloc, id)? else {
         return Err(ChangeFault::UnknownInstance);
-    }
+    };
     collections.put(alloc, left)?;
     Ok(())
 }
@@ -242,11 +220,9 @@ pub fn drop_station(
     if held.kind() != Kind::Station {
         return Err(ChangeFault::WrongKind);
     }
-    let mut left = held.share()?;
-    let there = left.take_station(alloc, id)?;
-    if !there {
+    let Some(left) = held.without_station(alloc, id)? else {
         return Err(ChangeFault::UnknownStation);
-    }
+    };
     collections.put(alloc, left)?;
     Ok(())
 }
@@ -317,6 +293,7 @@ pub fn set_bare(
     ensures made { IsMade collections.old (Bare coverage) result collections.new }
 {
     let (id, held) = bare_place(alloc, collections, &coverage)?;
-    put_with_grid(alloc, collections, held, id, coverage)?;
+    let set = with_grid(alloc, &held, id, coverage)?;
+    collections.put(alloc, set)?;
     Ok(())
 }

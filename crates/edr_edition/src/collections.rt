@@ -345,8 +345,10 @@ impl CollectionData {
         Ok((instance.share_parameters()?, self.instances.share()?))
     }
 
-    // The same collection with an instance, in place of one of its id.
-    fn with_instance(
+    /// The same collection with an instance, in place of one of its id. Other instances have the same parameters.
+    ///
+    /// The only error is want of memory, after which the instance is given up.
+    pub fn with_instance(
         &self,
         alloc: Global,
         instance: GridInstance,
@@ -361,37 +363,30 @@ impl CollectionData {
         self.with(Some(parameters), instances, None)
     }
 
-    /// Sets an instance, in place of one of its id. Other instances have the same parameters.
-    ///
-    /// After want of memory, its only error, the collection is as it was, and the instance is given up.
-    pub fn set_instance(&mut self, alloc: Global, instance: GridInstance) -> Result<(), OutOfMemory>
-        requires kind { self.old.kind ≡ Grid }
-        requires same { without_id instance_id instance.id self.old.instances ≢ [] → self.old.parameters ≡ instance.parameters }
-        ensures set { OnOk result (self.new ≡ with_instance instance self.old) }
-        ensures kept { OnErr result (self.new ≡ self.old) }
-    {
-        *self = self.with_instance(alloc, instance)?;
-        Ok(())
-    }
-
-    /// Takes out the instance of an id, and says whether there was one.
-    ///
-    /// After want of memory, its only error, the collection is as it was.
-    pub fn take_instance(&mut self, alloc: Global, id: &[u8]) -> Result<bool, OutOfMemory>
-        requires kind { self.old.kind ≡ Grid }
-        ensures was { IfOk result (λ was. was ≡ is_some (ids.item_of instance_id id.now self.old.instances)) }
-        ensures without { OnOk result (self.new ≡ without_instance id.now self.old) }
-        ensures kept { OnErr result (self.new ≡ self.old) }
+    /// The same collection without the instance of an id; None exactly where there is no such instance. The only error is
+    /// want of memory.
+    pub fn without_instance(
+        &self,
+        alloc: Global,
+        id: &[u8],
+    ) -> Result<Option<CollectionData>, OutOfMemory>
+        requires { self.now.kind ≡ Grid }
+        ensures there { IfOk result (λ left. is_some left ≡ is_some (ids.item_of instance_id id.now self.now.instances)) }
+        ensures left { IfOk result (λ left. IfSome left (λ collection. collection ≡ without_instance id.now self.now)) }
     {
         let mut instances = self.instances.share()?;
-        let was = instances.take_out(alloc, id)?;
+        if !instances.take_out(alloc, id)? {
+            return Ok(None);
+        }
         let parameters = self.share_parameters(instances.len())?;
-        *self = self.with(parameters, instances, None)?;
-        Ok(was)
+        Ok(Some(self.with(parameters, instances, None)?))
     }
 
-    // The same collection with a station of some parameters, in place of one of its id.
-    fn with_station(
+    /// The same collection with a station of some parameters, in place of one of its id. Other stations have the same
+    /// parameters, and levels exactly where it has.
+    ///
+    /// The only error is want of memory, after which the station is given up.
+    pub fn with_station(
         &self,
         alloc: Global,
         parameters: Items<Parameter>,
@@ -413,44 +408,24 @@ impl CollectionData {
         self.with(Some(parameters), ById::empty(), Some(stations))
     }
 
-    /// Sets a station of some parameters, in place of one of its id. Other stations have the same parameters, and levels
-    /// exactly where it has.
-    ///
-    /// After want of memory, its only error, the collection is as it was, and the station is given up.
-    pub fn set_station(
-        &mut self,
+    /// The same collection without the station of an id; None exactly where there is no such station. The only error is want
+    /// of memory.
+    pub fn without_station(
+        &self,
         alloc: Global,
-        parameters: Items<Parameter>,
-        input: StationInput,
-    ) -> Result<(), OutOfMemory>
-        requires kind { self.old.kind ≡ Station }
-        requires parameters { AreParameters parameters }
-        requires input { IsInput input }
-        requires counts { HasCounts (length parameters) input }
-        requires few { values_along (station_of input) ≤ node_limit }
-        requires same { without_id station_id input.id self.old.stations ≢ [] → self.old.parameters ≡ parameters }
-        requires alike { All (λ (s : StationValue). is_some s.zs ≡ is_some input.levels) (without_id station_id input.id self.old.stations) }
-        ensures set { OnOk result (self.new ≡ with_station parameters (station_of input) self.old) }
-        ensures kept { OnErr result (self.new ≡ self.old) }
-    {
-        *self = self.with_station(alloc, parameters, input)?;
-        Ok(())
-    }
-
-    /// Takes out the station of an id, and says whether there was one.
-    ///
-    /// After want of memory, its only error, the collection is as it was.
-    pub fn take_station(&mut self, alloc: Global, id: &[u8]) -> Result<bool, OutOfMemory>
-        requires kind { self.old.kind ≡ Station }
-        ensures was { IfOk result (λ was. was ≡ is_some (ids.item_of station_id id.now self.old.stations)) }
-        ensures without { OnOk result (self.new ≡ without_station id.now self.old) }
-        ensures kept { OnErr result (self.new ≡ self.old) }
+        id: &[u8],
+    ) -> Result<Option<CollectionData>, OutOfMemory>
+        requires { self.now.kind ≡ Station }
+        ensures there { IfOk result (λ left. is_some left ≡ is_some (ids.item_of station_id id.now self.now.stations)) }
+        ensures left { IfOk result (λ left. IfSome left (λ collection. collection ≡ without_station id.now self.now)) }
     {
         let _ = &self.head;
         let mut stations = self.share_stations()?;
-        let was = stations.take_out(alloc, id)?;
+        if !stations.take_out(alloc, id)? {
+            return Ok(None);
+        }
         let parameters = self.share_parameters(stations.len())?;
-        *self = self.with(parameters, ById::empty(), Some(some_or_new(stations)))?;
-        Ok(was)
+        let left = self.with(parameters, ById::empty(), Some(some_or_new(stations)))?;
+        Ok(Some(left))
     }
 }

@@ -1,4 +1,6 @@
-use Rattle.std.proofs.Common.{◌≡◌, true, false, is_some, refl, sym, ap, ◌∙◌}
+use Rattle.std.proofs.Common.{◌≡◌, true, false, is_some, refl, sym, ap, ◌∙◌, subst}
+use Rattle.std.specs.declared.option.Option.{Option}
+use Rattle.std.specs.Option.{IfSome}
 use Rattle.edr_ids.specs.Ids.{item_of}
 use Rattle.edr_edition.specs.declared.kinds.Kind.TheVariants.{Grid}
 use Rattle.edr_edition.specs.Values.{CollectionValue, instance_id}
@@ -17,13 +19,12 @@ returns-then-ne c =
     let other = kind_differs c.kind.result held.kind Grid c.ne.result c.kind.ensures.kind c.ne.ensures c.if-ne.true in
     record { made = record { finds = λ _. dropping_wrong_kind c.args.collections.now held c.args.collection.now c.args.id.now c.in-Some.ensures other; becomes = refl } }
 
-pub returns-then-not-there : goal.returns-then-not-there
-returns-then-not-there c =
+pub returns-in_default-2 : goal.returns-in_default-2
+returns-in_default-2 c =
     let held = c.in-Some.held.now in
     let id = c.args.id.now in
     let kind = kind_is c.kind.result held.kind Grid c.ne.result c.kind.ensures.kind c.ne.ensures c.if-ne.false in
-    let lacks : is_some (item_of instance_id id held.instances) ≡ false =
-    ap (λ (b : CollectionValue). is_some (item_of instance_id id b.instances)) (sym c.in_ok-left.ensures) ∙ sym c.in_ok-there.ensures.was ∙ c.if-not-there.true in
+    let lacks : is_some (item_of instance_id id held.instances) ≡ false = sym c.in_ok-left.ensures.there ∙ ap is_some c.in_default-2.is in
     record { made = record { finds = λ _. dropping_unknown_instance c.args.collections.now held c.args.collection.now id c.in-Some.ensures kind lacks; becomes = refl } }
 
 pub returns : goal.returns
@@ -32,11 +33,11 @@ returns c =
     let held = c.in-Some.held.now in
     let id = c.args.id.now in
     let kind = kind_is c.kind.result held.kind Grid c.ne.result c.kind.ensures.kind c.ne.ensures c.if-ne.false in
-    let has : is_some (item_of instance_id id held.instances) ≡ true =
-    ap (λ (b : CollectionValue). is_some (item_of instance_id id b.instances)) (sym c.in_ok-left.ensures) ∙ sym c.in_ok-there.ensures.was ∙ c.if-not-there.false in
+    let has : is_some (item_of instance_id id held.instances) ≡ true = sym c.in_ok-left.ensures.there ∙ ap is_some c.in-Some-2.is in
+    let left = subst (λ (o : Option CollectionValue). IfSome o (λ collection. collection ≡ without_instance id held)) c.in-Some-2.is c.in_ok-left.ensures.left in
     record {
       made = record {
         finds = dropping_no_fault cs held c.args.collection.now id c.in-Some.ensures kind has;
-        becomes = c.in_ok-put.ensures.put ∙ instance_left cs held c.args.collection.now id c.in-Some.ensures c.take_instance.new.self (c.in_ok-there.ensures.without ∙ ap (without_instance id) c.in_ok-left.ensures);
+        becomes = c.in_ok-put.ensures.put ∙ instance_left cs held c.args.collection.now id c.in-Some.ensures c.in-Some-2.left left;
       };
     }

@@ -22,7 +22,7 @@ pub returns-clause-finds : goal.returns-clause-finds
 returns-clause-finds c = subst (λ o. NoneApplies (AppliesToSet (as_station c.args.id.now) o c.args.coverage.now)) c.in-Some.ensures c.in_ok-check_series.ensures
 
 pub returns-clause-held : goal.returns-clause-held
-returns-clause-held c = sym c.in-Some.ensures ∙ ap Some (sym c.in_ok-share.ensures)
+returns-clause-held c = sym c.in-Some.ensures
 
 pub returns-clause-fits : goal.returns-clause-fits
 returns-clause-fits c =
@@ -30,4 +30,4 @@ returns-clause-fits c =
     let coverage = c.args.coverage.now in
     let setting = as_station c.args.id.now in
     let is = found_is_collection c.args.collections.now c.args.collection.now held c.requires.collections (sym c.in-Some.ensures) in
-    subst (λ b. Fits setting b coverage) (sym c.in_ok-share.ensures) (fits setting held coverage is c.requires.coverage c.in_ok-check_series.ensures)
+    fits setting held coverage is c.requires.coverage c.in_ok-check_series.ensures

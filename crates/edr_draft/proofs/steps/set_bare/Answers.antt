@@ -1,5 +1,7 @@
-use Rattle.std.proofs.Common.{sym, subst}
+use Rattle.std.proofs.Common.{sym, ap, ◌∙◌, subst}
 use Rattle.edr_base.specs.Names.{IsName}
+use Rattle.edr_ids.specs.Ids.{with_item}
+use Rattle.edr_edition.specs.Values.{collection_id}
 use Rattle.edr_draft.specs.declared.changes.Change.TheVariants.{Bare}
 use Rattle.edr_draft.specs.Changes.{as_instance}
 use Rattle.edr_draft.specs.Steps.{Fits}
@@ -7,11 +9,11 @@ use Rattle.edr_draft.proofs.CollectionLaws.{one_is_name}
 use Rattle.edr_draft.proofs.StepLaws.{becomes_with_bare, still_made}
 use Rattle.edr_draft.proofs.steps.set_bare.Goals as goal
 
-pub put_with_grid-requires-clause-id : goal.put_with_grid-requires-clause-id
-put_with_grid-requires-clause-id c = subst IsName (sym c.in_ok-id.ensures.id) one_is_name
+pub with_grid-requires-clause-id : goal.with_grid-requires-clause-id
+with_grid-requires-clause-id c = subst IsName (sym c.in_ok-id.ensures.id) one_is_name
 
-pub put_with_grid-requires-clause-fits : goal.put_with_grid-requires-clause-fits
-put_with_grid-requires-clause-fits c = subst (λ i. Fits (as_instance i) c.in_ok-id.held c.args.coverage) (sym c.in_ok-id.ensures.id) c.in_ok-id.ensures.fits
+pub with_grid-requires-clause-fits : goal.with_grid-requires-clause-fits
+with_grid-requires-clause-fits c = subst (λ i. Fits (as_instance i) c.in_ok-id.held c.args.coverage) (sym c.in_ok-id.ensures.id) c.in_ok-id.ensures.fits
 
 pub returns-in_err-id : goal.returns-in_err-id
 returns-in_err-id c =
@@ -23,7 +25,7 @@ returns c =
       made = record {
         finds = c.in_ok-id.ensures.finds;
         becomes =
-            becomes_with_bare c.args.collections.now c.put_with_grid.new.collections c.in_ok-id.id c.args.coverage c.in_ok-id.held c.in_ok-id.ensures.held c.in_ok-id.ensures.id
-            c.in_ok-put_with_grid.ensures.put;
+            becomes_with_bare c.args.collections.now c.put.new.self c.in_ok-id.id c.args.coverage c.in_ok-id.held c.in_ok-id.ensures.held c.in_ok-id.ensures.id
+            (c.in_ok-put.ensures.put ∙ ap (λ b. with_item collection_id b c.args.collections.now) c.in_ok-set.ensures);
       };
     }

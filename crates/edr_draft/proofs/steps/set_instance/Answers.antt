@@ -1,5 +1,7 @@
-use Rattle.std.proofs.Common.{◌≢◌, subst}
+use Rattle.std.proofs.Common.{◌≢◌, ap, ◌∙◌, subst}
 use Rattle.edr_base.specs.FirstThatApplies.{IsLeast, NoneApplies}
+use Rattle.edr_ids.specs.Ids.{with_item}
+use Rattle.edr_edition.specs.Values.{collection_id}
 use Rattle.edr_draft.specs.declared.changes.Change.TheVariants.{Grid}
 use Rattle.edr_draft.specs.declared.changes.ChangeFault.TheVariants.{OutOfMemory}
 use Rattle.edr_draft.specs.Changes.{rank, as_instance, AppliesToSet}
@@ -8,8 +10,8 @@ use Rattle.edr_draft.specs.Steps.{Fits}
 use Rattle.edr_draft.proofs.StepLaws.{becomes_with_grid, still_made}
 use Rattle.edr_draft.proofs.steps.set_instance.Goals as goal
 
-pub put_with_grid-requires-clause-fits : goal.put_with_grid-requires-clause-fits
-put_with_grid-requires-clause-fits c = subst (λ i. Fits (as_instance i) c.in_ok-held.held c.args.coverage) c.bytes.ensures c.in_ok-held.ensures.fits
+pub with_grid-requires-clause-fits : goal.with_grid-requires-clause-fits
+with_grid-requires-clause-fits c = subst (λ i. Fits (as_instance i) c.in_ok-held.held.now c.args.coverage) c.bytes.ensures c.in_ok-held.ensures.fits
 
 pub returns-in_err-held : goal.returns-in_err-held
 returns-in_err-held c =
@@ -30,6 +32,8 @@ returns c =
     record {
       made = record {
         finds = subst (λ i. NoneApplies (AppliesToSet (as_instance i) (collection_in cs collection) coverage)) c.bytes.ensures c.in_ok-held.ensures.finds;
-        becomes = becomes_with_grid cs c.put_with_grid.new.collections collection c.args.id coverage c.in_ok-held.held c.in_ok-held.ensures.held c.in_ok-put_with_grid.ensures.put;
+        becomes =
+            becomes_with_grid cs c.put.new.self collection c.args.id coverage c.in_ok-held.held.now c.in_ok-held.ensures.held
+            (c.in_ok-put.ensures.put ∙ ap (λ b. with_item collection_id b cs) c.in_ok-set.ensures);
       };
     }

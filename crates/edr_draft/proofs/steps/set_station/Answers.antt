@@ -10,8 +10,8 @@ use Rattle.edr_draft.specs.Steps.{Fits}
 use Rattle.edr_draft.proofs.StepLaws.{becomes_with_series, still_made}
 use Rattle.edr_draft.proofs.steps.set_station.Goals as goal
 
-pub set_series-requires-clause-fits : goal.set_series-requires-clause-fits
-set_series-requires-clause-fits c = subst (λ i. Fits (as_station i) c.in_ok-held.held c.args.coverage) c.bytes.ensures c.in_ok-held.ensures.fits
+pub with_series-requires-clause-fits : goal.with_series-requires-clause-fits
+with_series-requires-clause-fits c = subst (λ i. Fits (as_station i) c.in_ok-held.held.now c.args.coverage) c.bytes.ensures c.in_ok-held.ensures.fits
 
 pub returns-in_err-held : goal.returns-in_err-held
 returns-in_err-held c =
@@ -33,7 +33,7 @@ returns c =
       made = record {
         finds = subst (λ i. NoneApplies (AppliesToSet (as_station i) (collection_in cs collection) coverage)) c.bytes.ensures c.in_ok-held.ensures.finds;
         becomes =
-            becomes_with_series cs c.put.new.self collection c.args.id c.args.label coverage c.in_ok-held.held c.in_ok-held.ensures.held
-            (c.in_ok-put.ensures.put ∙ ap (λ b. with_item collection_id b cs) c.in_ok-set_series.ensures.set);
+            becomes_with_series cs c.put.new.self collection c.args.id c.args.label coverage c.in_ok-held.held.now c.in_ok-held.ensures.held
+            (c.in_ok-put.ensures.put ∙ ap (λ b. with_item collection_id b cs) c.in_ok-set.ensures);
       };
     }
