@@ -41,6 +41,18 @@ no_day text t1 t2 t3 t4 t5 a b c p q e r f none n rest x =
     let g : t5 ≡ pad2 x.day ++ rest = cc (p.1, q.1, e, r.1, f, x.text_is) in
     none x.day _ ((short_date x.year x.month x.day x.day_is).day_in, g)
 
+-- the calendar has no such day
+pub no_such_day : (text t1 t2 t3 t4 t5 t6 : List ℕ) (a b c d : ℕ) → IsPair text a t1 → IsPair t1 b t2 → t2 ≡ 45 ∷ t3
+    → IsPair t3 c t4 → t4 ≡ 45 ∷ t5
+    → IsPair t5 d t6 → ¬ (IsDay (a * 100 + b) c d) → HasNoDate text
+no_such_day text t1 t2 t3 t4 t5 t6 a b c d p q e r f s none n rest x =
+    let century = pair_unique a (x.year / 100) t1 _ (sym p.1 ∙ x.text_is) in
+    let years = marked_unique b (x.year % 100) 45 t3 _ (ap (λ t. pad2 b ++ t) (sym e) ∙ sym q.1 ∙ century.1) in
+    let months = marked_unique c x.month 45 t5 _ (ap (λ t. pad2 c ++ t) (sym f) ∙ sym r.1 ∙ years.1) in
+    let days = pair_unique d x.day t6 rest (sym s.1 ∙ months.1) in
+    let year : a * 100 + b ≡ x.year = omega (arith, century.0, years.0) in
+    none (rw (year, months.0, days.0) x.day_is)
+
 -- a text begins with at most one date, with one rest
 pub date_unique : (text : List ℕ) (n k : ℤ) (p q : List ℕ) → BeginsWithDate text n p → BeginsWithDate text k q
     → (n ≡ k) × (p ≡ q)
