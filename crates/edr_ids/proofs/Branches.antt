@@ -1,5 +1,7 @@
 -- A tree that isn't empty, as the items before the one at its top, it, and those behind it.
-use Rattle.std.proofs.Common.{◌≡◌, ◌<◌, ℕ, ◌+◌, List, ◌∷◌, ◌++◌, length, length-append, append_assoc, Option, Some, Result, Ok, Err, IfOk, sym, ap, ◌∙◌, subst, arith}
+use Rattle.std.proofs.Common.{◌≡◌, ◌<◌, ℕ, suc, ◌+◌, ◌-◌, List, get_or, ◌∷◌, ◌++◌, length, length-append, append_assoc, Option, Some, Result, Ok, Err, IfOk, sym, ap, ◌∙◌, subst, arith}
+use Rattle.std.proofs.Math.ListN.{get_or-append}
+use Rattle.std.proofs.Math.Seq.{get_or-append_seam, get_or-append_right}
 use Rattle.std.specs.Arc.{arc_value}
 use Rattle.std.specs.declared.sync.Arc.{Arc}
 use Rattle.std.specs.declared.alloc.Global.{Global}
@@ -53,3 +55,17 @@ followed_is (Ok tree) list whole made is = made ∙ is
 -- a side behind another item
 pub behind_is : {T : Type 0} (before inner outer behind : List T) (item top : T) → behind ≡ inner ++ top ∷ outer → (before ++ item ∷ inner) ++ top ∷ outer ≡ before ++ item ∷ behind
 behind_is before inner outer behind item top is = append_assoc before (item ∷ inner) (top ∷ outer) ∙ ap (λ list. before ++ item ∷ list) (sym is)
+
+-- ---- the item at a place
+
+module _ {T : Type 0} (items before : List T) (item : T) (behind : List T) (place : ℕ) (d : T) (is : items ≡ before ++ item ∷ behind) where
+  pub at_before : place < length before → get_or before place d ≡ get_or items place d
+  at_before inside = sym (ap (λ list. get_or list place d) is ∙ get_or-append before (item ∷ behind) d place inside)
+
+  pub at_item : place ≡ length before → item ≡ get_or items place d
+  at_item here = sym (ap (λ list. get_or list place d) is ∙ (ap (λ n. get_or (before ++ item ∷ behind) n d) here ∙ get_or-append_seam before item behind d))
+
+  pub at_behind : length before < place → get_or behind (place - length before - 1) d ≡ get_or items place d
+  at_behind far =
+      let next : place - length before ≡ suc (place - length before - 1) = omega (arith, far) in
+      sym (ap (λ list. get_or list place d) is ∙ (get_or-append_right before (item ∷ behind) place d (omega (arith, far)) ∙ ap (λ n. get_or (item ∷ behind) n d) next))

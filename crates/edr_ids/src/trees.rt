@@ -80,6 +80,7 @@ impl<T> Tree<T> {
         match &self.top {
             None => unreachable!(),
             Some(branch) => {
+                let branch: &Branch<T> = branch;
                 let before = branch.before.len();
                 if place < before {
                     branch.before.at(place)
