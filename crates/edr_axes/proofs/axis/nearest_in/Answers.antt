@@ -50,3 +50,9 @@ bounds-values-place c =
     let split = split_at (goal.at.bounds-values-place c).After-count_below-place in
     let within = split.within in
     omega (arith, c.if-place-values.false)
+
+pub bounds-values-place-2 : goal.bounds-values-place-2
+bounds-values-place-2 c =
+    let split = split_at (goal.at.bounds-values-place-2 c).After-count_below-place in
+    let within = split.within in
+    omega (arith, c.if-place-eq0.false)

@@ -26,3 +26,10 @@ returns-in-Some-series_of-clause-text c =
     let first_fits = level_fits c.in-Some-series_of.first series.first_is.within in
     let step_fits = level_fits c.in-Some-series_of.step series.step_is.within in
     simp to_z-of_z series
+
+pub returns-in-Some-range_of-clause-text : goal.returns-in-Some-range_of-clause-text
+returns-in-Some-range_of-clause-text c =
+    let range = c.in-Some-range_of.ensures in
+    let low_fits = level_fits c.in-Some-range_of.low range.low_is.within in
+    let high_fits = level_fits c.in-Some-range_of.high range.high_is.within in
+    simp to_z-of_z range
