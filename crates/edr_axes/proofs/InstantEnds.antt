@@ -132,6 +132,10 @@ zone_alone text z none x = elim x.fraction_is [
 
 -- ---- seconds and a zone
 
+-- a zone and no seconds
+pub zone_end : (text : List ℕ) (z : ℤ) → IsZone text z → IsEnd text 0 z
+zone_end text z x = record { second_text = []; zone = text; second_is = inl (refl, refl); zone_is = x; text_is = refl }
+
 pub second_below : (second : ℕ) (text : List ℕ) → IsSecond text second → second ≤ 59
 second_below second text (inl h) = let is = h.1 in omega arith
 second_below second text (inr h) = h.second_in

@@ -1,5 +1,5 @@
 //! Levels that a request selects.
-ghost use Rattle.std.specs.Prelude.{◌≡◌, ◌*◌, ◌<◌, ◌≤ℤ◌, ◌↔◌, ℕ, ℤ, List, IsTrue, IfOk, IfSome, MatchOption, Contains, Err};
+ghost use Rattle.std.specs.Prelude.{◌≡◌, ◌*◌, ◌<◌, ◌≤ℤ◌, ◌↔◌, ℕ, ℤ, List, [], ◌∷◌, ◌++◌, IsTrue, IfOk, IfSome, OnOk, MatchOption, Contains, Err};
 ghost use Rattle.edr_axes.specs.Levels.{AreLevelTexts, HasLevel, HasNoLevels, IsInSeries, IsLevel, IsLevels, IsLevelText, IsLevelsText, IsRangeText, IsSeries, IsSeriesText, LevelsAreUnique};
 
 use edr_base::{COORDINATE_LIMIT, Items, OutOfMemory, Whole, cut_at, whole_number, without_front};
@@ -127,6 +127,18 @@ fn series_of(text: &[u8]) -> Option<(i64, i64, i64)>
     Some((n, first, step))
 }
 
+// Puts the number that a text is behind the levels so far.
+fn push_level(levels: &mut Vec<i64>, text: &[u8]) -> Result<(), LevelFault>
+    ensures ok { OnOk result ((level : ℤ) × IsLevelText text.now level × (levels.new.items ≡ levels.old.items ++ level ∷ [])) }
+    ensures none { result ≡ Err LevelFault.NotLevels → (level : ℤ) → ¬ (IsLevelText text.now level) }
+{
+    let Some(level) = level_of(text) else {
+        return Err(LevelFault::NotLevels);
+    };
+    levels.push(level)?;
+    Ok(())
+}
+
 // The numbers of a list, of which there may be one.
 fn list_of(alloc: Global, text: &[u8]) -> Result<Vec<i64>, LevelFault>
     ensures ok { IfOk result (λ levels. AreLevelTexts text.now levels.items) }
@@ -135,16 +147,10 @@ fn list_of(alloc: Global, text: &[u8]) -> Result<Vec<i64>, LevelFault>
     let mut levels = Vec::new(alloc);
     let mut rest = text;
     while let Some((front, back)) = cut_at(rest, b',') {
-        let Some(level) = level_of(front) else {
-            return Err(LevelFault::NotLevels);
-        };
-        levels.push(level)?;
+        push_level(&mut levels, front)?;
         rest = back;
     }
-    let Some(level) = level_of(rest) else {
-        return Err(LevelFault::NotLevels);
-    };
-    levels.push(level)?;
+    push_level(&mut levels, rest)?;
     Ok(levels)
 }
 

@@ -1,6 +1,6 @@
 -- A call of a source, a sink, files or a link: its plan, the count of its faults, and what it gives or takes.
 use Rattle.std.proofs.Common.{◌≡◌, ◌==◌, ℕ, ◌+◌, ◌<◌, ◌≤◌, min, Bool, true, false, List, [], ◌∷◌, ◌++◌, map, Vec, length, take, drop, Some, Ok, Err, Result, sym, ap, ◌∙◌, arith}
-use Rattle.std.proofs.lemmas.Bool.{false≢true, eqb-false}
+use Rattle.std.proofs.lemmas.Bool.{false≢true, eqb-false, eqb-true}
 use Rattle.std.specs.Result.{IsErrAnd}
 use Rattle.std.proofs.lemmas.List.{map_push}
 use Rattle.std.specs.declared.alloc.Global.{Global}
@@ -58,6 +58,9 @@ cut_off n room cut least = omega (arith, least)
 -- a length that isn't 0
 pub no_room : (n : ℕ) → false ≡ (n == 0) → n ≡ 0 → ⊥
 no_room n e none = eqb-false n 0 (sym e) none
+
+pub no_some : (n : ℕ) → true ≡ (n == 0) → 0 < n → ⊥
+no_some n e some = let none = eqb-true n 0 (sym e) in omega (arith, none, some)
 
 pub some_room : (n : ℕ) → false ≡ (n == 0) → 0 < n
 some_room n e = let no = eqb-false n 0 (sym e) in omega (arith, no)

@@ -159,6 +159,16 @@ nodes_le s h = mul-le _ _ _ _ (mul-le-mul_left (s.times * s.levels) (along_le s.
 pub tiles_le : (s : GridShape) → IsShape s → tiles s ≤ count s
 tiles_le s h = mul-le-mul_left s.parameters (nodes_le s h)
 
+pub tile_shape_is : (s : GridShape) → IsShape s → IsShape (tile_shape s)
+tile_shape_is s h = record {
+  parameters = h.parameters;
+  times = h.times;
+  levels = h.levels;
+  rows = (along_le s.rows h.rows).0;
+  columns = (along_le s.columns h.columns).0;
+  few = omega (arith, nodes_le s h, h.few);
+}
+
 pub tile_within : (s : GridShape) (a : GridPlace) → Within s a → Within (tile_shape s) (tile_place a)
 tile_within s a w = record { parameter = w.parameter; t = w.t; z = w.z; y = omega (arith, w.y); x = omega (arith, w.x) }
 

@@ -1,8 +1,11 @@
 -- Lists of samples.
-use Rattle.std.proofs.Common.{◌≡◌, ℕ, ℤ, pos, ◌+◌, ◌<◌, ◌≤ℤ◌, ◌+ℤ◌, List, Option, Some, None, All, length, get_or, take, replicate, map, FitsSigned, to_z, of_z, w64, sym, ap, subst, ◌∙◌, arith, rules}
+use Rattle.std.proofs.Common.{◌≡◌, ℕ, ℤ, pos, ◌+◌, ◌<◌, ◌≤ℤ◌, ◌+ℤ◌, ◌-ℤ◌, List, Option, Some, None, All, length, get_or, take, replicate, map, FitsSigned, to_z, of_z, w64, sym, ap, subst, ◌∙◌, arith, rules}
+use Rattle.std.specs.Prelude.{Bool, true, false, cond, int_lt}
+use Rattle.std.specs.Int.{int_min, int_max}
 use Rattle.std.proofs.lemmas.Int.{ints, to_z-of_z}
 use Rattle.std.proofs.lemmas.List.{same_lists, get_or-replicate, length-replicate, length-map}
 use Rattle.std.proofs.lemmas.List.Elements.{All-more}
+use Rattle.edr_base.specs.Limits.{IsSample}
 use Rattle.edr_chunk.specs.Codes.{IsFloor, IsBetween, AreBetween, HasCode}
 
 -- a list of one item again and again
@@ -38,3 +41,31 @@ pub have_codes : (most : ℕ) (floor greatest : ℤ) (values : List (Option ℤ)
 have_codes most floor greatest values fits between high =
     let P : ℤ → Type 0 = λ f. All (HasCode most f) values in
     subst P (sym (to_z-of_z w64 floor fits)) (λ k d h. has_code most floor greatest (get_or values k d) high (between k d h))
+
+-- how far a sample is above a floor, which is computed in 64 bits
+pub apart : (value floor : ℤ) → IsSample value → IsFloor floor → to_z w64 (of_z w64 (to_z w64 (of_z w64 value) -ℤ to_z w64 (of_z w64 floor))) ≡ value -ℤ floor
+apart value floor sample is =
+    rw (to_z-of_z w64 value (omega (arith, ints)), to_z-of_z w64 floor (omega (arith, ints))) (to_z-of_z w64 (value -ℤ floor) (omega (arith, ints)))
+
+-- samples from a least one on are above the floor that is one below it
+pub floor_under : (least greatest : ℤ) (values : List (Option ℤ)) → IsSample least → IsSample greatest → AreBetween least greatest values
+    → AreBetween (to_z w64 (of_z w64 (to_z w64 (of_z w64 least) -ℤ pos 1)) +ℤ pos 1) (to_z w64 (of_z w64 greatest)) values
+floor_under least greatest values low high between =
+    let back : (least -ℤ pos 1) +ℤ pos 1 ≡ least = omega (arith, ints) in
+    rw (to_z-of_z w64 least (omega (arith, ints)), to_z-of_z w64 (least -ℤ pos 1) (omega (arith, ints)), to_z-of_z w64 greatest (omega (arith, ints)), back) between
+
+-- the lower and the higher of two samples are samples
+samples_min : (x y : ℤ) → IsSample x → IsSample y → IsSample (int_min x y)
+samples_min x y a b = elim (int_lt y x) as (λ (t : Bool). IsSample (cond t y x)) [ true ↦ b | false ↦ a ]
+
+samples_max : (x y : ℤ) → IsSample x → IsSample y → IsSample (int_max x y)
+samples_max x y a b = elim (int_lt y x) as (λ (t : Bool). IsSample (cond t x y)) [ true ↦ a | false ↦ b ]
+
+sample_back : (r : ℤ) → IsSample r → IsSample (to_z w64 (of_z w64 r))
+sample_back r is = subst IsSample (sym (to_z-of_z w64 r (omega (arith, ints)))) is
+
+pub lower_sample : (x y r : ℤ) → IsSample x → IsSample y → r ≡ int_min (to_z w64 (of_z w64 x)) (to_z w64 (of_z w64 y)) → IsSample (to_z w64 (of_z w64 r))
+lower_sample x y r a b is = sample_back r (subst IsSample (sym is) (samples_min (to_z w64 (of_z w64 x)) (to_z w64 (of_z w64 y)) (sample_back x a) (sample_back y b)))
+
+pub higher_sample : (x y r : ℤ) → IsSample x → IsSample y → r ≡ int_max (to_z w64 (of_z w64 x)) (to_z w64 (of_z w64 y)) → IsSample (to_z w64 (of_z w64 r))
+higher_sample x y r a b is = sample_back r (subst IsSample (sym is) (samples_max (to_z w64 (of_z w64 x)) (to_z w64 (of_z w64 y)) (sample_back x a) (sample_back y b)))

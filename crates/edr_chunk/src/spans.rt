@@ -8,7 +8,7 @@ use edr_base::SAMPLE_LIMIT;
 const GREATEST: i64 = SAMPLE_LIMIT as i64;
 
 /// The least and the greatest sample. Where there is none, the least is the greater one.
-#[derive(Clone, Copy, Debug)]
+#[derive(Clone, Copy)]
 pub struct Span {
     pub least: i64,
     pub greatest: i64,

@@ -80,6 +80,7 @@ impl<T> Tree<T> {
         match &self.top {
             None => unreachable!(),
             Some(branch) => {
+                let branch: &Branch<T> = branch;
                 let before = branch.before.len();
                 if place < before {
                     branch.before.at(place)
@@ -117,11 +118,11 @@ impl<T: Drop> Tree<T> {
     {
         match &self.top {
             None => Ok(None),
-            Some(branch) => Ok(Some((
-                branch.before.share()?,
-                Arc::try_clone(&branch.item)?,
-                branch.behind.share()?,
-            ))),
+            Some(branch) => {
+                let branch: &Branch<T> = branch;
+                let item = Arc::try_clone(&branch.item)?;
+                Ok(Some((branch.before.share()?, item, branch.behind.share()?)))
+            }
         }
     }
 }
@@ -135,25 +136,53 @@ fn joined<T: Drop>(
 ) -> Result<Tree<T>, OutOfMemory>
     ensures { IfOk result (λ tree. tree ≡ before ++ arc_value item ∷ behind) }
 {
-    let Some(others) = before.len().checked_add(behind.len()) else {
+    let (front, back) = (before.len(), behind.len());
+    if back >= usize::MAX - front {
         return Err(OutOfMemory);
-    };
-    let Some(len) = others.checked_add(1) else {
-        return Err(OutOfMemory);
-    };
+    }
     let branch = Branch {
         before,
         item,
         behind,
-        len,
+        len: front + back + 1,
     };
     Ok(Tree {
         top: Some(Arc::new(alloc, branch)?),
     })
 }
 
-// A tree of the items before one, it, those between it and another, the other, and those behind that: what is between is
-// divided among the two sides.
+// A tree of the items before one, it, those between it and another, the other, and those behind that: what is between
+// stands at the front.
+fn joined_to_front<T: Drop>(
+    alloc: Global,
+    before: Tree<T>,
+    item: Arc<T>,
+    inner: Tree<T>,
+    top: Arc<T>,
+    outer: Tree<T>,
+) -> Result<Tree<T>, OutOfMemory>
+    ensures { IfOk result (λ tree. tree ≡ before ++ arc_value item ∷ inner ++ arc_value top ∷ outer) }
+{
+    let front = joined(alloc, before, item, inner)?;
+    joined(alloc, front, top, outer)
+}
+
+// The same, but what is between stands at the back.
+fn joined_to_back<T: Drop>(
+    alloc: Global,
+    before: Tree<T>,
+    item: Arc<T>,
+    inner: Tree<T>,
+    top: Arc<T>,
+    outer: Tree<T>,
+) -> Result<Tree<T>, OutOfMemory>
+    ensures { IfOk result (λ tree. tree ≡ before ++ arc_value item ∷ inner ++ arc_value top ∷ outer) }
+{
+    let back = joined(alloc, inner, top, outer)?;
+    joined(alloc, before, item, back)
+}
+
+// The same, but what is between is divided among the two sides.
 fn divided<T: Drop>(
     alloc: Global,
     before: Tree<T>,
@@ -165,12 +194,10 @@ fn divided<T: Drop>(
     ensures { IfOk result (λ tree. tree ≡ before ++ arc_value item ∷ inner ++ arc_value top ∷ outer) }
 {
     let Some((low, middle, high)) = inner.parts()? else {
-        let back = joined(alloc, inner, top, outer)?;
-        return joined(alloc, before, item, back);
+        return joined_to_back(alloc, before, item, inner, top, outer);
     };
     let front = joined(alloc, before, item, low)?;
-    let back = joined(alloc, high, top, outer)?;
-    joined(alloc, front, middle, back)
+    joined_to_back(alloc, front, middle, high, top, outer)
 }
 
 // The same as `joined`, where the side behind the item weighs too much: it gives up its front.
@@ -186,10 +213,10 @@ fn turned_to_front<T: Drop>(
         return joined(alloc, before, item, behind);
     };
     if inner.weight() < outer.weight().saturating_mul(2) {
-        let front = joined(alloc, before, item, inner)?;
-        return joined(alloc, front, top, outer);
+        joined_to_front(alloc, before, item, inner, top, outer)
+    } else {
+        divided(alloc, before, item, inner, top, outer)
     }
-    divided(alloc, before, item, inner, top, outer)
 }
 
 // The same, where the side before the item weighs too much: it gives up its back.
@@ -205,10 +232,10 @@ fn turned_to_back<T: Drop>(
         return joined(alloc, before, item, behind);
     };
     if inner.weight() < outer.weight().saturating_mul(2) {
-        let back = joined(alloc, inner, item, behind)?;
-        return joined(alloc, outer, top, back);
+        joined_to_back(alloc, outer, top, inner, item, behind)
+    } else {
+        divided(alloc, outer, top, inner, item, behind)
     }
-    divided(alloc, outer, top, inner, item, behind)
 }
 
 // The same, of sides that may differ by one change from those of a balanced tree.
@@ -230,6 +257,31 @@ fn balanced<T: Drop>(
     }
 }
 
+impl<T: Drop> Branch<T> {
+    // A balanced tree of the branch's parts, with other items before its own.
+    fn with_before(&self, alloc: Global, before: Tree<T>) -> Result<Tree<T>, OutOfMemory>
+        ensures { IfOk result (λ tree. tree ≡ before ++ arc_value self.now.item ∷ self.now.behind) }
+    {
+        let item = Arc::try_clone(&self.item)?;
+        balanced(alloc, before, item, self.behind.share()?)
+    }
+
+    // The same, with other items behind its own.
+    fn with_behind(&self, alloc: Global, behind: Tree<T>) -> Result<Tree<T>, OutOfMemory>
+        ensures { IfOk result (λ tree. tree ≡ self.now.before ++ arc_value self.now.item ∷ behind) }
+    {
+        let item = Arc::try_clone(&self.item)?;
+        balanced(alloc, self.before.share()?, item, behind)
+    }
+
+    // The same, with another item in place of its own.
+    fn with_item(&self, alloc: Global, item: Arc<T>) -> Result<Tree<T>, OutOfMemory>
+        ensures { IfOk result (λ tree. tree ≡ self.now.before ++ arc_value item ∷ self.now.behind) }
+    {
+        joined(alloc, self.before.share()?, item, self.behind.share()?)
+    }
+}
+
 impl<T: Drop> Tree<T> {
     // The first item and the others; None exactly where there is none.
     fn first_and_others(&self, alloc: Global) -> Result<Option<(Arc<T>, Tree<T>)>, OutOfMemory>
@@ -238,12 +290,11 @@ impl<T: Drop> Tree<T> {
         let Some(branch) = &self.top else {
             return Ok(None);
         };
+        let branch: &Branch<T> = branch;
         let Some((first, before)) = branch.before.first_and_others(alloc)? else {
             return Ok(Some((Arc::try_clone(&branch.item)?, branch.behind.share()?)));
         };
-        let item = Arc::try_clone(&branch.item)?;
-        let others = balanced(alloc, before, item, branch.behind.share()?)?;
-        Ok(Some((first, others)))
+        Ok(Some((first, branch.with_before(alloc, before)?)))
     }
 
     // The items of one tree and then those of another.
@@ -287,27 +338,10 @@ impl<T: Identified + Drop> Tree<T> {
             return joined(alloc, Tree::empty(), item, Tree::empty());
         };
         let branch: &Branch<T> = branch;
-        let (before, behind) = (&branch.before, &branch.behind);
         match item.id().cmp(branch.item.id()) {
-            Ordering::Less => {
-                let before = before.with(alloc, item)?;
-                balanced(
-                    alloc,
-                    before,
-                    Arc::try_clone(&branch.item)?,
-                    behind.share()?,
-                )
-            }
-            Ordering::Equal => joined(alloc, before.share()?, item, behind.share()?),
-            Ordering::Greater => {
-                let behind = behind.with(alloc, item)?;
-                balanced(
-                    alloc,
-                    before.share()?,
-                    Arc::try_clone(&branch.item)?,
-                    behind,
-                )
-            }
+            Ordering::Less => branch.with_before(alloc, branch.before.with(alloc, item)?),
+            Ordering::Equal => branch.with_item(alloc, item),
+            Ordering::Greater => branch.with_behind(alloc, branch.behind.with(alloc, item)?),
         }
     }
 
@@ -320,27 +354,10 @@ impl<T: Identified + Drop> Tree<T> {
             return Ok(Tree::empty());
         };
         let branch: &Branch<T> = branch;
-        let (before, behind) = (&branch.before, &branch.behind);
         match id.cmp(branch.item.id()) {
-            Ordering::Less => {
-                let before = before.without(alloc, id)?;
-                balanced(
-                    alloc,
-                    before,
-                    Arc::try_clone(&branch.item)?,
-                    behind.share()?,
-                )
-            }
-            Ordering::Equal => before.followed_by(alloc, behind),
-            Ordering::Greater => {
-                let behind = behind.without(alloc, id)?;
-                balanced(
-                    alloc,
-                    before.share()?,
-                    Arc::try_clone(&branch.item)?,
-                    behind,
-                )
-            }
+            Ordering::Less => branch.with_before(alloc, branch.before.without(alloc, id)?),
+            Ordering::Equal => branch.before.followed_by(alloc, &branch.behind),
+            Ordering::Greater => branch.with_behind(alloc, branch.behind.without(alloc, id)?),
         }
     }
 }

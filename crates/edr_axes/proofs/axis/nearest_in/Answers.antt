@@ -44,3 +44,15 @@ returns-else-abs_diff c =
     let here = simp to_z-of_z at c.abs_diff.ensures in
     let before = simp to_z-of_z at c.abs_diff-2.ensures in
     nearest_before values c.args.c place c.requires.ascending split (omega arith) (λ lt. omega (arith, here, before, c.if-abs_diff.false))
+
+pub bounds-values-place : goal.bounds-values-place
+bounds-values-place c =
+    let split = split_at (goal.at.bounds-values-place c).After-count_below-place in
+    let within = split.within in
+    omega (arith, c.if-place-values.false)
+
+pub bounds-values-place-2 : goal.bounds-values-place-2
+bounds-values-place-2 c =
+    let split = split_at (goal.at.bounds-values-place-2 c).After-count_below-place in
+    let within = split.within in
+    omega (arith, c.if-place-eq0.false)

@@ -1,3 +1,4 @@
+use Rattle.std.proofs.lemmas.Bool.{false≢true}
 use Rattle.std.proofs.Common.{arith, ap, of_z, w64, to_z-of_z}
 use Rattle.jiff_core.proofs.SignedLemmas.{signed_arith}
 use Rattle.edr_axes.proofs.SeriesLemmas.{AreFar, below_zero, rising, falling, below_first, above_first}
@@ -33,3 +34,8 @@ returns-else-level-first c =
     let first_in = c.ranges.first in let step_in = c.ranges.step in let level_in = c.ranges.level in
     above_first c.args.n c.args.first c.args.step c.args.level _ c.if-level-first.false
     (below_zero c.args.step (omega (arith, signed_arith, c.if-step-gt0.false)) (λ e. c.if-step-eq0.false (ap (of_z w64) e))) (omega (arith, signed_arith, c.if-level-first.false))
+
+pub returns-then-n-lt1 : goal.returns-then-n-lt1
+returns-then-n-lt1 c =
+    let n_in = c.ranges.n in
+    (λ e. absurd (false≢true e), λ is. (let below = is.1 in absurd (omega (arith, signed_arith, c.if-n-lt1.true, below))))

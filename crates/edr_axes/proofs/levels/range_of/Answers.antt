@@ -1,4 +1,6 @@
-use Rattle.std.proofs.Common.{arith}
+use Rattle.edr_axes.specs.Levels.{IsRangeText}
+use Rattle.edr_axes.proofs.SeriesLemmas.{level_fits}
+use Rattle.std.proofs.Common.{arith, to_z-of_z}
 use Rattle.std.proofs.lemmas.Int.{ints}
 use Rattle.edr_axes.proofs.LevelTexts.{range_contains}
 use Rattle.edr_axes.proofs.LevelsLemmas.{range_parts, range_high}
@@ -18,3 +20,20 @@ returns-then-low-high c =
     let low_in = c.in_ok-low.ensures.within in
     let high_in = c.in_ok-high.ensures.within in
     range_high c.args.text.now _ _ c.in_ok-low.low c.in_ok-high.high c.in_ok-front.ensures c.in_ok-low.ensures c.in_ok-high.ensures (omega (arith, ints, c.if-low-high.true))
+
+pub returns : goal.returns
+returns c =
+    let low_in = c.in_ok-low.ensures.within in
+    let high_in = c.in_ok-high.ensures.within in
+    let low_fits = level_fits c.in_ok-low.low low_in in
+    let high_fits = level_fits c.in_ok-high.high high_in in
+    let range : IsRangeText c.args.text.now c.in_ok-low.low c.in_ok-high.high =
+    record {
+      front = c.in_ok-front.front.now;
+      back = c.in_ok-front.back.now;
+      text_is = c.in_ok-front.ensures.text_is;
+      low_is = c.in_ok-low.ensures;
+      high_is = c.in_ok-high.ensures;
+      in_order = omega (arith, ints, c.if-low-high.false);
+    } in
+    simp to_z-of_z range

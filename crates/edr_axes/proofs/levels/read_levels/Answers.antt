@@ -1,4 +1,5 @@
-use Rattle.std.proofs.Common.{ℕ, List, Contains, sym, subst}
+use Rattle.edr_axes.proofs.SeriesLemmas.{level_fits}
+use Rattle.std.proofs.Common.{ℕ, List, Contains, sym, subst, to_z-of_z}
 use Rattle.edr_base.specs.CutLaws.{Contains-between}
 use Rattle.edr_axes.proofs.LevelsLemmas.{list_levels, no_levels, no_list}
 use Rattle.edr_axes.proofs.levels.read_levels.Goals as goal
@@ -17,3 +18,18 @@ pub returns-in_err-levels-clause-memory : goal.returns-in_err-levels-clause-memo
 returns-in_err-levels-clause-memory c e =
     let cut = c.in-Some-cut_at.ensures in
     subst (λ (t : List ℕ). Contains t 44) (sym cut.text_is) (Contains-between 44 _ _)
+
+pub returns-in-Some-series_of-clause-text : goal.returns-in-Some-series_of-clause-text
+returns-in-Some-series_of-clause-text c =
+    let series = c.in-Some-series_of.ensures in
+    let n_fits = level_fits c.in-Some-series_of.n series.count_is.within in
+    let first_fits = level_fits c.in-Some-series_of.first series.first_is.within in
+    let step_fits = level_fits c.in-Some-series_of.step series.step_is.within in
+    simp to_z-of_z series
+
+pub returns-in-Some-range_of-clause-text : goal.returns-in-Some-range_of-clause-text
+returns-in-Some-range_of-clause-text c =
+    let range = c.in-Some-range_of.ensures in
+    let low_fits = level_fits c.in-Some-range_of.low range.low_is.within in
+    let high_fits = level_fits c.in-Some-range_of.high range.high_is.within in
+    simp to_z-of_z range

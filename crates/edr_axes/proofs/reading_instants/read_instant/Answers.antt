@@ -1,3 +1,5 @@
+use Rattle.edr_axes.proofs.InstantTexts.{small_back}
+use Rattle.jiff_core.proofs.SignedLemmas.{signed_arith}
 use Rattle.std.proofs.Common.{arith}
 use Rattle.edr_axes.proofs.InstantWholes.{no_date, no_mark, no_minutes, no_end, time_of_bits, whole}
 use Rattle.edr_axes.proofs.reading_instants.read_instant.Goals as goal
@@ -28,3 +30,8 @@ returns c =
     c.in-Some-read_minutes.ensures.value c.in-Some-read_end.ensures.value
     (time_of_bits c.time_at.result c.in-Some.day c.in-Some-read_end.ahead _ day c.in-Some-read_end.ensures.ahead (omega arith) c.time_at.ensures)
     c.within_years.ensures
+
+pub time_at-requires-clause-day_in : goal.time_at-requires-clause-day_in
+time_at-requires-clause-day_in c =
+    let bound = c.in-Some.ensures.bound in
+    rw (small_back c.in-Some.day (omega (arith, signed_arith, bound))) bound

@@ -1,3 +1,6 @@
+use Rattle.edr_axes.proofs.InstantTexts.{small_back}
+use Rattle.jiff_core.proofs.SignedLemmas.{signed_arith}
+use Rattle.std.proofs.Common.{arith}
 use Rattle.edr_axes.proofs.TimesLemmas.{no_times, cut_sides, between_text, between_times}
 use Rattle.edr_axes.proofs.times.read_times.Goals as goal
 
@@ -23,3 +26,8 @@ pub returns-clause-times : goal.returns-clause-times
 returns-clause-times c =
     between_times c.in-Some-read_side.first c.in-Some-read_side-2.last c.between.result c.in-Some-read_side.ensures.time c.in-Some-read_side-2.ensures.time
     c.between.ensures
+
+pub returns-in-Some-read_instant-clause-value : goal.returns-in-Some-read_instant-clause-value
+returns-in-Some-read_instant-clause-value c =
+    let time_in = c.in-Some-read_instant.ensures.time_in in
+    rw (small_back c.in-Some-read_instant.time (omega (arith, signed_arith, time_in))) c.in-Some-read_instant.ensures

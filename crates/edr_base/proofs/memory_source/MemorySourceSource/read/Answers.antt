@@ -1,6 +1,6 @@
 use Rattle.std.proofs.Common.{◌≡◌, ◌++◌, ◌<◌, ℕ, List, [], length, take, drop, Some, Ok, refl, ap, subst}
 use Rattle.std.proofs.lemmas.Bool.{false≢true}
-use Rattle.edr_base.proofs.PlanLemmas.{plan_kept, plan_failed, rose_by, later_same, later_by, no_more, no_room, some_room}
+use Rattle.edr_base.proofs.PlanLemmas.{plan_kept, plan_failed, rose_by, later_same, later_by, no_more, no_room, some_room, no_some}
 use Rattle.edr_base.proofs.memory_source.MemorySourceSource.read.Goals as goal
 
 pub returns : goal.returns
@@ -42,3 +42,7 @@ returns-then-fails c =
       plan = plan_failed _ old.plan c.strikes-fails.new.self c.count_fault.new.self refl s.fails s.calls s.faults f.faults f.calls;
       kept_cut = refl;
     }
+
+pub returns-then-is_empty-clause-fails : goal.returns-then-is_empty-clause-fails
+returns-then-is_empty-clause-fails c =
+    (λ e. absurd (false≢true e), λ w. absurd (no_some _ c.if-is_empty.ensures w.0))

@@ -1,4 +1,4 @@
-use Rattle.std.proofs.Common.{rules, ◌≡◌, ◌<◌, ◌^◌, ◌++◌, sym, ap, subst, ◌∙◌, List, Option, length}
+use Rattle.std.proofs.Common.{rules, ◌≡◌, ◌<◌, ◌^◌, ◌++◌, sym, ap, subst, ◌∙◌, List, Option, length, arith}
 use Rattle.std.specs.Prelude.{ℤ, map}
 use Rattle.edr_chunk.specs.declared.shapes.GridShape.{GridShape}
 use Rattle.edr_chunk.specs.Places.{nodes, count}
@@ -29,3 +29,12 @@ returns-clause-values c =
     ap (λ (t : GridShape). map (stored t c.append.new.self.items) (places t)) c.in_ok-shape.ensures.more
     ∙ (ap (λ (k : List (List (Option ℤ))). map (stored (one_more s) k) (places (one_more s))) items
     ∙ (more_values s kept more part c.self.invariant c.in_ok-tiles.ensures long ∙ ap (λ (g : Values). g.values ++ part) c.self.view_is))
+
+pub invariant_of-self : goal.invariant_of-self
+invariant_of-self c =
+    subst (λ (k : List (List (Option ℤ))). AreTiles c.self.inside.shape k) (sym c.in_err-append.ensures.items) c.self.invariant
+
+pub packed_tiles-requires-clause-whole : goal.packed_tiles-requires-clause-whole
+packed_tiles-requires-clause-whole c =
+    let long = subst (λ (g : Values). length c.args.values.now ≡ nodes g.shape) (sym c.self.view_is) c.requires.whole in
+    omega (arith, long)

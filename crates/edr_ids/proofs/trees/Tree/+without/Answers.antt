@@ -1,8 +1,8 @@
-use Rattle.std.proofs.Common.{◌≡◌, ◌++◌, Less, Equal, Greater, ap, sym, ◌∙◌, arith}
+use Rattle.std.proofs.Common.{◌≡◌, ◌++◌, ◌∷◌, Less, Equal, Greater, ap, sym, ◌∙◌, arith}
 use Rattle.std.specs.Arc.{arc_value}
 use Rattle.edr_base.specs.Names.{order}
 use Rattle.edr_ids.specs.Ids.{without_id}
-use Rattle.edr_ids.proofs.Branches.{at_branch, joined_is, followed_is}
+use Rattle.edr_ids.proofs.Branches.{at_branch, followed_is}
 use Rattle.edr_ids.proofs.PartedLists.{without_id-less, without_id-equal, without_id-greater}
 use Rattle.edr_ids.proofs.trees.Tree.+without.Goals as goal
 
@@ -16,17 +16,15 @@ without-requires-in-Greater g t c κs within =
     let at = at_branch g.T.Identified.id_of c.args.self.now c.self.inside.top c.in-Some.branch c.deref-branch.result.now c.self.view_is c.in-Some.is c.deref-branch.ensures c.requires in
     (omega (arith, at.behind_shorter, c.decreases), (within, at.parts.high))
 
-pub returns-in_ok-share-in-Less : goal.returns-in_ok-share-in-Less
-returns-in_ok-share-in-Less g t c =
+pub returns-in_ok-without-in-Less : goal.returns-in_ok-without-in-Less
+returns-in_ok-without-in-Less g t c =
     let key = g.T.Identified.id_of in
     let id = c.args.id.now in
     let branch = c.deref-branch.result.now in
     let item = arc_value branch.item in
     let at = at_branch key c.args.self.now c.self.inside.top c.in-Some.branch branch c.self.view_is c.in-Some.is c.deref-branch.ensures c.requires in
     let less : order id (key item) ≡ Less = ap (order id) (sym c.id.ensures) ∙ sym c.cmp.ensures ∙ c.in-Less.is in
-    joined_is c.balanced.result c.in_ok-before-in-Less.before (without_id key id branch.before) (arc_value c.in_ok-try_clone-in-Less.field-0) item c.in_ok-share-in-Less.field-0 branch.behind
-    (without_id key id c.args.self.now) c.balanced.ensures c.in_ok-before-in-Less.ensures c.in_ok-try_clone-in-Less.ensures c.in_ok-share-in-Less.ensures
-    (sym (ap (without_id key id) at.is ∙ without_id-less key id branch.before item branch.behind at.parts less))
+    followed_is _ _ _ c.with_before.ensures (ap (λ list. list ++ item ∷ branch.behind) c.in_ok-without-in-Less.ensures ∙ sym (ap (without_id key id) at.is ∙ without_id-less key id branch.before item branch.behind at.parts less))
 
 pub returns-in-Equal : goal.returns-in-Equal
 returns-in-Equal g t c =
@@ -36,17 +34,14 @@ returns-in-Equal g t c =
     let item = arc_value branch.item in
     let at = at_branch key c.args.self.now c.self.inside.top c.in-Some.branch branch c.self.view_is c.in-Some.is c.deref-branch.ensures c.requires in
     let same : order id (key item) ≡ Equal = ap (order id) (sym c.id.ensures) ∙ sym c.cmp.ensures ∙ c.in-Equal.is in
-    followed_is c.followed_by.result (branch.before ++ branch.behind) (without_id key id c.args.self.now) c.followed_by.ensures
-    (sym (ap (without_id key id) at.is ∙ without_id-equal key id branch.before item branch.behind at.parts same))
+    followed_is _ _ _ c.followed_by.ensures (sym (ap (without_id key id) at.is ∙ without_id-equal key id branch.before item branch.behind at.parts same))
 
-pub returns-in_ok-try_clone-in-Greater : goal.returns-in_ok-try_clone-in-Greater
-returns-in_ok-try_clone-in-Greater g t c =
+pub returns-in_ok-without-in-Greater : goal.returns-in_ok-without-in-Greater
+returns-in_ok-without-in-Greater g t c =
     let key = g.T.Identified.id_of in
     let id = c.args.id.now in
     let branch = c.deref-branch.result.now in
     let item = arc_value branch.item in
     let at = at_branch key c.args.self.now c.self.inside.top c.in-Some.branch branch c.self.view_is c.in-Some.is c.deref-branch.ensures c.requires in
     let more : order id (key item) ≡ Greater = ap (order id) (sym c.id.ensures) ∙ sym c.cmp.ensures ∙ c.in-Greater.is in
-    joined_is c.balanced-in-Greater-2.result c.in_ok-share-in-Greater.field-0 branch.before (arc_value c.in_ok-try_clone-in-Greater.field-0) item c.in_ok-behind-in-Greater.behind (without_id key id branch.behind)
-    (without_id key id c.args.self.now) c.balanced-in-Greater-2.ensures c.in_ok-share-in-Greater.ensures c.in_ok-try_clone-in-Greater.ensures c.in_ok-behind-in-Greater.ensures
-    (sym (ap (without_id key id) at.is ∙ without_id-greater key id branch.before item branch.behind at.parts more))
+    followed_is _ _ _ c.with_behind.ensures (ap (λ list. branch.before ++ item ∷ list) c.in_ok-without-in-Greater.ensures ∙ sym (ap (without_id key id) at.is ∙ without_id-greater key id branch.before item branch.behind at.parts more))
