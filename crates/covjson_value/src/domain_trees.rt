@@ -6,10 +6,10 @@ ghost use Rattle.covjson_value.specs.Coverages.{IsReferencing, HasAxes, HasTuple
 ghost use Rattle.covjson_value.specs.Trees.{connection_data, text_if_some, system_data, horizontal_data, vertical_data, temporal_data, referencing_data, domain_type, domain_data};
 ghost use Rattle.covjson_value.specs.Puts.{put_if, calendar_data};
 
-use crate::axis_trees::{axes_tree, keys_tree};
+use crate::axis_trees::{axes_tree, put_coordinates};
 use crate::coverages::Referencing;
 use crate::domains::{CoordinateName, Domain};
-use crate::leaves::{put_text, text_of};
+use crate::leaves::{push_tree, put_text, put_tree, text_of, typed_object};
 use edr_base::{OutOfMemory, Text};
 use serde_json::{Map, Value};
 use std::alloc::Global;
@@ -35,8 +35,7 @@ fn system_tree(alloc: Global, name: Option<&str>, kind: &str) -> Result<Value, O
 {
     let mut members = Map::new(alloc);
     put_name(&mut members, alloc, name)?;
-    put_text(&mut members, alloc, "type", kind)?;
-    Ok(Value::Object(members))
+    typed_object(members, alloc, kind)
 }
 
 // The system of times.
@@ -45,8 +44,7 @@ fn calendar_tree(alloc: Global) -> Result<Value, OutOfMemory>
 {
     let mut members = Map::new(alloc);
     put_text(&mut members, alloc, "calendar", "Gregorian")?;
-    put_text(&mut members, alloc, "type", "TemporalRS")?;
-    Ok(Value::Object(members))
+    typed_object(members, alloc, "TemporalRS")
 }
 
 // The coordinates of some axes, and their system.
@@ -58,9 +56,8 @@ fn connection_tree(
     ensures { IfOk result (λ v. view v ≡ connection_data names.now (view system)) }
 {
     let mut members = Map::new(alloc);
-    serde_json::put(&mut members, alloc, "system", system)?;
-    let coordinates = keys_tree(alloc, names)?;
-    serde_json::put(&mut members, alloc, "coordinates", coordinates)?;
+    put_tree(&mut members, alloc, "system", system)?;
+    put_coordinates(&mut members, alloc, names)?;
     Ok(Value::Object(members))
 }
 
@@ -109,12 +106,12 @@ fn referencing_tree(
     ensures { IfOk result (λ v. view v ≡ referencing_data domain.now referencing.now) }
 {
     let mut items = Vec::new(alloc);
-    items.push(horizontal_tree(alloc, &referencing.crs)?)?;
+    push_tree(&mut items, horizontal_tree(alloc, &referencing.crs)?)?;
     if domain.has(CoordinateName::Z) {
-        items.push(vertical_tree(alloc, &referencing.vertical)?)?;
+        push_tree(&mut items, vertical_tree(alloc, &referencing.vertical)?)?;
     }
     if domain.has(CoordinateName::T) {
-        items.push(temporal_tree(alloc)?)?;
+        push_tree(&mut items, temporal_tree(alloc)?)?;
     }
     Ok(Value::Array(items))
 }
@@ -130,12 +127,11 @@ pub fn domain_tree(
     requires referencing { IsReferencing referencing.now }
     ensures { IfOk result (λ v. view v ≡ domain_data domain.now referencing.now) }
 {
-    let mut members = Map::new(alloc);
     let axes = axes_tree(alloc, domain)?;
-    serde_json::put(&mut members, alloc, "axes", axes)?;
+    let mut members = Map::new(alloc);
+    put_tree(&mut members, alloc, "axes", axes)?;
     put_text(&mut members, alloc, "domainType", domain.type_name())?;
     let connections = referencing_tree(alloc, domain, referencing)?;
-    serde_json::put(&mut members, alloc, "referencing", connections)?;
-    put_text(&mut members, alloc, "type", "Domain")?;
-    Ok(Value::Object(members))
+    put_tree(&mut members, alloc, "referencing", connections)?;
+    typed_object(members, alloc, "Domain")
 }

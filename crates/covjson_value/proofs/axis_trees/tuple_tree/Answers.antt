@@ -23,8 +23,8 @@ loop-name-preserved c =
     let is : to_z w64 (of_z w64 c.coordinate.result) ≡ value =
     ap (λ v. to_z w64 (of_z w64 v)) c.coordinate.ensures
     ∙ axis_value_kept name value (c.requires c.loop-name.name-index T c.loop-name-test.true) in
-    views_more (λ name. axis_value_data name (coordinate name c.args.tuple.now)) c.args.names.now c.loop-name.name-index T c.loop-name.items.items c.push.new.self.items c.in_ok-axis_value_tree.field-0 c.loop-name-test.true c.loop-name.invariant
-    (c.in_ok-axis_value_tree.ensures ∙ ap (axis_value_data name) is) c.in_ok-push.ensures.items
+    views_more (λ name. axis_value_data name (coordinate name c.args.tuple.now)) c.args.names.now c.loop-name.name-index T c.loop-name.items.items c.push_tree.new.trees.items _ c.loop-name-test.true c.loop-name.invariant
+    (c.in_ok-axis_value_tree.ensures ∙ ap (axis_value_data name) is) c.in_ok-push_tree.ensures
 
 pub axis_value_tree-requires : goal.axis_value_tree-requires
 axis_value_tree-requires c =

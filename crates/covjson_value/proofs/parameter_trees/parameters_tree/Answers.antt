@@ -13,4 +13,4 @@ returns c =
 pub loop-parameter-preserved : goal.loop-parameter-preserved
 loop-parameter-preserved c =
     let more = parameters_more c.args.parameters.now c.loop-parameter.parameter-index c.parameter-item.result c.loop-parameter-test.true c.requires.ascending c.parameter-item.is in
-    cc (more, c.in_ok-put.ensures.ok, c.in_ok-tree.ensures, c.loop-parameter.invariant)
+    cc (more, c.in_ok-put_tree.ensures, c.in_ok-tree.ensures, c.loop-parameter.invariant)

@@ -13,4 +13,4 @@ returns c =
 pub loop-place-preserved : goal.loop-place-preserved
 loop-place-preserved c =
     let more = ranges_more c.args.domain.now c.args.parameters.now c.args.ranges.now c.loop-place.place c.index-parameters-place.result c.index-ranges-place.result c.loop-place-test.true c.requires.as_many c.requires.ascending c.index-parameters-place.is c.index-ranges-place.is in
-    cc (more, c.in_ok-put.ensures.ok, c.in_ok-tree.ensures, c.loop-place.invariant)
+    cc (more, c.in_ok-put_tree.ensures, c.in_ok-tree.ensures, c.loop-place.invariant)
