@@ -151,21 +151,6 @@ pub fn put_coordinates(
     put_tree(members, alloc, "coordinates", Value::Array(items))
 }
 
-fn composite_tree(
-    alloc: Global,
-    names: &[CoordinateName],
-    tuples: &[Position],
-) -> Result<Value, OutOfMemory>
-    requires { All (λ tuple. All (λ name. IsAxisValue name (domains.coordinate name tuple)) names.now) tuples.now }
-    ensures { IfOk result (λ v. view v ≡ composite_data names.now tuples.now) }
-{
-    let mut members = Map::new(alloc);
-    put_coordinates(&mut members, alloc, names)?;
-    put_text(&mut members, alloc, "dataType", "tuple")?;
-    put_tuples(&mut members, alloc, names, tuples)?;
-    Ok(Value::Object(members))
-}
-
 fn put_axis(
     members: &mut Map<String, Value>,
     alloc: Global,
@@ -196,24 +181,34 @@ fn put_composite(
 {
     match domain.tuples() {
         Some(tuples) => {
-            let composite = composite_tree(alloc, domain.coordinates(), tuples)?;
-            put_tree(members, alloc, axis_key(AxisName::Composite), composite)
+            let names = domain.coordinates();
+            let mut composite = Map::new(alloc);
+            put_coordinates(&mut composite, alloc, names)?;
+            put_text(&mut composite, alloc, "dataType", "tuple")?;
+            put_tuples(&mut composite, alloc, names, tuples)?;
+            let axis = Value::Object(composite);
+            put_tree(members, alloc, axis_key(AxisName::Composite), axis)
         }
         None => Ok(()),
     }
 }
 
-/// The tree of a domain's axes.
-pub fn axes_tree(alloc: Global, domain: &Domain) -> Result<Value, OutOfMemory>
+/// Puts a domain's axes.
+pub fn put_axes(
+    members: &mut Map<String, Value>,
+    alloc: Global,
+    domain: &Domain,
+) -> Result<(), OutOfMemory>
     requires axes { HasAxes domain.now }
     requires tuples { HasTuples domain.now }
-    ensures { IfOk result (λ v. view v ≡ axes_data domain.now) }
+    ensures { OnOk result (members_view members.new.entries
+        ≡ put (codes "axes") (axes_data domain.now) (members_view members.old.entries)) }
 {
-    let mut members = Map::new(alloc);
-    put_composite(&mut members, alloc, domain)?;
-    put_axis(&mut members, alloc, domain, CoordinateName::T)?;
-    put_axis(&mut members, alloc, domain, CoordinateName::X)?;
-    put_axis(&mut members, alloc, domain, CoordinateName::Y)?;
-    put_axis(&mut members, alloc, domain, CoordinateName::Z)?;
-    Ok(Value::Object(members))
+    let mut axes = Map::new(alloc);
+    put_composite(&mut axes, alloc, domain)?;
+    put_axis(&mut axes, alloc, domain, CoordinateName::T)?;
+    put_axis(&mut axes, alloc, domain, CoordinateName::X)?;
+    put_axis(&mut axes, alloc, domain, CoordinateName::Y)?;
+    put_axis(&mut axes, alloc, domain, CoordinateName::Z)?;
+    put_tree(members, alloc, "axes", Value::Object(axes))
 }

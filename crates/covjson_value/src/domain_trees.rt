@@ -1,12 +1,12 @@
 //! The trees of domains and of the systems of their coordinates.
-ghost use Rattle.std.specs.Prelude.{◌≡◌, codes, IfOk, OnOk, IsUtf8, IfSome, option_map, option_copied};
-ghost use Rattle.serde_json.specs.Data.{string};
+ghost use Rattle.std.specs.Prelude.{◌≡◌, codes, IfOk, OnOk, IsUtf8, IfSome, option_copied};
+ghost use Rattle.serde_json.specs.Data.{put};
 ghost use Rattle.serde_json.specs.View.{view, members_view};
 ghost use Rattle.covjson_value.specs.Coverages.{IsReferencing, HasAxes, HasTuples};
 ghost use Rattle.covjson_value.specs.Trees.{connection_data, text_if_some, system_data, horizontal_data, vertical_data, temporal_data, referencing_data, domain_type, domain_data};
-ghost use Rattle.covjson_value.specs.Puts.{put_if, calendar_data};
+ghost use Rattle.covjson_value.specs.Puts.{calendar_data};
 
-use crate::axis_trees::{axes_tree, put_coordinates};
+use crate::axis_trees::{put_axes, put_coordinates};
 use crate::coverages::Referencing;
 use crate::domains::{CoordinateName, Domain};
 use crate::leaves::{push_tree, put_text, put_tree, text_of, typed_object};
@@ -14,27 +14,14 @@ use edr_base::{OutOfMemory, Text};
 use serde_json::{Map, Value};
 use std::alloc::Global;
 
-// Puts the name of a system, where it is given.
-fn put_name(
-    members: &mut Map<String, Value>,
-    alloc: Global,
-    name: Option<&str>,
-) -> Result<(), OutOfMemory>
-    ensures { OnOk result (members_view members.new.entries
-        ≡ put_if (codes "id") (option_map string (option_copied name.entry)) (members_view members.old.entries)) }
-{
-    match name {
-        Some(name) => put_text(members, alloc, "id", name),
-        None => Ok(()),
-    }
-}
-
 // A system without a name where none is given.
 fn system_tree(alloc: Global, name: Option<&str>, kind: &str) -> Result<Value, OutOfMemory>
     ensures { IfOk result (λ v. view v ≡ system_data (option_copied name.entry) kind.now) }
 {
     let mut members = Map::new(alloc);
-    put_name(&mut members, alloc, name)?;
+    if let Some(name) = name {
+        put_text(&mut members, alloc, "id", name)?;
+    }
     typed_object(members, alloc, kind)
 }
 
@@ -116,22 +103,28 @@ fn referencing_tree(
     Ok(Value::Array(items))
 }
 
-/// The tree of a domain, with the systems of its coordinates.
-pub fn domain_tree(
+/// Puts a domain, with the systems of its coordinates.
+pub fn put_domain(
+    members: &mut Map<String, Value>,
     alloc: Global,
     domain: &Domain,
     referencing: &Referencing,
-) -> Result<Value, OutOfMemory>
+) -> Result<(), OutOfMemory>
     requires axes { HasAxes domain.now }
     requires tuples { HasTuples domain.now }
     requires referencing { IsReferencing referencing.now }
-    ensures { IfOk result (λ v. view v ≡ domain_data domain.now referencing.now) }
+    ensures { OnOk result (members_view members.new.entries
+        ≡ put (codes "domain") (domain_data domain.now referencing.now) (members_view members.old.entries)) }
 {
-    let axes = axes_tree(alloc, domain)?;
-    let mut members = Map::new(alloc);
-    put_tree(&mut members, alloc, "axes", axes)?;
-    put_text(&mut members, alloc, "domainType", domain.type_name())?;
+    let mut parts = Map::new(alloc);
+    put_axes(&mut parts, alloc, domain)?;
+    put_text(&mut parts, alloc, "domainType", domain.type_name())?;
     let connections = referencing_tree(alloc, domain, referencing)?;
-    put_tree(&mut members, alloc, "referencing", connections)?;
-    typed_object(members, alloc, "Domain")
+    put_tree(&mut parts, alloc, "referencing", connections)?;
+    put_tree(
+        members,
+        alloc,
+        "domain",
+        typed_object(parts, alloc, "Domain")?,
+    )
 }

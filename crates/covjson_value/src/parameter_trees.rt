@@ -20,14 +20,6 @@ fn property_tree(alloc: Global, parameter: &Parameter) -> Result<Value, OutOfMem
     only_member(alloc, "label", labels)
 }
 
-fn unit_tree(alloc: Global, unit: &Text) -> Result<Value, OutOfMemory>
-    requires { IsUtf8 unit.now }
-    ensures { IfOk result (λ v. view v ≡ unit_data unit.now) }
-{
-    let symbol = text_tree(alloc, unit)?;
-    only_member(alloc, "symbol", symbol)
-}
-
 // Puts the unit of a parameter, where it has one.
 fn put_unit(
     members: &mut Map<String, Value>,
@@ -39,7 +31,15 @@ fn put_unit(
         ≡ put_if (codes "unit") (option_map unit_data unit.now) (members_view members.old.entries)) }
 {
     match unit {
-        Some(unit) => put_tree(members, alloc, "unit", unit_tree(alloc, unit)?),
+        Some(unit) => {
+            let symbol = text_tree(alloc, unit)?;
+            put_tree(
+                members,
+                alloc,
+                "unit",
+                only_member(alloc, "symbol", symbol)?,
+            )
+        }
         None => Ok(()),
     }
 }

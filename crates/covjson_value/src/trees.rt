@@ -8,10 +8,10 @@ ghost use Rattle.covjson_value.specs.Trees.{array_of, domain_data, parameters_da
 ghost use Rattle.covjson_value.specs.Puts.{put_if, put_head, put_rest};
 
 use crate::coverages::{Coverage, Document};
-use crate::domain_trees::domain_tree;
+use crate::domain_trees::put_domain;
 use crate::leaves::{push_tree, put_text, put_tree, text_of, typed_object};
 use crate::parameter_trees::parameters_tree;
-use crate::range_trees::ranges_tree;
+use crate::range_trees::put_ranges;
 use edr_base::{OutOfMemory, Text};
 use serde_json::{Map, Value};
 use std::alloc::Global;
@@ -33,7 +33,7 @@ fn put_id(
 }
 
 // Puts the domain of a coverage, and its id where it has one.
-fn put_domain(
+fn put_head(
     members: &mut Map<String, Value>,
     alloc: Global,
     coverage: &Coverage,
@@ -42,13 +42,12 @@ fn put_domain(
     ensures { OnOk result (members_view members.new.entries
         ≡ put_head (domain_data coverage.now.domain coverage.now.referencing) (option_map string coverage.now.id) (members_view members.old.entries)) }
 {
-    let domain = domain_tree(alloc, &coverage.domain, &coverage.referencing)?;
-    put_tree(members, alloc, "domain", domain)?;
+    put_domain(members, alloc, &coverage.domain, &coverage.referencing)?;
     put_id(members, alloc, &coverage.id)
 }
 
 // Puts its parameters, and a range for each.
-fn put_ranges(
+fn put_rest(
     members: &mut Map<String, Value>,
     alloc: Global,
     coverage: &Coverage,
@@ -59,13 +58,13 @@ fn put_ranges(
 {
     let parameters = parameters_tree(alloc, coverage.parameters.items())?;
     put_tree(members, alloc, "parameters", parameters)?;
-    let ranges = ranges_tree(
+    put_ranges(
+        members,
         alloc,
         &coverage.domain,
         coverage.parameters.items(),
         coverage.ranges.items(),
-    )?;
-    put_tree(members, alloc, "ranges", ranges)
+    )
 }
 
 // A coverage, member by member.
@@ -74,8 +73,8 @@ fn object_of(alloc: Global, coverage: &Coverage) -> Result<Value, OutOfMemory>
     ensures { IfOk result (λ v. view v ≡ coverage_data coverage.now) }
 {
     let mut members = Map::new(alloc);
-    put_domain(&mut members, alloc, coverage)?;
-    put_ranges(&mut members, alloc, coverage)?;
+    put_head(&mut members, alloc, coverage)?;
+    put_rest(&mut members, alloc, coverage)?;
     typed_object(members, alloc, "Coverage")
 }
 
