@@ -1,4 +1,4 @@
--- Items that are written one after another, with commas between them.
+-- Items that are written one after another, with commas between them, and copies of items.
 use Rattle.std.proofs.Common.{◌≡◌, ℕ, ◌+◌, ◌-◌, ◌<◌, ◌≤◌, List, [], ◌∷◌, ◌++◌, length, get_or, take, drop, sym, ap, ◌∙◌, append_assoc, arith}
 use Rattle.std.specs.List.{flat_map}
 use Rattle.std.proofs.lemmas.List.{take_more, take_all, flat_map_more}
@@ -22,3 +22,9 @@ pushed_all text (y ∷ ys) i x d start first after some is all first_is after_is
     after_is ∙ ap (λ l. first ++ flat_map (λ y. 44 ∷ text y) l) (take_all i (take (length (y ∷ ys) - 1) ys) all ∙ take_all (length (y ∷ ys) - 1) ys (omega arith))
     ∙ ap (λ l. l ++ flat_map (λ y. 44 ∷ text y) ys) first_is ∙ append_assoc start (text x) (flat_map (λ y. 44 ∷ text y) ys)
     ∙ ap (λ z. start ++ (text z ++ flat_map (λ y. 44 ∷ text y) ys)) is
+
+-- a copy of one item more
+pub copied_more : {A : Type 0} (xs : List A) (i : ℕ) (x copy : A) (before after : List A) → i < length xs → x ≡ get_or xs i x → copy ≡ x → before ≡ take i xs → after ≡ before ++ copy ∷ []
+    → after ≡ take (i + 1) xs
+copied_more xs i x copy before after inside is same so_far pushed =
+    pushed ∙ ap (λ l. l ++ copy ∷ []) so_far ∙ ap (λ y. take i xs ++ y ∷ []) (same ∙ is) ∙ sym (take_more xs i x inside)

@@ -6,8 +6,8 @@ use Rattle.edr_wkt.proofs.writing.push_members.Goals as goal
 pub loop-position-preserved : goal.loop-position-preserved
 loop-position-preserved c =
     pushed_more (member_text c.args.multi c.args.has_z c.args.has_m) _ c.loop-position.position-index _ _ c.push_member.new.out.items
-    c.loop-position.out.items c.push.new.self.items c.push_member-in-loop-position.new.out.items c.loop-position-test.true refl
-    c.loop-position.invariant c.in_ok-push.ensures.items c.in_ok-push_member-2.ensures
+    c.loop-position.out.items c.push_byte.new.out.items c.push_member-in-loop-position.new.out.items c.loop-position-test.true refl
+    c.loop-position.invariant c.in_ok-push_byte.ensures c.in_ok-push_member-2.ensures
 
 pub returns-after-loop-position : goal.returns-after-loop-position
 returns-after-loop-position c =

@@ -5,8 +5,8 @@ use Rattle.edr_wkt.proofs.writing.push_polygons.Goals as goal
 pub loop-polygon-preserved : goal.loop-polygon-preserved
 loop-polygon-preserved c =
     pushed_more (polygon_text c.args.has_z c.args.has_m) _ c.loop-polygon.polygon-index c.polygon-item.result c.polygon-item.result c.push_polygon.new.out.items
-    c.loop-polygon.out.items c.push.new.self.items c.push_polygon-in-loop-polygon.new.out.items c.loop-polygon-test.true c.polygon-item.is
-    c.loop-polygon.invariant c.in_ok-push.ensures.items c.in_ok-push_polygon-2.ensures
+    c.loop-polygon.out.items c.push_byte.new.out.items c.push_polygon-in-loop-polygon.new.out.items c.loop-polygon-test.true c.polygon-item.is
+    c.loop-polygon.invariant c.in_ok-push_byte.ensures c.in_ok-push_polygon-2.ensures
 
 pub returns-after-loop-polygon : goal.returns-after-loop-polygon
 returns-after-loop-polygon c =

@@ -6,10 +6,10 @@ use Rattle.edr_wkt.proofs.writing.push_rings.Goals as goal
 pub loop-ring-preserved : goal.loop-ring-preserved
 loop-ring-preserved c =
     let text = ring_text c.args.has_z c.args.has_m in
-    let pushed = c.in_ok-push_ring-2.ensures ∙ ap (λ ring. c.push.new.self.items ++ text ring) c.items-in-loop-ring.ensures in
+    let pushed = c.in_ok-push_ring-2.ensures ∙ ap (λ ring. c.push_byte.new.out.items ++ text ring) c.items-in-loop-ring.ensures in
     pushed_more text _ c.loop-ring.ring-index c.ring-item.result c.ring-item.result c.push_ring.new.out.items
-    c.loop-ring.out.items c.push.new.self.items c.push_ring-in-loop-ring.new.out.items c.loop-ring-test.true c.ring-item.is
-    c.loop-ring.invariant c.in_ok-push.ensures.items pushed
+    c.loop-ring.out.items c.push_byte.new.out.items c.push_ring-in-loop-ring.new.out.items c.loop-ring-test.true c.ring-item.is
+    c.loop-ring.invariant c.in_ok-push_byte.ensures pushed
 
 pub returns-after-loop-ring : goal.returns-after-loop-ring
 returns-after-loop-ring c =
