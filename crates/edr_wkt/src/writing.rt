@@ -1,5 +1,5 @@
 //! Writing well-known text.
-ghost use Rattle.std.specs.Prelude.{◌≡◌, ◌++◌, ◌∷◌, [], OnOk, IfOk};
+ghost use Rattle.std.specs.Prelude.{◌≡◌, ◌==◌, ◌++◌, ◌∷◌, [], if◌then◌else◌, OnOk, IfOk};
 ghost use Rattle.std.specs.Fmt.{signed_decimal};
 ghost use Rattle.edr_wkt.specs.Spelling.{number_text, position_text, member_text, ring_text, polygon_text, joined, in_brackets, heading_text, dims_part, areas_text, spelled};
 ghost use Rattle.edr_wkt.specs.Headings.{tag_text};
@@ -65,6 +65,17 @@ fn push_member(
     push_byte(out, b')')
 }
 
+// A comma before an item, unless it is the first of its list.
+fn push_comma(out: &mut Vec<u8>, place: usize) -> Result<(), OutOfMemory>
+    ensures { OnOk result (out.new.items ≡ out.old.items ++ (if place == 0 then [] else 44 ∷ [])) }
+{
+    if place == 0 {
+        Ok(())
+    } else {
+        push_byte(out, b',')
+    }
+}
+
 fn push_members(
     out: &mut Vec<u8>,
     multi: bool,
@@ -74,12 +85,9 @@ fn push_members(
 ) -> Result<(), OutOfMemory>
     ensures { OnOk result (out.new.items ≡ out.old.items ++ joined (member_text multi has_z has_m) positions.now) }
 {
-    if let [first, rest @ ..] = positions {
-        push_member(out, multi, has_z, has_m, first)?;
-        for position in rest {
-            push_byte(out, b',')?;
-            push_member(out, multi, has_z, has_m, position)?;
-        }
+    for (place, position) in positions.iter().enumerate() {
+        push_comma(out, place)?;
+        push_member(out, multi, has_z, has_m, position)?;
     }
     Ok(())
 }
@@ -117,12 +125,9 @@ fn push_rings(
 ) -> Result<(), OutOfMemory>
     ensures { OnOk result (out.new.items ≡ out.old.items ++ joined (ring_text has_z has_m) rings.now) }
 {
-    if let [first, rest @ ..] = rings {
-        push_ring(out, has_z, has_m, first.items())?;
-        for ring in rest {
-            push_byte(out, b',')?;
-            push_ring(out, has_z, has_m, ring.items())?;
-        }
+    for (place, ring) in rings.iter().enumerate() {
+        push_comma(out, place)?;
+        push_ring(out, has_z, has_m, ring.items())?;
     }
     Ok(())
 }
@@ -148,12 +153,9 @@ fn push_polygons(
 ) -> Result<(), OutOfMemory>
     ensures { OnOk result (out.new.items ≡ out.old.items ++ joined (polygon_text has_z has_m) polygons.now) }
 {
-    if let [first, rest @ ..] = polygons {
-        push_polygon(out, has_z, has_m, first)?;
-        for polygon in rest {
-            push_byte(out, b',')?;
-            push_polygon(out, has_z, has_m, polygon)?;
-        }
+    for (place, polygon) in polygons.iter().enumerate() {
+        push_comma(out, place)?;
+        push_polygon(out, has_z, has_m, polygon)?;
     }
     Ok(())
 }
