@@ -56,13 +56,18 @@ fn put_rest(
     ensures { OnOk result (members_view members.new.entries
         ≡ put_rest (parameters_data coverage.now.parameters) (ranges_data coverage.now.domain coverage.now.parameters coverage.now.ranges) (members_view members.old.entries)) }
 {
-    let parameters = parameters_tree(alloc, coverage.parameters.items())?;
-    put_tree(members, alloc, "parameters", parameters)?;
+    let parameters = coverage.parameters.items();
+    put_tree(
+        members,
+        alloc,
+        "parameters",
+        parameters_tree(alloc, parameters)?,
+    )?;
     put_ranges(
         members,
         alloc,
         &coverage.domain,
-        coverage.parameters.items(),
+        parameters,
         coverage.ranges.items(),
     )
 }
