@@ -1,6 +1,6 @@
 use Rattle.std.proofs.Common.{ℤ, pos, neg_ℤ, ◌≤ℤ◌, ◌≤◌, FitsSigned, w64, rules}
 use Rattle.std.specs.Int.RustNames.{unsigned_abs}
-use Rattle.edr_base.specs.TestLaws.{holds, fails}
+use Rattle.edr_base.specs.TestLaws.{holds}
 use Rattle.edr_wkt.proofs.CheckLemmas.{passed, passed-back}
 use Rattle.edr_wkt.proofs.checks.in_range.Goals as goal
 
@@ -22,10 +22,3 @@ returns c =
       },
       λ r. c.is_time.ensures.1 (passed-back Time p.m fm (r.m_from, r.m_to)),
     )
-
-pub returns-then-not-is_within-3 : goal.returns-then-not-is_within-3
-returns-then-not-is_within-3 c =
-    let z = c.args.p.now.z in
-    let fz : FitsSigned w64 z = search rules in
-    let Within : ℤ → Type 0 = λ n. unsigned_abs n ≤ 100000000 in
-    ((λ no. absurd (cc no)), (λ r. absurd (fails _ _ c.is_within-3.ensures c.if-not-is_within-3.true (passed-back Within z fz r.z))))
