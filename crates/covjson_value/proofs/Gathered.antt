@@ -17,3 +17,7 @@ views_more f xs i d before after tree inside held is pushed =
 -- and an equal tree for the one that a member was put with
 pub put_gathered : {T E : Type 0} (r : Result T E) (key : List ℕ) (tree gathered : Data) (before after : Members) → tree ≡ gathered → OnOk r (after ≡ put key tree before) → OnOk r (after ≡ put key gathered before)
 put_gathered r key tree gathered before after is = on_ok_weaker r (λ h. h ∙ ap (λ d. put key d before) is)
+
+-- the same of the one that was pushed
+pub push_gathered : {T E : Type 0} (r : Result T E) (tree gathered : Data) (before after : List Value) → tree ≡ gathered → OnOk r (map view after ≡ map view before ++ tree ∷ []) → OnOk r (map view after ≡ map view before ++ gathered ∷ [])
+push_gathered r tree gathered before after is = on_ok_weaker r (λ h. h ∙ ap (λ d. map view before ++ d ∷ []) is)

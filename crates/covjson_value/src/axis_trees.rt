@@ -1,5 +1,5 @@
 //! The trees of a domain's axes.
-ghost use Rattle.std.specs.Prelude.{◌≡◌, codes, IfOk, OnOk, IfSome, All, option_map};
+ghost use Rattle.std.specs.Prelude.{◌≡◌, ◌++◌, ◌∷◌, [], codes, map, IfOk, OnOk, IfSome, All, option_map};
 ghost use Rattle.serde_json.specs.View.{view, members_view};
 ghost use Rattle.serde_json.specs.Data.{put};
 ghost use Rattle.covjson_value.specs.Domains.{coordinate_key, axis_of, tuples_of, coordinates_of};
@@ -32,13 +32,21 @@ impl CoordinateName {
     }
 }
 
-fn axis_value_tree(alloc: Global, name: CoordinateName, value: i64) -> Result<Value, OutOfMemory>
+// Puts a value of an axis behind others.
+fn push_axis_value(
+    items: &mut Vec<Value>,
+    alloc: Global,
+    name: CoordinateName,
+    value: i64,
+) -> Result<(), OutOfMemory>
     requires { IsAxisValue name value }
-    ensures { IfOk result (λ v. view v ≡ axis_value_data name value) }
+    ensures { OnOk result (map view items.new.items ≡ map view items.old.items ++ axis_value_data name value ∷ []) }
 {
     match name {
-        CoordinateName::T => time_tree(alloc, value),
-        CoordinateName::Z | CoordinateName::Y | CoordinateName::X => Ok(Value::from(value)),
+        CoordinateName::T => push_tree(items, time_tree(alloc, value)?),
+        CoordinateName::Z | CoordinateName::Y | CoordinateName::X => {
+            push_tree(items, Value::from(value))
+        }
     }
 }
 
@@ -52,7 +60,7 @@ fn axis_values_tree(
 {
     let mut items = Vec::with_capacity(alloc, values.len())?;
     for value in values {
-        push_tree(&mut items, axis_value_tree(alloc, name, *value)?)?;
+        push_axis_value(&mut items, alloc, name, *value)?;
     }
     Ok(Value::Array(items))
 }
@@ -100,22 +108,21 @@ fn coordinate(tuple: &Position, name: CoordinateName) -> i64
     }
 }
 
-fn tuple_tree(
+// Puts a tuple behind others.
+fn push_tuple(
+    items: &mut Vec<Value>,
     alloc: Global,
     names: &[CoordinateName],
     tuple: &Position,
-) -> Result<Value, OutOfMemory>
+) -> Result<(), OutOfMemory>
     requires { All (λ name. IsAxisValue name (domains.coordinate name tuple.now)) names.now }
-    ensures { IfOk result (λ v. view v ≡ tuple_data names.now tuple.now) }
+    ensures { OnOk result (map view items.new.items ≡ map view items.old.items ++ tuple_data names.now tuple.now ∷ []) }
 {
-    let mut items = Vec::with_capacity(alloc, names.len())?;
+    let mut values = Vec::with_capacity(alloc, names.len())?;
     for name in names {
-        push_tree(
-            &mut items,
-            axis_value_tree(alloc, *name, coordinate(tuple, *name))?,
-        )?;
+        push_axis_value(&mut values, alloc, *name, coordinate(tuple, *name))?;
     }
-    Ok(Value::Array(items))
+    push_tree(items, Value::Array(values))
 }
 
 fn put_tuples(
@@ -130,7 +137,7 @@ fn put_tuples(
 {
     let mut items = Vec::with_capacity(alloc, tuples.len())?;
     for tuple in tuples {
-        push_tree(&mut items, tuple_tree(alloc, names, tuple)?)?;
+        push_tuple(&mut items, alloc, names, tuple)?;
     }
     put_tree(members, alloc, "values", Value::Array(items))
 }

@@ -1,4 +1,4 @@
-use Rattle.std.proofs.Common.{codes, map, ap, ◌∙◌, arith}
+use Rattle.std.proofs.Common.{codes, refl, map, ap, ◌∙◌, arith}
 use Rattle.std.proofs.lemmas.List.{take_all}
 use Rattle.serde_json.specs.Data.{array}
 use Rattle.serde_json.specs.View.{items_of, members_view}
@@ -16,7 +16,7 @@ returns c =
 
 pub loop-tuple-preserved : goal.loop-tuple-preserved
 loop-tuple-preserved c =
-    views_more (tuple_data c.args.names.now) c.args.tuples.now c.loop-tuple.tuple-index _ c.loop-tuple.items.items c.push_tree.new.trees.items _ c.loop-tuple-test.true c.loop-tuple.invariant (c.in_ok-tuple_tree.ensures) c.in_ok-push_tree.ensures
+    views_more (tuple_data c.args.names.now) c.args.tuples.now c.loop-tuple.tuple-index _ c.loop-tuple.items.items c.push_tuple.new.items.items _ c.loop-tuple-test.true c.loop-tuple.invariant refl c.in_ok-push_tuple.ensures
 
-pub tuple_tree-requires : goal.tuple_tree-requires
-tuple_tree-requires c = c.requires c.loop-tuple.tuple-index _ c.loop-tuple-test.true
+pub push_tuple-requires : goal.push_tuple-requires
+push_tuple-requires c = c.requires c.loop-tuple.tuple-index _ c.loop-tuple-test.true
