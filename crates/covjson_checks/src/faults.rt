@@ -8,7 +8,7 @@ use edr_json::JsonFault;
 use std::alloc::{AllocError, AllocFailed, Global};
 
 /// A member of a document, by which a fault says where it is (OGC 21-069r2, CoverageJSON objects).
-#[derive(Clone, Copy, Debug, PartialEq, Eq)]
+#[derive(Clone, Copy, Debug)]
 pub enum Member {
     /// The whole document.
     Document,

@@ -13,7 +13,7 @@ use serde_json::{Map, Number, Value};
 use std::alloc::Global;
 
 /// What each item of a list has to be.
-#[derive(Clone, Copy, Debug, PartialEq, Eq)]
+#[derive(Clone, Copy)]
 pub enum Wanted {
     Texts,
     Numbers,

@@ -3,7 +3,7 @@
 use covjson_value::Domain;
 
 /// Which axes of a tree descend, so that they and the values over them are turned round.
-#[derive(Clone, Copy, Debug, PartialEq, Eq)]
+#[derive(Clone, Copy)]
 pub struct Turned {
     /// The axis of times.
     pub t: bool,
@@ -16,7 +16,7 @@ pub struct Turned {
 }
 
 /// A domain as it was read, and which of its axes were turned round.
-#[derive(Debug, Drop)]
+#[derive(Drop)]
 pub struct ReadDomain {
     /// The domain.
     pub domain: Domain,

@@ -5,6 +5,7 @@ pub mod RegularGaps
 pub mod InOrder
 pub mod TimeTexts
 pub mod Gathered
+pub mod AxesGathered
 pub mod AxisValues
 pub mod NamedParts
 pub mod SampleRows

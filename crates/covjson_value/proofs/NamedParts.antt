@@ -5,7 +5,7 @@ use Rattle.std.proofs.lemmas.Slice.Zip.{length-zip, get_or-zip}
 use Rattle.std.specs.Cmp.Lexicographic.{slice_cmp}
 use Rattle.std.specs.List.{zip}
 use Rattle.std.specs.List.Sorted.{IsStrictlySortedBy}
-use Rattle.serde_json.specs.Data.{Data, put}
+use Rattle.serde_json.specs.Data.{Data, Members, put}
 use Rattle.covjson_value.specs.declared.coverages.Parameter.{Parameter}
 use Rattle.covjson_value.specs.declared.coverages.NdArray.{NdArray}
 use Rattle.covjson_value.specs.declared.domains.Domain.{Domain}
@@ -21,6 +21,11 @@ keys-zip : (keys : List (List ℕ)) (ds : List Data) → length ds ≡ length ke
 keys-zip [] ds same = refl
 keys-zip (key ∷ keys) [] same = absurd (omega arith)
 keys-zip (key ∷ keys) (d ∷ ds) same = ap (λ (rest : List (List ℕ)). key ∷ rest) (keys-zip keys ds (omega arith))
+
+-- equal members, put into equal ones
+pub put_parts : (key id : List ℕ) (tree d : Data) (before rest : Members) → key ≡ id → tree ≡ d → before ≡ rest → put key tree before ≡ put id d rest
+put_parts key id tree d before rest key_is tree_is before_is =
+    ap (λ k. put k tree before) key_is ∙ ap (λ t. put id t before) tree_is ∙ ap (put id d) before_is
 
 -- one more parameter is put
 pub parameters_more : (parameters : List Parameter) (k : ℕ) (p : Parameter) → k < length parameters → AscendById parameters → p ≡ slice_index_or parameters k p

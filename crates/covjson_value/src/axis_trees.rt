@@ -1,6 +1,7 @@
 //! The trees of a domain's axes.
-ghost use Rattle.std.specs.Prelude.{◌≡◌, IfOk, OnOk, IfSome, All, option_map};
+ghost use Rattle.std.specs.Prelude.{◌≡◌, ◌++◌, ◌∷◌, [], codes, map, IfOk, OnOk, IfSome, All, option_map};
 ghost use Rattle.serde_json.specs.View.{view, members_view};
+ghost use Rattle.serde_json.specs.Data.{put};
 ghost use Rattle.covjson_value.specs.Domains.{coordinate_key, axis_of, tuples_of, coordinates_of};
 ghost use Rattle.covjson_value.specs.Domains as domains;
 ghost use Rattle.covjson_value.specs.AxisNames.{axis_key, axis_name};
@@ -11,7 +12,7 @@ ghost use Rattle.covjson_value.specs.Puts.{put_if};
 
 use crate::axis_names::{AxisName, axis_key, axis_name};
 use crate::domains::{CoordinateName, Domain};
-use crate::leaves::{only_member, put_text, time_tree};
+use crate::leaves::{only_member, push_text, push_tree, put_text, put_tree, time_tree};
 use crate::regular_axes::{is_regular, span_tree};
 use edr_base::{OutOfMemory, Position};
 use serde_json::{Map, Value};
@@ -31,13 +32,21 @@ impl CoordinateName {
     }
 }
 
-fn axis_value_tree(alloc: Global, name: CoordinateName, value: i64) -> Result<Value, OutOfMemory>
+// Puts a value of an axis behind others.
+fn push_axis_value(
+    items: &mut Vec<Value>,
+    alloc: Global,
+    name: CoordinateName,
+    value: i64,
+) -> Result<(), OutOfMemory>
     requires { IsAxisValue name value }
-    ensures { IfOk result (λ v. view v ≡ axis_value_data name value) }
+    ensures { OnOk result (map view items.new.items ≡ map view items.old.items ++ axis_value_data name value ∷ []) }
 {
     match name {
-        CoordinateName::T => time_tree(alloc, value),
-        CoordinateName::Z | CoordinateName::Y | CoordinateName::X => Ok(Value::from(value)),
+        CoordinateName::T => push_tree(items, time_tree(alloc, value)?),
+        CoordinateName::Z | CoordinateName::Y | CoordinateName::X => {
+            push_tree(items, Value::from(value))
+        }
     }
 }
 
@@ -51,7 +60,7 @@ fn axis_values_tree(
 {
     let mut items = Vec::with_capacity(alloc, values.len())?;
     for value in values {
-        items.push(axis_value_tree(alloc, name, *value)?)?;
+        push_axis_value(&mut items, alloc, name, *value)?;
     }
     Ok(Value::Array(items))
 }
@@ -99,62 +108,54 @@ fn coordinate(tuple: &Position, name: CoordinateName) -> i64
     }
 }
 
-fn tuple_tree(
+// Puts a tuple behind others.
+fn push_tuple(
+    items: &mut Vec<Value>,
     alloc: Global,
     names: &[CoordinateName],
     tuple: &Position,
-) -> Result<Value, OutOfMemory>
+) -> Result<(), OutOfMemory>
     requires { All (λ name. IsAxisValue name (domains.coordinate name tuple.now)) names.now }
-    ensures { IfOk result (λ v. view v ≡ tuple_data names.now tuple.now) }
+    ensures { OnOk result (map view items.new.items ≡ map view items.old.items ++ tuple_data names.now tuple.now ∷ []) }
 {
-    let mut items = Vec::with_capacity(alloc, names.len())?;
+    let mut values = Vec::with_capacity(alloc, names.len())?;
     for name in names {
-        items.push(axis_value_tree(alloc, *name, coordinate(tuple, *name))?)?;
+        push_axis_value(&mut values, alloc, *name, coordinate(tuple, *name))?;
     }
-    Ok(Value::Array(items))
+    push_tree(items, Value::Array(values))
 }
 
-fn tuples_tree(
+fn put_tuples(
+    members: &mut Map<String, Value>,
     alloc: Global,
     names: &[CoordinateName],
     tuples: &[Position],
-) -> Result<Value, OutOfMemory>
+) -> Result<(), OutOfMemory>
     requires { All (λ tuple. All (λ name. IsAxisValue name (domains.coordinate name tuple)) names.now) tuples.now }
-    ensures { IfOk result (λ v. view v ≡ array_of (tuple_data names.now) tuples.now) }
+    ensures { OnOk result (members_view members.new.entries
+        ≡ put (codes "values") (array_of (tuple_data names.now) tuples.now) (members_view members.old.entries)) }
 {
     let mut items = Vec::with_capacity(alloc, tuples.len())?;
     for tuple in tuples {
-        items.push(tuple_tree(alloc, names, tuple)?)?;
+        push_tuple(&mut items, alloc, names, tuple)?;
     }
-    Ok(Value::Array(items))
+    put_tree(members, alloc, "values", Value::Array(items))
 }
 
-/// The names of some axes.
-pub fn keys_tree(alloc: Global, names: &[CoordinateName]) -> Result<Value, OutOfMemory>
-    ensures { IfOk result (λ v. view v ≡ keys_data names.now) }
+/// Puts the names of some axes.
+pub fn put_coordinates(
+    members: &mut Map<String, Value>,
+    alloc: Global,
+    names: &[CoordinateName],
+) -> Result<(), OutOfMemory>
+    ensures { OnOk result (members_view members.new.entries
+        ≡ put (codes "coordinates") (keys_data names.now) (members_view members.old.entries)) }
 {
     let mut items = Vec::with_capacity(alloc, names.len())?;
     for name in names {
-        items.push(Value::try_from_str(alloc, name.letter())?)?;
+        push_text(&mut items, alloc, name.letter())?;
     }
-    Ok(Value::Array(items))
-}
-
-fn composite_tree(
-    alloc: Global,
-    names: &[CoordinateName],
-    tuples: &[Position],
-) -> Result<Value, OutOfMemory>
-    requires { All (λ tuple. All (λ name. IsAxisValue name (domains.coordinate name tuple)) names.now) tuples.now }
-    ensures { IfOk result (λ v. view v ≡ composite_data names.now tuples.now) }
-{
-    let mut members = Map::new(alloc);
-    let coordinates = keys_tree(alloc, names)?;
-    serde_json::put(&mut members, alloc, "coordinates", coordinates)?;
-    put_text(&mut members, alloc, "dataType", "tuple")?;
-    let values = tuples_tree(alloc, names, tuples)?;
-    serde_json::put(&mut members, alloc, "values", values)?;
-    Ok(Value::Object(members))
+    put_tree(members, alloc, "coordinates", Value::Array(items))
 }
 
 fn put_axis(
@@ -167,11 +168,13 @@ fn put_axis(
     ensures { OnOk result (members_view members.new.entries
         ≡ put_if (axis_key (axis_name name)) (option_map (axis_data name) (axis_of domain.now name)) (members_view members.old.entries)) }
 {
-    if let Some(values) = domain.axis(name) {
-        let axis = axis_tree(alloc, name, values)?;
-        serde_json::put(members, alloc, axis_key(axis_name(name)), axis)?;
+    match domain.axis(name) {
+        Some(values) => {
+            let axis = axis_tree(alloc, name, values)?;
+            put_tree(members, alloc, axis_key(axis_name(name)), axis)
+        }
+        None => Ok(()),
     }
-    Ok(())
 }
 
 fn put_composite(
@@ -183,24 +186,36 @@ fn put_composite(
     ensures { OnOk result (members_view members.new.entries
         ≡ put_if (axis_key Composite) (option_map (composite_data (coordinates_of domain.now)) (tuples_of domain.now)) (members_view members.old.entries)) }
 {
-    if let Some(tuples) = domain.tuples() {
-        let composite = composite_tree(alloc, domain.coordinates(), tuples)?;
-        serde_json::put(members, alloc, axis_key(AxisName::Composite), composite)?;
+    match domain.tuples() {
+        Some(tuples) => {
+            let names = domain.coordinates();
+            let mut composite = Map::new(alloc);
+            put_coordinates(&mut composite, alloc, names)?;
+            put_text(&mut composite, alloc, "dataType", "tuple")?;
+            put_tuples(&mut composite, alloc, names, tuples)?;
+            let axis = Value::Object(composite);
+            put_tree(members, alloc, axis_key(AxisName::Composite), axis)
+        }
+        None => Ok(()),
     }
-    Ok(())
 }
 
-/// The tree of a domain's axes.
-pub fn axes_tree(alloc: Global, domain: &Domain) -> Result<Value, OutOfMemory>
+/// Puts a domain's axes.
+pub fn put_axes(
+    members: &mut Map<String, Value>,
+    alloc: Global,
+    domain: &Domain,
+) -> Result<(), OutOfMemory>
     requires axes { HasAxes domain.now }
     requires tuples { HasTuples domain.now }
-    ensures { IfOk result (λ v. view v ≡ axes_data domain.now) }
+    ensures { OnOk result (members_view members.new.entries
+        ≡ put (codes "axes") (axes_data domain.now) (members_view members.old.entries)) }
 {
-    let mut members = Map::new(alloc);
-    put_composite(&mut members, alloc, domain)?;
-    put_axis(&mut members, alloc, domain, CoordinateName::T)?;
-    put_axis(&mut members, alloc, domain, CoordinateName::X)?;
-    put_axis(&mut members, alloc, domain, CoordinateName::Y)?;
-    put_axis(&mut members, alloc, domain, CoordinateName::Z)?;
-    Ok(Value::Object(members))
+    let mut axes = Map::new(alloc);
+    put_composite(&mut axes, alloc, domain)?;
+    put_axis(&mut axes, alloc, domain, CoordinateName::T)?;
+    put_axis(&mut axes, alloc, domain, CoordinateName::X)?;
+    put_axis(&mut axes, alloc, domain, CoordinateName::Y)?;
+    put_axis(&mut axes, alloc, domain, CoordinateName::Z)?;
+    put_tree(members, alloc, "axes", Value::Object(axes))
 }

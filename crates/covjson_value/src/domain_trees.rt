@@ -1,42 +1,28 @@
 //! The trees of domains and of the systems of their coordinates.
-ghost use Rattle.std.specs.Prelude.{◌≡◌, codes, IfOk, OnOk, IsUtf8, IfSome, option_map, option_copied};
-ghost use Rattle.serde_json.specs.Data.{string};
+ghost use Rattle.std.specs.Prelude.{◌≡◌, codes, IfOk, OnOk, IsUtf8, IfSome, option_copied};
+ghost use Rattle.serde_json.specs.Data.{put};
 ghost use Rattle.serde_json.specs.View.{view, members_view};
 ghost use Rattle.covjson_value.specs.Coverages.{IsReferencing, HasAxes, HasTuples};
 ghost use Rattle.covjson_value.specs.Trees.{connection_data, text_if_some, system_data, horizontal_data, vertical_data, temporal_data, referencing_data, domain_type, domain_data};
-ghost use Rattle.covjson_value.specs.Puts.{put_if, calendar_data};
+ghost use Rattle.covjson_value.specs.Puts.{calendar_data};
 
-use crate::axis_trees::{axes_tree, keys_tree};
+use crate::axis_trees::{put_axes, put_coordinates};
 use crate::coverages::Referencing;
 use crate::domains::{CoordinateName, Domain};
-use crate::leaves::{put_text, text_of};
+use crate::leaves::{push_tree, put_text, put_tree, text_of, typed_object};
 use edr_base::{OutOfMemory, Text};
 use serde_json::{Map, Value};
 use std::alloc::Global;
-
-// Puts the name of a system, where it is given.
-fn put_name(
-    members: &mut Map<String, Value>,
-    alloc: Global,
-    name: Option<&str>,
-) -> Result<(), OutOfMemory>
-    ensures { OnOk result (members_view members.new.entries
-        ≡ put_if (codes "id") (option_map string (option_copied name.entry)) (members_view members.old.entries)) }
-{
-    match name {
-        Some(name) => put_text(members, alloc, "id", name),
-        None => Ok(()),
-    }
-}
 
 // A system without a name where none is given.
 fn system_tree(alloc: Global, name: Option<&str>, kind: &str) -> Result<Value, OutOfMemory>
     ensures { IfOk result (λ v. view v ≡ system_data (option_copied name.entry) kind.now) }
 {
     let mut members = Map::new(alloc);
-    put_name(&mut members, alloc, name)?;
-    put_text(&mut members, alloc, "type", kind)?;
-    Ok(Value::Object(members))
+    if let Some(name) = name {
+        put_text(&mut members, alloc, "id", name)?;
+    }
+    typed_object(members, alloc, kind)
 }
 
 // The system of times.
@@ -45,8 +31,7 @@ fn calendar_tree(alloc: Global) -> Result<Value, OutOfMemory>
 {
     let mut members = Map::new(alloc);
     put_text(&mut members, alloc, "calendar", "Gregorian")?;
-    put_text(&mut members, alloc, "type", "TemporalRS")?;
-    Ok(Value::Object(members))
+    typed_object(members, alloc, "TemporalRS")
 }
 
 // The coordinates of some axes, and their system.
@@ -58,9 +43,8 @@ fn connection_tree(
     ensures { IfOk result (λ v. view v ≡ connection_data names.now (view system)) }
 {
     let mut members = Map::new(alloc);
-    serde_json::put(&mut members, alloc, "system", system)?;
-    let coordinates = keys_tree(alloc, names)?;
-    serde_json::put(&mut members, alloc, "coordinates", coordinates)?;
+    put_tree(&mut members, alloc, "system", system)?;
+    put_coordinates(&mut members, alloc, names)?;
     Ok(Value::Object(members))
 }
 
@@ -109,33 +93,38 @@ fn referencing_tree(
     ensures { IfOk result (λ v. view v ≡ referencing_data domain.now referencing.now) }
 {
     let mut items = Vec::new(alloc);
-    items.push(horizontal_tree(alloc, &referencing.crs)?)?;
+    push_tree(&mut items, horizontal_tree(alloc, &referencing.crs)?)?;
     if domain.has(CoordinateName::Z) {
-        items.push(vertical_tree(alloc, &referencing.vertical)?)?;
+        push_tree(&mut items, vertical_tree(alloc, &referencing.vertical)?)?;
     }
     if domain.has(CoordinateName::T) {
-        items.push(temporal_tree(alloc)?)?;
+        push_tree(&mut items, temporal_tree(alloc)?)?;
     }
     Ok(Value::Array(items))
 }
 
-/// The tree of a domain, with the systems of its coordinates.
-pub fn domain_tree(
+/// Puts a domain, with the systems of its coordinates.
+pub fn put_domain(
+    members: &mut Map<String, Value>,
     alloc: Global,
     domain: &Domain,
     referencing: &Referencing,
-) -> Result<Value, OutOfMemory>
+) -> Result<(), OutOfMemory>
     requires axes { HasAxes domain.now }
     requires tuples { HasTuples domain.now }
     requires referencing { IsReferencing referencing.now }
-    ensures { IfOk result (λ v. view v ≡ domain_data domain.now referencing.now) }
+    ensures { OnOk result (members_view members.new.entries
+        ≡ put (codes "domain") (domain_data domain.now referencing.now) (members_view members.old.entries)) }
 {
-    let mut members = Map::new(alloc);
-    let axes = axes_tree(alloc, domain)?;
-    serde_json::put(&mut members, alloc, "axes", axes)?;
-    put_text(&mut members, alloc, "domainType", domain.type_name())?;
+    let mut parts = Map::new(alloc);
+    put_axes(&mut parts, alloc, domain)?;
+    put_text(&mut parts, alloc, "domainType", domain.type_name())?;
     let connections = referencing_tree(alloc, domain, referencing)?;
-    serde_json::put(&mut members, alloc, "referencing", connections)?;
-    put_text(&mut members, alloc, "type", "Domain")?;
-    Ok(Value::Object(members))
+    put_tree(&mut parts, alloc, "referencing", connections)?;
+    put_tree(
+        members,
+        alloc,
+        "domain",
+        typed_object(parts, alloc, "Domain")?,
+    )
 }

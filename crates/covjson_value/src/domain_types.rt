@@ -3,7 +3,7 @@ ghost use Rattle.std.specs.Prelude.{◌≡◌};
 ghost use Rattle.covjson_value.specs.DomainTypes.{type_by_name, type_key};
 
 /// The type of a domain (OGC 21-069r2, Domain types).
-#[derive(Clone, Copy, Debug, PartialEq, Eq)]
+#[derive(Clone, Copy)]
 pub enum DomainType {
     /// All nodes of some axes.
     Grid,
@@ -37,19 +37,13 @@ pub(crate) fn type_key(kind: DomainType) -> &'static str
 pub fn type_by_name(name: &str) -> Option<DomainType>
     ensures { result ≡ type_by_name name.now }
 {
-    if name == "Grid" {
-        Some(DomainType::Grid)
-    } else if name == "Point" {
-        Some(DomainType::Point)
-    } else if name == "PointSeries" {
-        Some(DomainType::PointSeries)
-    } else if name == "VerticalProfile" {
-        Some(DomainType::VerticalProfile)
-    } else if name == "MultiPoint" {
-        Some(DomainType::MultiPoint)
-    } else if name == "Trajectory" {
-        Some(DomainType::Trajectory)
-    } else {
-        None
+    match name {
+        "Grid" => Some(DomainType::Grid),
+        "Point" => Some(DomainType::Point),
+        "PointSeries" => Some(DomainType::PointSeries),
+        "VerticalProfile" => Some(DomainType::VerticalProfile),
+        "MultiPoint" => Some(DomainType::MultiPoint),
+        "Trajectory" => Some(DomainType::Trajectory),
+        _ => None,
     }
 }

@@ -11,7 +11,7 @@ use edr_base::{Items, Position};
 use std::slice;
 
 /// A coordinate of a domain, and the axis of that name.
-#[derive(Clone, Copy, Debug, PartialEq, Eq)]
+#[derive(Clone, Copy, PartialEq, Eq)]
 pub enum CoordinateName {
     /// Times, in seconds since 1970-01-01T00:00:00Z.
     T,

@@ -1,5 +1,5 @@
 //! The trees of texts, times and samples, and members of objects.
-ghost use Rattle.std.specs.Prelude.{◌≡◌, IfOk, OnOk, IsUtf8, option_map};
+ghost use Rattle.std.specs.Prelude.{◌≡◌, ◌++◌, ◌∷◌, [], codes, map, IfOk, OnOk, IsUtf8, option_map};
 ghost use Rattle.serde_json.specs.Data.{string, object, no_members, member, put};
 ghost use Rattle.serde_json.specs.View.{view, members_view};
 ghost use Rattle.edr_axes.specs.Instants.{IsTime, instant_text};
@@ -50,15 +50,34 @@ fn sample_tree(sample: Option<i64>) -> Value
     }
 }
 
-/// A list of samples, with null where one is absent.
-pub fn samples_tree(alloc: Global, samples: &[Option<i64>]) -> Result<Value, OutOfMemory>
-    ensures { IfOk result (λ v. view v ≡ array_of sample_data samples.now) }
+/// Puts a tree behind others.
+pub fn push_tree(trees: &mut Vec<Value>, tree: Value) -> Result<(), OutOfMemory>
+    ensures { OnOk result (map view trees.new.items ≡ map view trees.old.items ++ view tree ∷ []) }
+{
+    Ok(trees.push(tree)?)
+}
+
+/// Puts a text behind other trees.
+pub fn push_text(trees: &mut Vec<Value>, alloc: Global, text: &str) -> Result<(), OutOfMemory>
+    ensures { OnOk result (map view trees.new.items ≡ map view trees.old.items ++ string text.now ∷ []) }
+{
+    push_tree(trees, Value::try_from_str(alloc, text)?)
+}
+
+/// Puts a list of samples, with null where one is absent.
+pub fn put_samples(
+    members: &mut Map<String, Value>,
+    alloc: Global,
+    samples: &[Option<i64>],
+) -> Result<(), OutOfMemory>
+    ensures { OnOk result (members_view members.new.entries
+        ≡ put (codes "values") (array_of sample_data samples.now) (members_view members.old.entries)) }
 {
     let mut items = Vec::with_capacity(alloc, samples.len())?;
     for sample in samples {
-        items.push(sample_tree(*sample))?;
+        push_tree(&mut items, sample_tree(*sample))?;
     }
-    Ok(Value::Array(items))
+    put_tree(members, alloc, "values", Value::Array(items))
 }
 
 /// An object of one member.
@@ -66,7 +85,32 @@ pub fn only_member(alloc: Global, key: &str, tree: Value) -> Result<Value, OutOf
     ensures { IfOk result (λ v. view v ≡ object (member key.now (view tree) no_members)) }
 {
     let mut members = Map::new(alloc);
-    serde_json::put(&mut members, alloc, key, tree)?;
+    put_tree(&mut members, alloc, key, tree)?;
+    Ok(Value::Object(members))
+}
+
+/// Puts a member.
+pub fn put_tree(
+    members: &mut Map<String, Value>,
+    alloc: Global,
+    key: &str,
+    tree: Value,
+) -> Result<(), OutOfMemory>
+    ensures { OnOk result (members_view members.new.entries
+        ≡ put key.now (view tree) (members_view members.old.entries)) }
+{
+    Ok(serde_json::put(members, alloc, key, tree)?)
+}
+
+/// The object of some members, and of the one that tells its type.
+pub fn typed_object(
+    mut members: Map<String, Value>,
+    alloc: Global,
+    kind: &str,
+) -> Result<Value, OutOfMemory>
+    ensures { IfOk result (λ v. view v ≡ object (put (codes "type") (string kind.now) (members_view members.entries))) }
+{
+    put_text(&mut members, alloc, "type", kind)?;
     Ok(Value::Object(members))
 }
 
@@ -80,9 +124,7 @@ pub fn put_text(
     ensures { OnOk result (members_view members.new.entries
         ≡ put key.now (string text.now) (members_view members.old.entries)) }
 {
-    let tree = Value::try_from_str(alloc, text)?;
-    serde_json::put(members, alloc, key, tree)?;
-    Ok(())
+    put_tree(members, alloc, key, Value::try_from_str(alloc, text)?)
 }
 
 /// Puts a member where its value is given.
@@ -95,8 +137,8 @@ pub fn put_given(
     ensures { OnOk result (members_view members.new.entries
         ≡ put_if key.now (option_map view tree) (members_view members.old.entries)) }
 {
-    if let Some(tree) = tree {
-        serde_json::put(members, alloc, key, tree)?;
+    match tree {
+        Some(tree) => put_tree(members, alloc, key, tree),
+        None => Ok(()),
     }
-    Ok(())
 }

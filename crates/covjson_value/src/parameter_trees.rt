@@ -6,7 +6,7 @@ ghost use Rattle.covjson_value.specs.Trees.{property_data, unit_data, parameter_
 ghost use Rattle.covjson_value.specs.Puts.{put_if};
 
 use crate::coverages::Parameter;
-use crate::leaves::{only_member, put_text, text_of, text_tree};
+use crate::leaves::{only_member, put_tree, text_of, text_tree, typed_object};
 use edr_base::{OutOfMemory, Text};
 use serde_json::{Map, Value};
 use std::alloc::Global;
@@ -20,14 +20,6 @@ fn property_tree(alloc: Global, parameter: &Parameter) -> Result<Value, OutOfMem
     only_member(alloc, "label", labels)
 }
 
-fn unit_tree(alloc: Global, unit: &Text) -> Result<Value, OutOfMemory>
-    requires { IsUtf8 unit.now }
-    ensures { IfOk result (λ v. view v ≡ unit_data unit.now) }
-{
-    let symbol = text_tree(alloc, unit)?;
-    only_member(alloc, "symbol", symbol)
-}
-
 // Puts the unit of a parameter, where it has one.
 fn put_unit(
     members: &mut Map<String, Value>,
@@ -38,23 +30,29 @@ fn put_unit(
     ensures { OnOk result (members_view members.new.entries
         ≡ put_if (codes "unit") (option_map unit_data unit.now) (members_view members.old.entries)) }
 {
-    if let Some(unit) = unit {
-        let tree = unit_tree(alloc, unit)?;
-        serde_json::put(members, alloc, "unit", tree)?;
+    match unit {
+        Some(unit) => {
+            let symbol = text_tree(alloc, unit)?;
+            put_tree(
+                members,
+                alloc,
+                "unit",
+                only_member(alloc, "symbol", symbol)?,
+            )
+        }
+        None => Ok(()),
     }
-    Ok(())
 }
 
 fn parameter_tree(alloc: Global, parameter: &Parameter) -> Result<Value, OutOfMemory>
     requires { IsParameter parameter.now }
     ensures { IfOk result (λ v. view v ≡ parameter_data parameter.now) }
 {
-    let mut members = Map::new(alloc);
     let property = property_tree(alloc, parameter)?;
-    serde_json::put(&mut members, alloc, "observedProperty", property)?;
-    put_text(&mut members, alloc, "type", "Parameter")?;
+    let mut members = Map::new(alloc);
+    put_tree(&mut members, alloc, "observedProperty", property)?;
     put_unit(&mut members, alloc, &parameter.unit)?;
-    Ok(Value::Object(members))
+    typed_object(members, alloc, "Parameter")
 }
 
 /// The tree of some parameters, by their ids.
@@ -66,7 +64,7 @@ pub fn parameters_tree(alloc: Global, parameters: &[Parameter]) -> Result<Value,
     let mut members = Map::new(alloc);
     for parameter in parameters {
         let tree = parameter_tree(alloc, parameter)?;
-        serde_json::put(&mut members, alloc, text_of(parameter.id.bytes()), tree)?;
+        put_tree(&mut members, alloc, text_of(parameter.id.bytes()), tree)?;
     }
     Ok(Value::Object(members))
 }

@@ -5,6 +5,7 @@ ghost use Rattle.edr_axes.specs.Axes.{value_at};
 ghost use Rattle.edr_base.specs.Limits.{IsCoordinate};
 ghost use Rattle.covjson_value.specs.Trees.{is_regular, span_data};
 
+use crate::leaves::put_tree;
 use edr_base::{NODE_LIMIT, OutOfMemory};
 use serde_json::{Map, Value};
 use std::alloc::Global;
@@ -47,8 +48,8 @@ pub fn span_tree(alloc: Global, values: &[i64]) -> Result<Value, OutOfMemory>
 {
     let mut members = Map::new(alloc);
     let last = values[values.len() - 1];
-    serde_json::put(&mut members, alloc, "num", Value::from(values.len()))?;
-    serde_json::put(&mut members, alloc, "start", Value::from(values[0]))?;
-    serde_json::put(&mut members, alloc, "stop", Value::from(last))?;
+    put_tree(&mut members, alloc, "num", Value::from(values.len()))?;
+    put_tree(&mut members, alloc, "start", Value::from(values[0]))?;
+    put_tree(&mut members, alloc, "stop", Value::from(last))?;
     Ok(Value::Object(members))
 }

@@ -1,33 +1,39 @@
 //! The trees of coverages and documents.
-ghost use Rattle.std.specs.Prelude.{◌≡◌, All, IfOk, OnOk, IfSome, IsUtf8, false, option_map};
-ghost use Rattle.serde_json.specs.Data.{string};
+ghost use Rattle.std.specs.Prelude.{◌≡◌, codes, All, IfOk, OnOk, IfSome, IsUtf8, false, option_map};
+ghost use Rattle.serde_json.specs.Data.{string, put};
 ghost use Rattle.serde_json.specs.View.{view, members_view};
 ghost use Rattle.serde_json.specs.Written.{has_float};
 ghost use Rattle.covjson_value.specs.Coverages.{IsValid, IsValidDocument};
 ghost use Rattle.covjson_value.specs.Trees.{array_of, domain_data, parameters_data, ranges_data, coverage_data, collection_data, document_data};
-ghost use Rattle.covjson_value.specs.Puts.{put_head, put_rest};
+ghost use Rattle.covjson_value.specs.Puts.{put_if, put_head, put_rest};
 
 use crate::coverages::{Coverage, Document};
-use crate::domain_trees::domain_tree;
-use crate::leaves::{put_given, put_text, text_tree};
+use crate::domain_trees::put_domain;
+use crate::leaves::{push_tree, put_text, put_tree, text_of, typed_object};
 use crate::parameter_trees::parameters_tree;
-use crate::range_trees::ranges_tree;
+use crate::range_trees::put_ranges;
 use edr_base::{OutOfMemory, Text};
 use serde_json::{Map, Value};
 use std::alloc::Global;
 
-fn id_tree(alloc: Global, id: &Option<Text>) -> Result<Option<Value>, OutOfMemory>
+// Puts an id, where it is given.
+fn put_id(
+    members: &mut Map<String, Value>,
+    alloc: Global,
+    id: &Option<Text>,
+) -> Result<(), OutOfMemory>
     requires { IfSome id.now IsUtf8 }
-    ensures { IfOk result (λ v. option_map view v ≡ option_map string id.now) }
+    ensures { OnOk result (members_view members.new.entries
+        ≡ put_if (codes "id") (option_map string id.now) (members_view members.old.entries)) }
 {
     match id {
-        Some(id) => Ok(Some(text_tree(alloc, id)?)),
-        None => Ok(None),
+        Some(id) => put_text(members, alloc, "id", text_of(id.bytes())),
+        None => Ok(()),
     }
 }
 
 // Puts the domain of a coverage, and its id where it has one.
-fn put_domain(
+fn put_head(
     members: &mut Map<String, Value>,
     alloc: Global,
     coverage: &Coverage,
@@ -36,14 +42,12 @@ fn put_domain(
     ensures { OnOk result (members_view members.new.entries
         ≡ put_head (domain_data coverage.now.domain coverage.now.referencing) (option_map string coverage.now.id) (members_view members.old.entries)) }
 {
-    let domain = domain_tree(alloc, &coverage.domain, &coverage.referencing)?;
-    serde_json::put(members, alloc, "domain", domain)?;
-    let id = id_tree(alloc, &coverage.id)?;
-    put_given(members, alloc, "id", id)
+    put_domain(members, alloc, &coverage.domain, &coverage.referencing)?;
+    put_id(members, alloc, &coverage.id)
 }
 
 // Puts its parameters, and a range for each.
-fn put_ranges(
+fn put_rest(
     members: &mut Map<String, Value>,
     alloc: Global,
     coverage: &Coverage,
@@ -52,16 +56,20 @@ fn put_ranges(
     ensures { OnOk result (members_view members.new.entries
         ≡ put_rest (parameters_data coverage.now.parameters) (ranges_data coverage.now.domain coverage.now.parameters coverage.now.ranges) (members_view members.old.entries)) }
 {
-    let parameters = parameters_tree(alloc, coverage.parameters.items())?;
-    serde_json::put(members, alloc, "parameters", parameters)?;
-    let ranges = ranges_tree(
+    let parameters = coverage.parameters.items();
+    put_tree(
+        members,
+        alloc,
+        "parameters",
+        parameters_tree(alloc, parameters)?,
+    )?;
+    put_ranges(
+        members,
         alloc,
         &coverage.domain,
-        coverage.parameters.items(),
+        parameters,
         coverage.ranges.items(),
-    )?;
-    serde_json::put(members, alloc, "ranges", ranges)?;
-    Ok(())
+    )
 }
 
 // A coverage, member by member.
@@ -70,10 +78,9 @@ fn object_of(alloc: Global, coverage: &Coverage) -> Result<Value, OutOfMemory>
     ensures { IfOk result (λ v. view v ≡ coverage_data coverage.now) }
 {
     let mut members = Map::new(alloc);
-    put_domain(&mut members, alloc, coverage)?;
-    put_ranges(&mut members, alloc, coverage)?;
-    put_text(&mut members, alloc, "type", "Coverage")?;
-    Ok(Value::Object(members))
+    put_head(&mut members, alloc, coverage)?;
+    put_rest(&mut members, alloc, coverage)?;
+    typed_object(members, alloc, "Coverage")
 }
 
 /// The tree of a coverage (OGC 21-069r2, Coverage objects) that is valid (`Coverage::is_valid`), with the members of each
@@ -84,28 +91,32 @@ pub fn tree_of(alloc: Global, coverage: &Coverage) -> Result<Value, OutOfMemory>
     ensures tree { IfOk result (λ v. view v ≡ coverage_data coverage.now) }
     ensures no_float { IfOk result (λ v. has_float (view v) ≡ false) }
 {
-    let tree = object_of(alloc, coverage)?;
-    Ok(tree)
+    object_of(alloc, coverage)
 }
 
-fn coverages_tree(alloc: Global, coverages: &[Coverage]) -> Result<Value, OutOfMemory>
+fn put_coverages(
+    members: &mut Map<String, Value>,
+    alloc: Global,
+    coverages: &[Coverage],
+) -> Result<(), OutOfMemory>
     requires { All IsValid coverages.now }
-    ensures { IfOk result (λ v. view v ≡ array_of coverage_data coverages.now) }
+    ensures { OnOk result (members_view members.new.entries
+        ≡ put (codes "coverages") (array_of coverage_data coverages.now) (members_view members.old.entries)) }
 {
     let mut items = Vec::with_capacity(alloc, coverages.len())?;
     for coverage in coverages {
-        items.push(tree_of(alloc, coverage)?)?;
+        push_tree(&mut items, tree_of(alloc, coverage)?)?;
     }
-    Ok(Value::Array(items))
+    put_tree(members, alloc, "coverages", Value::Array(items))
 }
 
-fn collection_tree(alloc: Global, coverages: Value) -> Result<Value, OutOfMemory>
-    ensures { IfOk result (λ v. view v ≡ collection_data (view coverages)) }
+fn collection_tree(alloc: Global, coverages: &[Coverage]) -> Result<Value, OutOfMemory>
+    requires { All IsValid coverages.now }
+    ensures { IfOk result (λ v. view v ≡ collection_data (array_of coverage_data coverages.now)) }
 {
     let mut members = Map::new(alloc);
-    serde_json::put(&mut members, alloc, "coverages", coverages)?;
-    put_text(&mut members, alloc, "type", "CoverageCollection")?;
-    Ok(Value::Object(members))
+    put_coverages(&mut members, alloc, coverages)?;
+    typed_object(members, alloc, "CoverageCollection")
 }
 
 /// The tree of a document (OGC 21-069r2, Coverage and CoverageCollection objects) that is valid (`Document::is_valid`), with
@@ -117,9 +128,6 @@ pub fn document_tree(alloc: Global, document: &Document) -> Result<Value, OutOfM
 {
     match document {
         Document::One(coverage) => tree_of(alloc, coverage),
-        Document::Many(coverages) => {
-            let items = coverages_tree(alloc, coverages.items())?;
-            collection_tree(alloc, items)
-        }
+        Document::Many(coverages) => collection_tree(alloc, coverages.items()),
     }
 }

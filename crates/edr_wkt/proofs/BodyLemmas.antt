@@ -1,6 +1,7 @@
 -- The insides of the brackets of each kind.
-use Rattle.std.proofs.Common.{◌≡◌, ℕ, subst, ◌+◌, ◌<◌, ◌≤◌, min, Bool, true, false, List, [], ◌∷◌, length, map, refl, sym, ap, ap₂, ◌∙◌, arith}
+use Rattle.std.proofs.Common.{◌≡◌, ℕ, subst, ◌+◌, ◌<◌, ◌≤◌, min, Bool, true, false, List, [], ◌∷◌, if◌then◌else◌, length, map, refl, sym, ap, ap₂, ◌∙◌, arith}
 use Rattle.std.specs.List.{flat_map, sum_by}
+use Rattle.std.proofs.lemmas.Bool.{false≢true}
 use Rattle.std.proofs.lemmas.List.{length-append}
 use Rattle.std.proofs.lemmas.List.Sums.{sum_by-cons}
 use Rattle.edr_base.specs.declared.places.Position.{Position}
@@ -97,6 +98,22 @@ pub multi_point-read : (z m : Bool) (text : List ℕ) (before after : ℕ) (read
     → IsBodyRead MultiPoint z m text before after (Points true z m read) rest
 multi_point-read z m text before after read len rest a = record
     { geometry = Points true z m a.positions; has_heading = record { kind_is = refl; has_z_is = refl; has_m_is = refl }; is_inside = a.are_items; after_is = a.after_is; read_is = λ h. ap (Points true z m) (a.read_is h) }
+
+-- a point, or several
+
+pub points-none : (multi z m : Bool) (text : List ℕ) → HasNoItems (IsMember multi z m) text → HasNoBody (if multi then MultiPoint else Point) z m text
+points-none true z m text none = multi_point-none z m text none
+points-none false z m text none = point-none z m text (λ ps rest h one. none ps rest h)
+
+pub points-other : (multi z m : Bool) (text : List ℕ) (before after : ℕ) (read : List Position) (len : ℕ) (rest : List ℕ) → ArePositions multi z m text before after read len rest → multi ≡ false → (len ≡ 1 → ⊥)
+    → HasNoBody (if multi then MultiPoint else Point) z m text
+points-other true z m text before after read len rest a one other = absurd (false≢true (sym one))
+points-other false z m text before after read len rest a one other = point-other z m text before after read len rest a other
+
+pub points-read : (multi z m : Bool) (text : List ℕ) (before after : ℕ) (read : List Position) (len : ℕ) (rest : List ℕ) → ArePositions multi z m text before after read len rest → (multi ≡ false → len ≡ 1)
+    → IsBodyRead (if multi then MultiPoint else Point) z m text before after (Points multi z m read) rest
+points-read true z m text before after read len rest a one = multi_point-read z m text before after read len rest a
+points-read false z m text before after read len rest a one = point-read z m text before after read len rest a (one refl)
 
 pub line-read : (z m : Bool) (text : List ℕ) (before after : ℕ) (read : List Position) (len : ℕ) (rest : List ℕ) → ArePositions false z m text before after read len rest → 2 ≤ len
     → IsBodyRead LineString z m text before after (Line z m read) rest

@@ -1,24 +1,44 @@
--- Items that are written one after another, with commas between them.
-use Rattle.std.proofs.Common.{◌≡◌, ℕ, ◌+◌, ◌-◌, ◌<◌, ◌≤◌, List, [], ◌∷◌, ◌++◌, length, get_or, take, drop, sym, ap, ◌∙◌, append_assoc, arith}
+-- Items that are written one after another, with commas between them, and copies of items.
+use Rattle.std.proofs.Common.{◌≡◌, ◌==◌, ℕ, zero, suc, false, ◌+◌, ◌<◌, ◌≤◌, List, [], ◌∷◌, ◌++◌, if◌then◌else◌, length, get_or, take, sym, ap, ◌∙◌, append_assoc, arith}
 use Rattle.std.specs.List.{flat_map}
-use Rattle.std.proofs.lemmas.List.{take_more, take_all, flat_map_more}
+use Rattle.std.proofs.lemmas.Bool.Decides.{nat_tests}
+use Rattle.std.proofs.lemmas.List.{take_more, take_all, flat_map_more, append-nil}
 use Rattle.edr_wkt.specs.Spelling.{joined}
+
+-- what stands before an item, by its place
+abbrev comma_at : ℕ → List ℕ
+comma_at place = if place == 0 then [] else 44 ∷ []
+
+later : (n : ℕ) → comma_at (suc n) ≡ 44 ∷ []
+later n =
+    let after : (suc n == 0) ≡ false = grind (arith, nat_tests) in
+    ap (λ first. if first then [] else 44 ∷ []) after
+
+joined_push : {A : Type 0} (text : A → List ℕ) (xs : List A) (i : ℕ) (start : List ℕ) (x : A) → i < length xs
+    → ((start ++ joined text (take i xs)) ++ comma_at i) ++ text x ≡ start ++ joined text (take i xs ++ x ∷ [])
+joined_push text xs zero start x inside =
+    ap (λ l. l ++ text x) (append-nil (start ++ []) ∙ append-nil start) ∙ ap (λ l. start ++ l) (sym (append-nil (text x)))
+joined_push text [] (suc n) start x inside = absurd (omega (arith, inside))
+joined_push text (y ∷ ys) (suc n) start x inside =
+    let before = start ++ (text y ++ flat_map (λ z. 44 ∷ text z) (take n ys)) in
+    ap (λ l. (before ++ l) ++ text x) (later n)
+    ∙ append_assoc before (44 ∷ []) (text x)
+    ∙ append_assoc start (text y ++ flat_map (λ z. 44 ∷ text z) (take n ys)) (44 ∷ text x)
+    ∙ ap (λ l. start ++ l) (flat_map_more (λ z. 44 ∷ text z) (text y) (take n ys) x)
 
 -- one item more
 pub pushed_more : {A : Type 0} (text : A → List ℕ) (xs : List A) (i : ℕ) (x d : A) (start before comma after : List ℕ) → i < length xs → x ≡ get_or xs i d
-    → before ≡ start ++ flat_map (λ y. 44 ∷ text y) (take i xs) → comma ≡ before ++ 44 ∷ [] → after ≡ comma ++ text x
-    → after ≡ start ++ flat_map (λ y. 44 ∷ text y) (take (i + 1) xs)
+    → before ≡ start ++ joined text (take i xs) → comma ≡ before ++ comma_at i → after ≡ comma ++ text x → after ≡ start ++ joined text (take (i + 1) xs)
 pushed_more text xs i x d start before comma after inside is so_far comma_is after_is =
-    after_is ∙ ap (λ l. l ++ text x) comma_is ∙ append_assoc before (44 ∷ []) (text x) ∙ ap (λ l. l ++ (44 ∷ text x)) so_far
-    ∙ flat_map_more (λ y. 44 ∷ text y) start (take i xs) x
-    ∙ ap (λ l. start ++ flat_map (λ y. 44 ∷ text y) l) (ap (λ y. take i xs ++ y ∷ []) is ∙ sym (take_more xs i d inside))
+    after_is ∙ ap (λ l. l ++ text x) (comma_is ∙ ap (λ l. l ++ comma_at i) so_far) ∙ joined_push text xs i start x inside
+    ∙ ap (λ l. start ++ joined text l) (ap (λ y. take i xs ++ y ∷ []) is ∙ sym (take_more xs i d inside))
 
--- the first item and all others
-pub pushed_all : {A : Type 0} (text : A → List ℕ) (xs : List A) (i : ℕ) (x d : A) (start first after : List ℕ) → 1 ≤ length xs → x ≡ get_or xs 0 d
-    → length (take (length xs - 1) (drop 1 xs)) ≤ i → first ≡ start ++ text x → after ≡ first ++ flat_map (λ y. 44 ∷ text y) (take i (take (length xs - 1) (drop 1 xs)))
-    → after ≡ start ++ joined text xs
-pushed_all text [] i x d start first after some is all first_is after_is = absurd (omega (arith, some))
-pushed_all text (y ∷ ys) i x d start first after some is all first_is after_is =
-    after_is ∙ ap (λ l. first ++ flat_map (λ y. 44 ∷ text y) l) (take_all i (take (length (y ∷ ys) - 1) ys) all ∙ take_all (length (y ∷ ys) - 1) ys (omega arith))
-    ∙ ap (λ l. l ++ flat_map (λ y. 44 ∷ text y) ys) first_is ∙ append_assoc start (text x) (flat_map (λ y. 44 ∷ text y) ys)
-    ∙ ap (λ z. start ++ (text z ++ flat_map (λ y. 44 ∷ text y) ys)) is
+-- all items
+pub pushed_all : {A : Type 0} (text : A → List ℕ) (xs : List A) (i : ℕ) (start after : List ℕ) → length xs ≤ i → after ≡ start ++ joined text (take i xs) → after ≡ start ++ joined text xs
+pushed_all text xs i start after all is = is ∙ ap (λ l. start ++ joined text l) (take_all i xs all)
+
+-- a copy of one item more
+pub copied_more : {A : Type 0} (xs : List A) (i : ℕ) (x copy : A) (before after : List A) → i < length xs → x ≡ get_or xs i x → copy ≡ x → before ≡ take i xs → after ≡ before ++ copy ∷ []
+    → after ≡ take (i + 1) xs
+copied_more xs i x copy before after inside is same so_far pushed =
+    pushed ∙ ap (λ l. l ++ copy ∷ []) so_far ∙ ap (λ y. take i xs ++ y ∷ []) (same ∙ is) ∙ sym (take_more xs i x inside)

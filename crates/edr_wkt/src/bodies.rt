@@ -1,5 +1,5 @@
 //! The brackets of each kind of geometry.
-ghost use Rattle.std.specs.Prelude.{◌≡◌, ◌+◌, ◌≤◌, ◌∷◌, [], IfOk, Err};
+ghost use Rattle.std.specs.Prelude.{◌≡◌, ◌+◌, ◌≤◌, ◌∷◌, [], if◌then◌else◌, IfOk, Err};
 ghost use Rattle.edr_base.specs.Limits.{position_limit};
 ghost use Rattle.edr_wkt.specs.declared.headings.Kind.TheVariants as k;
 ghost use Rattle.edr_wkt.specs.BodyReads.{IsBodyRead, HasNoBody};
@@ -14,46 +14,25 @@ use std::alloc::Global;
 // A line has at least so many positions.
 const LINE_LEAST: usize = 2;
 
-// The inside of POINT.
-fn read_point<'a>(
+// The inside of POINT, or of MULTIPOINT.
+fn read_points<'a>(
     alloc: Global,
+    multi: bool,
     has_z: bool,
     has_m: bool,
     text: &'a [u8],
     count: &mut usize,
 ) -> Result<(Geometry, &'a [u8]), Stop>
     requires { count.old ≤ position_limit + 1 }
-    ensures read { IfOk result (λ r. IsBodyRead k.Point has_z has_m text.now count.old count.new r.0 r.1.now) }
-    ensures not_wkt { result ≡ Err Stop.NotWkt → HasNoBody k.Point has_z has_m text.now }
+    ensures read { IfOk result (λ r. IsBodyRead (if multi then k.MultiPoint else k.Point) has_z has_m text.now count.old count.new r.0 r.1.now) }
+    ensures not_wkt { result ≡ Err Stop.NotWkt → HasNoBody (if multi then k.MultiPoint else k.Point) has_z has_m text.now }
 {
-    let (positions, len, rest) = read_positions(alloc, false, has_z, has_m, text, count)?;
-    if len != 1 {
+    let (positions, len, rest) = read_positions(alloc, multi, has_z, has_m, text, count)?;
+    if !multi && len != 1 {
         return Err(Stop::NotWkt);
     }
     let geometry = Geometry::Points {
-        multi: false,
-        has_z,
-        has_m,
-        positions,
-    };
-    Ok((geometry, rest))
-}
-
-// The inside of MULTIPOINT.
-fn read_multi_point<'a>(
-    alloc: Global,
-    has_z: bool,
-    has_m: bool,
-    text: &'a [u8],
-    count: &mut usize,
-) -> Result<(Geometry, &'a [u8]), Stop>
-    requires { count.old ≤ position_limit + 1 }
-    ensures read { IfOk result (λ r. IsBodyRead k.MultiPoint has_z has_m text.now count.old count.new r.0 r.1.now) }
-    ensures not_wkt { result ≡ Err Stop.NotWkt → HasNoBody k.MultiPoint has_z has_m text.now }
-{
-    let (positions, _, rest) = read_positions(alloc, true, has_z, has_m, text, count)?;
-    let geometry = Geometry::Points {
-        multi: true,
+        multi,
         has_z,
         has_m,
         positions,
@@ -151,8 +130,8 @@ pub fn read_body<'a>(
     ensures not_wkt { result ≡ Err Stop.NotWkt → HasNoBody heading.kind heading.has_z heading.has_m text.now }
 {
     match heading.kind {
-        Kind::Point => read_point(alloc, heading.has_z, heading.has_m, text, count),
-        Kind::MultiPoint => read_multi_point(alloc, heading.has_z, heading.has_m, text, count),
+        Kind::Point => read_points(alloc, false, heading.has_z, heading.has_m, text, count),
+        Kind::MultiPoint => read_points(alloc, true, heading.has_z, heading.has_m, text, count),
         Kind::LineString => read_line(alloc, heading.has_z, heading.has_m, text, count),
         Kind::Polygon => read_one_polygon(alloc, heading.has_z, heading.has_m, text, count),
         Kind::MultiPolygon => read_multi_polygon(alloc, heading.has_z, heading.has_m, text, count),

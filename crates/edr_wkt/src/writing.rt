@@ -1,5 +1,5 @@
 //! Writing well-known text.
-ghost use Rattle.std.specs.Prelude.{◌≡◌, ◌++◌, ◌∷◌, [], OnOk, IfOk};
+ghost use Rattle.std.specs.Prelude.{◌≡◌, ◌==◌, ◌++◌, ◌∷◌, [], if◌then◌else◌, OnOk, IfOk};
 ghost use Rattle.std.specs.Fmt.{signed_decimal};
 ghost use Rattle.edr_wkt.specs.Spelling.{number_text, position_text, member_text, ring_text, polygon_text, joined, in_brackets, heading_text, dims_part, areas_text, spelled};
 ghost use Rattle.edr_wkt.specs.Headings.{tag_text};
@@ -10,23 +10,28 @@ use edr_base::{Items, OutOfMemory, Position, Text};
 use itoa::Buffer;
 use std::alloc::Global;
 
+fn push_byte(out: &mut Vec<u8>, byte: u8) -> Result<(), OutOfMemory>
+    ensures { OnOk result (out.new.items ≡ out.old.items ++ byte ∷ []) }
+{
+    Ok(out.push(byte)?)
+}
+
 fn push_number(out: &mut Vec<u8>, number: i64) -> Result<(), OutOfMemory>
     ensures { OnOk result (out.new.items ≡ out.old.items ++ signed_decimal number) }
 {
     let mut buffer = Buffer::new();
-    out.extend_from_slice(buffer.format(number).as_bytes())?;
-    Ok(())
+    Ok(out.extend_from_slice(buffer.format(number).as_bytes())?)
 }
 
 // A number behind a space, where a position has it.
 fn push_number_if(out: &mut Vec<u8>, has: bool, number: i64) -> Result<(), OutOfMemory>
     ensures { OnOk result (out.new.items ≡ out.old.items ++ number_text has number) }
 {
-    if has {
-        out.push(b' ')?;
-        push_number(out, number)?;
+    if !has {
+        return Ok(());
     }
-    Ok(())
+    push_byte(out, b' ')?;
+    push_number(out, number)
 }
 
 fn push_position(
@@ -40,8 +45,7 @@ fn push_position(
     push_number(out, p.x)?;
     push_number_if(out, true, p.y)?;
     push_number_if(out, has_z, p.z)?;
-    push_number_if(out, has_m, p.m)?;
-    Ok(())
+    push_number_if(out, has_m, p.m)
 }
 
 fn push_member(
@@ -56,10 +60,20 @@ fn push_member(
     if !multi {
         return push_position(out, has_z, has_m, p);
     }
-    out.push(b'(')?;
+    push_byte(out, b'(')?;
     push_position(out, has_z, has_m, p)?;
-    out.push(b')')?;
-    Ok(())
+    push_byte(out, b')')
+}
+
+// A comma before an item, unless it is the first of its list.
+fn push_comma(out: &mut Vec<u8>, place: usize) -> Result<(), OutOfMemory>
+    ensures { OnOk result (out.new.items ≡ out.old.items ++ (if place == 0 then [] else 44 ∷ [])) }
+{
+    if place == 0 {
+        Ok(())
+    } else {
+        push_byte(out, b',')
+    }
 }
 
 fn push_members(
@@ -71,14 +85,25 @@ fn push_members(
 ) -> Result<(), OutOfMemory>
     ensures { OnOk result (out.new.items ≡ out.old.items ++ joined (member_text multi has_z has_m) positions.now) }
 {
-    if let [first, rest @ ..] = positions {
-        push_member(out, multi, has_z, has_m, first)?;
-        for position in rest {
-            out.push(b',')?;
-            push_member(out, multi, has_z, has_m, position)?;
-        }
+    for (place, position) in positions.iter().enumerate() {
+        push_comma(out, place)?;
+        push_member(out, multi, has_z, has_m, position)?;
     }
     Ok(())
+}
+
+fn push_points(
+    out: &mut Vec<u8>,
+    multi: bool,
+    has_z: bool,
+    has_m: bool,
+    positions: &[Position],
+) -> Result<(), OutOfMemory>
+    ensures { OnOk result (out.new.items ≡ out.old.items ++ in_brackets (joined (member_text multi has_z has_m) positions.now)) }
+{
+    push_byte(out, b'(')?;
+    push_members(out, multi, has_z, has_m, positions)?;
+    push_byte(out, b')')
 }
 
 fn push_ring(
@@ -89,10 +114,7 @@ fn push_ring(
 ) -> Result<(), OutOfMemory>
     ensures { OnOk result (out.new.items ≡ out.old.items ++ ring_text has_z has_m ring.now) }
 {
-    out.push(b'(')?;
-    push_members(out, false, has_z, has_m, ring)?;
-    out.push(b')')?;
-    Ok(())
+    push_points(out, false, has_z, has_m, ring)
 }
 
 fn push_rings(
@@ -103,12 +125,9 @@ fn push_rings(
 ) -> Result<(), OutOfMemory>
     ensures { OnOk result (out.new.items ≡ out.old.items ++ joined (ring_text has_z has_m) rings.now) }
 {
-    if let [first, rest @ ..] = rings {
-        push_ring(out, has_z, has_m, first.items())?;
-        for ring in rest {
-            out.push(b',')?;
-            push_ring(out, has_z, has_m, ring.items())?;
-        }
+    for (place, ring) in rings.iter().enumerate() {
+        push_comma(out, place)?;
+        push_ring(out, has_z, has_m, ring.items())?;
     }
     Ok(())
 }
@@ -121,10 +140,9 @@ fn push_polygon(
 ) -> Result<(), OutOfMemory>
     ensures { OnOk result (out.new.items ≡ out.old.items ++ polygon_text has_z has_m polygon.now) }
 {
-    out.push(b'(')?;
+    push_byte(out, b'(')?;
     push_rings(out, has_z, has_m, polygon.rings.items())?;
-    out.push(b')')?;
-    Ok(())
+    push_byte(out, b')')
 }
 
 fn push_polygons(
@@ -135,12 +153,9 @@ fn push_polygons(
 ) -> Result<(), OutOfMemory>
     ensures { OnOk result (out.new.items ≡ out.old.items ++ joined (polygon_text has_z has_m) polygons.now) }
 {
-    if let [first, rest @ ..] = polygons {
-        push_polygon(out, has_z, has_m, first)?;
-        for polygon in rest {
-            out.push(b',')?;
-            push_polygon(out, has_z, has_m, polygon)?;
-        }
+    for (place, polygon) in polygons.iter().enumerate() {
+        push_comma(out, place)?;
+        push_polygon(out, has_z, has_m, polygon)?;
     }
     Ok(())
 }
@@ -150,8 +165,7 @@ fn push_heading(out: &mut Vec<u8>, kind: Kind, has_z: bool, has_m: bool) -> Resu
     ensures { OnOk result (out.new.items ≡ out.old.items ++ heading_text kind has_z has_m) }
 {
     out.extend_from_slice(tag(kind))?;
-    out.extend_from_slice(dims(has_z, has_m))?;
-    Ok(())
+    Ok(out.extend_from_slice(dims(has_z, has_m))?)
 }
 
 fn tag(kind: Kind) -> &'static [u8]
@@ -178,21 +192,6 @@ fn dims(has_z: bool, has_m: bool) -> &'static [u8]
     }
 }
 
-fn push_points(
-    out: &mut Vec<u8>,
-    multi: bool,
-    has_z: bool,
-    has_m: bool,
-    positions: &[Position],
-) -> Result<(), OutOfMemory>
-    ensures { OnOk result (out.new.items ≡ out.old.items ++ in_brackets (joined (member_text multi has_z has_m) positions.now)) }
-{
-    out.push(b'(')?;
-    push_members(out, multi, has_z, has_m, positions)?;
-    out.push(b')')?;
-    Ok(())
-}
-
 fn push_areas(
     out: &mut Vec<u8>,
     multi: bool,
@@ -205,10 +204,9 @@ fn push_areas(
     if !multi {
         return push_polygons(out, has_z, has_m, polygons);
     }
-    out.push(b'(')?;
+    push_byte(out, b'(')?;
     push_polygons(out, has_z, has_m, polygons)?;
-    out.push(b')')?;
-    Ok(())
+    push_byte(out, b')')
 }
 
 fn push_geometry(out: &mut Vec<u8>, geometry: &Geometry) -> Result<(), OutOfMemory>

@@ -1,9 +1,10 @@
-use Rattle.std.proofs.Common.{rules, arith, ◌≡◌, ◌<◌, ◌++◌, [], ◌∷◌, length, get_or, inl}
+use Rattle.std.proofs.Common.{inl}
 use Rattle.std.proofs.lemmas.Result.{err_from_is_err_and}
 use Rattle.serde_json.specs.View.{items_view}
 use Rattle.covjson_checks.specs.Answers.{each}
 use Rattle.covjson_checks.specs.Members.{whole_or_null}
 use Rattle.covjson_checks.specs.CheckLaws.{each_more, each_stops}
+use Rattle.covjson_checks.proofs.EachLemmas.{each_done}
 use Rattle.covjson_checks.proofs.members.wholes_or_nulls.Goals as goal
 
 pub returns-in_err-whole : goal.returns-in_err-whole
@@ -13,8 +14,9 @@ returns-in_err-whole c =
     let x = c.item-item.result in
     let answer_of = whole_or_null c.args.member c.args.limit in
     let p = err_from_is_err_and c.from_residual-in_err-whole.result c.from_residual-in_err-whole.ensures.1 in
-    let inside : i < length xs = omega arith in
-    let is : x ≡ get_or xs i x = search rules in
+    let items_is = c.deref-item-items.ensures.value in
+    let inside = rw items_is at c.loop-item-test.true in
+    let is = rw items_is at c.item-item.is in
     rw (p.1, p.2) (inl (each_stops answer_of xs i x c.loop-item.found.items c.in_err-whole.field-0.0 (each answer_of (items_view xs)) inside is c.in_err-whole.ensures c.loop-item.invariant))
 
 pub loop-item-preserved : goal.loop-item-preserved
@@ -23,9 +25,14 @@ loop-item-preserved c =
     let i = c.loop-item.item-index in
     let x = c.item-item.result in
     let found = c.loop-item.found.items in
-    let whole = c.in_ok-whole.whole in
     let answer_of = whole_or_null c.args.member c.args.limit in
-    let pushed : c.push.new.self.items ≡ found ++ whole ∷ [] = search rules in
-    let inside : i < length xs = omega arith in
-    let is : x ≡ get_or xs i x = search rules in
-    each_more answer_of xs i x found c.push.new.self.items whole (each answer_of (items_view xs)) inside is c.in_ok-whole.ensures pushed c.loop-item.invariant
+    let items_is = c.deref-item-items.ensures.value in
+    let inside = rw items_is at c.loop-item-test.true in
+    let is = rw items_is at c.item-item.is in
+    each_more answer_of xs i x found c.push.new.self.items c.in_ok-whole.whole (each answer_of (items_view xs)) inside is c.in_ok-whole.ensures c.in_ok-push.ensures.items c.loop-item.invariant
+
+pub returns : goal.returns
+returns c =
+    let xs = c.args.items.now.items in
+    let answer_of = whole_or_null c.args.member c.args.limit in
+    each_done answer_of xs c.loop-item.item-index c.loop-item.found.items (each answer_of (items_view xs)) (rw c.deref-item-items.ensures.value at c.loop-item-test.false) c.loop-item.invariant

@@ -17,10 +17,10 @@ returns c =
 pub loop-value-preserved : goal.loop-value-preserved
 loop-value-preserved c =
     let kept = axis_value_kept c.args.name (get_or c.args.values.now c.loop-value.value-index (pos 0)) (c.requires c.loop-value.value-index (pos 0) c.loop-value-test.true) in
-    views_more (axis_value_data c.args.name) c.args.values.now c.loop-value.value-index (pos 0) c.loop-value.items.items c.push.new.self.items c.in_ok-axis_value_tree.field-0 c.loop-value-test.true c.loop-value.invariant
-    (c.in_ok-axis_value_tree.ensures ∙ ap (axis_value_data c.args.name) kept) c.in_ok-push.ensures.items
+    views_more (axis_value_data c.args.name) c.args.values.now c.loop-value.value-index (pos 0) c.loop-value.items.items c.push_axis_value.new.items.items _ c.loop-value-test.true c.loop-value.invariant
+    (ap (axis_value_data c.args.name) kept) c.in_ok-push_axis_value.ensures
 
-pub axis_value_tree-requires : goal.axis_value_tree-requires
-axis_value_tree-requires c =
+pub push_axis_value-requires : goal.push_axis_value-requires
+push_axis_value-requires c =
     let within = c.requires c.loop-value.value-index (pos 0) c.loop-value-test.true in
     subst (IsAxisValue c.args.name) (sym (axis_value_kept c.args.name _ within)) within

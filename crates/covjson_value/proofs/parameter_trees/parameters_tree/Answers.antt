@@ -2,7 +2,7 @@ use Rattle.std.proofs.Common.{ap, ◌∙◌}
 use Rattle.serde_json.specs.Data.{object}
 use Rattle.serde_json.proofs.Views.{view-Object}
 use Rattle.covjson_value.specs.Trees.{members_in_order}
-use Rattle.covjson_value.proofs.NamedParts.{parameters_more, parameters_all}
+use Rattle.covjson_value.proofs.NamedParts.{put_parts, parameters_more, parameters_all}
 use Rattle.covjson_value.proofs.parameter_trees.parameters_tree.Goals as goal
 
 pub returns : goal.returns
@@ -13,4 +13,4 @@ returns c =
 pub loop-parameter-preserved : goal.loop-parameter-preserved
 loop-parameter-preserved c =
     let more = parameters_more c.args.parameters.now c.loop-parameter.parameter-index c.parameter-item.result c.loop-parameter-test.true c.requires.ascending c.parameter-item.is in
-    cc (more, c.in_ok-put.ensures.ok, c.in_ok-tree.ensures, c.loop-parameter.invariant)
+    c.in_ok-put_tree.ensures ∙ put_parts _ _ _ _ _ _ (c.text_of.ensures ∙ c.bytes.ensures) c.in_ok-tree.ensures c.loop-parameter.invariant ∙ more

@@ -19,7 +19,7 @@ returns c =
     let last = get_or c.args.values.now (length c.args.values.now - 1) (pos 0) in
     let first_fits : SFits w64 first = search rules in
     let last_fits : SFits w64 last = search rules in
-    view-Object c.put-3.new.map
+    view-Object c.put_tree-3.new.members
     ∙ ap object (put_three _ _ _ _ _ _ _ (integer (pos (length c.args.values.now))) (integer first) (integer last)
-    (ap members_view c.new-members.ensures.empty) c.in_ok-put.ensures.ok c.in_ok-put-2.ensures.ok c.in_ok-put-3.ensures.ok
+    (ap members_view c.new-members.ensures.empty) c.in_ok-put_tree.ensures c.in_ok-put_tree-2.ensures c.in_ok-put_tree-3.ensures
     c.from.ensures (c.from-2.ensures ∙ ap integer (to_z-of_z w64 first first_fits)) (c.from-3.ensures ∙ ap integer (to_z-of_z w64 last last_fits)))

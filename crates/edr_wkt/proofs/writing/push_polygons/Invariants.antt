@@ -1,7 +1,6 @@
-use Rattle.std.proofs.Common.{◌≡◌, ◌++◌, ◌∷◌, take}
-use Rattle.std.specs.List.{flat_map}
-use Rattle.edr_wkt.specs.Spelling.{polygon_text}
+use Rattle.std.proofs.Common.{◌≡◌, ◌++◌, take}
+use Rattle.edr_wkt.specs.Spelling.{polygon_text, joined}
 use Rattle.edr_wkt.proofs.writing.push_polygons.Given as goal
 
-abbrev pub invariant-loop-polygon : goal.invariant-loop-polygon
-invariant-loop-polygon l = l.out.items ≡ l.initial.out.items ++ flat_map (λ y. 44 ∷ polygon_text l.has_z l.has_m y) (take l.polygon-index l.rest)
+abbrev pub invariant-loop-place : goal.invariant-loop-place
+invariant-loop-place l = l.out.items ≡ l.initial.out.items ++ joined (polygon_text l.has_z l.has_m) (take l.place l.polygons)

@@ -1,20 +1,15 @@
-use Rattle.std.proofs.Common.{◌++◌, ap, ◌∙◌}
+use Rattle.std.proofs.Common.{◌++◌, ap, ◌∙◌, arith}
 use Rattle.edr_wkt.specs.Spelling.{ring_text}
 use Rattle.edr_wkt.proofs.PushLemmas.{pushed_more, pushed_all}
 use Rattle.edr_wkt.proofs.writing.push_rings.Goals as goal
 
-pub loop-ring-preserved : goal.loop-ring-preserved
-loop-ring-preserved c =
+pub loop-place-preserved : goal.loop-place-preserved
+loop-place-preserved c =
     let text = ring_text c.args.has_z c.args.has_m in
-    let pushed = c.in_ok-push_ring-2.ensures ∙ ap (λ ring. c.push.new.self.items ++ text ring) c.items-in-loop-ring.ensures in
-    pushed_more text _ c.loop-ring.ring-index c.ring-item.result c.ring-item.result c.push_ring.new.out.items
-    c.loop-ring.out.items c.push.new.self.items c.push_ring-in-loop-ring.new.out.items c.loop-ring-test.true c.ring-item.is
-    c.loop-ring.invariant c.in_ok-push.ensures.items pushed
+    let pushed = c.in_ok-push_ring.ensures ∙ ap (λ ring. c.push_comma.new.out.items ++ text ring) c.items.ensures in
+    pushed_more text c.args.rings.now c.loop-place.place c.index-rings-place.result c.index-rings-place.result c.args.out.now.items c.loop-place.out.items c.push_comma.new.out.items c.push_ring.new.out.items
+    (omega arith) c.index-rings-place.is c.loop-place.invariant c.in_ok-push_comma.ensures pushed
 
-pub returns-after-loop-ring : goal.returns-after-loop-ring
-returns-after-loop-ring c =
-    let text = ring_text c.args.has_z c.args.has_m in
-    let pushed = c.in_ok-push_ring.ensures ∙ ap (λ ring. c.args.out.now.items ++ text ring) c.items.ensures in
-    pushed_all text c.args.rings.now c.loop-ring.ring-index c.first-item.result c.first-item.result c.args.out.now.items
-    c.push_ring.new.out.items c.loop-ring.out.items c.in-len1-up.len_at_least c.first-item.is
-    c.loop-ring-test.false pushed c.loop-ring.invariant
+pub returns : goal.returns
+returns c =
+    pushed_all (ring_text c.args.has_z c.args.has_m) c.args.rings.now c.loop-place.place c.args.out.now.items c.loop-place.out.items (omega arith) c.loop-place.invariant

@@ -8,13 +8,15 @@ use Rattle.covjson_value.specs.Trees.{axis_value_data}
 use Rattle.covjson_value.specs.declared.domains.CoordinateName.TheVariants.{T}
 use Rattle.covjson_value.specs.Coverages.{IsAxisValue}
 use Rattle.covjson_value.proofs.AxisValues.{axis_value_kept}
-use Rattle.covjson_value.proofs.Gathered.{views_more}
-use Rattle.covjson_value.proofs.axis_trees.tuple_tree.Goals as goal
+use Rattle.covjson_value.proofs.Gathered.{views_more, push_gathered}
+use Rattle.covjson_value.proofs.axis_trees.push_tuple.Goals as goal
 
 pub returns : goal.returns
 returns c =
-    view-Array c.loop-name.items
-    ∙ ap (λ ds. array (items_of ds)) (c.loop-name.invariant ∙ ap (map (λ name. axis_value_data name (coordinate name c.args.tuple.now))) (take_all _ _ (omega arith)))
+    push_gathered c.push_tree.result _ _ c.args.items.now.items c.push_tree.new.trees.items
+    (view-Array c.loop-name.values
+    ∙ ap (λ ds. array (items_of ds)) (c.loop-name.invariant ∙ ap (map (λ name. axis_value_data name (coordinate name c.args.tuple.now))) (take_all _ _ (omega arith))))
+    c.push_tree.ensures
 
 pub loop-name-preserved : goal.loop-name-preserved
 loop-name-preserved c =
@@ -23,11 +25,11 @@ loop-name-preserved c =
     let is : to_z w64 (of_z w64 c.coordinate.result) ≡ value =
     ap (λ v. to_z w64 (of_z w64 v)) c.coordinate.ensures
     ∙ axis_value_kept name value (c.requires c.loop-name.name-index T c.loop-name-test.true) in
-    views_more (λ name. axis_value_data name (coordinate name c.args.tuple.now)) c.args.names.now c.loop-name.name-index T c.loop-name.items.items c.push.new.self.items c.in_ok-axis_value_tree.field-0 c.loop-name-test.true c.loop-name.invariant
-    (c.in_ok-axis_value_tree.ensures ∙ ap (axis_value_data name) is) c.in_ok-push.ensures.items
+    views_more (λ name. axis_value_data name (coordinate name c.args.tuple.now)) c.args.names.now c.loop-name.name-index T c.loop-name.values.items c.push_axis_value.new.items.items _ c.loop-name-test.true c.loop-name.invariant
+    (ap (axis_value_data name) is) c.in_ok-push_axis_value.ensures
 
-pub axis_value_tree-requires : goal.axis_value_tree-requires
-axis_value_tree-requires c =
+pub push_axis_value-requires : goal.push_axis_value-requires
+push_axis_value-requires c =
     let name = get_or c.args.names.now c.loop-name.name-index T in
     let value = coordinate name c.args.tuple.now in
     let within = c.requires c.loop-name.name-index T c.loop-name-test.true in

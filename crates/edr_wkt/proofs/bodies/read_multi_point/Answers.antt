@@ -1,5 +1,0 @@
-use Rattle.edr_wkt.proofs.BodyLemmas.{multi_point-read}
-use Rattle.edr_wkt.proofs.bodies.read_multi_point.Goals as goal
-
-pub returns-clause-read : goal.returns-clause-read
-returns-clause-read c = multi_point-read c.args.has_z c.args.has_m c.args.text.now _ _ _ _ _ c.in_ok-positions.ensures.read
