@@ -2,7 +2,7 @@ use Rattle.std.proofs.Common.{rules, arith, ◌≡◌, ◌<◌, ◌++◌, [], �
 use Rattle.std.proofs.lemmas.Result.{err_from_is_err_and}
 use Rattle.serde_json.specs.View.{items_view}
 use Rattle.covjson_domains.specs.TupleAnswers.{tuples_from}
-use Rattle.covjson_domains.proofs.TupleLists.{pass_first, pass_rest, read_more, read_stops}
+use Rattle.covjson_domains.proofs.TupleLists.{pass_first, pass_rest, read_more, read_stops, read_end}
 use Rattle.covjson_domains.proofs.tuples.read_tuples.Goals as goal
 
 pub tuple_at-requires : goal.tuple_at-requires
@@ -41,3 +41,9 @@ loop-place-preserved c =
       pass = pass_rest names xs i x inside c.loop-place.invariant.pass;
       rest = sym (read_more names xs i x found c.push.new.self.items tuple inside is (sym c.in_ok-tuple.ensures) pushed) ∙ c.loop-place.invariant.rest;
     }
+
+pub returns : goal.returns
+returns c =
+    let names = c.args.names.now in
+    let xs = c.args.items.now.items in
+    read_end names xs c.loop-place.place c.loop-place.found.items (tuples_from names 0 (items_view xs)) (omega arith) c.loop-place.invariant.rest
