@@ -46,16 +46,16 @@ returns-in_err-time c =
     let xs = c.args.items.now.items in
     let p = err_from_is_err_and c.from_residual-in_err-time.result c.from_residual-in_err-time.ensures.1 in
     rw (p.1, p.2) (inl (times_stop xs c.loop-place.place c.item-item.result c.loop-place.found.items c.in_err-time.field-0.0 (times_from 0 (items_view xs))
-    (omega arith) (search rules) c.in_err-time.ensures c.loop-place.invariant))
+    (omega arith) (c.item-item.is ∙ ap (λ ys. get_or ys c.loop-place.place c.item-item.result) c.deref-item-items.ensures.value) c.in_err-time.ensures c.loop-place.invariant))
 
 pub loop-place-preserved : goal.loop-place-preserved
 loop-place-preserved c =
     let xs = c.args.items.now.items in
     let t = c.in_ok-time.time in
     let pushed : c.push.new.self.items ≡ c.loop-place.found.items ++ t ∷ [] = search rules in
-    let here : Ok t ≡ time_at TimeAxis c.loop-place.place (view c.item-item.result) = search rules in
+    let here : Ok t ≡ time_at TimeAxis c.loop-place.place (view c.item-item.result) = c.in_ok-time.ensures in
     times_more xs c.loop-place.place c.item-item.result c.loop-place.found.items c.push.new.self.items t (times_from 0 (items_view xs))
-    (omega arith) (search rules) here pushed c.loop-place.invariant
+    (omega arith) (c.item-item.is ∙ ap (λ ys. get_or ys c.loop-place.place c.item-item.result) c.deref-item-items.ensures.value) here pushed c.loop-place.invariant
 
 pub returns : goal.returns
 returns c =
