@@ -1,8 +1,8 @@
 -- Tests along the items of tuples, and the values that are found there.
 use Rattle.std.specs.Prelude.{option_and_then, unsigned_abs, bytes_eq}
-use Rattle.std.proofs.Common.{◌≡◌, ℕ, suc, ◌+◌, ◌-◌, ◌<◌, ◌≤◌, ◌++◌, ℤ, List, [], ◌∷◌, length, get_or, drop, map, true, false, true≢false, Option, Some, Ok, Err, inl, inr, refl, sym, ap, ◌∙◌, subst, arith}
+use Rattle.std.proofs.Common.{◌≡◌, ℕ, suc, ◌+◌, ◌-◌, ◌<◌, ◌≤◌, ◌++◌, ℤ, List, [], ◌∷◌, length, get_or, drop, map, true, false, true≢false, Option, Some, Ok, Err, inl, inr, refl, sym, ap, ◌∙◌, append-nil, subst, arith}
 use Rattle.std.proofs.lemmas.Bool.{and_parts, cases_Bool, cond-true, cond-false}
-use Rattle.std.proofs.lemmas.List.{drop_more, length-drop}
+use Rattle.std.proofs.lemmas.List.{drop_all, drop_more, length-drop}
 use Rattle.serde_json.specs.Data.{Data, Items, no_items, item}
 use Rattle.serde_json.specs.Find.{as_array, as_str}
 use Rattle.serde_json.specs.View.{view, items_view}
@@ -149,3 +149,8 @@ falls_not (tuple ∷ (next ∷ tuples)) h = absurd (omega arith)
 -- nor do the tuples from the last on
 pub ends_in_time : (tuples : List Position) (place : ℕ) → length tuples ≤ place → never_falls (map (coordinate T) (drop (place - 1) tuples)) ≡ true
 ends_in_time tuples place h = falls_not (drop (place - 1) tuples) (omega (arith, length-drop (place - 1) tuples))
+
+-- and after the last tuple all are found
+pub read_end : (names : List CoordinateName) (xs : List Value) (i : ℕ) (found : List Position) (all : Answer (List Position)) → length xs ≤ i
+    → onto found (tuples_from names i (items_view (drop i xs))) ≡ all → all ≡ Ok found
+read_end names xs i found all past before = sym before ∙ ap (λ vs. onto found (tuples_from names i (items_view vs))) (drop_all i xs past) ∙ ap Ok (append-nil found)

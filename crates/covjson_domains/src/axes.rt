@@ -20,7 +20,7 @@ use serde_json::Value;
 use std::alloc::Global;
 
 /// An axis in ascending order, and whether it was turned round for that.
-#[derive(Debug, Drop)]
+#[derive(Drop)]
 pub struct ReadAxis {
     /// Its values.
     pub axis: Axis,

@@ -9,7 +9,7 @@ use covjson_value::{AxisName, DomainType, axis_by_name};
 use serde_json::{Map, Value};
 
 /// Whether a domain of a type has an axis, and how many values that has.
-#[derive(Clone, Copy, Debug, PartialEq, Eq)]
+#[derive(Clone, Copy)]
 pub enum Presence {
     /// There is none.
     Absent,

@@ -23,7 +23,7 @@ use serde_json::Value;
 use std::alloc::Global;
 
 /// The axes of a domain, as they were read.
-#[derive(Debug, Drop)]
+#[derive(Drop)]
 pub struct ReadAxes {
     /// The axis of times, where there is one.
     pub t: Option<ReadAxis>,
@@ -135,20 +135,21 @@ fn is_turned_round(read: &Option<ReadAxis>) -> bool
     }
 }
 
-fn axis_in(read: Option<ReadAxis>) -> Option<Axis>
-    ensures { result ≡ domains.axis_in read }
+// The axis, taken out of where it was read.
+fn axis_in(read: &mut Option<ReadAxis>) -> Option<Axis>
+    ensures { result ≡ domains.axis_in read.old }
 {
-    match read {
+    match read.take() {
         Some(read) => Some(read.axis),
         None => None,
     }
 }
 
-fn axis_of(read: Option<ReadAxis>) -> Axis
-    requires { IsSome read }
-    ensures { result ≡ domains.values_of read }
+fn axis_of(read: &mut Option<ReadAxis>) -> Axis
+    requires { IsSome read.old }
+    ensures { result ≡ domains.values_of read.old }
 {
-    match read {
+    match read.take() {
         Some(read) => read.axis,
         None => unreachable!(),
     }
@@ -173,19 +174,19 @@ fn value_in(read: &Option<ReadAxis>) -> Option<i64>
     }
 }
 
-// The domain of these axes.
-fn domain_formed(kind: DomainType, read: ReadAxes) -> Domain
-    requires needed { HasNeeded kind read }
-    requires counted { CompositeCounted read.composite }
-    ensures formed { result ≡ domains.domain_formed kind read }
+// The domain of these axes, which are taken out of where they were read.
+fn domain_formed(kind: DomainType, read: &mut ReadAxes) -> Domain
+    requires needed { HasNeeded kind read.old }
+    requires counted { CompositeCounted read.old.composite }
+    ensures formed { result ≡ domains.domain_formed kind read.old }
     ensures counted { AreCounted result }
 {
     match kind {
         DomainType::Grid => Domain::Grid {
-            t: axis_in(read.t),
-            z: axis_in(read.z),
-            y: axis_of(read.y),
-            x: axis_of(read.x),
+            t: axis_in(&mut read.t),
+            z: axis_in(&mut read.z),
+            y: axis_of(&mut read.y),
+            x: axis_of(&mut read.x),
         },
         DomainType::Point => Domain::Point {
             t: value_in(&read.t),
@@ -194,19 +195,19 @@ fn domain_formed(kind: DomainType, read: ReadAxes) -> Domain
             x: value_of(&read.x),
         },
         DomainType::PointSeries => Domain::PointSeries {
-            t: axis_of(read.t),
+            t: axis_of(&mut read.t),
             z: value_in(&read.z),
             y: value_of(&read.y),
             x: value_of(&read.x),
         },
         DomainType::VerticalProfile => Domain::VerticalProfile {
             t: value_in(&read.t),
-            z: axis_of(read.z),
+            z: axis_of(&mut read.z),
             y: value_of(&read.y),
             x: value_of(&read.x),
         },
         DomainType::MultiPoint => {
-            let places = tuples_of(read.composite);
+            let places = tuples_of(&mut read.composite);
             Domain::MultiPoint {
                 t: value_in(&read.t),
                 has_z: places.has_z,
@@ -214,7 +215,7 @@ fn domain_formed(kind: DomainType, read: ReadAxes) -> Domain
             }
         }
         DomainType::Trajectory => {
-            let places = tuples_of(read.composite);
+            let places = tuples_of(&mut read.composite);
             Domain::Trajectory {
                 z: value_in(&read.z),
                 has_z: places.has_z,
@@ -224,11 +225,11 @@ fn domain_formed(kind: DomainType, read: ReadAxes) -> Domain
     }
 }
 
-fn tuples_of(read: Option<ReadTuples>) -> ReadTuples
-    requires { IsSome read }
-    ensures { result ≡ domains.tuples_of read }
+fn tuples_of(read: &mut Option<ReadTuples>) -> ReadTuples
+    requires { IsSome read.old }
+    ensures { result ≡ domains.tuples_of read.old }
 {
-    match read {
+    match read.take() {
         Some(read) => read,
         None => unreachable!(),
     }
@@ -247,7 +248,8 @@ fn formed(kind: DomainType, read: ReadAxes) -> ReadDomain
         y: is_turned_round(&read.y),
         x: is_turned_round(&read.x),
     };
-    let domain = domain_formed(kind, read);
+    let mut read = read;
+    let domain = domain_formed(kind, &mut read);
     ReadDomain { domain, turned }
 }
 

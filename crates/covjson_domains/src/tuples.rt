@@ -17,7 +17,7 @@ use serde_json::Value;
 use std::alloc::Global;
 
 /// The tuples that a domain may have, by their coordinates.
-#[derive(Clone, Copy, Debug, PartialEq, Eq)]
+#[derive(Clone, Copy)]
 pub enum TupleKind {
     /// Places: x, y, and where they have levels z.
     Places,
@@ -28,7 +28,7 @@ pub enum TupleKind {
 }
 
 /// The tuples of a composite axis.
-#[derive(Debug, Drop)]
+#[derive(Drop)]
 pub struct ReadTuples {
     /// Their values; m is the time, and what is no coordinate is 0.
     pub tuples: Items<Position>,
@@ -37,7 +37,7 @@ pub struct ReadTuples {
 }
 
 /// What is asked of each value of a tuple.
-#[derive(Clone, Copy, Debug, PartialEq, Eq)]
+#[derive(Clone, Copy)]
 pub enum Test {
     /// A time is a text, and a coordinate is a number.
     Form,

@@ -1,6 +1,6 @@
 -- The rows of a range lead to the computed answer, and end in a range exactly where the tree stands for it.
 use Rattle.std.proofs.Common.{◌≡◌, ◌≢◌, inl, inr, codes, List, length, bytes_eq, ℤ, true, Option, Some, Ok, Err, refl, sym, ap, ◌∙◌, subst}
-use Rattle.std.specs.Prelude.{Result, IfErr}
+use Rattle.std.specs.Prelude.{Result, IfOk, IfErr}
 use Rattle.std.proofs.lemmas.Slice.Eq.{bytes_eq-Decides}
 use Rattle.serde_json.specs.Data.{Data, string, object}
 use Rattle.serde_json.specs.Find.{get, as_object}
@@ -190,3 +190,16 @@ range_answers read d range = (
   λ h. rows_stand read d range (subst (RangeRows read d) h (range_leads read d).follows),
   λ h. sym ((range_leads read d).only (Ok range) (stand_rows read d range h)),
 )
+
+-- ---- what a result says by its answer
+
+-- a range stands
+pub result_stands : (read : ReadDomain) (d : Data) (result : Result NdArray CovFault) → GivesUnlessMemory (λ range. range) result (range_of read d)
+    → IfOk result (StandsForRange read.domain read.turned d)
+result_stands read d (Ok range) h = (range_answers read d range).0 h
+result_stands read d (Err fault) h = tt
+
+-- and is valid
+pub result_valid : (read : ReadDomain) (d : Data) (result : Result NdArray CovFault) → GivesUnlessMemory (λ range. range) result (range_of read d) → IfOk result (IsRange read.domain)
+result_valid read d (Ok range) h = range_valid read.domain read.turned d range ((range_answers read d range).0 h)
+result_valid read d (Err fault) h = tt

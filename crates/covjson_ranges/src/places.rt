@@ -10,7 +10,7 @@ use covjson_checks::Turned;
 use covjson_value::{AxisName, CoordinateName, Domain};
 
 /// Places on the axes of a domain, each from 0. An axis that the domain hasn't has the place 0 alone.
-#[derive(Clone, Copy, Debug, PartialEq, Eq)]
+#[derive(Clone, Copy)]
 pub struct Places {
     /// The place of the time.
     pub t: usize,

@@ -239,6 +239,23 @@ fn samples(alloc: Global, tree: &Value, wanted: u128) -> Result<Vec<Option<i64>>
     samples_of(alloc, items)
 }
 
+// The range of a tree: its form, its axes, their lengths and its values.
+fn range_read(alloc: Global, tree: &Value, read: &ReadDomain) -> Result<NdArray, CovFault>
+    requires axes { HasAxes read.now.domain }
+    requires tuples { HasTuples read.now.domain }
+    ensures { GivesUnlessMemory (λ r. r) result (ranges.range_of read.now (view tree.now)) }
+{
+    need_array(alloc, tree)?;
+    need_integers(alloc, tree)?;
+    let names = names_at(alloc, tree, &read.domain)?;
+    need_shape(tree, &names, &read.domain)?;
+    let values = samples(alloc, tree, wanted_count(&read.domain))?;
+    let values = in_order(alloc, values, &read.domain, read.turned, &names)?;
+    Ok(NdArray {
+        values: Items::of(values),
+    })
+}
+
 /// The range over a domain that a tree stands for (OGC 21-069r2, NdArray objects): its values in row-major order t, z, y, x or
 /// along the tuples, whatever the order of its axes in the tree and whichever of them are turned round.
 ///
@@ -255,13 +272,5 @@ pub fn range_of(alloc: Global, tree: &Value, read: &ReadDomain) -> Result<NdArra
     ensures answer { GivesUnlessMemory (λ r. r) result (ranges.range_of read.now (view tree.now)) }
     ensures valid { IfOk result (IsRange read.now.domain) }
 {
-    need_array(alloc, tree)?;
-    need_integers(alloc, tree)?;
-    let names = names_at(alloc, tree, &read.domain)?;
-    need_shape(tree, &names, &read.domain)?;
-    let values = samples(alloc, tree, wanted_count(&read.domain))?;
-    let values = in_order(alloc, values, &read.domain, read.turned, &names)?;
-    Ok(NdArray {
-        values: Items::of(values),
-    })
+    range_read(alloc, tree, read)
 }

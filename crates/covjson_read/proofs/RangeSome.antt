@@ -1,11 +1,13 @@
 -- The ranges that are answered are some.
-use Rattle.std.proofs.Common.{◌≡◌, ◌<◌, ◌∷◌, length, true, Ok, codes, subst, arith}
+use Rattle.std.proofs.Common.{◌≡◌, ◌<◌, ◌∷◌, length, true, Result, Ok, Err, IfOk, codes, subst, arith}
 use Rattle.serde_json.specs.Data.{Data, Members, no_members, member}
 use Rattle.covjson_checks.specs.declared.faults.Member.TheVariants.{Parameters, Ranges}
 use Rattle.covjson_checks.specs.declared.faults.CovFault.TheVariants.{WrongCount}
+use Rattle.covjson_checks.specs.declared.faults.CovFault.{CovFault}
 use Rattle.covjson_checks.specs.declared.turned.ReadDomain.{ReadDomain}
 use Rattle.covjson_read.specs.declared.collected.ReadRanges.{ReadRanges}
 use Rattle.edr_base.specs.FirstThatApplies.{check}
+use Rattle.covjson_checks.specs.Answers.{GivesUnlessMemory}
 use Rattle.covjson_checks.specs.Members.{need, object_at}
 use Rattle.covjson_read.specs.ParameterAnswers.{parameter_of}
 use Rattle.covjson_ranges.specs.RangeAnswers.{range_of}
@@ -31,3 +33,9 @@ some_parameters read parameters tree r h =
     let b = and_then_ok (object_at Ranges a.0) _ r a.2 in
     let k = and_then_ok (check (has_members b.0) (WrongCount Ranges 1 0)) _ r b.2 in
     some_from read parameters b.0 r (check_ok (has_members b.0) _ _ k.1) k.2
+
+-- so has what a result gives
+pub some_given : (read : ReadDomain) (parameters tree : Data) (result : Result ReadRanges CovFault) → GivesUnlessMemory (λ r. r) result (ranges_in read parameters tree)
+    → IfOk result (λ r. 0 < length r.parameters)
+some_given read parameters tree (Ok r) h = some_parameters read parameters tree r h
+some_given read parameters tree (Err fault) h = tt

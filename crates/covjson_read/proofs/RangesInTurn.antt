@@ -19,6 +19,8 @@ use Rattle.covjson_checks.specs.Answers.{Answer, GivesUnlessMemory}
 use Rattle.edr_base.specs.FirstThatApplies.{and_then}
 use Rattle.covjson_checks.specs.Members.{need, object_at}
 use Rattle.covjson_read.specs.ParameterAnswers.{parameter_of}
+use Rattle.edr_json.specs.AnswerLaws.{and_then_ok}
+use Rattle.covjson_read.proofs.ParameterLaws.{parameter_is}
 use Rattle.edr_json.specs.Trees.{names_of}
 use Rattle.covjson_ranges.specs.RangeAnswers.{range_of}
 use Rattle.covjson_read.specs.CollectedAnswers.{ranges_from, has_members, ranges_in}
@@ -44,16 +46,45 @@ twice : (kept : List Parameter) (found : List NdArray) (p : Parameter) (r : NdAr
 twice kept found p r (Ok others) = rw (append_assoc kept (p ∷ []) others.parameters, append_assoc found (r ∷ []) others.ranges) refl
 twice kept found p r (Err f) = refl
 
+-- a range with the parameter of its name
+abbrev pub range_with : ReadDomain → Data → List ℕ → Data → Answer (Parameter × NdArray)
+range_with read parameters id d =
+    and_then (need id Parameters parameters) (λ tree. and_then (parameter_of id tree) (λ parameter. and_then (range_of read d) (λ range. Ok (parameter, range))))
+
+-- what is read of one entry, and then what is read of the others
+module _ (rest : Answer ReadRanges) where
+  abbrev put_before : Parameter → NdArray → Answer ReadRanges
+  put_before p r = and_then rest (λ others. Ok (record { parameters = p ∷ others.parameters; ranges = r ∷ others.ranges }))
+
+  range_first : (range : Answer NdArray) (p : Parameter) → and_then range (put_before p) ≡ and_then {T = Parameter × NdArray} (and_then range (λ r. Ok (p, r))) (λ both. put_before both.0 both.1)
+  range_first (Ok r) p = refl
+  range_first (Err f) p = refl
+
+  parameter_first : (parameter : Answer Parameter) (range : Answer NdArray)
+      → and_then parameter (λ p. and_then range (put_before p)) ≡ and_then {T = Parameter × NdArray} (and_then parameter (λ p. and_then range (λ r. Ok (p, r)))) (λ both. put_before both.0 both.1)
+  parameter_first (Ok p) range = range_first range p
+  parameter_first (Err f) range = refl
+
+  tree_first : (tree : Answer Data) (parameter : Data → Answer Parameter) (range : Answer NdArray)
+      → and_then tree (λ t. and_then (parameter t) (λ p. and_then range (put_before p)))
+      ≡ and_then {T = Parameter × NdArray} (and_then tree (λ t. and_then (parameter t) (λ p. and_then range (λ r. Ok (p, r))))) (λ both. put_before both.0 both.1)
+  tree_first (Ok t) parameter range = parameter_first (parameter t) range
+  tree_first (Err f) parameter range = refl
+
+entry_first : (read : ReadDomain) (parameters : Data) (next : Entries) (k : String Global) (v : Value) → ranges_from read parameters (members_view ((k, v) ∷ next))
+    ≡ and_then (range_with read parameters (string_bytes k) (view v)) (λ both. put_before (ranges_from read parameters (members_view next)) both.0 both.1)
+entry_first read parameters next k v =
+    tree_first (ranges_from read parameters (members_view next)) (need (string_bytes k) Parameters parameters) (parameter_of (string_bytes k)) (range_of read (view v))
+
 -- one range more, and one entry fewer that is left
-pub one_more : (read : ReadDomain) (parameters : Data) (kept all_kept : List Parameter) (found all_found : List NdArray) (es next : Entries) (k : String Global) (v : Value) (tree : Data) (p : Parameter)
-    (r : NdArray) (all : Answer ReadRanges) → es ≡ (k, v) ∷ next → from_here read parameters kept found es ≡ all
-    → need (string_bytes k) Parameters parameters ≡ Ok tree → parameter_of (string_bytes k) tree ≡ Ok p → range_of read (view v) ≡ Ok r
+pub one_more : (read : ReadDomain) (parameters : Data) (kept all_kept : List Parameter) (found all_found : List NdArray) (es next : Entries) (k : String Global) (v : Value) (p : Parameter)
+    (r : NdArray) (all : Answer ReadRanges) → es ≡ (k, v) ∷ next → from_here read parameters kept found es ≡ all → range_with read parameters (string_bytes k) (view v) ≡ Ok (p, r)
     → all_kept ≡ kept ++ p ∷ [] → all_found ≡ found ++ r ∷ [] → from_here read parameters all_kept all_found next ≡ all
-one_more read parameters kept all_kept found all_found es next k v tree p r all is before needed parameter range pushed put =
+one_more read parameters kept all_kept found all_found es next k v p r all is before both pushed put =
     let left = ranges_from read parameters (members_view next) in
     let here : from_here read parameters kept found es
     ≡ after_these kept found (and_then left (λ others. Ok (record { parameters = p ∷ others.parameters; ranges = r ∷ others.ranges }))) =
-    ap (from_here read parameters kept found) is ∙ rw (needed, parameter, range) refl in
+    ap (from_here read parameters kept found) is ∙ ap (after_these kept found) (entry_first read parameters next k v ∙ rw both refl) in
     rw (pushed, put) (sym (twice kept found p r left)) ∙ sym here ∙ before
 
 -- a fault at an entry is the answer of all
@@ -67,17 +98,23 @@ module _ (read : ReadDomain) (parameters : Data) (kept : List Parameter) (found 
   wanting (Ok u) same memory = absurd same
   wanting (Err e) same memory = inr (same ∙ memory)
 
-  pub need_stops : need (string_bytes k) Parameters parameters ≡ Err fault → GivesUnlessMemory (λ given. given) r all
-  need_stops needed = answered r same (rw needed refl)
+  pub entry_stops : (range_with read parameters (string_bytes k) (view v) ≡ Err fault) ⊎ (fault ≡ OutOfMemory) → GivesUnlessMemory (λ given. given) r all
+  entry_stops (inl stops) = answered r same (ap (after_these kept found) (entry_first read parameters next k v) ∙ rw stops refl)
+  entry_stops (inr memory) = wanting r same memory
 
-  pub parameter_stops : (tree : Data) → need (string_bytes k) Parameters parameters ≡ Ok tree → (parameter_of (string_bytes k) tree ≡ Err fault) ⊎ (fault ≡ OutOfMemory) → GivesUnlessMemory (λ given. given) r all
-  parameter_stops tree needed (inl parameter) = answered r same (rw (needed, parameter) refl)
-  parameter_stops tree needed (inr memory) = wanting r same memory
+-- the parameter of a range is the one that was read
+parameter_same : (range : Answer NdArray) (q p : Parameter) (r : NdArray) → and_then {U = Parameter × NdArray} range (λ x. Ok (q, x)) ≡ Ok (p, r) → q ≡ p
+parameter_same (Ok x) q p r h =
+    let same : ◌≡◌ {A = Parameter × NdArray} (q, x) (p, r) = cc in
+    ap (λ (both : Parameter × NdArray). both.0) same
+parameter_same (Err f) q p r h = cc
 
-  pub range_stops : (tree : Data) (p : Parameter) → need (string_bytes k) Parameters parameters ≡ Ok tree → parameter_of (string_bytes k) tree ≡ Ok p
-      → (range_of read (view v) ≡ Err fault) ⊎ (fault ≡ OutOfMemory) → GivesUnlessMemory (λ given. given) r all
-  range_stops tree p needed parameter (inl range) = answered r same (rw (needed, parameter, range) refl)
-  range_stops tree p needed parameter (inr memory) = wanting r same memory
+-- and its id is the name of the range
+pub id_is : (read : ReadDomain) (parameters : Data) (id : List ℕ) (d : Data) (p : Parameter) (r : NdArray) → range_with read parameters id d ≡ Ok (p, r) → p.id ≡ id
+id_is read parameters id d p r both =
+    let t = and_then_ok (need id Parameters parameters) _ (p, r) both in
+    let q = and_then_ok (parameter_of id t.0) _ (p, r) t.2 in
+    subst (λ (x : Parameter). x.id ≡ id) (parameter_same (range_of read d) q.0 p r q.2) ((parameter_is id t.0 q.0).0 q.1).0
 
 -- ---- the parameters' ids
 

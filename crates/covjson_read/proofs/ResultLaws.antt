@@ -36,6 +36,13 @@ module _ {T U : Type 0} (step : Answer T) (next : T → Answer U) (fault : CovFa
   stops_after x is (inl given) = inl (rw is given)
   stops_after x is (inr memory) = inr memory
 
+-- two steps are taken, and then the answer of the rest
+pub both_stop : {T U V : Type 0} (first : Answer T) (second : T → Answer U) (next : U → Answer V) (fault : CovFault) → (and_then first second ≡ Err fault) ⊎ (fault ≡ OutOfMemory)
+    → (and_then first (λ x. and_then (second x) next) ≡ Err fault) ⊎ (fault ≡ OutOfMemory)
+both_stop (Ok x) second next fault given = stops_here (second x) next fault given
+both_stop (Err f) second next fault (inl given) = let same : f ≡ fault = cc in inl (ap (λ e. Err e) same)
+both_stop (Err f) second next fault (inr memory) = inr memory
+
 -- a result gives the answer of a text, unless memory was wanting
 abbrev pub GivesText : List ℕ → Result Document CovFault → Type 0
 GivesText text r = MatchResult r (λ d. AnswersText text (Ok d)) (λ f. AnswersText text (Err f) ⊎ (f ≡ OutOfMemory))

@@ -1,8 +1,13 @@
 //! All ranges of a coverage, each with its parameter.
-ghost use Rattle.std.specs.Prelude.{◌≡◌, IfOk};
+ghost use Rattle.std.specs.Prelude.{◌≡◌, IfOk, Ok};
 ghost use Rattle.serde_json.specs.View.{view, members_view};
-ghost use Rattle.covjson_value.specs.Coverages.{HasAxes, HasTuples};
+ghost use Rattle.edr_base.specs.FirstThatApplies.{and_then};
+ghost use Rattle.covjson_value.specs.Coverages.{HasAxes, HasTuples, IsParameter, IsRange};
+ghost use Rattle.covjson_checks.specs.declared.faults.Member.TheVariants.{Parameters};
 ghost use Rattle.covjson_checks.specs.Answers.{GivesUnlessMemory};
+ghost use Rattle.covjson_checks.specs.Members.{need};
+ghost use Rattle.covjson_ranges.specs.RangeAnswers.{range_of};
+ghost use Rattle.covjson_read.specs.ParameterAnswers.{parameter_of};
 ghost use Rattle.covjson_read.specs.Parameters.{HaveNames};
 ghost use Rattle.covjson_read.specs.Collected.{AreValid};
 ghost use Rattle.covjson_read.specs.CollectedAnswers as ranges;
@@ -16,12 +21,35 @@ use serde_json::{Map, Value};
 use std::alloc::Global;
 
 /// The ranges that were read, and the parameter of each.
-#[derive(Debug, Drop)]
+#[derive(Drop)]
 pub struct ReadRanges {
     /// The parameters, in ascending order of their ids.
     pub parameters: Items<Parameter>,
     /// The range of each.
     pub ranges: Items<NdArray>,
+}
+
+// A range, with the parameter of its name.
+fn range_with(
+    alloc: Global,
+    id: &str,
+    range: &Value,
+    parameters: &Value,
+    read: &ReadDomain,
+) -> Result<(Parameter, NdArray), CovFault>
+    requires axes { HasAxes read.now.domain }
+    requires tuples { HasTuples read.now.domain }
+    requires named { HaveNames (view parameters.now) }
+    ensures answer { GivesUnlessMemory (λ p. p) result (
+        and_then (need id.now Parameters (view parameters.now)) (λ tree.
+        and_then (parameter_of id.now tree) (λ parameter.
+        and_then (range_of read.now (view range.now)) (λ array. Ok (parameter, array))))) }
+    ensures valid { IfOk result (λ p. IsParameter p.0 × IsRange read.now.domain p.1) }
+{
+    let tree = need(parameters, id, Member::Parameters)?;
+    let parameter = parameter_of(alloc, id, tree)?;
+    let array = range_of(alloc, range, read)?;
+    Ok((parameter, array))
 }
 
 // Each range in turn, with the parameter of its name.
@@ -40,9 +68,7 @@ fn ranges_from(
     let mut kept = Vec::new(alloc);
     let mut found = Vec::new(alloc);
     for (id, range) in members.iter() {
-        let tree = need(parameters, id, Member::Parameters)?;
-        let parameter = parameter_of(alloc, id, tree)?;
-        let array = range_of(alloc, range, read)?;
+        let (parameter, array) = range_with(alloc, id, range, parameters, read)?;
         kept.push(parameter)?;
         found.push(array)?;
     }

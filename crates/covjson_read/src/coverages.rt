@@ -1,11 +1,16 @@
 //! Coverages (OGC 21-069r2, Coverage objects).
-ghost use Rattle.std.specs.Prelude.{◌≡◌, ◌≢◌, IfOk, IfErr, IfSome, IsUtf8, Ok, Err, option_map, codes};
+ghost use Rattle.std.specs.Prelude.{◌≡◌, ◌≢◌, ◌<◌, length, IfOk, IfErr, IfSome, IsUtf8, Ok, Err, option_map, codes};
 ghost use Rattle.serde_json.specs.Data.{null};
 ghost use Rattle.serde_json.specs.View.{view};
 ghost use Rattle.serde_json.specs.Find.{get};
 ghost use Rattle.edr_json.specs.Trees.{text_in};
 ghost use Rattle.covjson_value.specs.Coverages.{HasAxes, HasTuples, IsValid};
+ghost use Rattle.edr_base.specs.FirstThatApplies.{and_then};
 ghost use Rattle.covjson_checks.specs.Answers.{GivesAnswer, GivesUnlessMemory};
+ghost use Rattle.covjson_checks.specs.Members.{lent};
+ghost use Rattle.covjson_read.specs.Collected.{AreValid};
+ghost use Rattle.covjson_read.specs.CollectedAnswers.{ranges_in};
+ghost use Rattle.covjson_read.specs.ParameterAnswers.{parameters_of};
 ghost use Rattle.covjson_value.specs.declared.coverages.Coverage.{Coverage};
 ghost use Rattle.covjson_read.specs.CoverageAnswers.{over_domain};
 ghost use Rattle.covjson_read.specs.CoverageParts.{with_domain};
@@ -72,6 +77,25 @@ struct Parts {
     ranges: ReadRanges,
 }
 
+// The ranges of a coverage over a domain that was read, each with its parameter.
+fn ranges_over(
+    alloc: Global,
+    tree: &Value,
+    collection: &Value,
+    read: &ReadDomain,
+) -> Result<ReadRanges, CovFault>
+    requires axes { HasAxes read.now.domain }
+    requires tuples { HasTuples read.now.domain }
+    ensures answer { GivesUnlessMemory (λ r. r) result (
+        and_then (parameters_of (lent (codes "parameters") (view tree.now) (view collection.now))) (λ parameters.
+        ranges_in read.now parameters (view tree.now))) }
+    ensures some { IfOk result (λ r. 0 < length r.parameters) }
+    ensures valid { IfOk result (λ r. AreValid read.now.domain r.parameters r.ranges) }
+{
+    let parameters = parameters_of(lent(tree, collection, "parameters"))?;
+    ranges_in(alloc, tree, parameters, read)
+}
+
 // What a coverage has over a domain that was read: its systems, its parameters and its ranges.
 fn parts_over(
     alloc: Global,
@@ -85,11 +109,10 @@ fn parts_over(
     ensures answer { GivesUnlessMemory (with_domain read.now.domain) result (over_domain (view collection.now) (view tree.now) (view domain.now) read.now) }
     ensures valid { IfOk result (λ p. IsValid (with_domain read.now.domain p)) }
 {
+    let id = id_of(alloc, tree)?;
     let levels = read.domain.has(CoordinateName::Z);
     let referencing = referencing_of(alloc, lent(domain, collection, "referencing"), levels)?;
-    let parameters = parameters_of(lent(tree, collection, "parameters"))?;
-    let ranges = ranges_in(alloc, tree, parameters, read)?;
-    let id = id_of(alloc, tree)?;
+    let ranges = ranges_over(alloc, tree, collection, read)?;
     Ok(Parts {
         id,
         referencing,

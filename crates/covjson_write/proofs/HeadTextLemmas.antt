@@ -96,8 +96,9 @@ items_are : {W : Type 0} (data_of : W → Data) (later : Bool) (values : List W)
 items_are data_of later [] = refl
 items_are data_of later (value ∷ values) =
     let text : List ℕ = compact_text (data_of value) in
+    let rest : List ℕ = with_commas true (map (λ v. compact_text (data_of v)) values) in
     ap (λ t. comma_if later ++ (text ++ t)) (items_are data_of true values)
-    ∙ simp append_assoc
+    ∙ sym (append_assoc (comma_if later) (text ++ rest) (codes "]") ∙ ap (λ t. comma_if later ++ t) (append_assoc text rest (codes "]")))
 
 -- all items were put between brackets
 pub list_put : {W : Type 0} (data_of : W → Data) (values : List W) (k : ℕ) (start old new : List ℕ) → length values ≤ k
@@ -112,8 +113,11 @@ members_are : (later : Bool) (parameters : List Parameter)
     → members_text later (members_in_order (map named_parameter parameters)) ≡ with_commas later (map keyed_parameter parameters) ++ codes "}"
 members_are later [] = refl
 members_are later (parameter ∷ parameters) =
-    ap (λ t. comma_if later ++ (quoted parameter.id ++ 58 ∷ (compact_text (parameter_data parameter) ++ t))) (members_are true parameters)
-    ∙ simp append_assoc
+    let text : List ℕ = compact_text (parameter_data parameter) in
+    let rest : List ℕ = with_commas true (map keyed_parameter parameters) in
+    ap (λ t. comma_if later ++ (quoted parameter.id ++ 58 ∷ (text ++ t))) (members_are true parameters)
+    ∙ sym (append_assoc (comma_if later) (keyed_parameter parameter ++ rest) (codes "}")
+    ∙ ap (λ t. comma_if later ++ t) (append_assoc (keyed_parameter parameter) rest (codes "}") ∙ append_assoc (quoted parameter.id) (58 ∷ text) (rest ++ codes "}")))
 
 -- all parameters were put between braces
 pub parameters_put : (parameters : List Parameter) (k : ℕ) (start old new : List ℕ) → length parameters ≤ k

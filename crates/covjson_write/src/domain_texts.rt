@@ -9,7 +9,7 @@ ghost use Rattle.covjson_value.specs.Coverages.{IsAxisValue, IsNamedAxis, HasAxe
 ghost use Rattle.covjson_value.specs.Trees.{array_of, axis_value_data, list_data, is_spanned, axis_data, keys_data, tuple_data, composite_data, axes_data, domain_data};
 ghost use Rattle.covjson_write.specs.HeadTexts.{member_text};
 
-use crate::leaves::{push_comma, push_integer, push_time, quoted_axis, quoted_name};
+use crate::leaves::{push_bytes, push_comma, push_integer, push_time, quoted_axis, quoted_name};
 use crate::regular_axes::push_span;
 use crate::system_texts::push_referencing;
 use covjson_value::{CoordinateName, Domain, Referencing, axis_name, is_spanned};
@@ -34,23 +34,21 @@ fn push_axis_values(
     requires { All (IsAxisValue name) values.now }
     ensures { OnOk result (text.new.items ≡ text.old.items ++ compact_text (array_of (axis_value_data name) values.now)) }
 {
-    text.push(b'[')?;
+    push_bytes(text, b"[")?;
     for place in 0..values.len() {
         push_comma(text, place > 0)?;
         push_axis_value(text, name, values[place])?;
     }
-    text.push(b']')?;
-    Ok(())
+    push_bytes(text, b"]")
 }
 
 fn push_list(text: &mut Vec<u8>, name: CoordinateName, values: &[i64]) -> Result<(), OutOfMemory>
     requires { All (IsAxisValue name) values.now }
     ensures { OnOk result (text.new.items ≡ text.old.items ++ compact_text (list_data name values.now)) }
 {
-    text.extend_from_slice(b"{\"values\":")?;
+    push_bytes(text, b"{\"values\":")?;
     push_axis_values(text, name, values)?;
-    text.push(b'}')?;
-    Ok(())
+    push_bytes(text, b"}")
 }
 
 fn push_values(text: &mut Vec<u8>, name: CoordinateName, values: &[i64]) -> Result<(), OutOfMemory>
@@ -65,7 +63,6 @@ fn push_values(text: &mut Vec<u8>, name: CoordinateName, values: &[i64]) -> Resu
 }
 
 // The member of an axis, where the domain has it. The answer is whether some stand by now.
-#[tactic(auto, using(crate::proofs::HeadTextLemmas::member_put))]
 fn push_axis(
     text: &mut Vec<u8>,
     later: bool,
@@ -81,8 +78,8 @@ fn push_axis(
         return Ok(later);
     };
     push_comma(text, later)?;
-    text.extend_from_slice(quoted_axis(axis_name(name)))?;
-    text.push(b':')?;
+    push_bytes(text, quoted_axis(axis_name(name)))?;
+    push_bytes(text, b":")?;
     push_values(text, name, values)?;
     Ok(true)
 }
@@ -107,13 +104,12 @@ fn push_tuple(
     requires { All (λ name. IsAxisValue name (domains.coordinate name tuple.now)) names.now }
     ensures { OnOk result (text.new.items ≡ text.old.items ++ compact_text (tuple_data names.now tuple.now)) }
 {
-    text.push(b'[')?;
+    push_bytes(text, b"[")?;
     for place in 0..names.len() {
         push_comma(text, place > 0)?;
         push_axis_value(text, names[place], coordinate(tuple, names[place]))?;
     }
-    text.push(b']')?;
-    Ok(())
+    push_bytes(text, b"]")
 }
 
 fn push_tuples(
@@ -124,26 +120,24 @@ fn push_tuples(
     requires { All (λ tuple. All (λ name. IsAxisValue name (domains.coordinate name tuple)) names.now) tuples.now }
     ensures { OnOk result (text.new.items ≡ text.old.items ++ compact_text (array_of (tuple_data names.now) tuples.now)) }
 {
-    text.push(b'[')?;
+    push_bytes(text, b"[")?;
     for place in 0..tuples.len() {
         push_comma(text, place > 0)?;
         push_tuple(text, names, &tuples[place])?;
     }
-    text.push(b']')?;
-    Ok(())
+    push_bytes(text, b"]")
 }
 
 // The names of the coordinates of tuples.
 fn push_names(text: &mut Vec<u8>, names: &[CoordinateName]) -> Result<(), OutOfMemory>
     ensures { OnOk result (text.new.items ≡ text.old.items ++ compact_text (keys_data names.now)) }
 {
-    text.push(b'[')?;
+    push_bytes(text, b"[")?;
     for place in 0..names.len() {
         push_comma(text, place > 0)?;
-        text.extend_from_slice(quoted_name(names[place]))?;
+        push_bytes(text, quoted_name(names[place]))?;
     }
-    text.push(b']')?;
-    Ok(())
+    push_bytes(text, b"]")
 }
 
 fn push_composite_values(
@@ -154,12 +148,11 @@ fn push_composite_values(
     requires { All (λ tuple. All (λ name. IsAxisValue name (domains.coordinate name tuple)) names.now) tuples.now }
     ensures { OnOk result (text.new.items ≡ text.old.items ++ compact_text (composite_data names.now tuples.now)) }
 {
-    text.extend_from_slice(b"{\"coordinates\":")?;
+    push_bytes(text, b"{\"coordinates\":")?;
     push_names(text, names)?;
-    text.extend_from_slice(b",\"dataType\":\"tuple\",\"values\":")?;
+    push_bytes(text, b",\"dataType\":\"tuple\",\"values\":")?;
     push_tuples(text, names, tuples)?;
-    text.push(b'}')?;
-    Ok(())
+    push_bytes(text, b"}")
 }
 
 // The member of the composite axis, where the domain has one. The answer is whether it stands.
@@ -172,7 +165,7 @@ fn push_composite(text: &mut Vec<u8>, domain: &Domain) -> Result<bool, OutOfMemo
     let Some(tuples) = domain.tuples() else {
         return Ok(false);
     };
-    text.extend_from_slice(b"\"composite\":")?;
+    push_bytes(text, b"\"composite\":")?;
     push_composite_values(text, domain.coordinates(), tuples)?;
     Ok(true)
 }
@@ -182,14 +175,13 @@ fn push_axes(text: &mut Vec<u8>, domain: &Domain) -> Result<(), OutOfMemory>
     requires tuples { HasTuples domain.now }
     ensures { OnOk result (text.new.items ≡ text.old.items ++ compact_text (axes_data domain.now)) }
 {
-    text.push(b'{')?;
+    push_bytes(text, b"{")?;
     let composite = push_composite(text, domain)?;
     let times = push_axis(text, composite, domain, CoordinateName::T)?;
     let columns = push_axis(text, times, domain, CoordinateName::X)?;
     let rows = push_axis(text, columns, domain, CoordinateName::Y)?;
     push_axis(text, rows, domain, CoordinateName::Z)?;
-    text.push(b'}')?;
-    Ok(())
+    push_bytes(text, b"}")
 }
 
 /// Puts a domain, with the systems of its coordinates.
@@ -204,12 +196,11 @@ pub fn push_domain(
     requires referencing { IsReferencing referencing.now }
     ensures { OnOk result (text.new.items ≡ text.old.items ++ compact_text (domain_data domain.now referencing.now)) }
 {
-    text.extend_from_slice(b"{\"axes\":")?;
+    push_bytes(text, b"{\"axes\":")?;
     push_axes(text, domain)?;
-    text.extend_from_slice(b",\"domainType\":\"")?;
-    text.extend_from_slice(domain.type_name().as_bytes())?;
-    text.extend_from_slice(b"\",\"referencing\":")?;
+    push_bytes(text, b",\"domainType\":\"")?;
+    push_bytes(text, domain.type_name().as_bytes())?;
+    push_bytes(text, b"\",\"referencing\":")?;
     push_referencing(text, alloc, domain, referencing)?;
-    text.extend_from_slice(b",\"type\":\"Domain\"}")?;
-    Ok(())
+    push_bytes(text, b",\"type\":\"Domain\"}")
 }

@@ -7,7 +7,7 @@ ghost use Rattle.covjson_write.specs.Pieces.{id_text, coverage_begin};
 ghost use Rattle.covjson_write.specs.Writers.{IsHead};
 
 use crate::domain_texts::push_domain;
-use crate::leaves::{push_comma, push_quoted};
+use crate::leaves::{push_bytes, push_comma, push_quoted};
 use crate::parameter_texts::push_parameters;
 use covjson_value::{Coverage, Parameter};
 use edr_base::{Items, OutOfMemory, Text};
@@ -20,11 +20,29 @@ fn push_id(text: &mut Vec<u8>, alloc: Global, id: &Option<Text>) -> Result<(), O
     requires { IfSome id.now IsUtf8 }
     ensures { OnOk result (text.new.items ≡ text.old.items ++ id_text id.now) }
 {
-    if let Some(id) = id {
-        text.extend_from_slice(b",\"id\":")?;
-        push_quoted(text, alloc, id.bytes())?;
-    }
-    Ok(())
+    let Some(id) = id else {
+        return Ok(());
+    };
+    push_bytes(text, b",\"id\":")?;
+    push_quoted(text, alloc, id.bytes())
+}
+
+fn push_head(
+    text: &mut Vec<u8>,
+    alloc: Global,
+    later: bool,
+    head: &Coverage,
+) -> Result<(), OutOfMemory>
+    requires { IsHead head.now }
+    ensures { OnOk result (text.new.items ≡ text.old.items ++ (comma_if later ++ coverage_begin head.now)) }
+{
+    push_comma(text, later)?;
+    push_bytes(text, b"{\"domain\":")?;
+    push_domain(text, alloc, &head.domain, &head.referencing)?;
+    push_id(text, alloc, &head.id)?;
+    push_bytes(text, b",\"parameters\":")?;
+    push_parameters(text, alloc, head.parameters.items())?;
+    push_bytes(text, b",\"ranges\":{")
 }
 
 /// A Coverage object as far as its ranges (OGC 21-069r2), with a comma before it if it is a later one of a collection. Want
@@ -34,13 +52,7 @@ pub fn coverage_text(alloc: Global, later: bool, head: &Coverage) -> Result<Vec<
     ensures { IfOk result (λ text. text.items ≡ comma_if later ++ coverage_begin head.now) }
 {
     let mut text = Vec::with_capacity(alloc, HEAD_SIZE)?;
-    push_comma(&mut text, later)?;
-    text.extend_from_slice(b"{\"domain\":")?;
-    push_domain(&mut text, alloc, &head.domain, &head.referencing)?;
-    push_id(&mut text, alloc, &head.id)?;
-    text.extend_from_slice(b",\"parameters\":")?;
-    push_parameters(&mut text, alloc, head.parameters.items())?;
-    text.extend_from_slice(b",\"ranges\":{")?;
+    push_head(&mut text, alloc, later, head)?;
     Ok(text)
 }
 
@@ -79,7 +91,7 @@ pub fn range_text(
 {
     let mut text = Vec::new(alloc);
     push_comma(&mut text, later)?;
-    text.extend_from_slice(key.bytes())?;
-    text.extend_from_slice(opening.bytes())?;
+    push_bytes(&mut text, key.bytes())?;
+    push_bytes(&mut text, opening.bytes())?;
     Ok(text)
 }

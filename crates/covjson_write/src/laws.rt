@@ -20,13 +20,11 @@ pub fn coverages_go_on()
 {}
 
 /// The text of a valid coverage is its beginning and its ranges, the last with the coverage's end.
-#[tactic(auto, using(crate::specs::PieceLaws::coverage_parts))]
 pub fn coverage_of_pieces()
     ensures { CoverageOfPieces }
 {}
 
 /// The text of a valid document is its beginning, its coverages and its end.
-#[tactic(auto, using(crate::specs::PieceLaws::document_parts))]
 pub fn document_of_pieces()
     ensures { DocumentOfPieces }
 {}

@@ -16,14 +16,23 @@ use json::Writer;
 use std::alloc::Global;
 use std::mem;
 
+/// Puts bytes as they are.
+pub fn push_bytes(text: &mut Vec<u8>, bytes: &[u8]) -> Result<(), OutOfMemory>
+    ensures { OnOk result (text.new.items ≡ text.old.items ++ bytes.now) }
+{
+    text.extend_from_slice(bytes)?;
+    Ok(())
+}
+
 /// Puts a comma, where others stand before.
 pub fn push_comma(text: &mut Vec<u8>, later: bool) -> Result<(), OutOfMemory>
     ensures { OnOk result (text.new.items ≡ text.old.items ++ comma_if later) }
 {
     if later {
-        text.push(b',')?;
+        push_bytes(text, b",")
+    } else {
+        Ok(())
     }
-    Ok(())
 }
 
 // Whether the bytes stand in a text of JSON as they are.
@@ -42,10 +51,9 @@ fn push_plain(text: &mut Vec<u8>, bytes: &[u8]) -> Result<(), OutOfMemory>
     requires { escape bytes.now ≡ bytes.now }
     ensures { OnOk result (text.new.items ≡ text.old.items ++ quoted bytes.now) }
 {
-    text.push(b'"')?;
-    text.extend_from_slice(bytes)?;
-    text.push(b'"')?;
-    Ok(())
+    push_bytes(text, b"\"")?;
+    push_bytes(text, bytes)?;
+    push_bytes(text, b"\"")
 }
 
 // By the library of JSON, which escapes what has to be.
@@ -77,8 +85,7 @@ pub fn push_number(text: &mut Vec<u8>, count: usize) -> Result<(), OutOfMemory>
     ensures { OnOk result (text.new.items ≡ text.old.items ++ decimal count) }
 {
     let mut buffer = Buffer::new();
-    text.extend_from_slice(buffer.format(count).as_bytes())?;
-    Ok(())
+    push_bytes(text, buffer.format(count).as_bytes())
 }
 
 /// Puts an integer.
@@ -87,8 +94,7 @@ pub fn push_integer(text: &mut Vec<u8>, value: i64) -> Result<(), OutOfMemory>
     ensures { OnOk result (text.new.items ≡ text.old.items ++ compact_text (integer value)) }
 {
     let mut buffer = Buffer::new();
-    text.extend_from_slice(buffer.format(value).as_bytes())?;
-    Ok(())
+    push_bytes(text, buffer.format(value).as_bytes())
 }
 
 /// Puts a time, in seconds since 1970-01-01T00:00:00Z, as its text in quotes.

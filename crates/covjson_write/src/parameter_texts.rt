@@ -5,7 +5,7 @@ ghost use Rattle.covjson_value.specs.Coverages.{IsParameter};
 ghost use Rattle.covjson_value.specs.Trees.{parameters_data};
 ghost use Rattle.covjson_write.specs.HeadTexts.{unit_member, keyed_parameter};
 
-use crate::leaves::{push_comma, push_quoted};
+use crate::leaves::{push_bytes, push_comma, push_quoted};
 use covjson_value::Parameter;
 use edr_base::{OutOfMemory, Text};
 use std::alloc::Global;
@@ -14,12 +14,12 @@ fn push_unit(text: &mut Vec<u8>, alloc: Global, unit: &Option<Text>) -> Result<(
     requires { IfSome unit.now IsUtf8 }
     ensures { OnOk result (text.new.items ≡ text.old.items ++ unit_member unit.now) }
 {
-    if let Some(unit) = unit {
-        text.extend_from_slice(b",\"unit\":{\"symbol\":")?;
-        push_quoted(text, alloc, unit.bytes())?;
-        text.push(b'}')?;
-    }
-    Ok(())
+    let Some(unit) = unit else {
+        return Ok(());
+    };
+    push_bytes(text, b",\"unit\":{\"symbol\":")?;
+    push_quoted(text, alloc, unit.bytes())?;
+    push_bytes(text, b"}")
 }
 
 fn push_parameter(
@@ -31,14 +31,13 @@ fn push_parameter(
     ensures { OnOk result (text.new.items ≡ text.old.items ++ keyed_parameter parameter.now) }
 {
     push_quoted(text, alloc, parameter.id.bytes())?;
-    text.extend_from_slice(b":{\"observedProperty\":{\"label\":{")?;
+    push_bytes(text, b":{\"observedProperty\":{\"label\":{")?;
     push_quoted(text, alloc, parameter.lang.bytes())?;
-    text.push(b':')?;
+    push_bytes(text, b":")?;
     push_quoted(text, alloc, parameter.label.bytes())?;
-    text.extend_from_slice(b"}},\"type\":\"Parameter\"")?;
+    push_bytes(text, b"}},\"type\":\"Parameter\"")?;
     push_unit(text, alloc, &parameter.unit)?;
-    text.push(b'}')?;
-    Ok(())
+    push_bytes(text, b"}")
 }
 
 /// Puts some parameters, by their ids.
@@ -50,11 +49,10 @@ pub fn push_parameters(
     requires { All IsParameter parameters.now }
     ensures { OnOk result (text.new.items ≡ text.old.items ++ compact_text (parameters_data parameters.now)) }
 {
-    text.push(b'{')?;
+    push_bytes(text, b"{")?;
     for place in 0..parameters.len() {
         push_comma(text, place > 0)?;
         push_parameter(text, alloc, &parameters[place])?;
     }
-    text.push(b'}')?;
-    Ok(())
+    push_bytes(text, b"}")
 }

@@ -3,7 +3,7 @@ ghost use Rattle.std.specs.Prelude.{◌≡◌, ◌<◌, ◌++◌, OnOk, length};
 ghost use Rattle.serde_json.specs.Written.{compact_text};
 ghost use Rattle.covjson_value.specs.Trees.{span_data};
 
-use crate::leaves::{push_integer, push_number};
+use crate::leaves::{push_bytes, push_integer, push_number};
 use edr_base::OutOfMemory;
 
 /// Puts an axis by its count of values, the first and the last.
@@ -11,12 +11,11 @@ pub fn push_span(text: &mut Vec<u8>, values: &[i64]) -> Result<(), OutOfMemory>
     requires { 0 < length values.now }
     ensures { OnOk result (text.new.items ≡ text.old.items ++ compact_text (span_data values.now)) }
 {
-    text.extend_from_slice(b"{\"num\":")?;
+    push_bytes(text, b"{\"num\":")?;
     push_number(text, values.len())?;
-    text.extend_from_slice(b",\"start\":")?;
+    push_bytes(text, b",\"start\":")?;
     push_integer(text, values[0])?;
-    text.extend_from_slice(b",\"stop\":")?;
+    push_bytes(text, b",\"stop\":")?;
     push_integer(text, values[values.len() - 1])?;
-    text.push(b'}')?;
-    Ok(())
+    push_bytes(text, b"}")
 }

@@ -8,7 +8,7 @@ ghost use Rattle.covjson_value.specs.Coverages.{IsReferencing};
 ghost use Rattle.covjson_value.specs.Trees.{text_if_some, horizontal_data, vertical_data, temporal_data, referencing_data};
 ghost use Rattle.covjson_write.specs.HeadTexts.{name_member, later_if};
 
-use crate::leaves::push_quoted;
+use crate::leaves::{push_bytes, push_quoted};
 use covjson_value::{CoordinateName, Domain, Referencing};
 use edr_base::{OutOfMemory, Text};
 use std::alloc::Global;
@@ -17,10 +17,9 @@ fn push_name(text: &mut Vec<u8>, alloc: Global, name: &Text) -> Result<(), OutOf
     requires { IsUtf8 name.now }
     ensures { OnOk result (text.new.items ≡ text.old.items ++ (codes "\"id\":" ++ (quoted name.now ++ codes ","))) }
 {
-    text.extend_from_slice(b"\"id\":")?;
+    push_bytes(text, b"\"id\":")?;
     push_quoted(text, alloc, name.bytes())?;
-    text.push(b',')?;
-    Ok(())
+    push_bytes(text, b",")
 }
 
 // The name of the system of x and y, unless it is empty.
@@ -38,10 +37,9 @@ fn push_horizontal(text: &mut Vec<u8>, alloc: Global, crs: &Text) -> Result<(), 
     requires { IsUtf8 crs.now }
     ensures { OnOk result (text.new.items ≡ text.old.items ++ compact_text (horizontal_data crs.now)) }
 {
-    text.extend_from_slice(b"{\"coordinates\":[\"x\",\"y\"],\"system\":{")?;
+    push_bytes(text, b"{\"coordinates\":[\"x\",\"y\"],\"system\":{")?;
     push_horizontal_name(text, alloc, crs)?;
-    text.extend_from_slice(b"\"type\":\"ProjectedCRS\"}}")?;
-    Ok(())
+    push_bytes(text, b"\"type\":\"ProjectedCRS\"}}")
 }
 
 // The name of the system of z, where it is known.
@@ -67,10 +65,9 @@ fn push_vertical(
     requires { IfSome vertical.now IsUtf8 }
     ensures { OnOk result (text.new.items ≡ text.old.items ++ compact_text (vertical_data vertical.now)) }
 {
-    text.extend_from_slice(b"{\"coordinates\":[\"z\"],\"system\":{")?;
+    push_bytes(text, b"{\"coordinates\":[\"z\"],\"system\":{")?;
     push_vertical_name(text, alloc, vertical)?;
-    text.extend_from_slice(b"\"type\":\"VerticalCRS\"}}")?;
-    Ok(())
+    push_bytes(text, b"\"type\":\"VerticalCRS\"}}")
 }
 
 // The system of the levels, where the domain has some.
@@ -84,11 +81,11 @@ fn push_levels(
     ensures { OnOk result (text.new.items
         ≡ text.old.items ++ later_if (has_coordinate domain.now Z) (compact_text (vertical_data vertical.now))) }
 {
-    if domain.has(CoordinateName::Z) {
-        text.push(b',')?;
-        push_vertical(text, alloc, vertical)?;
+    if !domain.has(CoordinateName::Z) {
+        return Ok(());
     }
-    Ok(())
+    push_bytes(text, b",")?;
+    push_vertical(text, alloc, vertical)
 }
 
 // The system of the times, where the domain has some.
@@ -97,12 +94,13 @@ fn push_times(text: &mut Vec<u8>, domain: &Domain) -> Result<(), OutOfMemory>
     ensures { OnOk result (text.new.items
         ≡ text.old.items ++ later_if (has_coordinate domain.now T) (compact_text temporal_data)) }
 {
-    if domain.has(CoordinateName::T) {
-        text.extend_from_slice(
-            b",{\"coordinates\":[\"t\"],\"system\":{\"calendar\":\"Gregorian\",\"type\":\"TemporalRS\"}}",
-        )?;
+    if !domain.has(CoordinateName::T) {
+        return Ok(());
     }
-    Ok(())
+    push_bytes(
+        text,
+        b",{\"coordinates\":[\"t\"],\"system\":{\"calendar\":\"Gregorian\",\"type\":\"TemporalRS\"}}",
+    )
 }
 
 /// Puts the systems of a domain's coordinates.
@@ -115,10 +113,9 @@ pub fn push_referencing(
     requires { IsReferencing referencing.now }
     ensures { OnOk result (text.new.items ≡ text.old.items ++ compact_text (referencing_data domain.now referencing.now)) }
 {
-    text.push(b'[')?;
+    push_bytes(text, b"[")?;
     push_horizontal(text, alloc, &referencing.crs)?;
     push_levels(text, alloc, domain, &referencing.vertical)?;
     push_times(text, domain)?;
-    text.push(b']')?;
-    Ok(())
+    push_bytes(text, b"]")
 }

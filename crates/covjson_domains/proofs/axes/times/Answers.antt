@@ -1,5 +1,5 @@
-use Rattle.std.proofs.Common.{rules, arith, ◌≡◌, ◌∙◌, ℕ, suc, ◌+◌, ◌<◌, ℤ, List, [], ◌∷◌, ◌++◌, length, get_or, drop, Ok, Err, inl, sym, ap, add-one}
-use Rattle.std.proofs.lemmas.List.{drop_more}
+use Rattle.std.proofs.Common.{rules, arith, ◌≡◌, ◌∙◌, ℕ, suc, ◌+◌, ◌<◌, ◌≤◌, ℤ, List, [], ◌∷◌, ◌++◌, length, get_or, drop, Ok, Err, inl, sym, ap, add-one, append-nil}
+use Rattle.std.proofs.lemmas.List.{drop_all, drop_more}
 use Rattle.std.proofs.lemmas.Result.{err_from_is_err_and}
 use Rattle.serde_json.specs.View.{view, items_view}
 use Rattle.serde_json.specs.declared.value.Value.{Value}
@@ -36,18 +36,28 @@ times_stop : (xs : List Value) (place : ℕ) (x : Value) (found : List ℤ) (f :
 times_stop xs place x found f all h is here before =
     sym before ∙ ap (λ a. onto found a) (times_there xs place x (Err f) h is here)
 
+-- after the last text all times are found
+times_end : (xs : List Value) (place : ℕ) (found : List ℤ) (all : Answer (List ℤ)) → length xs ≤ place → onto found (times_from place (items_view (drop place xs))) ≡ all → all ≡ Ok found
+times_end xs place found all past before =
+    sym before ∙ ap (λ vs. onto found (times_from place (items_view vs))) (drop_all place xs past) ∙ ap Ok (append-nil found)
+
 pub returns-in_err-time : goal.returns-in_err-time
 returns-in_err-time c =
     let xs = c.args.items.now.items in
     let p = err_from_is_err_and c.from_residual-in_err-time.result c.from_residual-in_err-time.ensures.1 in
     rw (p.1, p.2) (inl (times_stop xs c.loop-place.place c.item-item.result c.loop-place.found.items c.in_err-time.field-0.0 (times_from 0 (items_view xs))
-    (omega arith) (search rules) c.in_err-time.ensures c.loop-place.invariant))
+    (omega arith) (c.item-item.is ∙ ap (λ ys. get_or ys c.loop-place.place c.item-item.result) c.deref-item-items.ensures.value) c.in_err-time.ensures c.loop-place.invariant))
 
 pub loop-place-preserved : goal.loop-place-preserved
 loop-place-preserved c =
     let xs = c.args.items.now.items in
     let t = c.in_ok-time.time in
     let pushed : c.push.new.self.items ≡ c.loop-place.found.items ++ t ∷ [] = search rules in
-    let here : Ok t ≡ time_at TimeAxis c.loop-place.place (view c.item-item.result) = search rules in
+    let here : Ok t ≡ time_at TimeAxis c.loop-place.place (view c.item-item.result) = c.in_ok-time.ensures in
     times_more xs c.loop-place.place c.item-item.result c.loop-place.found.items c.push.new.self.items t (times_from 0 (items_view xs))
-    (omega arith) (search rules) here pushed c.loop-place.invariant
+    (omega arith) (c.item-item.is ∙ ap (λ ys. get_or ys c.loop-place.place c.item-item.result) c.deref-item-items.ensures.value) here pushed c.loop-place.invariant
+
+pub returns : goal.returns
+returns c =
+    let xs = c.args.items.now.items in
+    times_end xs c.loop-place.place c.loop-place.found.items (times_from 0 (items_view xs)) (omega arith) c.loop-place.invariant

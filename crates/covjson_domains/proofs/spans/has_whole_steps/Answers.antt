@@ -1,9 +1,26 @@
-use Rattle.std.proofs.Common.{◌≡◌, ◌∙◌, arith, pos, ◌<◌, ◌-ℤ◌, unsigned_abs, int_lt, int_le, false, sym}
+use Rattle.std.proofs.Common.{◌≡◌, ◌∙◌, arith, pos, ◌<◌, ◌<ℤ◌, ◌-ℤ◌, FitsSigned, unsigned_abs, int_lt, int_le, false, sym}
 use Rattle.std.specs.Prelude.{int_rem}
-use Rattle.std.proofs.lemmas.Int.{ints, to_z-of_z, fits_signed_from_abs, rem_below}
+use Rattle.std.proofs.lemmas.Int.{ints, to_z-of_z, fits_signed_from_abs, quot_fits, rem_below}
 use mir.Syntax.{w128}
 use Rattle.covjson_domains.proofs.SpanLemmas.{same_rest, several_steps}
 use Rattle.covjson_domains.proofs.spans.has_whole_steps.Goals as goal
+
+pub nonzero_rem-result : goal.nonzero_rem-result
+nonzero_rem-result c =
+    let first = c.args.first in
+    let last = c.args.last in
+    let count = c.args.count in
+    let between = last -ℤ first in
+    let steps = count -ℤ pos 1 in
+    let first_is = to_z-of_z w128 first c.ranges.first in
+    let last_is = to_z-of_z w128 last c.ranges.last in
+    let count_is = to_z-of_z w128 count c.ranges.count in
+    let more : int_le count (pos 1) ≡ false = rw count_is at c.if-count-le1.false in
+    let above : pos 0 <ℤ steps = grind (arith, ints) in
+    let small : FitsSigned w128 between = omega (arith, ints) in
+    let between_is = to_z-of_z w128 between small in
+    let steps_is = to_z-of_z w128 steps (omega (arith, ints)) in
+    rw (count_is, first_is, last_is, between_is, steps_is) (omega (arith, ints), quot_fits w128 between steps small above)
 
 pub returns-else-count-le1 : goal.returns-else-count-le1
 returns-else-count-le1 c =

@@ -70,3 +70,14 @@ returns c =
     let same : axes.stepped first step (unsigned_abs count) ≡ axes.regular first last (unsigned_abs count) =
     rw (first_is, count_is, last_is) at c.step_of-step.ensures.regular in
     subst (λ (vs : List ℤ). GivesUnlessMemory seen c.stepped.result (Ok vs)) same given
+
+pub overflow_cast-first : goal.overflow_cast-first
+overflow_cast-first c =
+    let first = c.args.first in
+    let span = span_tells first c.args.last c.args.count c.requires.within in
+    rw (to_z-of_z w128 first c.ranges.first) (fits_signed_from_abs w64 first (omega (arith, span.first_in)))
+
+pub overflow_cast-count : goal.overflow_cast-count
+overflow_cast-count c =
+    let span = span_tells c.args.first c.args.last c.args.count c.requires.within in
+    rw (to_z-of_z w128 c.args.count c.ranges.count) (omega (arith, ints, span.some), omega (arith, ints, span.some, span.few))

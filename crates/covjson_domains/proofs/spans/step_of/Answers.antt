@@ -5,6 +5,13 @@ use mir.Syntax.{w128}
 use Rattle.covjson_domains.proofs.SpanLemmas.{span_tells, some_counted, one_reached, one_regular, several_reached, several_regular, several_short}
 use Rattle.covjson_domains.proofs.spans.step_of.Goals as goal
 
+pub overflow_sub-result : goal.overflow_sub-result
+overflow_sub-result c =
+    let first = c.args.first in
+    let last = c.args.last in
+    let span = span_tells first last c.args.count c.requires.within in
+    rw (to_z-of_z w128 last c.ranges.last, to_z-of_z w128 first c.ranges.first) (omega (arith, ints, span.first_in, span.last_in))
+
 pub nonzero_div-result : goal.nonzero_div-result
 nonzero_div-result c =
     let count = c.args.count in

@@ -1,4 +1,4 @@
-use Rattle.std.proofs.Common.{rules, arith, ◌≡◌, ℕ, ◌*◌, ◌/◌, ◌<◌, ◌++◌, map, get_or, length, None, Ok, ap, ◌∙◌, sym}
+use Rattle.std.proofs.Common.{arith, ◌≡◌, ℕ, ◌*◌, ◌/◌, ◌<◌, ◌++◌, map, get_or, length, None, Ok, ap, ◌∙◌, sym}
 use Rattle.std.proofs.lemmas.Nat.{mul-add-lt}
 use Rattle.covjson_value.specs.Domains.{count_of}
 use Rattle.covjson_ranges.specs.Ranges.{tree_number}
@@ -49,7 +49,7 @@ loop-number-preserved c =
     let values = c.args.values.now in
     let row = c.row_of-row.result in
     let first = c.tree_number-first.result in
-    let pushed : c.push_row.new.found.items ≡ c.loop-number.found.items ++ map (λ place. get_or values (in_row row first place) None) (below row.length) = search rules in
+    let pushed : c.push_row.new.found.items ≡ c.loop-number.found.items ++ map (λ place. get_or values (in_row row first place) None) (below row.length) = c.in_ok-push_row.ensures.ok in
     row_more d c.args.turned c.args.names.now values c.loop-number.found.items c.push_row.new.found.items row c.loop-number.number first
     c.row_of-row.ensures
     (c.tree_number-first.ensures.number ∙ ap (tree_number d c.args.turned c.args.names.now) c.places_of.ensures.places)

@@ -1,4 +1,4 @@
-use Rattle.std.proofs.Common.{rules, arith, ◌≡◌, ◌<◌, ◌++◌, [], ◌∷◌, length, get_or, inl}
+use Rattle.std.proofs.Common.{arith, ◌≡◌, ◌<◌, ◌++◌, [], ◌∷◌, length, get_or, inl, ap, ◌∙◌}
 use Rattle.std.proofs.lemmas.Result.{err_from_is_err_and}
 use Rattle.serde_json.specs.View.{items_view}
 use Rattle.covjson_checks.specs.Answers.{each}
@@ -13,7 +13,7 @@ returns-in_err-name c =
     let x = c.item-item.result in
     let p = err_from_is_err_and c.from_residual.result c.from_residual.ensures.1 in
     let inside : i < length xs = omega arith in
-    let is : x ≡ get_or xs i x = search rules in
+    let is : x ≡ get_or xs i x = c.item-item.is ∙ ap (λ ys. get_or ys i x) c.deref-item-items.ensures.value in
     rw (p.1, p.2) (inl (each_stops axis_named xs i x c.loop-item.names.items c.in_err-name.field-0.0 (each axis_named (items_view xs)) inside is c.in_err-name.ensures c.loop-item.invariant))
 
 pub loop-item-preserved : goal.loop-item-preserved
@@ -23,7 +23,7 @@ loop-item-preserved c =
     let x = c.item-item.result in
     let names = c.loop-item.names.items in
     let name = c.in_ok-name.name in
-    let pushed : c.push.new.self.items ≡ names ++ name ∷ [] = search rules in
+    let pushed : c.push.new.self.items ≡ names ++ name ∷ [] = c.in_ok-push.ensures.items in
     let inside : i < length xs = omega arith in
-    let is : x ≡ get_or xs i x = search rules in
+    let is : x ≡ get_or xs i x = c.item-item.is ∙ ap (λ ys. get_or ys i x) c.deref-item-items.ensures.value in
     each_more axis_named xs i x names c.push.new.self.items name (each axis_named (items_view xs)) inside is c.in_ok-name.ensures pushed c.loop-item.invariant

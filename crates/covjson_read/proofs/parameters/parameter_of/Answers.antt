@@ -1,4 +1,6 @@
-use Rattle.std.proofs.Common.{inl, inr}
+use Rattle.std.proofs.Common.{inl, inr, subst}
+use Rattle.edr_base.specs.Names.{IsName}
+use Rattle.covjson_read.proofs.RowAnswers.{same_ok}
 use Rattle.covjson_read.proofs.ResultLaws.{fault_answers, memory_alone, stops_here, stops_after}
 use Rattle.covjson_read.proofs.parameters.parameter_of.Goals as goal
 
@@ -31,3 +33,11 @@ pub returns-in_err-unit-2-clause-answer : goal.returns-in_err-unit-2-clause-answ
 returns-in_err-unit-2-clause-answer c =
     let fault = c.in_err-unit-2.field-0.0 in
     fault_answers (λ given. given) c.from_residual-in_err-unit-2.result fault _ c.from_residual-in_err-unit-2.ensures.1 (inr (memory_alone _ fault c.in_err-unit-2.ensures.value))
+
+pub returns-clause-valid : goal.returns-clause-valid
+returns-clause-valid c = λ named. record {
+  id = subst IsName (same_ok _ _ c.in_ok-id.ensures.value) named;
+  lang = c.in_ok-lang-2.ensures.utf8;
+  label = c.in_ok-label.ensures.utf8;
+  unit = c.in_ok-unit-2.ensures.utf8;
+}

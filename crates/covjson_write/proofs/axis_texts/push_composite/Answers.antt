@@ -13,7 +13,6 @@ returns c =
     let given = range_tuples_of c.args.domain.now in
     let there = told _ c.range_tuples.result given c.if-is_none.ensures c.range_tuples.ensures in
     record {
-      text = given_put (λ _. quoted (axis_key Composite)) given there.0 c.args.later (codes "\"axisNames\":[") c.args.text.now.items c.push_before.new.text.items c.extend_from_slice.new.self.items
-          there.1 c.in_ok-push_before.ensures c.in_ok-extend_from_slice.ensures.items;
-      later = some_stand given there.0 c.args.later there.1;
+      text = given_put c.push_item.result (λ _. quoted (axis_key Composite)) given there.0 c.args.later (codes "\"axisNames\":[") c.args.text.now.items c.push_item.new.text.items there.1 c.push_item.ensures.text;
+      later = some_stand c.push_item.result given there.0 c.args.later there.1 c.push_item.ensures.later;
     }

@@ -8,7 +8,6 @@ pub returns : goal.returns
 returns c =
     let given = range_tuples_of c.args.domain.now in
     record {
-      text = given_put length_text given c.in-Some.tuples.now c.args.later (codes ",\"shape\":[") c.args.text.now.items c.push_before.new.text.items c.push_number.new.text.items
-          c.in-Some.ensures c.in_ok-push_before.ensures c.in_ok-push_number.ensures;
-      later = some_stand given c.in-Some.tuples.now c.args.later c.in-Some.ensures;
+      text = given_put c.push_count.result length_text given c.in-Some.tuples.now c.args.later (codes ",\"shape\":[") c.args.text.now.items c.push_count.new.text.items c.in-Some.ensures c.push_count.ensures.text;
+      later = some_stand c.push_count.result given c.in-Some.tuples.now c.args.later c.in-Some.ensures c.push_count.ensures.later;
     }

@@ -1,5 +1,6 @@
 use Rattle.std.proofs.Common.{◌++◌, get_or, pos, codes, FitsSigned, w64, ap, ◌∙◌, rules}
 use Rattle.std.proofs.lemmas.Int.{to_z-of_z}
+use Rattle.std.proofs.lemmas.Result.{on_ok_weaker}
 use Rattle.serde_json.specs.Written.{compact_text}
 use Rattle.covjson_value.specs.Trees.{axis_value_data}
 use Rattle.covjson_write.proofs.HeadTextLemmas.{item_put, list_put}
@@ -13,4 +14,9 @@ loop-place-preserved c =
 
 pub returns : goal.returns
 returns c =
-    list_put (axis_value_data c.args.name) c.args.values.now c.loop-place.place c.args.text.now.items c.loop-place.text.items _ c.loop-place-test.false (c.loop-place.invariant) c.in_ok-push-2.ensures.items
+    on_ok_weaker c.push_bytes-2.result (list_put (axis_value_data c.args.name) c.args.values.now c.loop-place.place c.args.text.now.items c.loop-place.text.items _ c.loop-place-test.false c.loop-place.invariant) c.push_bytes-2.ensures
+
+pub push_axis_value-requires : goal.push_axis_value-requires
+push_axis_value-requires c =
+    let fits : FitsSigned w64 (get_or c.args.values.now c.loop-place.place (pos 0)) = search rules in
+    rw (to_z-of_z w64 (get_or c.args.values.now c.loop-place.place (pos 0)) fits) (c.requires c.loop-place.place (pos 0) c.loop-place-test.true)

@@ -1,6 +1,7 @@
 use Rattle.std.proofs.Common.{◌++◌, codes}
 use Rattle.serde_json.specs.Written.{compact_text}
 use Rattle.covjson_value.specs.Trees.{tuple_data}
+use Rattle.std.proofs.lemmas.Result.{on_ok_weaker}
 use Rattle.covjson_write.proofs.HeadTextLemmas.{item_put, list_put}
 use Rattle.covjson_write.proofs.domain_texts.push_tuples.Goals as goal
 
@@ -11,4 +12,7 @@ loop-place-preserved c =
 
 pub returns : goal.returns
 returns c =
-    list_put (tuple_data c.args.names.now) c.args.tuples.now c.loop-place.place c.args.text.now.items c.loop-place.text.items _ c.loop-place-test.false (c.loop-place.invariant) c.in_ok-push-2.ensures.items
+    on_ok_weaker c.push_bytes-2.result (list_put (tuple_data c.args.names.now) c.args.tuples.now c.loop-place.place c.args.text.now.items c.loop-place.text.items _ c.loop-place-test.false c.loop-place.invariant) c.push_bytes-2.ensures
+
+pub push_tuple-requires : goal.push_tuple-requires
+push_tuple-requires c = c.requires c.loop-place.place _ c.loop-place-test.true

@@ -1,5 +1,7 @@
-use Rattle.std.proofs.Common.{◌++◌, codes, ap, ◌∙◌}
+use Rattle.std.proofs.Common.{◌++◌, codes, sym, ap, subst, ◌∙◌}
+use Rattle.std.proofs.lemmas.Result.{on_ok_weaker}
 use Rattle.covjson_value.specs.declared.coverages.Parameter.{Parameter}
+use Rattle.covjson_value.specs.Coverages.{IsParameter}
 use Rattle.covjson_write.specs.HeadTexts.{keyed_parameter}
 use Rattle.covjson_write.proofs.HeadTextLemmas.{item_put, parameters_put}
 use Rattle.covjson_write.proofs.parameter_texts.push_parameters.Goals as goal
@@ -11,4 +13,7 @@ loop-place-preserved c =
 
 pub returns : goal.returns
 returns c =
-    parameters_put c.args.parameters.now c.loop-place.place c.args.text.now.items c.loop-place.text.items _ c.loop-place-test.false c.loop-place.invariant c.in_ok-push-2.ensures.items
+    on_ok_weaker c.push_bytes-2.result (parameters_put c.args.parameters.now c.loop-place.place c.args.text.now.items c.loop-place.text.items _ c.loop-place-test.false c.loop-place.invariant) c.push_bytes-2.ensures
+
+pub push_parameter-requires : goal.push_parameter-requires
+push_parameter-requires c = subst IsParameter (sym c.index-parameters-place.is) (c.requires c.loop-place.place _ c.loop-place-test.true)

@@ -1,0 +1,19 @@
+use Rattle.std.proofs.Common.{List, codes, subst, sym}
+use Rattle.serde_json.specs.Find.{get}
+use Rattle.serde_json.specs.View.{view}
+use Rattle.covjson_value.specs.declared.axis_names.AxisName.{AxisName}
+use Rattle.covjson_value.specs.Domains.{count_of}
+use Rattle.covjson_ranges.specs.Ranges.{AreRangeAxes}
+use Rattle.covjson_ranges.proofs.ShapeParts.{names_stand}
+use Rattle.covjson_ranges.proofs.RangeLemmas.{read_counted}
+use Rattle.covjson_ranges.proofs.ranges.range_read.Goals as goal
+
+pub in_order-requires-clause-axes : goal.in_order-requires-clause-axes
+in_order-requires-clause-axes c =
+    let domain = c.args.read.now.domain in
+    let named = names_stand domain (get (codes "axisNames") (view c.args.tree.now)) c.in_ok-names.names.items c.in_ok-names.ensures in
+    subst (λ (names : List AxisName). AreRangeAxes domain names) (sym c.deref-2.ensures.value) named.1
+
+pub in_order-requires-clause-counted : goal.in_order-requires-clause-counted
+in_order-requires-clause-counted c =
+    read_counted (view c.args.tree.now) c.wanted_count.result (count_of c.args.read.now.domain) c.in_ok-values.values.items c.in_ok-values.ensures c.wanted_count.ensures
