@@ -2,7 +2,7 @@
 use edr_base::{Items, Text};
 
 /// What the text of a coverage's ranges (OGC 21-069r2, NdArray objects) hangs on, beside their values.
-#[derive(Debug, Drop)]
+#[derive(Drop)]
 pub struct RangeHead {
     /// The ids of the parameters, as texts of JSON.
     pub keys: Items<Text>,

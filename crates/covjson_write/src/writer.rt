@@ -21,7 +21,7 @@ use std::marker::Model;
 /// in one place.
 ///
 /// A call that ends by a fault has written a beginning of its piece, and nothing more can be written after it.
-#[derive(Debug, Drop)]
+#[derive(Drop)]
 pub struct Writer {
     many: bool,
     begun: bool,
