@@ -5,7 +5,7 @@ ghost use Rattle.edr_feed.specs.Refusals.{refusal_of};
 use crate::faults::FeedFault;
 
 /// Why bytes are no feed, as a program tells it: the fault of the feed without the fault inside the line.
-#[derive(Clone, Copy)]
+#[derive(Clone, Copy, Debug, PartialEq, Eq)]
 pub enum FeedRefusal {
     /// The feed has more than `edr_base::FEED_LIMIT` bytes, and no line that ends within them is at fault.
     TooLong,
