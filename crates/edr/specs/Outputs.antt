@@ -7,7 +7,7 @@ use Rattle.edr_base.specs.declared.refusals.Refusal.{Refusal}
 use Rattle.edr_edition.specs.Values.{EditionValue}
 use Rattle.edr_edition.specs.Shelves.{EndsWith}
 use Rattle.edr_feed.specs.Feeds.{FeedStandsIn}
-use Rattle.edr_feed.specs.Made.{made}
+use Rattle.edr_make.specs.Made.{made}
 use Rattle.edr_feed.specs.Summaries.{summary_line}
 use Rattle.edr_feed.specs.declared.refusals.FeedRefusal.{FeedRefusal}
 use Rattle.edr_serve.specs.Answers.{IsAnswerTo}

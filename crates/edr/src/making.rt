@@ -1,13 +1,13 @@
 //! Makes feeds.
 ghost use Rattle.std.specs.Prelude.{◌≡◌, false};
 ghost use Rattle.edr_base.specs.Calls.{SinkLent};
-ghost use Rattle.edr_feed.specs.Made.{made};
+ghost use Rattle.edr_make.specs.Made.{made};
 ghost use Rattle.edr.specs.Ends.{OutputEnds};
 ghost use Rattle.edr.specs.Making.{MakeCause};
 
 use crate::endings::{Ending, settled};
 use edr_base::{SendFault, Sink};
-use edr_feed::make_feed;
+use edr_make::make_feed;
 use std::alloc::Global;
 
 /// Writes the feed that is made of a number.

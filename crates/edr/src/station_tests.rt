@@ -3,7 +3,8 @@
 use crate::tests::{Case, run_cut};
 use edr_base::{MemorySink, MemorySource};
 use edr_edition::SteppedShelf;
-use edr_feed::{make_feed, read_feed};
+use edr_feed::read_feed;
+use edr_make::make_feed;
 use edr_serve::serve_session;
 use std::test::Fail;
 

@@ -5,8 +5,8 @@
 //! parameters, each an id, and behind colons the language and the text of its label and its unit, where these aren't `en`,
 //! `A` and none. `values` has the values of each parameter, `-` for an absent one, with bars between parameters where they
 //! differ; `ranges` is how many have them, where not all have. A coverage may have an `id`, a `crs` and a `vertical`. In
-//! texts `?` stands for a byte that is no UTF-8, `_` for a blank and `^` for a line feed. A line that can't be read, and
-//! want of memory, give nothing.
+//! texts `?` stands for a byte that is no UTF-8, `_` for a blank and `^` for a line feed. What can't be read isn't there, and
+//! so is that for which memory is wanting; a domain that can't be without it gives nothing.
 use covjson_value::{Coverage, Document, Domain, NdArray, Parameter, Referencing};
 use edr_axes::Axis;
 use edr_base::{Items, Position, Text};
@@ -28,35 +28,21 @@ fn number(text: &str) -> Option<i64> {
     text.parse::<i64>().ok()
 }
 
-fn number_in(line: &str, name: &str) -> Option<Option<i64>> {
-    match word(line, name) {
-        Some(text) => Some(Some(number(text)?)),
-        None => Some(None),
-    }
+fn number_in(line: &str, name: &str) -> Option<i64> {
+    number(word(line, name)?)
 }
 
 // The number of a word, and 0 where a line hasn't it.
-fn number_or_zero(line: &str, name: &str) -> Option<i64> {
-    number(word(line, name).unwrap_or("0"))
-}
-
-fn axis_of(alloc: Global, text: &str) -> Option<Axis> {
-    let mut values = Vec::new(alloc);
-    for part in text.split(',') {
-        values.push(number(part)?).ok()?;
-    }
-    Axis::of(alloc, &values).ok()
-}
-
-fn axis_in(alloc: Global, line: &str, name: &str) -> Option<Option<Axis>> {
-    match word(line, name) {
-        Some(text) => Some(Some(axis_of(alloc, text)?)),
-        None => Some(None),
-    }
+fn number_or_zero(line: &str, name: &str) -> i64 {
+    number_in(line, name).unwrap_or(0)
 }
 
 fn axis(alloc: Global, line: &str, name: &str) -> Option<Axis> {
-    axis_of(alloc, word(line, name)?)
+    let mut values = Vec::new(alloc);
+    for part in word(line, name)?.split(',') {
+        values.push(number(part)?).ok()?;
+    }
+    Axis::of(alloc, &values).ok()
 }
 
 fn tuple(text: &str) -> Option<Position> {
@@ -71,66 +57,68 @@ fn tuple(text: &str) -> Option<Position> {
     })
 }
 
-fn tuples(alloc: Global, line: &str) -> Option<Items<Position>> {
+fn tuples(alloc: Global, line: &str) -> Items<Position> {
     let mut items = Vec::new(alloc);
-    if let Some(text) = word(line, "at") {
-        for part in text.split(',') {
-            items.push(tuple(part)?).ok()?;
+    for part in word(line, "at").unwrap_or("").split(',') {
+        if let Some(tuple) = tuple(part) {
+            let _ = items.push(tuple);
         }
     }
-    Some(Items::of(items))
+    Items::of(items)
 }
 
 fn grid(alloc: Global, line: &str) -> Option<Domain> {
+    let y = axis(alloc, line, "y")?;
+    let x = axis(alloc, line, "x")?;
     Some(Domain::Grid {
-        t: axis_in(alloc, line, "t")?,
-        z: axis_in(alloc, line, "z")?,
-        y: axis(alloc, line, "y")?,
-        x: axis(alloc, line, "x")?,
+        t: axis(alloc, line, "t"),
+        z: axis(alloc, line, "z"),
+        y,
+        x,
     })
 }
 
-fn point(line: &str) -> Option<Domain> {
-    Some(Domain::Point {
-        t: number_in(line, "t")?,
-        z: number_in(line, "z")?,
-        y: number_or_zero(line, "y")?,
-        x: number_or_zero(line, "x")?,
-    })
+fn point(line: &str) -> Domain {
+    Domain::Point {
+        t: number_in(line, "t"),
+        z: number_in(line, "z"),
+        y: number_or_zero(line, "y"),
+        x: number_or_zero(line, "x"),
+    }
 }
 
 fn point_series(alloc: Global, line: &str) -> Option<Domain> {
     Some(Domain::PointSeries {
         t: axis(alloc, line, "t")?,
-        z: number_in(line, "z")?,
-        y: number_or_zero(line, "y")?,
-        x: number_or_zero(line, "x")?,
+        z: number_in(line, "z"),
+        y: number_or_zero(line, "y"),
+        x: number_or_zero(line, "x"),
     })
 }
 
 fn vertical_profile(alloc: Global, line: &str) -> Option<Domain> {
     Some(Domain::VerticalProfile {
-        t: number_in(line, "t")?,
+        t: number_in(line, "t"),
         z: axis(alloc, line, "z")?,
-        y: number_or_zero(line, "y")?,
-        x: number_or_zero(line, "x")?,
+        y: number_or_zero(line, "y"),
+        x: number_or_zero(line, "x"),
     })
 }
 
-fn multi_point(alloc: Global, line: &str) -> Option<Domain> {
-    Some(Domain::MultiPoint {
-        t: number_in(line, "t")?,
+fn multi_point(alloc: Global, line: &str) -> Domain {
+    Domain::MultiPoint {
+        t: number_in(line, "t"),
         has_z: word(line, "own").is_some(),
-        spots: tuples(alloc, line)?,
-    })
+        spots: tuples(alloc, line),
+    }
 }
 
-fn trajectory(alloc: Global, line: &str) -> Option<Domain> {
-    Some(Domain::Trajectory {
-        z: number_in(line, "z")?,
+fn trajectory(alloc: Global, line: &str) -> Domain {
+    Domain::Trajectory {
+        z: number_in(line, "z"),
         has_z: word(line, "own").is_some(),
-        steps: tuples(alloc, line)?,
-    })
+        steps: tuples(alloc, line),
+    }
 }
 
 /// The domain of a line.
@@ -138,16 +126,16 @@ pub fn domain(alloc: Global, line: &str) -> Option<Domain> {
     let (kind, _) = line.split_once(' ').unwrap_or((line, ""));
     match kind {
         "Grid" => grid(alloc, line),
-        "Point" => point(line),
+        "Point" => Some(point(line)),
         "PointSeries" => point_series(alloc, line),
         "VerticalProfile" => vertical_profile(alloc, line),
-        "MultiPoint" => multi_point(alloc, line),
-        "Trajectory" => trajectory(alloc, line),
+        "MultiPoint" => Some(multi_point(alloc, line)),
+        "Trajectory" => Some(trajectory(alloc, line)),
         _ => None,
     }
 }
 
-fn text_of(alloc: Global, word: &str) -> Option<Text> {
+fn text_of(alloc: Global, word: &str) -> Text {
     let mut bytes = Vec::new(alloc);
     for byte in word.bytes() {
         let meant = match byte {
@@ -156,70 +144,56 @@ fn text_of(alloc: Global, word: &str) -> Option<Text> {
             b'^' => b'\n',
             other => other,
         };
-        bytes.push(meant).ok()?;
+        let _ = bytes.push(meant);
     }
-    Some(Text::from_vec(bytes))
+    Text::from_vec(bytes)
 }
 
-fn text_if(alloc: Global, word: Option<&str>) -> Option<Option<Text>> {
-    match word {
-        Some(text) => Some(Some(text_of(alloc, text)?)),
-        None => Some(None),
-    }
+fn text_if(alloc: Global, word: Option<&str>) -> Option<Text> {
+    Some(text_of(alloc, word?))
 }
 
-fn parameter(alloc: Global, word: &str) -> Option<Parameter> {
+fn parameter(alloc: Global, word: &str) -> Parameter {
     let mut parts = word.split(':');
-    Some(Parameter {
-        id: text_of(alloc, parts.next().unwrap_or(""))?,
-        lang: text_of(alloc, parts.next().unwrap_or("en"))?,
-        label: text_of(alloc, parts.next().unwrap_or("A"))?,
-        unit: text_if(alloc, parts.next())?,
-    })
+    Parameter {
+        id: text_of(alloc, parts.next().unwrap_or("")),
+        lang: text_of(alloc, parts.next().unwrap_or("en")),
+        label: text_of(alloc, parts.next().unwrap_or("A")),
+        unit: text_if(alloc, parts.next()),
+    }
 }
 
-fn parameters(alloc: Global, ids: &str) -> Option<Items<Parameter>> {
+fn parameters(alloc: Global, ids: &str) -> Items<Parameter> {
     let mut items = Vec::new(alloc);
     if !ids.is_empty() {
         for id in ids.split(',') {
-            items.push(parameter(alloc, id)?).ok()?;
+            let _ = items.push(parameter(alloc, id));
         }
     }
-    Some(Items::of(items))
+    Items::of(items)
 }
 
-fn range(alloc: Global, text: &str) -> Option<NdArray> {
+fn range(alloc: Global, text: &str) -> NdArray {
     let mut values = Vec::new(alloc);
     if !text.is_empty() {
         for part in text.split(',') {
-            let value = match part {
-                "-" => None,
-                _ => Some(number(part)?),
-            };
-            values.push(value).ok()?;
+            let _ = values.push(number(part));
         }
     }
-    Some(NdArray {
+    NdArray {
         values: Items::of(values),
-    })
+    }
 }
 
-fn ranges(alloc: Global, count: usize, text: &str) -> Option<Items<NdArray>> {
+fn ranges(alloc: Global, count: usize, text: &str) -> Items<NdArray> {
     let mut items = Vec::new(alloc);
     let mut parts = text.split('|');
     let mut part = parts.next().unwrap_or("");
     for _ in 0..count {
-        items.push(range(alloc, part)?).ok()?;
+        let _ = items.push(range(alloc, part));
         part = parts.next().unwrap_or(part);
     }
-    Some(Items::of(items))
-}
-
-fn referencing(alloc: Global, line: &str) -> Option<Referencing> {
-    Some(Referencing {
-        crs: text_of(alloc, word(line, "crs").unwrap_or(""))?,
-        vertical: text_if(alloc, word(line, "vertical"))?,
-    })
+    Items::of(items)
 }
 
 // How many parameters of a line have values.
@@ -230,26 +204,31 @@ fn count_of(line: &str, parameters: usize) -> usize {
     }
 }
 
-fn coverage(alloc: Global, line: &str, ids: &str) -> Option<Coverage> {
-    let parameters = parameters(alloc, word(line, "ids").unwrap_or(ids))?;
+/// The coverage of a line, with these ids of parameters where it has none.
+pub fn coverage(alloc: Global, line: &str, ids: &str) -> Option<Coverage> {
+    let domain = domain(alloc, line)?;
+    let parameters = parameters(alloc, word(line, "ids").unwrap_or(ids));
     let count = count_of(line, parameters.items().len());
     Some(Coverage {
+        id: text_if(alloc, word(line, "id")),
+        domain,
+        referencing: Referencing {
+            crs: text_of(alloc, word(line, "crs").unwrap_or("")),
+            vertical: text_if(alloc, word(line, "vertical")),
+        },
         parameters,
-        ranges: ranges(alloc, count, word(line, "values").unwrap_or(""))?,
-        referencing: referencing(alloc, line)?,
-        id: text_if(alloc, word(line, "id"))?,
-        domain: domain(alloc, line)?,
+        ranges: ranges(alloc, count, word(line, "values").unwrap_or("")),
     })
 }
 
-fn coverages(alloc: Global, lines: &str, ids: &str) -> Option<Items<Coverage>> {
+fn coverages(alloc: Global, lines: &str, ids: &str) -> Items<Coverage> {
     let mut items = Vec::new(alloc);
-    if !lines.is_empty() {
-        for line in lines.split(';') {
-            items.push(coverage(alloc, line, ids)?).ok()?;
+    for line in lines.split(';') {
+        if let Some(coverage) = coverage(alloc, line, ids) {
+            let _ = items.push(coverage);
         }
     }
-    Some(Items::of(items))
+    Items::of(items)
 }
 
 /// The document of a line, with these ids of parameters where a coverage has none.
@@ -257,7 +236,7 @@ pub fn document(alloc: Global, line: &str, ids: &str) -> Option<Document> {
     match line.strip_prefix('[') {
         Some(lines) => {
             let lines = lines.strip_suffix(']').unwrap_or(lines);
-            Some(Document::Many(coverages(alloc, lines, ids)?))
+            Some(Document::Many(coverages(alloc, lines, ids)))
         }
         None => Some(Document::One(coverage(alloc, line, ids)?)),
     }

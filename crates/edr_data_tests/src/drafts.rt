@@ -1,6 +1,6 @@
 //! A draft from its first change to its second edition. The faults of changes are tested by the lines of feeds.
-use crate::documents::document;
-use covjson_value::{Coverage, Document};
+use crate::documents::coverage;
+use crate::ids::is_shared_by_threads;
 use edr_base::OutOfMemory;
 use edr_chunk::Reads;
 use edr_draft::{Change, Draft, drafts_cross_threads};
@@ -12,17 +12,9 @@ use std::rt::HostRuntime;
 const GRID: &str =
     "Grid t=0,3600 y=0,100 x=0,100,200 crs=local values=10,11,12,13,-,15,20,21,22,23,24,25";
 
-// The bare grid whose parameter has the id and the label of these words.
-fn coverage(alloc: Global, parameter: &str) -> Option<Coverage> {
-    match document(alloc, GRID, parameter)? {
-        Document::One(coverage) => Some(coverage),
-        Document::Many(_) => None,
-    }
-}
-
-// Sets the bare grid of this parameter, and says whether it could.
+// Sets the bare grid whose parameter has the id and the label of these words, and says whether it could.
 fn is_set(alloc: Global, draft: &mut Draft, parameter: &str) -> bool {
-    match coverage(alloc, parameter) {
+    match coverage(alloc, GRID, parameter) {
         Some(coverage) => coverage.is_valid() && draft.apply(Change::Bare(coverage)).is_ok(),
         None => false,
     }
@@ -87,8 +79,6 @@ fn opened(alloc: Global, edition: &Edition) -> Result<Reads, OutOfMemory> {
 fn opens_its_first_tile(alloc: Global, edition: &Edition) -> Result<bool, OutOfMemory> {
     Ok(opened(alloc, edition)?.numbers() == [0u64].as_slice())
 }
-
-fn is_shared_by_threads<T: Send + Sync + Drop>(_: &T) {}
 
 fn drafts_are_shared_by_threads(draft: &Draft) {
     drafts_cross_threads();

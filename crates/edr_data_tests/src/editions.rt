@@ -1,6 +1,7 @@
 //! Shelves of editions.
 ghost use Rattle.std.specs.Prelude.{◌≡◌, []};
 
+use crate::ids::is_shared_by_threads;
 use edr_base::OutOfMemory;
 use edr_edition::{Edition, Editions, LocalShelf, SteppedShelf, editions_cross_threads};
 use edr_ids::ById;
@@ -14,40 +15,41 @@ fn empty(number: u64) -> Edition
     Edition::of(number, ById::empty())
 }
 
-fn is_shared_by_threads<T: Send + Sync + Drop>(_: &T) {}
-
 fn editions_are_shared_by_threads(edition: &Edition) {
     editions_cross_threads();
     is_shared_by_threads(edition);
 }
 
-// The numbers of the editions that a shelf answers, before and after it gets two more.
-fn local_numbers(alloc: Global) -> Result<[u64; 3], OutOfMemory> {
+// Whether a shelf answers the edition of this number.
+fn takes<E: Editions>(shelf: &mut E, number: u64) -> bool {
+    match shelf.take() {
+        Ok(edition) => edition.number() == number,
+        Err(_) => false,
+    }
+}
+
+// Whether a shelf answers its edition, and the newest one once it got two more.
+fn answers_the_newest(alloc: Global) -> Result<bool, OutOfMemory> {
     let mut shelf = LocalShelf::of(alloc, empty(1))?;
     let first = shelf.take()?.number();
     shelf.advance(alloc, empty(2))?;
     shelf.advance(alloc, empty(3))?;
-    Ok([first, shelf.take()?.number(), shelf.take()?.number()])
+    Ok(first == 1 && takes(&mut shelf, 3) && takes(&mut shelf, 3))
 }
 
-// The numbers of the editions that a shelf of two answers.
-fn stepped_numbers(alloc: Global) -> Result<[u64; 3], OutOfMemory> {
+// A shelf of the editions 1 and 2.
+fn steps(alloc: Global) -> Result<SteppedShelf, OutOfMemory> {
     let mut editions = Vec::new(alloc);
     editions.push(empty(1))?;
     editions.push(empty(2))?;
-    let mut shelf = SteppedShelf::of(alloc, editions)?;
-    Ok([
-        shelf.take()?.number(),
-        shelf.take()?.number(),
-        shelf.take()?.number(),
-    ])
+    SteppedShelf::of(alloc, editions)
 }
 
 #[test]
 fn editions_are_shared(rt: HostRuntime) -> Result<(), OutOfMemory> {
-    let alloc = rt.alloc();
-    assert!(rt; local_numbers(alloc)? == [1u64, 3, 3]);
-    assert!(rt; stepped_numbers(alloc)? == [1u64, 2, 2]);
+    assert!(rt; answers_the_newest(rt.alloc())?);
+    let mut stepped = steps(rt.alloc())?;
+    assert!(rt; takes(&mut stepped, 1) && takes(&mut stepped, 2) && takes(&mut stepped, 2));
     editions_are_shared_by_threads(&empty(1));
     Ok(())
 }

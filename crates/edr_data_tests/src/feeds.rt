@@ -1,64 +1,67 @@
 //! Feeds line by line, each as a case of a table.
 ghost use Rattle.std.specs.Prelude.{◌≤◌};
 
+use crate::cases::{Cases, are_right, is_shown};
 use crate::lines::{BYTES, FEEDS, LABELS, LINES, SUMMARIES};
 use edr_base::{MemorySink, MemorySource};
 use edr_draft::ChangeFault;
 use edr_edition::Edition;
-use edr_feed::{Feed, FeedFault, make_feed, read_feed, summary};
-use std::alloc::{AllocError, Global};
-use std::fmt::Debug;
+use edr_feed::{Feed, FeedFault, read_feed, summary};
+use edr_make::make_feed;
+use std::alloc::Global;
 use std::rt::HostRuntime;
 
-fn line_named(name: &str) -> Option<&'static str> {
+fn line_named(name: &str) -> &'static str {
     for line in LINES.lines() {
         if let Some((other, text)) = line.split_once(' ')
             && other == name
         {
-            return Some(text);
+            return text;
         }
     }
-    None
+    ""
 }
 
-// The line of a word.
-fn line_of(alloc: Global, word: &str) -> Option<String> {
-    let Some((place, grid)) = word.split_once('=') else {
-        return String::from_str(alloc, line_named(word)?).ok();
-    };
-    let coverage = line_named(grid)?;
-    if let Some((collection, id)) = place.split_once('@') {
-        return format!(in alloc;
-            "{{\"station\":{{\"collection\":\"{collection}\",\"id\":\"{id}\",\"label\":\"S\",\"coverage\":{coverage}}}}}"
-        ).ok();
+fn add_all(feed: &mut String, parts: &[&str]) {
+    for part in parts {
+        let _ = feed.push_str(part);
     }
-    let (collection, instance) = place.split_once('/').unwrap_or((place, "1"));
-    format!(in alloc;
-        "{{\"grid\":{{\"collection\":\"{collection}\",\"instance\":\"{instance}\",\"coverage\":{coverage}}}}}"
-    ).ok()
 }
 
-// The lines of words, each with a line feed, but for the last one.
-fn feed_of(alloc: Global, words: &str) -> Option<String> {
+// Adds the line of a grid or of a station: its place is a collection and an instance, or a collection and a station's id.
+fn add_coverage(feed: &mut String, place: &str, coverage: &str) {
+    match place.split_once('@') {
+        Some((collection, id)) => {
+            add_all(feed, &["{\"station\":{\"collection\":\"", collection, "\",\"id\":\"", id]);
+            add_all(feed, &["\",\"label\":\"S\",\"coverage\":", coverage, "}}"]);
+        }
+        None => {
+            let (collection, instance) = place.split_once('/').unwrap_or((place, "1"));
+            add_all(feed, &["{\"grid\":{\"collection\":\"", collection, "\",\"instance\":\"", instance]);
+            add_all(feed, &["\",\"coverage\":", coverage, "}}"]);
+        }
+    }
+}
+
+// Adds the line of a word.
+fn add_line(feed: &mut String, word: &str) {
+    match word.split_once('=') {
+        Some((place, coverage)) => add_coverage(feed, place, line_named(coverage)),
+        None => add_all(feed, &[line_named(word)]),
+    }
+}
+
+// The lines of words, each with a line feed, but for the last one; where memory is wanting they are broken.
+fn feed_of(alloc: Global, words: &str) -> String {
     let mut feed = String::new(alloc);
     for word in words.split(' ') {
-        if word.is_empty() {
-            continue;
+        if !word.is_empty() {
+            let between = if feed.is_empty() { "" } else { "\n" };
+            add_all(&mut feed, &[between]);
+            add_line(&mut feed, word);
         }
-        if !feed.is_empty() {
-            feed.push('\n').ok()?;
-        }
-        feed.push_str(line_of(alloc, word)?.as_str()).ok()?;
     }
-    Some(feed)
-}
-
-// Whether a value is shown so.
-fn is_shown<T: Debug>(alloc: Global, value: &T, answer: &str) -> bool {
-    match format!(in alloc; "{value:?}") {
-        Ok(shown) => shown.as_str() == answer,
-        Err(_) => false,
-    }
+    feed
 }
 
 // Whether a fault has this beside its refusal.
@@ -118,50 +121,54 @@ fn is_read(alloc: Global, source: &mut MemorySource, answer: &str) -> bool {
     }
 }
 
+// The bytes as a source that gives so many at once.
+fn source_of(alloc: Global, bytes: &[u8], cut: usize) -> MemorySource
+    requires { 1 ≤ cut }
+{
+    let mut copy = Vec::new(alloc);
+    let _ = copy.extend_from_slice(bytes);
+    MemorySource::of(copy, cut, Vec::new(alloc))
+}
+
 // Whether bytes are read so, given so many at once.
 fn are_read(alloc: Global, bytes: &[u8], cut: usize, answer: &str) -> bool
     requires { 1 ≤ cut }
 {
-    match Vec::from_slice(alloc, bytes) {
-        Ok(bytes) => {
-            let mut source = MemorySource::of(bytes, cut, Vec::new(alloc));
-            is_read(alloc, &mut source, answer)
-        }
-        Err(_) => false,
-    }
+    is_read(alloc, &mut source_of(alloc, bytes, cut), answer)
 }
 
-// Whether a feed is read so, all at once, and byte by byte with a line feed at its end.
-fn is_answered(alloc: Global, words: &str, answer: &str) -> bool {
-    match feed_of(alloc, words) {
-        Some(mut feed) => {
-            are_read(alloc, feed.as_bytes(), 1_000_000, answer)
-                && feed.push('\n').is_ok()
-                && are_read(alloc, feed.as_bytes(), 1, answer)
-        }
-        None => false,
-    }
+/// Whether a feed is read so, all at once, and byte by byte with a line feed at its end.
+pub fn is_answered(alloc: Global, words: &str, answer: &str) -> bool {
+    let mut feed = feed_of(alloc, words);
+    are_read(alloc, feed.as_bytes(), 1_000_000, answer)
+        && feed.push('\n').is_ok()
+        && are_read(alloc, feed.as_bytes(), 1, answer)
 }
 
-fn bytes_of(word: &str) -> Option<&'static [u8]> {
+fn bytes_of(word: &str) -> &'static [u8] {
     match word {
-        "return" => Some(b"\r"),
-        "feed" => Some(b"\n"),
-        "space" => Some(b" "),
-        "tab" => Some(b"\t"),
-        "null" => Some(b"\0"),
-        "other" => Some(b"\xff"),
-        "mark" => Some(b"\xef\xbb\xbf"),
-        _ => Some(line_named(word)?.as_bytes()),
+        "return" => b"\r",
+        "feed" => b"\n",
+        "space" => b" ",
+        "tab" => b"\t",
+        "null" => b"\0",
+        "other" => b"\xff",
+        "mark" => b"\xef\xbb\xbf",
+        _ => line_named(word).as_bytes(),
     }
 }
 
-// The feed of words.
-fn read_words(alloc: Global, words: &str) -> Option<Feed> {
-    let feed = feed_of(alloc, words)?;
-    let bytes = Vec::from_slice(alloc, feed.as_bytes()).ok()?;
-    let mut source = MemorySource::of(bytes, 1_000_000, Vec::new(alloc));
-    read_feed(alloc, &mut source).ok()
+/// Whether bytes are read so.
+pub fn are_answered(alloc: Global, words: &str, answer: &str) -> bool {
+    let mut feed = Vec::new(alloc);
+    for word in words.split(' ') {
+        let _ = feed.extend_from_slice(bytes_of(word));
+    }
+    are_read(alloc, &feed, 2, answer)
+}
+
+fn feed_in(alloc: Global, bytes: &[u8]) -> Option<Feed> {
+    read_feed(alloc, &mut source_of(alloc, bytes, 1_000_000)).ok()
 }
 
 // Whether that line, with a line feed, is the summary of a feed's last edition.
@@ -195,121 +202,62 @@ fn has_label(feed: &Feed, answer: &str) -> bool {
     }
 }
 
-fn is_summed(alloc: Global, words: &str, answer: &str) -> bool {
-    match read_words(alloc, words) {
+/// Whether that line is the summary of the last edition of a feed.
+pub fn is_summed(alloc: Global, words: &str, answer: &str) -> bool {
+    match feed_in(alloc, feed_of(alloc, words).as_bytes()) {
         Some(feed) => has_summary(alloc, &feed, answer),
         None => false,
     }
 }
 
-fn is_labelled(alloc: Global, words: &str, answer: &str) -> bool {
-    match read_words(alloc, words) {
+/// Whether that is the label of the first station of a feed.
+pub fn is_labelled(alloc: Global, words: &str, answer: &str) -> bool {
+    match feed_in(alloc, feed_of(alloc, words).as_bytes()) {
         Some(feed) => has_label(&feed, answer),
         None => false,
     }
 }
 
-// The bytes of words.
-fn all_bytes_of(alloc: Global, words: &str) -> Option<Vec<u8>> {
-    let mut feed = Vec::new(alloc);
-    for word in words.split(' ') {
-        feed.extend_from_slice(bytes_of(word)?).ok()?;
-    }
-    Some(feed)
-}
-
-fn are_answered(alloc: Global, words: &str, answer: &str) -> bool {
-    match all_bytes_of(alloc, words) {
-        Some(feed) => are_read(alloc, &feed, 2, answer),
-        None => false,
-    }
-}
-
-#[derive(Clone, Copy)]
-enum Table {
-    Feeds,
-    Bytes,
-    Summaries,
-    Labels,
-}
-
-// The first line of a table that isn't answered so; none is empty.
-fn first_wrong(alloc: Global, table: Table, lines: &str) -> &str {
-    for line in lines.lines() {
-        let (words, answer) = line.split_once("=> ").unwrap_or((line, ""));
-        let is_right = match table {
-            Table::Feeds => is_answered(alloc, words, answer),
-            Table::Bytes => are_answered(alloc, words.trim_end(), answer),
-            Table::Summaries => is_summed(alloc, words, answer),
-            Table::Labels => is_labelled(alloc, words, answer),
-        };
-        if !is_right {
-            return line;
-        }
-    }
-    ""
-}
-
-// Some bytes, and so many blanks behind them.
-fn with_blanks(alloc: Global, front: &[u8], blanks: usize) -> Result<Vec<u8>, AllocError> {
-    let mut line = Vec::from_slice(alloc, front)?;
-    line.resize(front.len().saturating_add(blanks), b' ')?;
-    Ok(line)
-}
-
+// Whether some bytes and so many blanks behind them are read so.
 fn is_long(alloc: Global, front: &[u8], blanks: usize, answer: &str) -> bool {
-    match with_blanks(alloc, front, blanks) {
-        Ok(line) => are_read(alloc, &line, 1_000_000, answer),
-        Err(_) => false,
-    }
+    let mut line = Vec::new(alloc);
+    line.extend_from_slice(front).is_ok()
+        && line.resize(front.len().saturating_add(blanks), b' ').is_ok()
+        && are_read(alloc, &line, 1_000_000, answer)
 }
 
-// So many lists in each other.
-fn lists(alloc: Global, depth: usize) -> Result<Vec<u8>, AllocError> {
+// Whether so many lists in each other are read so.
+fn is_nested(alloc: Global, depth: usize, answer: &str) -> bool {
     let mut line = Vec::new(alloc);
     for _ in 0..depth {
-        line.push(b'[')?;
+        let _ = line.push(b'[');
     }
     for _ in 0..depth {
-        line.push(b']')?;
+        let _ = line.push(b']');
     }
-    Ok(line)
+    are_read(alloc, &line, 100, answer)
 }
 
-fn is_nested(alloc: Global, depth: usize, answer: &str) -> bool {
-    match lists(alloc, depth) {
-        Ok(line) => are_read(alloc, &line, 100, answer),
-        Err(_) => false,
-    }
-}
-
-// A source of one line, in pieces, whose second call fails.
-fn failing_source(alloc: Global, name: &str) -> Option<MemorySource> {
-    let line = Vec::from_slice(alloc, line_named(name)?.as_bytes()).ok()?;
-    let fails = Vec::from_slice(alloc, &[2u64]).ok()?;
-    Some(MemorySource::of(line, 100, fails))
-}
-
+// Whether a source of one line, in pieces, whose second call fails is read so.
 fn is_failing(alloc: Global, name: &str, answer: &str) -> bool {
-    match failing_source(alloc, name) {
-        Some(mut source) => is_read(alloc, &mut source, answer),
-        None => false,
-    }
+    let mut line = Vec::new(alloc);
+    let _ = line.extend_from_slice(line_named(name).as_bytes());
+    let mut fails = Vec::new(alloc);
+    let _ = fails.push(2u64);
+    is_read(alloc, &mut MemorySource::of(line, 100, fails), answer)
 }
 
 #[test]
 fn feeds_are_read_and_refused(rt: HostRuntime) {
-    let alloc = rt.alloc();
-    assert_eq!(rt; first_wrong(alloc, Table::Feeds, FEEDS), "");
-    assert_eq!(rt; first_wrong(alloc, Table::Bytes, BYTES), "");
-    assert!(rt; is_failing(alloc, "G", "ReadFault"));
+    are_right(rt, Cases::Feeds, FEEDS);
+    are_right(rt, Cases::Bytes, BYTES);
+    assert!(rt; is_failing(rt.alloc(), "G", "ReadFault"));
 }
 
 #[test]
 fn editions_have_summaries(rt: HostRuntime) {
-    let alloc = rt.alloc();
-    assert_eq!(rt; first_wrong(alloc, Table::Summaries, SUMMARIES), "");
-    assert_eq!(rt; first_wrong(alloc, Table::Labels, LABELS), "");
+    are_right(rt, Cases::Summaries, SUMMARIES);
+    are_right(rt, Cases::Labels, LABELS);
 }
 
 // Whether the feed that is made of a number is read, and has that summary.
@@ -318,13 +266,9 @@ fn is_made(alloc: Global, number: u64, answer: &str) -> bool {
     if make_feed(alloc, number, &mut sink).is_err() {
         return false;
     }
-    let Ok(bytes) = Vec::from_slice(alloc, sink.written()) else {
-        return false;
-    };
-    let mut source = MemorySource::of(bytes, 100_000, Vec::new(alloc));
-    match read_feed(alloc, &mut source) {
-        Ok(feed) => has_summary(alloc, &feed, answer),
-        Err(_) => false,
+    match feed_in(alloc, sink.written()) {
+        Some(feed) => has_summary(alloc, &feed, answer),
+        None => false,
     }
 }
 

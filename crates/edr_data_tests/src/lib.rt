@@ -1,9 +1,13 @@
-//! Tests of the outside, of names and refusals, of digits and of texts; of documents, which are written, read, and written as
-//! tables; and of stations, of editions, of drafts of them, and of feeds.
+//! Tests of the outside, of names and refusals, of numbers and texts, of lists by id, of packed samples, of well-known text and
+//! of axes; of documents, which are written, read, and written as tables; and of editions, of drafts of them, and of feeds.
 #![tactic(auto)]
 
 #[cfg(test)]
-mod blocks;
+mod axes;
+#[cfg(test)]
+mod cases;
+#[cfg(test)]
+mod chunks;
 #[cfg(test)]
 mod documents;
 #[cfg(test)]
@@ -13,20 +17,22 @@ mod editions;
 #[cfg(test)]
 mod feeds;
 #[cfg(test)]
+mod geometries;
+#[cfg(test)]
+mod ids;
+#[cfg(test)]
 mod lines;
+#[cfg(test)]
+mod numbers;
 #[cfg(test)]
 mod outside;
 #[cfg(test)]
 mod reading;
-#[cfg(test)]
-mod stations;
 #[cfg(test)]
 mod tables;
 #[cfg(test)]
 mod texts;
 #[cfg(test)]
 mod validity;
-#[cfg(test)]
-mod words;
 #[cfg(test)]
 mod writing;

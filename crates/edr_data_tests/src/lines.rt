@@ -85,7 +85,7 @@ emptylabel {"station":{"collection":"b","id":"s","label":"","coverage":{"domain"
 
 /// The lines of a feed, and what it is read as. `a=G` sets the grid G as the instance 1 of the collection a, `a/2=G` as its 2,
 /// and `b@s=series` that series as the station s of the collection b.
-pub const FEEDS: &str = "=> NothingPublished
+pub const FEEDS: &str = " => NothingPublished
 G => 1: grid
 G publish blank => 2: grid
 G blank publish => 2: grid

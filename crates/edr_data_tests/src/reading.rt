@@ -1,6 +1,7 @@
 //! What texts are read as, and what broken ones are refused with: the first check that fails.
 ghost use Rattle.covjson_value.specs.Coverages.{IsValidDocument};
 
+use crate::cases::{Cases, are_right, is_shown};
 use covjson_checks::CovFault;
 use covjson_read::{coverage_of, read_document};
 use covjson_value::{Document, document_tree};
@@ -380,10 +381,7 @@ fn is_fault(alloc: Global, fault: &CovFault, answer: &str) -> bool {
         CovFault::UnsupportedDomain(text) => has_text(answer, "UnsupportedDomain", text),
         CovFault::UnsupportedSystem(text) => has_text(answer, "UnsupportedSystem", text),
         CovFault::UnsupportedRange(text) => has_text(answer, "UnsupportedRange", text),
-        _ => match format!(in alloc; "{fault:?}") {
-            Ok(shown) => shown.as_str() == answer,
-            Err(_) => false,
-        },
+        _ => is_shown(alloc, fault, answer),
     }
 }
 
@@ -426,8 +424,10 @@ fn is_answered(alloc: Global, words: &str, answer: &str) -> bool {
 // The written text of a document of the table, unless it is refused.
 fn rewritten(alloc: Global, words: &str) -> Option<String> {
     let text = text_of(alloc, words)?;
-    let document = read_document(alloc, text.as_bytes()).ok()?;
-    written(alloc, &document)
+    match read_document(alloc, text.as_bytes()) {
+        Ok(document) => written(alloc, &document),
+        Err(_) => None,
+    }
 }
 
 fn are_same(alloc: Global, words: &str, same: &str) -> bool {
@@ -437,24 +437,12 @@ fn are_same(alloc: Global, words: &str, same: &str) -> bool {
     }
 }
 
-fn is_right(alloc: Global, line: &str) -> bool {
-    if let Some((words, answer)) = line.split_once(" => ") {
-        return is_answered(alloc, words, answer);
-    }
-    match line.split_once(" == ") {
+/// Whether this is the answer to a document, or there is none and this is the document that it is read as.
+pub fn is_right(alloc: Global, words: &str, answer: &str) -> bool {
+    match words.split_once(" == ") {
         Some((words, same)) => are_same(alloc, words, same),
-        None => line.starts_with('#'),
+        None => is_answered(alloc, words, answer),
     }
-}
-
-// The first line that isn't right; none is empty.
-fn first_wrong(alloc: Global, lines: &str) -> &str {
-    for line in lines.lines() {
-        if !is_right(alloc, line) {
-            return line;
-        }
-    }
-    ""
 }
 
 // Whether a tree is no coverage.
@@ -474,7 +462,7 @@ fn is_refused(alloc: Global, text: &str, answer: &str) -> bool {
 
 #[test]
 fn documents_are_read_and_refused(rt: HostRuntime) {
-    assert_eq!(rt; first_wrong(rt.alloc(), TABLE), "");
-    assert_eq!(rt; first_wrong(rt.alloc(), WRITTEN), "");
+    are_right(rt, Cases::Readings, TABLE);
+    are_right(rt, Cases::Readings, WRITTEN);
     assert!(rt; is_refused(rt.alloc(), "[]", "WrongType(Coverages)"));
 }

@@ -1,4 +1,5 @@
 //! Tables of documents, written by hand.
+use crate::cases::{Cases, are_right};
 use crate::documents::document;
 use covjson_value::Document;
 use edr_base::{MemorySink, QuietSink, SendFault};
@@ -6,7 +7,7 @@ use edr_table::write_table;
 use std::alloc::Global;
 use std::rt::HostRuntime;
 
-// A document of a line, and the lines of its table with `_` for each tab and a bar between lines.
+// A document of a line, and the lines of its table with `_` for each tab and a bar between lines; `none` where it has none.
 const TABLES: &str = "# one value, without a level
 Point t=1704067200 y=0 x=0 ids=temp values=10 => temp_2024-01-01T00:00:00Z_-_0_0_10
 # neither time nor level, and a missing value
@@ -24,56 +25,55 @@ MultiPoint at=1/2/3/0 own=z ids=a,b values=5|6 => a_-_3_2_1_5|b_-_3_2_1_6
 Trajectory z=5 at=1/2/0/0,3/4/0/9 ids=a values=6,- => a_1970-01-01T00:00:00Z_5_2_1_6|a_1970-01-01T00:00:09Z_5_4_3_-
 Trajectory at=1/2/3/0,1/2/-3/9 own=z ids=a values=-,7 => a_1970-01-01T00:00:00Z_3_2_1_-|a_1970-01-01T00:00:09Z_-3_2_1_7
 # collections, in their order
-[] =>
+[] => none
 [Point y=2 x=1 ids=b values=8;Point y=4 x=3 ids=a values=9] => b_-_-_2_1_8|a_-_-_4_3_9
 ";
 
-// The bytes of a table whose lines are written in one.
-fn table(alloc: Global, lines: &str) -> Option<Vec<u8>> {
-    let mut bytes = Vec::new(alloc);
+// Whether a table has these lines, which are written in one.
+fn has_lines(table: &[u8], lines: &str) -> bool {
+    let mut rest = table;
     for byte in lines.bytes() {
         let meant = match byte {
             b'_' => b'\t',
             b'|' => b'\n',
             other => other,
         };
-        bytes.push(meant).ok()?;
+        match rest.split_first() {
+            Some((first, more)) if *first == meant => rest = more,
+            _ => return false,
+        }
     }
-    if !lines.is_empty() {
-        bytes.push(b'\n').ok()?;
-    }
-    Some(bytes)
+    rest == b"\n".as_slice()
 }
 
-fn is_written(alloc: Global, document: &Document, table: &[u8]) -> bool {
+fn is_written(alloc: Global, document: &Document, lines: &str) -> bool {
     if !document.is_valid() {
         return false;
     }
     let mut sink = QuietSink::of(alloc, 3);
-    write_table(alloc, document, &mut sink) == Ok(()) && sink.written() == table
+    let is_whole = write_table(alloc, document, &mut sink).is_ok();
+    let table = sink.written();
+    is_whole && (has_lines(table, lines) || lines == "none" && table.is_empty())
 }
 
-fn is_right(alloc: Global, line: &str) -> Option<bool> {
-    let (words, lines) = line.split_once(" =>")?;
-    let table = table(alloc, lines.trim_start())?;
-    Some(is_written(alloc, &document(alloc, words, "")?, &table))
+/// Whether a document is written as this table.
+pub fn is_right(alloc: Global, words: &str, lines: &str) -> bool {
+    match document(alloc, words, "") {
+        Some(document) => is_written(alloc, &document, lines),
+        None => false,
+    }
 }
 
 #[test]
 fn documents_are_written_as_tables(rt: HostRuntime) {
-    for line in TABLES.lines() {
-        if !line.starts_with('#') && is_right(rt.alloc(), line) != Some(true) {
-            assert_eq!(rt; line, "");
-        }
-    }
+    are_right(rt, Cases::Tables, TABLES);
 }
 
 // The numbers below a count, with commas between them.
 fn numbers(alloc: Global, count: u32) -> Option<String> {
-    let mut words = format!(in alloc; "0").ok()?;
+    let mut words = String::from_str(alloc, "0").ok()?;
     for number in 1..count {
-        let word = format!(in alloc; ",{number}").ok()?;
-        words.push_str(&word).ok()?;
+        words.push_str(&format!(in alloc; ",{number}").ok()?).ok()?;
     }
     Some(words)
 }
@@ -81,7 +81,10 @@ fn numbers(alloc: Global, count: u32) -> Option<String> {
 // A row of so many values, each its x.
 fn row(alloc: Global, count: u32) -> Option<Document> {
     let numbers = numbers(alloc, count)?;
-    let line = format!(in alloc; "Grid y=0 x={numbers} values={numbers}").ok()?;
+    let mut line = String::new(alloc);
+    for part in ["Grid y=0 x=", &numbers, " values=", &numbers] {
+        line.push_str(part).ok()?;
+    }
     document(alloc, &line, "temperature")
 }
 

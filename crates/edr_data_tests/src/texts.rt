@@ -1,4 +1,5 @@
 //! Numbers of digits, and copies of texts.
+use crate::cases::{Cases, are_right};
 use edr_base::{OutOfMemory, Text, are_digits, value_of_digits};
 use std::alloc::Global;
 use std::rt::HostRuntime;
@@ -22,8 +23,8 @@ const DIGITS: &str = "\
 : => no digits
 ";
 
-// Whether this is the answer to a text.
-fn is_answered(text: &[u8], answer: &str) -> bool {
+/// Whether this is the answer to a text.
+pub fn is_answered(text: &[u8], answer: &str) -> bool {
     if !are_digits(text) {
         return answer == "no digits";
     }
@@ -31,17 +32,6 @@ fn is_answered(text: &[u8], answer: &str) -> bool {
         Some(value) => answer.parse::<u64>() == Ok(value),
         None => answer == "too large",
     }
-}
-
-// The first line that isn't answered so; none is empty.
-fn first_wrong(lines: &str) -> &str {
-    for line in lines.lines() {
-        let (text, answer) = line.split_once(" => ").unwrap_or((line, ""));
-        if !is_answered(text.as_bytes(), answer) {
-            return line;
-        }
-    }
-    ""
 }
 
 // Whether the copy of a text that is given has these bytes.
@@ -54,7 +44,7 @@ fn copy_has(alloc: Global, text: &Option<Text>, bytes: &[u8]) -> Result<bool, Ou
 
 #[test]
 fn digits_write_numbers(rt: HostRuntime) {
-    assert_eq!(rt; first_wrong(DIGITS), "");
+    are_right(rt, Cases::Digits, DIGITS);
     assert!(rt; are_digits(b""));
 }
 

@@ -1,4 +1,5 @@
 //! Tables of what is valid, and of the axes of domains.
+use crate::cases::{Cases, are_right};
 use crate::documents::{document, domain};
 use covjson_value::{AxisName, CoordinateName, Domain, axis_key};
 use std::alloc::Global;
@@ -97,7 +98,8 @@ Trajectory z=5 at=1/2/0/3 => 1 tzyx - txy
 Trajectory at=1/2/3/4,1/2/3/4 own=z => 2 tzyx composite txyz
 ";
 
-fn is_judged(alloc: Global, words: &str, answer: &str) -> bool {
+/// Whether a document is judged so.
+pub fn is_judged(alloc: Global, words: &str, answer: &str) -> bool {
     match document(alloc, words, "") {
         Some(document) => document.is_valid() == (answer == "valid"),
         None => false,
@@ -122,49 +124,39 @@ fn are_within(domain: &Domain, letters: &str) -> bool {
     rest.is_empty() && domain.tuples().is_some() != letters.is_empty()
 }
 
-fn has_letters(domain: &Domain, had: &str, along: &str, within: &str) -> bool {
+// Whether a domain has the coordinates of a word, the axes of its ranges those of the second, and its tuples those of the third.
+fn has_letters(domain: &Domain, words: &str) -> bool {
+    let (had, words) = words.split_once(' ').unwrap_or((words, ""));
+    let (along, within) = words.split_once(' ').unwrap_or((words, ""));
     let is_composite = along == axis_key(AxisName::Composite);
-    let along = if is_composite { "" } else { along };
-    has_letter(domain, CoordinateName::T, had, along)
-        && has_letter(domain, CoordinateName::Z, had, along)
-        && has_letter(domain, CoordinateName::Y, had, along)
-        && has_letter(domain, CoordinateName::X, had, along)
-        && domain.range_tuples().is_some() == is_composite
-        && are_within(domain, if within == "-" { "" } else { within })
+    let along = if is_composite { "-" } else { along };
+    let mut whole = domain.range_tuples().is_some() == is_composite;
+    for name in [CoordinateName::T, CoordinateName::Z, CoordinateName::Y, CoordinateName::X] {
+        whole = has_letter(domain, name, had, along) && whole;
+    }
+    whole && are_within(domain, if within == "-" { "" } else { within })
 }
 
-fn is_domain(alloc: Global, words: &str, answer: &str) -> bool {
-    let Some(domain) = domain(alloc, words) else {
-        return false;
-    };
-    let (kind, _) = words.split_once(' ').unwrap_or((words, ""));
-    let mut parts = answer.split(' ');
-    let count = parts.next().unwrap_or("").parse::<usize>().ok();
-    let had = parts.next().unwrap_or("");
-    let along = parts.next().unwrap_or("");
+// Whether a domain has this type and this many values, and letters.
+fn is_described(domain: &Domain, kind: &str, count: &str, letters: &str) -> bool {
     kind == domain.type_name()
         && domain.is_grid() == (kind == "Grid")
-        && domain.count() == count
-        && has_letters(&domain, had, along, parts.next().unwrap_or(""))
+        && domain.count() == count.parse::<usize>().ok()
+        && has_letters(domain, letters)
 }
 
-// The first line that isn't right; none is empty. Lines with `valid` or `wrong` are documents, all others domains.
-fn first_wrong(alloc: Global, lines: &str) -> &str {
-    for line in lines.lines() {
-        let (words, answer) = line.split_once(" => ").unwrap_or((line, ""));
-        let is_right = match answer {
-            "valid" | "wrong" => is_judged(alloc, words, answer),
-            _ => line.starts_with('#') || is_domain(alloc, words, answer),
-        };
-        if !is_right {
-            return line;
-        }
+/// Whether a domain is described so.
+pub fn is_domain(alloc: Global, words: &str, answer: &str) -> bool {
+    let (kind, _) = words.split_once(' ').unwrap_or((words, ""));
+    let (count, letters) = answer.split_once(' ').unwrap_or((answer, ""));
+    match domain(alloc, words) {
+        Some(domain) => is_described(&domain, kind, count, letters),
+        None => false,
     }
-    ""
 }
 
 #[test]
 fn documents_are_valid_and_domains_have_axes(rt: HostRuntime) {
-    assert_eq!(rt; first_wrong(rt.alloc(), DOCUMENTS), "");
-    assert_eq!(rt; first_wrong(rt.alloc(), DOMAINS), "");
+    are_right(rt, Cases::Documents, DOCUMENTS);
+    are_right(rt, Cases::Domains, DOMAINS);
 }

@@ -1,4 +1,5 @@
 //! Texts of documents, written by hand (OGC 21-069r2).
+use crate::cases::{Cases, are_right};
 use crate::documents::document;
 use covjson_value::Document;
 use covjson_write::write_whole;
@@ -65,25 +66,15 @@ fn is_text(alloc: Global, document: &Document, wanted: &str) -> bool {
     }
 }
 
-fn is_written(alloc: Global, words: &str, wanted: &str) -> bool {
+/// Whether a document is written so.
+pub fn is_written(alloc: Global, words: &str, wanted: &str) -> bool {
     match document(alloc, words, "a") {
         Some(document) => is_text(alloc, &document, wanted),
         None => false,
     }
 }
 
-// The first line whose document isn't written so; none is empty.
-fn first_wrong(alloc: Global, lines: &str) -> &str {
-    for line in lines.lines() {
-        let (words, wanted) = line.split_once(" => ").unwrap_or((line, ""));
-        if !line.starts_with('#') && !is_written(alloc, words, wanted) {
-            return line;
-        }
-    }
-    ""
-}
-
 #[test]
 fn documents_are_written(rt: HostRuntime) {
-    assert_eq!(rt; first_wrong(rt.alloc(), DOCUMENTS), "");
+    are_right(rt, Cases::Texts, DOCUMENTS);
 }

@@ -12,6 +12,3 @@ pub mod FeedLaws
 pub mod SummaryLemmas
 pub mod ReadFaults
 pub mod FeedBounds
-pub mod MadeLists
-pub mod MadeHeads
-pub mod MadeTexts

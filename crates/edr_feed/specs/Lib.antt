@@ -4,8 +4,6 @@ pub mod Lines
 pub mod Steps
 pub mod Feeds
 pub mod Summaries
-pub mod Made
 pub mod Faults
 pub mod FormParts
 pub mod Readings
-pub mod MadeParts

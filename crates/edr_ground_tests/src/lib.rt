@@ -1,19 +1,15 @@
-//! Tests of the ground: numbers, lists of ids, chunks of grids, well-known text, axes, and what lines take.
+//! Tests of what stands on the ground: stations and their samples, what areas hold, and what lines take.
 #![tactic(auto)]
 
 #[cfg(test)]
-mod axes;
-#[cfg(test)]
-mod chunks;
+mod blocks;
 #[cfg(test)]
 mod corridors;
 #[cfg(test)]
-mod geometries;
-#[cfg(test)]
-mod ids;
-#[cfg(test)]
-mod numbers;
-#[cfg(test)]
 mod planes;
+#[cfg(test)]
+mod station_words;
+#[cfg(test)]
+mod stations;
 #[cfg(test)]
 mod words;

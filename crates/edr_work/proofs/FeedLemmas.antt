@@ -4,7 +4,7 @@ use Rattle.std.specs.Prelude.{Result, Ok, Err, IfSome}
 use Rattle.std.specs.declared.option.Option.{Option}
 use Rattle.edr_edition.specs.Values.{EditionValue}
 use Rattle.edr_feed.specs.Feeds.{FeedStands, FeedStandsIn}
-use Rattle.edr_feed.specs.Made.{made}
+use Rattle.edr_make.specs.Made.{made}
 use Rattle.edr_feed.specs.declared.refusals.FeedRefusal.{FeedRefusal}
 use Rattle.edr_edition.specs.Shelves.{EndsWith}
 use Rattle.edr_work.specs.declared.faults.WorkFault.{WorkFault}

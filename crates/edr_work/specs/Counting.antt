@@ -5,7 +5,7 @@ use Rattle.edr_edition.specs.Shelves.{IsLog}
 use Rattle.edr_edition.specs.Stores.{Subject, subject_of}
 use Rattle.edr_feed.specs.declared.feeds.Feed.{Feed}
 use Rattle.edr_feed.specs.Feeds.{FeedStands}
-use Rattle.edr_feed.specs.Made.{made}
+use Rattle.edr_make.specs.Made.{made}
 use Rattle.edr_query.specs.Values.{QueryValue}
 use Rattle.edr_query.specs.Targets.{IsTarget}
 use Rattle.edr_query.specs.declared.pages.Page.{Page}

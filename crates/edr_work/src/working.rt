@@ -1,7 +1,7 @@
 //! One large run.
 ghost use Rattle.std.specs.Prelude.{◌≡◌, ◌<◌, ◌++◌, length, IfOk};
 ghost use Rattle.edr_edition.specs.Shelves.{EndsWith};
-ghost use Rattle.edr_feed.specs.Made.{made};
+ghost use Rattle.edr_make.specs.Made.{made};
 ghost use Rattle.edr_work.specs.Working.{MatchWork};
 ghost use Rattle.edr_work.specs.Counting.{MatchMade, MatchLines};
 
@@ -9,7 +9,8 @@ use crate::faults::WorkFault;
 use crate::lines::line_of;
 use edr_base::{OutOfMemory, QuietSink, QuietSource, SendFault, Text};
 use edr_edition::Edition;
-use edr_feed::{Feed, FeedFault, make_feed, read_feed, summary};
+use edr_feed::{Feed, FeedFault, read_feed, summary};
+use edr_make::make_feed;
 use std::alloc::Global;
 
 const CUBE: &[u8] = b"/collections/grid/cube?bbox=0,0,103900,47900";

@@ -1,6 +1,6 @@
 use Rattle.std.proofs.Common.{◌∙◌, ℕ, List, false, refl}
 use Rattle.edr_base.specs.KnownBytes.{front_whole}
-use Rattle.edr_feed.specs.Made.{made}
+use Rattle.edr_make.specs.Made.{made}
 use Rattle.edr.proofs.EndLemmas.{settled_output}
 use Rattle.edr.proofs.making.make.Goals as goal
 

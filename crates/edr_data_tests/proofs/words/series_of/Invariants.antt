@@ -1,6 +1,0 @@
-use Rattle.std.specs.List.{All}
-use Rattle.edr_data_tests.proofs.words.series_of.Given as goal
-use Rattle.edr_base.specs.Limits.{AreSamples}
-
-abbrev pub invariant-loop-length : goal.invariant-loop-length
-invariant-loop-length l = All AreSamples l.series.items

@@ -1,0 +1,81 @@
+//! Tables of cases: a line for each, what is asked and the answer behind ` => `. Lines that begin with `#` say what follows.
+use crate::{axes, feeds, geometries, ids, numbers, reading, tables, texts, validity, writing};
+use std::alloc::Global;
+use std::fmt::Debug;
+use std::rt::HostRuntime;
+
+/// What the lines of a table ask.
+#[derive(Clone, Copy)]
+pub enum Cases {
+    /// Digits, and the number that they write.
+    Digits,
+    /// A whole number as text, and its value.
+    Wholes,
+    /// Words that are set, and an id that is taken out.
+    Ids,
+    /// Well-known text, and its written form or its fault.
+    Geometries,
+    /// What is asked of axes, and times, levels and distances as text.
+    Axes,
+    /// A document, and whether it is valid.
+    Documents,
+    /// A domain, and its axes.
+    Domains,
+    /// A document, and its text.
+    Texts,
+    /// A text, and the text of the document that it is read as, or its fault.
+    Readings,
+    /// A document, and the lines of its table.
+    Tables,
+    /// Lines of a feed, and what it is read as.
+    Feeds,
+    /// Bytes of a feed, and what it is read as.
+    Bytes,
+    /// Lines of a feed, and the summary of its last edition.
+    Summaries,
+    /// Lines of a feed, and the label of its first station.
+    Labels,
+}
+
+fn is_right(alloc: Global, cases: Cases, asked: &'static str, answer: &str) -> bool {
+    match cases {
+        Cases::Digits => texts::is_answered(asked.as_bytes(), answer),
+        Cases::Wholes => numbers::is_answered(asked, answer),
+        Cases::Ids => ids::is_answered(alloc, asked, answer),
+        Cases::Geometries => geometries::is_answered(alloc, asked.as_bytes(), answer),
+        Cases::Axes => axes::is_answered(alloc, asked, answer),
+        Cases::Documents => validity::is_judged(alloc, asked, answer),
+        Cases::Domains => validity::is_domain(alloc, asked, answer),
+        Cases::Texts => writing::is_written(alloc, asked, answer),
+        Cases::Readings => reading::is_right(alloc, asked, answer),
+        Cases::Tables => tables::is_right(alloc, asked, answer),
+        Cases::Feeds => feeds::is_answered(alloc, asked, answer),
+        Cases::Bytes => feeds::are_answered(alloc, asked, answer),
+        Cases::Summaries => feeds::is_summed(alloc, asked, answer),
+        Cases::Labels => feeds::is_labelled(alloc, asked, answer),
+    }
+}
+
+// The first line that isn't right; none is empty.
+fn first_wrong(alloc: Global, cases: Cases, lines: &'static str) -> &'static str {
+    for line in lines.lines() {
+        let (asked, answer) = line.split_once(" => ").unwrap_or((line, ""));
+        if !line.starts_with('#') && !is_right(alloc, cases, asked, answer) {
+            return line;
+        }
+    }
+    ""
+}
+
+/// Ends the test at the first line that isn't right.
+pub fn are_right(rt: HostRuntime, cases: Cases, lines: &'static str) {
+    assert_eq!(rt; first_wrong(rt.alloc(), cases, lines), "");
+}
+
+/// Whether a value is shown so.
+pub fn is_shown<T: Debug>(alloc: Global, value: &T, answer: &str) -> bool {
+    match format!(in alloc; "{value:?}") {
+        Ok(shown) => shown.as_str() == answer,
+        Err(_) => false,
+    }
+}

@@ -1,6 +1,0 @@
-use Rattle.std.proofs.Common.{◌≡◌}
-use Rattle.edr_feed.specs.Made.{spaced}
-use Rattle.edr_feed.proofs.made_heads.numbers.Given as goal
-
-abbrev pub invariant-loop-n : goal.invariant-loop-n
-invariant-loop-n l = l.numbers.items ≡ spaced l.first l.step l.n

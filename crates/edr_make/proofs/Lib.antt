@@ -1,0 +1,3 @@
+pub mod MadeLists
+pub mod MadeHeads
+pub mod MadeTexts
