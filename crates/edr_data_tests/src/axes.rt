@@ -41,7 +41,11 @@ fn is_place(alloc: Global, axis: &Axis, asked: &str, low: i64, high: i64, answer
 // Whether the axis 0, 100, 200 answers so to numbers in words, where the second one is the first if it isn't given.
 fn is_found(alloc: Global, asked: &str, numbers: &str, answer: &str) -> bool {
     let (low, high) = numbers.split_once('/').unwrap_or((numbers, numbers));
-    match (Axis::of(alloc, &[0, 100, 200]), low.parse::<i64>(), high.parse::<i64>()) {
+    match (
+        Axis::of(alloc, &[0, 100, 200]),
+        low.parse::<i64>(),
+        high.parse::<i64>(),
+    ) {
         (Ok(axis), Ok(low), Ok(high)) => is_place(alloc, &axis, asked, low, high, answer),
         _ => false,
     }
@@ -355,5 +359,5 @@ pub fn is_answered(alloc: Global, asked: &str, answer: &str) -> bool {
 
 #[test]
 fn places_times_levels_and_distances(rt: HostRuntime) {
-    are_right(rt, Cases::Axes, TABLE);
+    are_right(&rt, rt.alloc(), Cases::Axes, TABLE);
 }

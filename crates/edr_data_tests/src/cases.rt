@@ -2,7 +2,7 @@
 use crate::{axes, feeds, geometries, ids, numbers, reading, tables, texts, validity, writing};
 use std::alloc::Global;
 use std::fmt::Debug;
-use std::rt::HostRuntime;
+use std::process::Abort;
 
 /// What the lines of a table ask.
 #[derive(Clone, Copy)]
@@ -68,8 +68,8 @@ fn first_wrong(alloc: Global, cases: Cases, lines: &'static str) -> &'static str
 }
 
 /// Ends the test at the first line that isn't right.
-pub fn are_right(rt: HostRuntime, cases: Cases, lines: &'static str) {
-    assert_eq!(rt; first_wrong(rt.alloc(), cases, lines), "");
+pub fn are_right(rt: &impl Abort, alloc: Global, cases: Cases, lines: &'static str) {
+    assert_eq!(*rt; first_wrong(alloc, cases, lines), "");
 }
 
 /// Whether a value is shown so.

@@ -32,12 +32,28 @@ fn add_all(feed: &mut String, parts: &[&str]) {
 fn add_coverage(feed: &mut String, place: &str, coverage: &str) {
     match place.split_once('@') {
         Some((collection, id)) => {
-            add_all(feed, &["{\"station\":{\"collection\":\"", collection, "\",\"id\":\"", id]);
+            add_all(
+                feed,
+                &[
+                    "{\"station\":{\"collection\":\"",
+                    collection,
+                    "\",\"id\":\"",
+                    id,
+                ],
+            );
             add_all(feed, &["\",\"label\":\"S\",\"coverage\":", coverage, "}}"]);
         }
         None => {
             let (collection, instance) = place.split_once('/').unwrap_or((place, "1"));
-            add_all(feed, &["{\"grid\":{\"collection\":\"", collection, "\",\"instance\":\"", instance]);
+            add_all(
+                feed,
+                &[
+                    "{\"grid\":{\"collection\":\"",
+                    collection,
+                    "\",\"instance\":\"",
+                    instance,
+                ],
+            );
             add_all(feed, &["\",\"coverage\":", coverage, "}}"]);
         }
     }
@@ -222,7 +238,9 @@ pub fn is_labelled(alloc: Global, words: &str, answer: &str) -> bool {
 fn is_long(alloc: Global, front: &[u8], blanks: usize, answer: &str) -> bool {
     let mut line = Vec::new(alloc);
     line.extend_from_slice(front).is_ok()
-        && line.resize(front.len().saturating_add(blanks), b' ').is_ok()
+        && line
+            .resize(front.len().saturating_add(blanks), b' ')
+            .is_ok()
         && are_read(alloc, &line, 1_000_000, answer)
 }
 
@@ -249,15 +267,15 @@ fn is_failing(alloc: Global, name: &str, answer: &str) -> bool {
 
 #[test]
 fn feeds_are_read_and_refused(rt: HostRuntime) {
-    are_right(rt, Cases::Feeds, FEEDS);
-    are_right(rt, Cases::Bytes, BYTES);
+    are_right(&rt, rt.alloc(), Cases::Feeds, FEEDS);
+    are_right(&rt, rt.alloc(), Cases::Bytes, BYTES);
     assert!(rt; is_failing(rt.alloc(), "G", "ReadFault"));
 }
 
 #[test]
 fn editions_have_summaries(rt: HostRuntime) {
-    are_right(rt, Cases::Summaries, SUMMARIES);
-    are_right(rt, Cases::Labels, LABELS);
+    are_right(&rt, rt.alloc(), Cases::Summaries, SUMMARIES);
+    are_right(&rt, rt.alloc(), Cases::Labels, LABELS);
 }
 
 // Whether the feed that is made of a number is read, and has that summary.

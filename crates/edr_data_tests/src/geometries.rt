@@ -166,7 +166,7 @@ fn is_counted(alloc: Global, more: u32, end: &str, fault: &str) -> bool {
 #[test]
 fn answers(rt: HostRuntime) {
     let alloc = rt.alloc();
-    are_right(rt, Cases::Geometries, TABLE);
+    are_right(&rt, rt.alloc(), Cases::Geometries, TABLE);
     assert!(rt; is_answered(alloc, b"\r\n\tPoint\r\n(+5. -0)\n", "POINT(5 0)"));
     assert!(rt;
         is_answered(

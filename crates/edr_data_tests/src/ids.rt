@@ -130,6 +130,6 @@ fn stays(alloc: Global) -> Result<bool, OutOfMemory> {
 
 #[test]
 fn found_set_taken_out_and_shared(rt: HostRuntime) {
-    are_right(rt, Cases::Ids, TABLE);
+    are_right(&rt, rt.alloc(), Cases::Ids, TABLE);
     assert!(rt; stays(rt.alloc()) == Ok(true));
 }

@@ -52,7 +52,7 @@ pub fn is_answered(text: &str, answer: &str) -> bool {
 
 #[test]
 fn whole_numbers(rt: HostRuntime) {
-    are_right(rt, Cases::Wholes, TABLE);
+    are_right(&rt, rt.alloc(), Cases::Wholes, TABLE);
     assert!(rt; whole_number(b"-9223372036854775807", i64::MAX) == Whole::Value(-i64::MAX));
     assert!(rt; whole_number(b"0", 0) == Whole::Value(0));
 }

@@ -462,7 +462,7 @@ fn is_refused(alloc: Global, text: &str, answer: &str) -> bool {
 
 #[test]
 fn documents_are_read_and_refused(rt: HostRuntime) {
-    are_right(rt, Cases::Readings, TABLE);
-    are_right(rt, Cases::Readings, WRITTEN);
+    are_right(&rt, rt.alloc(), Cases::Readings, TABLE);
+    are_right(&rt, rt.alloc(), Cases::Readings, WRITTEN);
     assert!(rt; is_refused(rt.alloc(), "[]", "WrongType(Coverages)"));
 }

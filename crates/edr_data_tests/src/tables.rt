@@ -66,7 +66,7 @@ pub fn is_right(alloc: Global, words: &str, lines: &str) -> bool {
 
 #[test]
 fn documents_are_written_as_tables(rt: HostRuntime) {
-    are_right(rt, Cases::Tables, TABLES);
+    are_right(&rt, rt.alloc(), Cases::Tables, TABLES);
 }
 
 // The numbers below a count, with commas between them.

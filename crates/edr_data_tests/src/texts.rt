@@ -44,7 +44,7 @@ fn copy_has(alloc: Global, text: &Option<Text>, bytes: &[u8]) -> Result<bool, Ou
 
 #[test]
 fn digits_write_numbers(rt: HostRuntime) {
-    are_right(rt, Cases::Digits, DIGITS);
+    are_right(&rt, rt.alloc(), Cases::Digits, DIGITS);
     assert!(rt; are_digits(b""));
 }
 

@@ -131,7 +131,12 @@ fn has_letters(domain: &Domain, words: &str) -> bool {
     let is_composite = along == axis_key(AxisName::Composite);
     let along = if is_composite { "-" } else { along };
     let mut whole = domain.range_tuples().is_some() == is_composite;
-    for name in [CoordinateName::T, CoordinateName::Z, CoordinateName::Y, CoordinateName::X] {
+    for name in [
+        CoordinateName::T,
+        CoordinateName::Z,
+        CoordinateName::Y,
+        CoordinateName::X,
+    ] {
         whole = has_letter(domain, name, had, along) && whole;
     }
     whole && are_within(domain, if within == "-" { "" } else { within })
@@ -157,6 +162,6 @@ pub fn is_domain(alloc: Global, words: &str, answer: &str) -> bool {
 
 #[test]
 fn documents_are_valid_and_domains_have_axes(rt: HostRuntime) {
-    are_right(rt, Cases::Documents, DOCUMENTS);
-    are_right(rt, Cases::Domains, DOMAINS);
+    are_right(&rt, rt.alloc(), Cases::Documents, DOCUMENTS);
+    are_right(&rt, rt.alloc(), Cases::Domains, DOMAINS);
 }

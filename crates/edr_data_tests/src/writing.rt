@@ -76,5 +76,5 @@ pub fn is_written(alloc: Global, words: &str, wanted: &str) -> bool {
 
 #[test]
 fn documents_are_written(rt: HostRuntime) {
-    are_right(rt, Cases::Texts, DOCUMENTS);
+    are_right(&rt, rt.alloc(), Cases::Texts, DOCUMENTS);
 }
