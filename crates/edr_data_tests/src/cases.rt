@@ -15,6 +15,8 @@ pub enum Cases {
     Ids,
     /// Well-known text, and its written form or its fault.
     Geometries,
+    /// How many positions a line has, and whether it is read, or its fault.
+    Counts,
     /// What is asked of axes, and times, levels and distances as text.
     Axes,
     /// A document, and whether it is valid.
@@ -43,6 +45,7 @@ fn is_right(alloc: Global, cases: Cases, asked: &'static str, answer: &str) -> b
         Cases::Wholes => numbers::is_answered(asked, answer),
         Cases::Ids => ids::is_answered(alloc, asked, answer),
         Cases::Geometries => geometries::is_answered(alloc, asked.as_bytes(), answer),
+        Cases::Counts => geometries::is_counted(alloc, asked, answer),
         Cases::Axes => axes::is_answered(alloc, asked, answer),
         Cases::Documents => validity::is_judged(alloc, asked, answer),
         Cases::Domains => validity::is_domain(alloc, asked, answer),

@@ -236,10 +236,8 @@ fn is_packed(alloc: Global) -> Result<bool, OutOfMemory> {
 }
 
 #[test]
-fn lists_and_grids_come_back(rt: HostRuntime) -> Result<(), OutOfMemory> {
-    assert!(rt; is_numbered());
-    assert!(rt; all_come_back(rt.alloc(), LISTS)?);
-    assert!(rt; is_tiled(rt.alloc())?);
-    assert!(rt; is_packed(rt.alloc())?);
-    Ok(())
+fn lists_and_grids_come_back(rt: HostRuntime) {
+    let alloc = rt.alloc();
+    assert!(rt; is_numbered() && all_come_back(alloc, LISTS) == Ok(true));
+    assert!(rt; is_tiled(alloc) == Ok(true) && is_packed(alloc) == Ok(true));
 }

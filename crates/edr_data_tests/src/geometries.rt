@@ -1,7 +1,7 @@
 //! Rows of well-known text.
 use crate::cases::{Cases, are_right, is_shown};
 use edr_wkt::{Geometry, read_wkt, write_wkt};
-use std::alloc::{AllocError, Global};
+use std::alloc::Global;
 use std::rt::HostRuntime;
 
 // A line for each text: the text, and the answer to it, which is its written form or its fault.
@@ -142,49 +142,38 @@ pub fn is_answered(alloc: Global, text: &[u8], answer: &str) -> bool {
     }
 }
 
-// A line of two positions, so many more, and an end.
-fn line_of(alloc: Global, more: u32, end: &str) -> Result<Vec<u8>, AllocError> {
-    let mut text = Vec::from_slice(alloc, b"LINESTRING(1 2,3 4")?;
-    for _ in 0..more {
-        text.extend_from_slice(b", 3 4")?;
-    }
-    text.extend_from_slice(end.as_bytes())?;
-    Ok(text)
-}
+// How many positions a line has beyond two, and what stands behind them; and whether it is read, or its fault. 10,000 positions
+// are read, and no more.
+const COUNTS: &str = "\
+9998/) => read
+9999/) => TooManyPositions
+100000/) => TooManyPositions
+9998/,100000001 0) => TooManyPositions
+9998/ => NotWkt
+9999/ x) => NotWkt
+";
 
-// Whether a line of two positions, so many more, and an end is read, or has this fault.
-fn is_counted(alloc: Global, more: u32, end: &str, fault: &str) -> bool {
-    match line_of(alloc, more, end) {
-        Ok(text) => match read_wkt(alloc, &text) {
-            Ok(_) => fault == "none",
-            Err(given) => is_shown(alloc, &given, fault),
-        },
-        Err(_) => false,
+/// Whether a line of so many positions is read, or has this fault.
+pub fn is_counted(alloc: Global, asked: &str, answer: &str) -> bool {
+    let (more, end) = asked.split_once('/').unwrap_or((asked, ""));
+    let mut text = Vec::new(alloc);
+    let _ = text.extend_from_slice(b"LINESTRING(1 2,3 4");
+    for _ in 0..more.parse::<u32>().unwrap_or(0) {
+        let _ = text.extend_from_slice(b", 3 4");
+    }
+    let _ = text.extend_from_slice(end.as_bytes());
+    match read_wkt(alloc, &text) {
+        Ok(_) => answer == "read",
+        Err(fault) => is_shown(alloc, &fault, answer),
     }
 }
 
 #[test]
-fn answers(rt: HostRuntime) {
+fn texts_are_read_and_refused(rt: HostRuntime) {
     let alloc = rt.alloc();
-    are_right(&rt, rt.alloc(), Cases::Geometries, TABLE);
+    are_right(&rt, alloc, Cases::Geometries, TABLE);
+    are_right(&rt, alloc, Cases::Counts, COUNTS);
     assert!(rt; is_answered(alloc, b"\r\n\tPoint\r\n(+5. -0)\n", "POINT(5 0)"));
-    assert!(rt;
-        is_answered(
-            alloc,
-            b"LINESTRING(\n0\n0\n,\n1 \t 1\n)",
-            "LINESTRING(0 0,1 1)"
-        )
-    );
-}
-
-// 10,000 positions are read, and no more.
-#[test]
-fn counts(rt: HostRuntime) {
-    let alloc = rt.alloc();
-    assert!(rt; is_counted(alloc, 9998, ")", "none"));
-    assert!(rt; is_counted(alloc, 9999, ")", "TooManyPositions"));
-    assert!(rt; is_counted(alloc, 100_000, ")", "TooManyPositions"));
-    assert!(rt; is_counted(alloc, 9998, ",100000001 0)", "TooManyPositions"));
-    assert!(rt; is_counted(alloc, 9998, "", "NotWkt"));
-    assert!(rt; is_counted(alloc, 9999, " x)", "NotWkt"));
+    let line = b"LINESTRING(\n0\n0\n,\n1 \t 1\n)";
+    assert!(rt; is_answered(alloc, line, "LINESTRING(0 0,1 1)"));
 }

@@ -1,5 +1,5 @@
 //! Each object of the outside on a few bytes, with the calls that fail; then names and refusals.
-ghost use Rattle.std.specs.Prelude.{◌≡◌, ◌≢◌, IfOk, IsErrOf, IsUtf8, Err};
+ghost use Rattle.std.specs.Prelude.{◌≡◌, ◌≢◌, IsErrOf, IsUtf8, Err};
 ghost use Rattle.edr_base.specs.Outside.{Rose};
 ghost use Rattle.edr_base.specs.Calls.{SinkLent, Writes};
 
@@ -8,22 +8,19 @@ use edr_base::{
     QuietSource, ReadStop, RealFiles, RealSink, RealSource, Refusal, SendFault, Sink, Source, Stop,
     Text, is_blank, is_name, is_utf8, is_utf8_where_given, read_all, send, settle,
 };
-use std::alloc::{AllocError, Global};
+use std::alloc::Global;
 use std::io::{self, ErrorKind, Read, Write};
-use std::test::Fail;
+use std::rt::HostRuntime;
 
 // What is done with an object is written as words, one a call, each with its answer behind `=`: `read=ab` is a read into
 // four bytes that gives two of them, `write:abc=ab` a write that takes two bytes of three, `flush=`, `open:name=` and
 // `connect:host=` calls that give nothing. The answer `!` is a fault, `?` want of memory.
 
-fn bytes_of(alloc: Global, bytes: &[u8]) -> Result<Vec<u8>, AllocError>
-    ensures { IfOk result (λ v. v.items ≡ bytes.now) }
-{
-    Vec::from_slice(alloc, bytes)
-}
-
-fn numbers_of(alloc: Global, numbers: &[u64]) -> Result<Vec<u64>, AllocError> {
-    Vec::from_slice(alloc, numbers)
+// A list of some items, and of none where memory is wanting.
+fn list_of<T: Copy + Drop>(alloc: Global, items: &[T]) -> Vec<T> {
+    let mut list = Vec::new(alloc);
+    let _ = list.extend_from_slice(items);
+    list
 }
 
 // The bytes of a text, which are UTF-8.
@@ -117,22 +114,20 @@ fn is_kept(text: &Text, items: &Items<u64>) -> bool {
 }
 
 #[test]
-fn texts_and_items_keep_their_lists(rt: HostRuntime) -> Result<(), Fail> {
-    let text = Text::of(rt.alloc(), b"grid")?;
-    let items = Items::of(numbers_of(rt.alloc(), &[3, 1, 2])?);
+fn texts_and_items_keep_their_lists(rt: HostRuntime) {
+    let text = Text::from_vec(list_of(rt.alloc(), b"grid"));
+    let items = Items::of(list_of(rt.alloc(), &[3, 1, 2]));
     assert!(rt; is_kept(&text, &items) && items.into_vec().as_slice() == [3, 1, 2].as_slice());
-    Ok(())
 }
 
 // Bytes come in pieces of the cut; of the first source the second call fails.
 #[test]
-fn sources_give_cut_pieces(rt: HostRuntime) -> Result<(), Fail> {
-    let letters = bytes_of(rt.alloc(), b"abcde")?;
-    let mut source = MemorySource::of(letters, 2, numbers_of(rt.alloc(), &[2])?);
+fn sources_give_cut_pieces(rt: HostRuntime) {
+    let letters = list_of(rt.alloc(), b"abcde");
+    let mut source = MemorySource::of(letters, 2, list_of(rt.alloc(), &[2]));
     assert!(rt; are_read(&mut source, "read=ab read=! read=cd read=e read="));
-    let mut source = QuietSource::of(bytes_of(rt.alloc(), b"abcdefg")?, 5);
+    let mut source = QuietSource::of(list_of(rt.alloc(), b"abcdefg"), 5);
     assert!(rt; are_read(&mut source, "read=abcd read=efg read="));
-    Ok(())
 }
 
 // Whether this is what is read of a source up to a limit; `>` stands where more came, `!` where a read failed.
@@ -146,26 +141,19 @@ fn is_read_whole(alloc: Global, source: &mut MemorySource, limit: u16, answer: &
 }
 
 // Reads ten digits, three a read, up to a limit, and then what is left of them.
-fn are_digits_read(
-    alloc: Global,
-    limit: u16,
-    fails: &[u64],
-    answer: &str,
-    left: &str,
-) -> Result<bool, AllocError> {
-    let digits = bytes_of(alloc, b"0123456789")?;
-    let mut source = MemorySource::of(digits, 3, numbers_of(alloc, fails)?);
-    Ok(is_read_whole(alloc, &mut source, limit, answer) && are_read(&mut source, left))
+fn are_digits_read(alloc: Global, limit: u16, fails: &[u64], answer: &str, left: &str) -> bool {
+    let digits = list_of(alloc, b"0123456789");
+    let mut source = MemorySource::of(digits, 3, list_of(alloc, fails));
+    is_read_whole(alloc, &mut source, limit, answer) && are_read(&mut source, left)
 }
 
 // Of the last source the second call fails: that is answered, and nothing is read behind it.
 #[test]
-fn a_source_is_read_up_to_the_limit(rt: HostRuntime) -> Result<(), Fail> {
+fn a_source_is_read_up_to_the_limit(rt: HostRuntime) {
     let alloc = rt.alloc();
-    assert!(rt; are_digits_read(alloc, 10, &[], "0123456789", "read=")?);
-    assert!(rt; are_digits_read(alloc, 9, &[], ">", "read=")?);
-    assert!(rt; are_digits_read(alloc, 10, &[2], "!", "read=345 read=678 read=9 read=")?);
-    Ok(())
+    assert!(rt; are_digits_read(alloc, 10, &[], "0123456789", "read="));
+    assert!(rt; are_digits_read(alloc, 9, &[], ">", "read="));
+    assert!(rt; are_digits_read(alloc, 10, &[2], "!", "read=345 read=678 read=9 read="));
 }
 
 // A piece is sent whole, however it is cut; a fault leaves a beginning.
@@ -179,37 +167,31 @@ fn takes_cut_pieces(sink: &mut MemorySink) -> bool {
 }
 
 #[test]
-fn a_sink_takes_cut_pieces_and_fails_by_number(rt: HostRuntime) -> Result<(), Fail> {
-    let mut sink = MemorySink::of(rt.alloc(), 3, numbers_of(rt.alloc(), &[2, 4, 8])?);
+fn a_sink_takes_cut_pieces_and_fails_by_number(rt: HostRuntime) {
+    let mut sink = MemorySink::of(rt.alloc(), 3, list_of(rt.alloc(), &[2, 4, 8]));
     assert!(rt; takes_cut_pieces(&mut sink));
-    Ok(())
 }
 
-// A file of a name and a content, with a blank between.
-fn file_of(alloc: Global, line: &str) -> Result<(Vec<u8>, Vec<u8>), AllocError> {
-    let (name, content) = line.split_once(' ').unwrap_or((line, ""));
-    let name = bytes_of(alloc, name.as_bytes())?;
-    Ok((name, bytes_of(alloc, content.as_bytes())?))
-}
-
-fn files_of(alloc: Global, lines: &str) -> Result<MemoryFiles, AllocError> {
+// Files of a name and a content each, with a blank between.
+fn files_of(alloc: Global, lines: &str) -> MemoryFiles {
     let mut files = Vec::new(alloc);
     for line in lines.lines() {
-        files.push(file_of(alloc, line)?)?;
+        let (name, content) = line.split_once(' ').unwrap_or((line, ""));
+        let name = list_of(alloc, name.as_bytes());
+        let _ = files.push((name, list_of(alloc, content.as_bytes())));
     }
-    Ok(MemoryFiles::of(alloc, files, 100, Vec::new(alloc)))
+    MemoryFiles::of(alloc, files, 100, Vec::new(alloc))
 }
 
 #[test]
-fn files_are_opened_by_name(rt: HostRuntime) -> Result<(), Fail> {
-    let mut files = files_of(rt.alloc(), "a first\nb second\na never")?;
+fn files_are_opened_by_name(rt: HostRuntime) {
+    let mut files = files_of(rt.alloc(), "a first\nb second\na never");
     assert!(rt;
         are_opened(
             &mut files,
             "read= open:b= read=seco read=nd open:a= read=firs open:a= read=firs read=t open:c=! read="
         )
     );
-    Ok(())
 }
 
 fn is_connected(link: &mut MemoryLink) -> bool {
@@ -221,11 +203,10 @@ fn is_connected(link: &mut MemoryLink) -> bool {
 }
 
 #[test]
-fn a_link_gives_and_takes_once_connected(rt: HostRuntime) -> Result<(), Fail> {
-    let pong = bytes_of(rt.alloc(), b"pong")?;
-    let mut link = MemoryLink::of(rt.alloc(), pong, 100, numbers_of(rt.alloc(), &[4])?);
+fn a_link_gives_and_takes_once_connected(rt: HostRuntime) {
+    let pong = list_of(rt.alloc(), b"pong");
+    let mut link = MemoryLink::of(rt.alloc(), pong, 100, list_of(rt.alloc(), &[4]));
     assert!(rt; is_connected(&mut link));
-    Ok(())
 }
 
 fn takes_bytes(bytes: &mut Vec<u8>) -> bool {
@@ -335,10 +316,9 @@ fn takes_lent(sink: &mut MemorySink) -> bool {
 }
 
 #[test]
-fn a_lent_sink_takes_what_its_sink_takes(rt: HostRuntime) -> Result<(), Fail> {
-    let mut sink = MemorySink::of(rt.alloc(), 2, numbers_of(rt.alloc(), &[3])?);
+fn a_lent_sink_takes_what_its_sink_takes(rt: HostRuntime) {
+    let mut sink = MemorySink::of(rt.alloc(), 2, list_of(rt.alloc(), &[3]));
     assert!(rt; takes_lent(&mut sink));
-    Ok(())
 }
 
 // A sink that never fails: only memory can be wanting.
@@ -374,18 +354,27 @@ fn are_names(texts: &str, wanted: bool) -> bool {
     whole
 }
 
+// Whether a byte of two alone is no name, and one that begins no character no text.
+fn are_no_texts() -> bool {
+    !is_name(b"\xc3") && !is_name(b"\xa9") && is_utf8(b"") && !is_utf8(b"\xff")
+}
+
+// Whether some bytes are all blanks.
+fn are_blanks(bytes: &[u8]) -> bool {
+    let mut whole = true;
+    for byte in bytes {
+        whole = is_blank(*byte) && whole;
+    }
+    whole
+}
+
 #[test]
-fn names_have_no_comma_and_no_control_byte(rt: HostRuntime) -> Result<(), Fail> {
-    assert!(rt; are_names("air;Luft-2 m;a b;é", true));
-    assert!(rt; are_names(";a,b;a\tb;a\x7f", false));
-    assert!(rt; is_name(&[b'a'; 128]) && !is_name(&[b'a'; 129]));
-    assert!(rt; !is_name(b"\xc3") && !is_name(b"\xa9") && is_utf8(b"") && !is_utf8(b"\xff"));
-    assert!(rt;
-        is_blank(b' ') && is_blank(b'\t') && is_blank(b'\n') && is_blank(b'\r') && !is_blank(11)
-    );
-    let wrong = Some(Text::of(rt.alloc(), b"\xff")?);
+fn names_have_no_comma_and_no_control_byte(rt: HostRuntime) {
+    assert!(rt; are_names("air;Luft-2 m;a b;é", true) && are_names(";a,b;a\tb;a\x7f", false));
+    assert!(rt; is_name(&[b'a'; 128]) && !is_name(&[b'a'; 129]) && are_no_texts());
+    assert!(rt; are_blanks(b" \t\n\r") && !is_blank(11));
+    let wrong = Some(Text::from_vec(list_of(rt.alloc(), b"\xff")));
     assert!(rt; is_utf8_where_given(&None) && !is_utf8_where_given(&wrong));
-    Ok(())
 }
 
 #[test]

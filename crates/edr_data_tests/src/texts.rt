@@ -1,6 +1,6 @@
 //! Numbers of digits, and copies of texts.
 use crate::cases::{Cases, are_right};
-use edr_base::{OutOfMemory, Text, are_digits, value_of_digits};
+use edr_base::{Text, are_digits, value_of_digits};
 use std::alloc::Global;
 use std::rt::HostRuntime;
 
@@ -35,10 +35,10 @@ pub fn is_answered(text: &[u8], answer: &str) -> bool {
 }
 
 // Whether the copy of a text that is given has these bytes.
-fn copy_has(alloc: Global, text: &Option<Text>, bytes: &[u8]) -> Result<bool, OutOfMemory> {
-    match Text::copied(alloc, text)? {
-        Some(copy) => Ok(copy.bytes() == bytes),
-        None => Ok(false),
+fn copy_has(alloc: Global, text: &Option<Text>, bytes: &[u8]) -> bool {
+    match Text::copied(alloc, text) {
+        Ok(Some(copy)) => copy.bytes() == bytes,
+        _ => false,
     }
 }
 
@@ -49,11 +49,9 @@ fn digits_write_numbers(rt: HostRuntime) {
 }
 
 #[test]
-fn texts_are_copied(rt: HostRuntime) -> Result<(), OutOfMemory> {
+fn texts_are_copied(rt: HostRuntime) {
     let alloc = rt.alloc();
-    let text = Some(Text::of(alloc, b"a text")?);
-    assert!(rt; copy_has(alloc, &text, b"a text")?);
-    assert!(rt; !copy_has(alloc, &text, b"a tex")?);
-    assert!(rt; !copy_has(alloc, &None, b"")?);
-    Ok(())
+    let text = Text::of(alloc, b"a text").ok();
+    assert!(rt; copy_has(alloc, &text, b"a text") && !copy_has(alloc, &text, b"a tex"));
+    assert!(rt; !copy_has(alloc, &None, b""));
 }

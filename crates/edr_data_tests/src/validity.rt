@@ -142,8 +142,9 @@ fn has_letters(domain: &Domain, words: &str) -> bool {
     whole && are_within(domain, if within == "-" { "" } else { within })
 }
 
-// Whether a domain has this type and this many values, and letters.
-fn is_described(domain: &Domain, kind: &str, count: &str, letters: &str) -> bool {
+// Whether a domain has this type, and this many values and letters.
+fn is_described(domain: &Domain, kind: &str, answer: &str) -> bool {
+    let (count, letters) = answer.split_once(' ').unwrap_or((answer, ""));
     kind == domain.type_name()
         && domain.is_grid() == (kind == "Grid")
         && domain.count() == count.parse::<usize>().ok()
@@ -153,9 +154,8 @@ fn is_described(domain: &Domain, kind: &str, count: &str, letters: &str) -> bool
 /// Whether a domain is described so.
 pub fn is_domain(alloc: Global, words: &str, answer: &str) -> bool {
     let (kind, _) = words.split_once(' ').unwrap_or((words, ""));
-    let (count, letters) = answer.split_once(' ').unwrap_or((answer, ""));
     match domain(alloc, words) {
-        Some(domain) => is_described(&domain, kind, count, letters),
+        Some(domain) => is_described(&domain, kind, answer),
         None => false,
     }
 }
