@@ -39,21 +39,22 @@ pub enum Cases {
     Labels,
 }
 
-fn is_right(alloc: Global, cases: Cases, asked: &'static str, answer: &str) -> bool {
+// Whether this is the answer; none where there is nothing of which it is asked.
+fn is_right(alloc: Global, cases: Cases, asked: &'static str, answer: &str) -> Option<bool> {
     match cases {
-        Cases::Digits => texts::is_answered(asked.as_bytes(), answer),
-        Cases::Wholes => numbers::is_answered(asked, answer),
-        Cases::Ids => ids::is_answered(alloc, asked, answer),
-        Cases::Geometries => geometries::is_answered(alloc, asked.as_bytes(), answer),
-        Cases::Counts => geometries::is_counted(alloc, asked, answer),
-        Cases::Axes => axes::is_answered(alloc, asked, answer),
+        Cases::Digits => Some(texts::is_answered(asked.as_bytes(), answer)),
+        Cases::Wholes => Some(numbers::is_answered(asked, answer)),
+        Cases::Ids => Some(ids::is_answered(alloc, asked, answer)),
+        Cases::Geometries => Some(geometries::is_answered(alloc, asked.as_bytes(), answer)),
+        Cases::Counts => Some(geometries::is_counted(alloc, asked, answer)),
+        Cases::Axes => Some(axes::is_answered(alloc, asked, answer)),
         Cases::Documents => validity::is_judged(alloc, asked, answer),
         Cases::Domains => validity::is_domain(alloc, asked, answer),
         Cases::Texts => writing::is_written(alloc, asked, answer),
-        Cases::Readings => reading::is_right(alloc, asked, answer),
+        Cases::Readings => Some(reading::is_right(alloc, asked, answer)),
         Cases::Tables => tables::is_right(alloc, asked, answer),
-        Cases::Feeds => feeds::is_answered(alloc, asked, answer),
-        Cases::Bytes => feeds::are_answered(alloc, asked, answer),
+        Cases::Feeds => Some(feeds::is_answered(alloc, asked, answer)),
+        Cases::Bytes => Some(feeds::are_answered(alloc, asked, answer)),
         Cases::Summaries => feeds::is_summed(alloc, asked, answer),
         Cases::Labels => feeds::is_labelled(alloc, asked, answer),
     }
@@ -63,7 +64,7 @@ fn is_right(alloc: Global, cases: Cases, asked: &'static str, answer: &str) -> b
 fn first_wrong(alloc: Global, cases: Cases, lines: &'static str) -> &'static str {
     for line in lines.lines() {
         let (asked, answer) = line.split_once(" => ").unwrap_or((line, ""));
-        if !line.starts_with('#') && !is_right(alloc, cases, asked, answer) {
+        if !line.starts_with('#') && is_right(alloc, cases, asked, answer) != Some(true) {
             return line;
         }
     }

@@ -221,14 +221,14 @@ pub fn coverage(alloc: Global, line: &str, ids: &str) -> Option<Coverage> {
     })
 }
 
-fn coverages(alloc: Global, lines: &str, ids: &str) -> Items<Coverage> {
+fn coverages(alloc: Global, lines: &str, ids: &str) -> Option<Items<Coverage>> {
     let mut items = Vec::new(alloc);
-    for line in lines.split(';') {
-        if let Some(coverage) = coverage(alloc, line, ids) {
-            let _ = items.push(coverage);
+    if !lines.is_empty() {
+        for line in lines.split(';') {
+            items.push(coverage(alloc, line, ids)?).ok()?;
         }
     }
-    Items::of(items)
+    Some(Items::of(items))
 }
 
 /// The document of a line, with these ids of parameters where a coverage has none.
@@ -236,7 +236,7 @@ pub fn document(alloc: Global, line: &str, ids: &str) -> Option<Document> {
     match line.strip_prefix('[') {
         Some(lines) => {
             let lines = lines.strip_suffix(']').unwrap_or(lines);
-            Some(Document::Many(coverages(alloc, lines, ids)))
+            Some(Document::Many(coverages(alloc, lines, ids)?))
         }
         None => Some(Document::One(coverage(alloc, line, ids)?)),
     }

@@ -219,19 +219,15 @@ fn has_label(feed: &Feed, answer: &str) -> bool {
 }
 
 /// Whether that line is the summary of the last edition of a feed.
-pub fn is_summed(alloc: Global, words: &str, answer: &str) -> bool {
-    match feed_in(alloc, feed_of(alloc, words).as_bytes()) {
-        Some(feed) => has_summary(alloc, &feed, answer),
-        None => false,
-    }
+pub fn is_summed(alloc: Global, words: &str, answer: &str) -> Option<bool> {
+    let feed = feed_in(alloc, feed_of(alloc, words).as_bytes())?;
+    Some(has_summary(alloc, &feed, answer))
 }
 
 /// Whether that is the label of the first station of a feed.
-pub fn is_labelled(alloc: Global, words: &str, answer: &str) -> bool {
-    match feed_in(alloc, feed_of(alloc, words).as_bytes()) {
-        Some(feed) => has_label(&feed, answer),
-        None => false,
-    }
+pub fn is_labelled(alloc: Global, words: &str, answer: &str) -> Option<bool> {
+    let feed = feed_in(alloc, feed_of(alloc, words).as_bytes())?;
+    Some(has_label(&feed, answer))
 }
 
 // Whether some bytes and so many blanks behind them are read so.

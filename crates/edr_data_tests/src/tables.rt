@@ -57,11 +57,9 @@ fn is_written(alloc: Global, document: &Document, lines: &str) -> bool {
 }
 
 /// Whether a document is written as this table.
-pub fn is_right(alloc: Global, words: &str, lines: &str) -> bool {
-    match document(alloc, words, "") {
-        Some(document) => is_written(alloc, &document, lines),
-        None => false,
-    }
+pub fn is_right(alloc: Global, words: &str, lines: &str) -> Option<bool> {
+    let document = document(alloc, words, "")?;
+    Some(is_written(alloc, &document, lines))
 }
 
 #[test]

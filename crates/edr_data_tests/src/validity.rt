@@ -99,11 +99,9 @@ Trajectory at=1/2/3/4,1/2/3/4 own=z => 2 tzyx composite txyz
 ";
 
 /// Whether a document is judged so.
-pub fn is_judged(alloc: Global, words: &str, answer: &str) -> bool {
-    match document(alloc, words, "") {
-        Some(document) => document.is_valid() == (answer == "valid"),
-        None => false,
-    }
+pub fn is_judged(alloc: Global, words: &str, answer: &str) -> Option<bool> {
+    let document = document(alloc, words, "")?;
+    Some(document.is_valid() == (answer == "valid"))
 }
 
 // Whether a coordinate is had by a domain, and is an axis of its ranges, where these letters say so.
@@ -152,12 +150,10 @@ fn is_described(domain: &Domain, kind: &str, answer: &str) -> bool {
 }
 
 /// Whether a domain is described so.
-pub fn is_domain(alloc: Global, words: &str, answer: &str) -> bool {
-    let (kind, _) = words.split_once(' ').unwrap_or((words, ""));
-    match domain(alloc, words) {
-        Some(domain) => is_described(&domain, kind, answer),
-        None => false,
-    }
+pub fn is_domain(alloc: Global, words: &str, answer: &str) -> Option<bool> {
+    let (kind, _) = words.split_once(' ')?;
+    let domain = domain(alloc, words)?;
+    Some(is_described(&domain, kind, answer))
 }
 
 #[test]

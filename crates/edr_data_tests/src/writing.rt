@@ -67,11 +67,9 @@ fn is_text(alloc: Global, document: &Document, wanted: &str) -> bool {
 }
 
 /// Whether a document is written so.
-pub fn is_written(alloc: Global, words: &str, wanted: &str) -> bool {
-    match document(alloc, words, "a") {
-        Some(document) => is_text(alloc, &document, wanted),
-        None => false,
-    }
+pub fn is_written(alloc: Global, words: &str, wanted: &str) -> Option<bool> {
+    let document = document(alloc, words, "a")?;
+    Some(is_text(alloc, &document, wanted))
 }
 
 #[test]
