@@ -224,7 +224,8 @@ fn is_several(
 ) -> Result<bool, OutOfMemory>
     requires { length samples.now ≡ 34320 }
 {
-    Ok(grid.shape() == SEVERAL && grid.tiles() == 32 && has_many(alloc, grid, samples)?)
+    let GridShape { parameters, times, .. } = grid.shape();
+    Ok(parameters == 2 && times == 2 && grid.tiles() == 32 && has_many(alloc, grid, samples)?)
 }
 
 // Whether a grid of several parameters has its values, and so has one that got them in turn.
