@@ -9,7 +9,7 @@ ghost use Rattle.edr_base.specs.Calls.{Reads, Appended, Flushed, SourceLent, Sin
 ghost use Rattle.edr_base.specs.Untold.{untold_aside, untold_beside};
 ghost use Rattle.edr_base.specs.Limits.{count_limit};
 
-use crate::adapters::{flush_of, one_more, read_from, write_to};
+use crate::counted::{flush_of, one_more, read_from, write_to};
 use crate::outside::{Failed, Faults, Link, Sink, Source, Stop};
 use std::io::ErrorKind;
 use std::net::{Net, TcpStream};
@@ -40,10 +40,15 @@ impl<R: Net + Drop> RealLink<R> {
     }
 }
 
-// Connects to a host by its name or its address, without the brackets of an address, again where a signal interrupts it.
+// Connects to a host by its name or its address, without the brackets that stand about an address of version 6, again
+// where a signal interrupts it.
 fn connect_by<R: Net>(rt: &R, host: &str, port: u16) -> Result<R::Stream, Stop> {
+    let bare = match host.strip_prefix('[') {
+        Some(rest) => rest.strip_suffix(']').unwrap_or(host),
+        None => host,
+    };
     for _ in 0..u64::MAX {
-        match TcpStream::connect(rt, (host, port)) {
+        match TcpStream::connect(rt, (bare, port)) {
             Ok(stream) => return Ok(stream),
             Err(error) => match error.kind() {
                 ErrorKind::Interrupted => {}
@@ -53,14 +58,6 @@ fn connect_by<R: Net>(rt: &R, host: &str, port: u16) -> Result<R::Stream, Stop> 
         }
     }
     Err(Stop::Failed)
-}
-
-// A host without the brackets that stand about an address of version 6.
-fn without_brackets(host: &str) -> &str {
-    match host.strip_prefix('[') {
-        Some(rest) => rest.strip_suffix(']').unwrap_or(host),
-        None => host,
-    }
 }
 
 impl<R: Net + Drop> Faults for RealLink<R> {
@@ -98,13 +95,7 @@ impl<R: Net + Drop> Source for RealLink<R> {
         if buf.is_empty() {
             return Ok(0);
         }
-        match read_from(stream, buf) {
-            Ok(count) => Ok(count),
-            Err(Failed) => {
-                self.faults = one_more(self.faults);
-                Err(Failed)
-            }
-        }
+        read_from(stream, buf, &mut self.faults)
     }
 }
 
@@ -144,13 +135,7 @@ impl<R: Net + Drop> Sink for RealLink<R> {
         let Some(stream) = &mut self.stream else {
             return Err(Stop::OutOfMemory);
         };
-        match write_to(stream, piece) {
-            Ok(count) => Ok(count),
-            Err(Failed) => {
-                self.faults = one_more(self.faults);
-                Err(Stop::Failed)
-            }
-        }
+        write_to(stream, piece, &mut self.faults)
     }
 
     fn flush(&mut self) -> Result<(), Stop>
@@ -172,13 +157,7 @@ impl<R: Net + Drop> Sink for RealLink<R> {
         let Some(stream) = &mut self.stream else {
             return Ok(());
         };
-        match flush_of(stream) {
-            Ok(()) => Ok(()),
-            Err(Failed) => {
-                self.faults = one_more(self.faults);
-                Err(Stop::Failed)
-            }
-        }
+        flush_of(stream, &mut self.faults)
     }
 }
 
@@ -208,7 +187,7 @@ impl<R: Net + Drop> Link for RealLink<R> {
     {
         self.stream = None;
         let host = str::from_utf8(host).unwrap();
-        match connect_by(&self.rt, without_brackets(host), port) {
+        match connect_by(&self.rt, host, port) {
             Ok(stream) => {
                 self.stream = Some(stream);
                 Ok(())
