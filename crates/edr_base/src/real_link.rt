@@ -40,15 +40,10 @@ impl<R: Net + Drop> RealLink<R> {
     }
 }
 
-// Connects to a host by its name or its address, without the brackets that stand about an address of version 6, again
-// where a signal interrupts it.
+// Connects to a host by its name or its address, without the brackets of an address, again where a signal interrupts it.
 fn connect_by<R: Net>(rt: &R, host: &str, port: u16) -> Result<R::Stream, Stop> {
-    let bare = match host.strip_prefix('[') {
-        Some(rest) => rest.strip_suffix(']').unwrap_or(host),
-        None => host,
-    };
     for _ in 0..u64::MAX {
-        match TcpStream::connect(rt, (bare, port)) {
+        match TcpStream::connect(rt, (host, port)) {
             Ok(stream) => return Ok(stream),
             Err(error) => match error.kind() {
                 ErrorKind::Interrupted => {}
@@ -58,6 +53,14 @@ fn connect_by<R: Net>(rt: &R, host: &str, port: u16) -> Result<R::Stream, Stop> 
         }
     }
     Err(Stop::Failed)
+}
+
+// A host without the brackets that stand about an address of version 6.
+fn without_brackets(host: &str) -> &str {
+    match host.strip_prefix('[') {
+        Some(rest) => rest.strip_suffix(']').unwrap_or(host),
+        None => host,
+    }
 }
 
 impl<R: Net + Drop> Faults for RealLink<R> {
@@ -187,7 +190,7 @@ impl<R: Net + Drop> Link for RealLink<R> {
     {
         self.stream = None;
         let host = str::from_utf8(host).unwrap();
-        match connect_by(&self.rt, host, port) {
+        match connect_by(&self.rt, without_brackets(host), port) {
             Ok(stream) => {
                 self.stream = Some(stream);
                 Ok(())

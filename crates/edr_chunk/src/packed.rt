@@ -6,7 +6,7 @@ ghost use Rattle.edr_chunk.specs.Codes.{IsFloor, AreBetween};
 ghost use Rattle.edr_chunk.specs.KeptCodes.{samples};
 
 use crate::codes::{codes_of, sample_in, samples_of, samples_to};
-use crate::spans::{Span, are_all, span_of};
+use crate::spans::{are_all, span_of};
 use edr_base::OutOfMemory;
 use std::alloc::Global;
 use std::marker::Model;
@@ -57,21 +57,13 @@ impl Packed {
                     count: values.len(),
                 },
             }),
-            _ => Packed::coded(alloc, values, span_of(values)),
+            _ => {
+                let span = span_of(values);
+                let floor = span.least - 1;
+                let codes = codes_from(alloc, values, floor, span.greatest)?;
+                Ok(Packed { floor, codes })
+            }
         }
-    }
-
-    // A list of samples as codes of one width.
-    fn coded(alloc: Global, values: &[Option<i64>], span: Span) -> Result<Packed, OutOfMemory>
-        requires samples { AreSamples values.now }
-        requires least { IsSample span.least }
-        requires greatest { IsSample span.greatest }
-        requires between { AreBetween span.least span.greatest values.now }
-        ensures { IfOk result (λ packed. packed ≡ values.now) }
-    {
-        let floor = span.least - 1;
-        let codes = codes_from(alloc, values, floor, span.greatest)?;
-        Ok(Packed { floor, codes })
     }
 
     /// The list, or want of memory.
