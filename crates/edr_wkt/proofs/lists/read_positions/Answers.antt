@@ -13,8 +13,8 @@ returns-in_default-read_mark-clause-not_wkt c =
 
 pub returns-then-mark-eq41-clause-read : goal.returns-then-mark-eq41-clause-read
 returns-then-mark-eq41-clause-read c =
-    let g = grown-from c.args.multi c.args.has_z c.args.has_m c.args.text.now c.args.count.now c.members.count c.counted.result c.members.positions.items c.keep.new.items.items c.members.len c.longer-len.result
-    c.members.rest.now c.in-Some.after.now c.in-Some.ensures.0 c.in-Some.position c.members.invariant c.in-Some.ensures.1 c.in-Some.ensures.2 c.counted.ensures c.longer-len.ensures c.in_ok-keep.ensures.kept in
+    let g = grown-from c.args.multi c.args.has_z c.args.has_m c.args.text.now c.args.count.now c.members.count c.min.result c.members.positions.items c.keep.new.items.items c.members.len c.min-len.result
+    c.members.rest.now c.in-Some.after.now c.in-Some.ensures.0 c.in-Some.position c.members.invariant c.in-Some.ensures.1 c.in-Some.ensures.2 (omega (arith, c.min.ensures, c.saturating_add.ensures, c.members.invariant.after_is)) (omega (arith, c.min-len.ensures, c.saturating_add-in-members.ensures, c.members.invariant.len_is)) c.in_ok-keep.ensures.kept in
     let P : ℕ → Type 0 = λ mark. IsMark mark c.in-Some.after.now c.in-Some-read_mark.next.now in
     rw c.of.ensures (gathers-end _ _ _ _ _ _ _ _ _ _ _ g (subst P c.if-mark-eq41.true c.in-Some-read_mark.ensures.1))
 
@@ -31,7 +31,7 @@ members-smaller c =
 
 pub members-preserved : goal.members-preserved
 members-preserved c =
-    let g = grown-from c.args.multi c.args.has_z c.args.has_m c.args.text.now c.args.count.now c.members.count c.counted.result c.members.positions.items c.keep.new.items.items c.members.len c.longer-len.result
-    c.members.rest.now c.in-Some.after.now c.in-Some.ensures.0 c.in-Some.position c.members.invariant c.in-Some.ensures.1 c.in-Some.ensures.2 c.counted.ensures c.longer-len.ensures c.in_ok-keep.ensures.kept in
+    let g = grown-from c.args.multi c.args.has_z c.args.has_m c.args.text.now c.args.count.now c.members.count c.min.result c.members.positions.items c.keep.new.items.items c.members.len c.min-len.result
+    c.members.rest.now c.in-Some.after.now c.in-Some.ensures.0 c.in-Some.position c.members.invariant c.in-Some.ensures.1 c.in-Some.ensures.2 (omega (arith, c.min.ensures, c.saturating_add.ensures, c.members.invariant.after_is)) (omega (arith, c.min-len.ensures, c.saturating_add-in-members.ensures, c.members.invariant.len_is)) c.in_ok-keep.ensures.kept in
     let P : ℕ → Type 0 = λ mark. IsMark mark c.in-Some.after.now c.in-Some-read_mark.next.now in
     gathers-next _ _ _ _ _ _ _ _ _ _ _ g (subst P c.if-mark-ne44.false c.in-Some-read_mark.ensures.1)
