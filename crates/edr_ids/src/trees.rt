@@ -287,9 +287,10 @@ impl<T: Drop> Tree<T> {
     fn followed_by(&self, alloc: Global, behind: &Tree<T>) -> Result<Tree<T>, OutOfMemory>
         ensures { IfOk result (λ tree. tree ≡ self.now ++ behind.now) }
     {
+        let front = self.share()?;
         match behind.first_and_others(alloc)? {
-            None => self.share(),
-            Some((first, others)) => balanced(alloc, self.share()?, first, others),
+            None => Ok(front),
+            Some((first, others)) => balanced(alloc, front, first, others),
         }
     }
 }
