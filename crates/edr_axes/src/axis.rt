@@ -139,9 +139,7 @@ impl Axis {
     pub fn copy(&self, alloc: Global) -> Result<Axis, OutOfMemory>
         ensures { IfOk result (λ axis. axis ≡ self.now) }
     {
-        Ok(Axis {
-            values: Vec::from_slice(alloc, &self.values)?,
-        })
+        Axis::over(alloc, &self.values)
     }
 
     /// The axis of its values from one place to before another, or want of memory.
