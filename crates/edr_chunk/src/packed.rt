@@ -5,7 +5,7 @@ ghost use Rattle.edr_base.specs.Limits.{IsSample, AreSamples};
 ghost use Rattle.edr_chunk.specs.Codes.{IsFloor, AreBetween};
 ghost use Rattle.edr_chunk.specs.KeptCodes.{samples};
 
-use crate::codes::{codes_of, sample_in, samples_of, samples_to};
+use crate::codes::{codes_of, samples_of, samples_to};
 use crate::spans::{are_all, span_of};
 use edr_base::OutOfMemory;
 use std::alloc::Global;
@@ -93,21 +93,6 @@ impl Packed {
             Codes::Triples(codes) => samples_to(codes, place, self.floor, into),
             Codes::Words(codes) => samples_to(codes, place, self.floor, into),
             Codes::Whole(numbers) => samples_to(numbers, place, self.floor, into),
-        }
-    }
-
-    /// The sample at a place of the list. It takes no memory.
-    pub(crate) fn sample_at(&self, place: usize) -> Option<i64>
-        requires { place < length self.now }
-        ensures { result ≡ slice_index_or self.now place None }
-    {
-        match &self.codes {
-            Codes::Same { value, count: _ } => *value,
-            Codes::Bytes(codes) => sample_in(codes, place, self.floor),
-            Codes::Pairs(codes) => sample_in(codes, place, self.floor),
-            Codes::Triples(codes) => sample_in(codes, place, self.floor),
-            Codes::Words(codes) => sample_in(codes, place, self.floor),
-            Codes::Whole(numbers) => sample_in(numbers, place, self.floor),
         }
     }
 }
