@@ -1,18 +1,5 @@
-use Rattle.std.proofs.Common.{refl, sym, ◌∙◌}
-use Rattle.std.proofs.lemmas.Bool.{false≢true}
-use Rattle.edr_base.proofs.PlanLemmas.{no_room, reads_untold}
+use Rattle.edr_base.proofs.PlanLemmas.{reads_untold}
 use Rattle.edr_base.proofs.adapters.RealSourceSource.read.Goals as goal
 
-pub returns : goal.returns
-returns g c =
-    let e = c.read_from.ensures in
-    record {
-      bound = e.bound;
-      empty = λ none. absurd (no_room _ c.if-is_empty.ensures (sym c.read_from.auto.buf ∙ none));
-      bytes = reads_untold c.read_from.result c.read_from.new.buf;
-      lent = record { same = refl; later = e.later };
-      cause = e.cause;
-      idle = λ idle. absurd (false≢true idle);
-      passes = e.passes;
-      counts = e.counts;
-    }
+pub returns-clause-bytes : goal.returns-clause-bytes
+returns-clause-bytes g c = reads_untold _ _
