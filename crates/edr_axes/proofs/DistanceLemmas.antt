@@ -1,10 +1,11 @@
 -- A decimal number whose point moves.
-use Rattle.std.proofs.Common.{◌≡◌, ◌⊎◌, inl, inr, ⊎_elim, ℕ, zero, suc, ◌+◌, ◌*◌, ◌-◌, ◌^◌, ◌==◌, ◌<◌, ◌≤◌, List, [], ◌∷◌, ◌++◌, length, refl, ap, sym, ◌∙◌, subst, arith, ℤ, pos, codes, drop, get_or, true}
+use Rattle.std.proofs.Common.{◌≡◌, ◌⊎◌, inl, inr, ⊎_elim, ℕ, zero, suc, ◌+◌, ◌*◌, ◌-◌, ◌^◌, ◌==◌, ◌<◌, ◌≤◌, min, List, [], ◌∷◌, ◌++◌, length, refl, ap, sym, ◌∙◌, subst, arith, ℤ, pos, codes, drop, get_or, true}
 use Rattle.std.specs.Prelude.{MatchOption, Some, None}
 use Rattle.std.specs.declared.option.Option.{Option}
 use Rattle.std.specs.Char.{digit_value, is_ascii_digit}
 use Rattle.std.specs.Str.Parse.{AllDigits, digits_value_after, digits_value}
 use Rattle.std.specs.List.{Contains}
+use Rattle.std.proofs.lemmas.Bool.{cases_lt}
 use Rattle.std.proofs.lemmas.Bool.Decides.{leb_tells, nat_tests}
 use Rattle.std.proofs.lemmas.List.Elements.{All-head, All-tail, All-nil, All-cons}
 use Rattle.std.proofs.lemmas.Nat.{pow-add}
@@ -197,6 +198,13 @@ rest_left w m r f k s fraction full all not is =
 not_nil : (r : List ℕ) → ¬ (AreZeros r) → 0 < length r
 not_nil [] not = absurd (not (All-nil (λ x. (x == 48) ≡ true)))
 not_nil (c ∷ cs) not = omega arith
+
+-- the least of two numbers is one of them
+pub one_of : (n a b : ℕ) → n ≡ min a b → (n ≡ a) ⊎ (n ≡ b)
+one_of n a b least = elim (cases_lt a b) [
+  | inl lt ↦ inl (omega (arith, least, lt))
+  | inr ge ↦ inr (omega (arith, least, ge))
+]
 
 pub rest_of : (w m r f : List ℕ) (k n : ℕ) → f ≡ m ++ r → length m ≡ n → (n ≡ length f) ⊎ (n ≡ k) → AreDigits f → ¬ (AreZeros r) → HasNoSize w f k
 rest_of w m r f k n fraction count (inl all) digits not s is =

@@ -8,7 +8,7 @@ use std::alloc::{AllocError, Global};
 use std::marker::Model;
 
 /// Why some values are no axis.
-#[derive(Clone, Copy, Debug, PartialEq, Eq)]
+#[derive(Clone, Copy, PartialEq, Eq)]
 pub enum AxisFault {
     /// There are none.
     Empty,
@@ -139,9 +139,7 @@ impl Axis {
     pub fn copy(&self, alloc: Global) -> Result<Axis, OutOfMemory>
         ensures { IfOk result (λ axis. axis ≡ self.now) }
     {
-        Ok(Axis {
-            values: Vec::from_slice(alloc, &self.values)?,
-        })
+        Axis::over(alloc, &self.values)
     }
 
     /// The axis of its values from one place to before another, or want of memory.
@@ -216,14 +214,10 @@ impl Axis {
     }
 }
 
-/// No two places of an axis are nearest to one number.
+/// Each axis has a place that is nearest to a number, and no second.
 pub fn nearest_is_one()
-    ensures { NearestIsOne }
-{}
-
-/// Each axis has a place that is nearest to a number.
-pub fn nearest_is_there()
-    ensures { NearestIsThere }
+    ensures there { NearestIsThere }
+    ensures one { NearestIsOne }
 {}
 
 /// Of ascending values those below a bound stand first, as many as are counted, and so do those that are at most it.

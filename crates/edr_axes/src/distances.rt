@@ -1,5 +1,5 @@
 //! Distances as text.
-ghost use Rattle.std.specs.Prelude.{◌≡◌, ◌⊎◌, ◌≤◌, ◌<◌, ◌^◌, ◌*◌, pos, IsTrue, ◌↔◌, MatchOption, Contains};
+ghost use Rattle.std.specs.Prelude.{◌≡◌, ◌≤◌, ◌<◌, ◌^◌, ◌*◌, pos, IsTrue, ◌↔◌, MatchOption, Contains};
 ghost use Rattle.std.specs.Str.Parse.{AllDigits, digits_value_after};
 ghost use Rattle.edr_base.specs.Limits.{distance_limit};
 ghost use Rattle.edr_axes.specs.Distances.{DistancesAreUnique, IsUnit, IsDecimal, IsDistance, HasNoDistance};
@@ -75,13 +75,6 @@ fn with_zeros(size: u64, zeros: usize) -> Option<u64>
     }
 }
 
-fn least(a: usize, b: usize) -> usize
-    ensures at_most { (result ≤ a) × (result ≤ b) }
-    ensures one { (result ≡ a) ⊎ (result ≡ b) }
-{
-    if a < b { a } else { b }
-}
-
 // The whole number that a decimal number is whose point moves by so many places.
 fn size_of(whole: &[u8], fraction: &[u8], places: usize) -> Option<u64>
     requires whole { AreDigits whole.now }
@@ -89,7 +82,7 @@ fn size_of(whole: &[u8], fraction: &[u8], places: usize) -> Option<u64>
     requires places { places ≤ 3 }
     ensures { MatchOption result (HasNoSize whole.now fraction.now places) (λ size. IsSize whole.now fraction.now places size) }
 {
-    let count = least(fraction.len(), places);
+    let count = fraction.len().min(places);
     let (moved, rest) = fraction.split_at(count);
     if !are_zeros(rest) {
         return None;

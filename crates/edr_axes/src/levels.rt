@@ -28,7 +28,7 @@ pub enum Levels {
 }
 
 /// Why a text was read as no levels.
-#[derive(Clone, Copy, Debug, PartialEq, Eq)]
+#[derive(Clone, Copy, Debug)]
 pub enum LevelFault {
     /// It stands for none.
     NotLevels,
@@ -135,8 +135,7 @@ fn push_level(levels: &mut Vec<i64>, text: &[u8]) -> Result<(), LevelFault>
     let Some(level) = level_of(text) else {
         return Err(LevelFault::NotLevels);
     };
-    levels.push(level)?;
-    Ok(())
+    Ok(levels.push(level)?)
 }
 
 // The numbers of a list, of which there may be one.

@@ -8,7 +8,7 @@ mod levels;
 mod reading_instants;
 mod times;
 
-pub use axis::{Axis, AxisFault, bounds_split_axes, nearest_is_one, nearest_is_there};
+pub use axis::{Axis, AxisFault, bounds_split_axes, nearest_is_one};
 pub use distances::{distances_are_unique, read_distance};
 pub use instants::{texts_tell_times, times_are_written, write_instant};
 pub use levels::{LevelFault, Levels, levels_are_unique, read_levels};

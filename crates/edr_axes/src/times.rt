@@ -6,7 +6,7 @@ use crate::reading_instants::read_instant;
 use edr_base::cut_at;
 
 /// Times that a request selects (OGC 19-086r6, the parameter `datetime`), in seconds since 1970-01-01T00:00:00Z.
-#[derive(Clone, Copy, Debug, PartialEq, Eq)]
+#[derive(Clone, Copy, Debug)]
 pub enum Times {
     /// Each time.
     All,

@@ -1,5 +1,5 @@
 -- A call of a source, a sink, files or a link: its plan, the count of its faults, and what it gives or takes.
-use Rattle.std.proofs.Common.{◌≡◌, ◌==◌, ℕ, ◌+◌, ◌<◌, ◌≤◌, min, Bool, true, false, List, [], ◌∷◌, ◌++◌, map, Vec, length, take, drop, Some, Ok, Err, Result, sym, ap, ◌∙◌, arith}
+use Rattle.std.proofs.Common.{◌≡◌, ◌==◌, ℕ, ◌+◌, ◌<◌, ◌≤◌, min, Bool, true, false, List, [], ◌∷◌, ◌++◌, map, Vec, length, take, drop, Some, None, Ok, Err, Result, refl, sym, ap, ◌∙◌, arith}
 use Rattle.std.proofs.lemmas.Bool.{false≢true, eqb-false, eqb-true}
 use Rattle.std.specs.Result.{IsErrAnd}
 use Rattle.std.proofs.lemmas.List.{map_push}
@@ -10,7 +10,7 @@ use Rattle.edr_base.specs.declared.outside.Stop.{Stop}
 use Rattle.edr_base.specs.declared.outside.Stop.TheVariants.{Failed as Faulted, OutOfMemory}
 use Rattle.edr_base.specs.Limits.{count_limit}
 use Rattle.edr_base.specs.Outside.{Rose}
-use Rattle.edr_base.specs.Calls.{Reads}
+use Rattle.edr_base.specs.Calls.{Reads, Appended, Flushed}
 use Rattle.edr_base.specs.Memory.{left_in, peer_asked, name_asked}
 use Rattle.edr_base.specs.MemoryParts.{IsNextPlan}
 
@@ -69,6 +69,19 @@ some_room n e = let no = eqb-false n 0 (sym e) in omega (arith, no)
 pub gave : (ready : Bool) (at at' n : ℕ) (bytes buf : List ℕ) → ready ≡ true → drop at bytes ≡ take n buf ++ drop at' bytes → (n ≡ 0 → 0 < length buf → drop at' bytes ≡ []) → Reads {E = Failed} (Some (left_in ready at bytes)) (Some (left_in ready at' bytes)) (Ok n) buf
 gave true at at' n bytes buf is given ended = (ap Some given, ended)
 gave false at at' n bytes buf is given ended = absurd (false≢true is)
+
+-- a call of an object that tells nothing
+pub reads_untold : {E : Type 0} (r : Result ℕ E) (buf : List ℕ) → Reads None None r buf
+reads_untold (Ok n) buf = (refl, λ _ _. tt)
+reads_untold (Err e) buf = refl
+
+pub appended_untold : {E : Type 0} (r : Result ℕ E) (piece : List ℕ) → Appended None None r piece
+appended_untold (Ok n) piece = refl
+appended_untold (Err e) piece = refl
+
+pub flushed_untold : {T E : Type 0} (r : Result T E) → Flushed None None None r
+flushed_untold (Ok x) = refl
+flushed_untold (Err e) = refl
 
 -- one more was asked
 pub peer_added : (new old : List (Vec ℕ Global × ℕ)) (host : Vec ℕ Global) (port : ℕ) (named : List ℕ) → new ≡ old ++ (host, port) ∷ [] → host.items ≡ named → Some (map peer_asked new) ≡ Some (map peer_asked old ++ (named, port) ∷ [])

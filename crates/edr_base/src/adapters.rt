@@ -10,15 +10,9 @@ ghost use Rattle.edr_base.specs.Calls.{Reads, Appended, Flushed, SourceLent, Sin
 ghost use Rattle.edr_base.specs.Untold.{untold_aside, untold_beside};
 ghost use Rattle.edr_base.specs.Limits.{count_limit};
 
+use crate::counted::{flush_of, read_from, write_to};
 use crate::outside::{Failed, Faults, Sink, Source, Stop};
-use std::io::{ErrorKind, Read, Write};
-
-// A count of faults after one more.
-pub(crate) fn one_more(faults: u64) -> u64
-    ensures { result ≡ min (faults + 1) count_limit }
-{
-    faults.saturating_add(1)
-}
+use std::io::{Read, Write};
 
 /// A source over a reader. Each error of the reader is a fault, but for `Interrupted`: then it is asked again.
 #[derive(Drop)]
@@ -38,24 +32,6 @@ impl<T: Read> RealSource<T> {
     {
         RealSource { reader, faults: 0 }
     }
-}
-
-// Reads, again where a signal interrupts it.
-pub(crate) fn read_from<T: Read>(reader: &mut T, buf: &mut [u8]) -> Result<usize, Failed>
-    ensures bound { IfOk result (λ n. n ≤ length buf.new) }
-    ensures passes { ReadConsumes (T.remaining reader.old) (T.remaining reader.new) result buf.new }
-{
-    for _ in 0..u64::MAX {
-        match reader.read(buf) {
-            Ok(count) => return Ok(count),
-            Err(error) => {
-                if error.kind() != ErrorKind::Interrupted {
-                    return Err(Failed);
-                }
-            }
-        }
-    }
-    Err(Failed)
 }
 
 impl<T: Read> Faults for RealSource<T> {
@@ -88,13 +64,7 @@ impl<T: Read> Source for RealSource<T> {
         if buf.is_empty() {
             return Ok(0);
         }
-        match read_from(&mut self.reader, buf) {
-            Ok(count) => Ok(count),
-            Err(Failed) => {
-                self.faults = one_more(self.faults);
-                Err(Failed)
-            }
-        }
+        read_from(&mut self.reader, buf, &mut self.faults)
     }
 }
 
@@ -117,44 +87,6 @@ impl<T: Write> RealSink<T> {
     {
         RealSink { writer, faults: 0 }
     }
-}
-
-// Writes, again where a signal interrupts it. Of a piece that isn't empty at least one byte is taken.
-#[tactic(auto, using(crate::proofs::KnownBytes::keeps_none))]
-pub(crate) fn write_to<T: Write>(writer: &mut T, piece: &[u8]) -> Result<usize, Failed>
-    requires { 0 < length piece.now }
-    ensures bound { IfOk result (λ n. (n ≤ length piece.now) × (0 < n)) }
-    ensures passes { WriteAppends (T.contents writer.old) (T.contents writer.new) result piece.now }
-{
-    for _ in 0..u64::MAX {
-        match writer.write(piece) {
-            Ok(0) => return Err(Failed),
-            Ok(count) => return Ok(count),
-            Err(error) => {
-                if error.kind() != ErrorKind::Interrupted {
-                    return Err(Failed);
-                }
-            }
-        }
-    }
-    Err(Failed)
-}
-
-// Flushes, again where a signal interrupts it.
-pub(crate) fn flush_of<T: Write>(writer: &mut T) -> Result<(), Failed>
-    ensures passes { Keeps (T.contents writer.old) (T.contents writer.new) }
-{
-    for _ in 0..u64::MAX {
-        match writer.flush() {
-            Ok(()) => return Ok(()),
-            Err(error) => {
-                if error.kind() != ErrorKind::Interrupted {
-                    return Err(Failed);
-                }
-            }
-        }
-    }
-    Err(Failed)
 }
 
 impl<T: Write> Faults for RealSink<T> {
@@ -193,13 +125,7 @@ impl<T: Write> Sink for RealSink<T> {
         if piece.is_empty() {
             return Ok(0);
         }
-        match write_to(&mut self.writer, piece) {
-            Ok(count) => Ok(count),
-            Err(Failed) => {
-                self.faults = one_more(self.faults);
-                Err(Stop::Failed)
-            }
-        }
+        write_to(&mut self.writer, piece, &mut self.faults)
     }
 
     fn flush(&mut self) -> Result<(), Stop>
@@ -217,12 +143,6 @@ impl<T: Write> Sink for RealSink<T> {
         ensures passes { Keeps (T.contents (writer_of self.old)) (T.contents (writer_of self.new)) }
         ensures counts { Counts (IsErr result) (⟦<RealSink<T> as Faults>⟧.faults self.old) (⟦<RealSink<T> as Faults>⟧.faults self.new) }
     {
-        match flush_of(&mut self.writer) {
-            Ok(()) => Ok(()),
-            Err(Failed) => {
-                self.faults = one_more(self.faults);
-                Err(Stop::Failed)
-            }
-        }
+        flush_of(&mut self.writer, &mut self.faults)
     }
 }

@@ -4,6 +4,8 @@ ghost use Rattle.std.specs.Char.{is_ascii_digit};
 ghost use Rattle.std.specs.List.{AllPass};
 ghost use Rattle.std.specs.Str.Parse.{digits_value};
 
+use crate::numbers::size_within;
+
 /// Whether all bytes are digits.
 pub fn are_digits(text: &[u8]) -> bool
     ensures { IsTrue result ↔ AllPass is_ascii_digit text.now }
@@ -16,13 +18,5 @@ pub fn value_of_digits(digits: &[u8]) -> Option<u64>
     requires { AllPass is_ascii_digit digits.now }
     ensures { MatchOption result (2 ^ 64 ≤ digits_value 10 digits.now) (λ value. (value ≡ digits_value 10 digits.now) × (value < 2 ^ 64)) }
 {
-    let mut value: u64 = 0;
-    for digit in digits {
-        let next = value as u128 * 10 + (*digit - b'0') as u128;
-        if next > u64::MAX as u128 {
-            return None;
-        }
-        value = next as u64;
-    }
-    Some(value)
+    size_within(digits, u64::MAX)
 }

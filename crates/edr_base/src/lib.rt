@@ -2,6 +2,7 @@
 #![tactic(auto)]
 
 mod adapters;
+mod counted;
 mod cuts;
 mod digits;
 mod fault_plan;
@@ -38,7 +39,7 @@ pub use memory_link::MemoryLink;
 pub use memory_sink::MemorySink;
 pub use memory_source::MemorySource;
 pub use names::{is_blank, is_name, is_utf8, is_utf8_where_given};
-pub use numbers::{Whole, numeral, whole_number, whole_number_is_one, written_number_is_numeral};
+pub use numbers::{Whole, numeral, numerals_tell_numbers, whole_number};
 pub use outside::{Failed, Faults, Files, Link, Sink, Source, Stop};
 pub use places::{Position, Spot, in_box};
 pub use quiet_sink::QuietSink;

@@ -18,19 +18,7 @@ pub struct MemorySource {
     ghost gives: { 0 < cut },
 }
 
-// Gives the first bytes of the rest: what the buffer holds, and at most `cut`.
-fn give(rest: &[u8], buf: &mut [u8], cut: usize) -> usize
-    requires { 0 < cut }
-    ensures bound { (result ≤ length rest.now) × (result ≤ length buf.new) × (result ≤ cut) }
-    ensures bytes { take result buf.new ≡ take result rest.now }
-    ensures end { result ≡ 0 → 0 < length buf.new → rest.now ≡ [] }
-{
-    let count = rest.len().min(buf.len()).min(cut);
-    buf[..count].copy_from_slice(&rest[..count]);
-    count
-}
-
-// Gives the bytes from a place on, and moves the place behind them.
+// Gives the bytes from a place on, what the buffer holds and at most `cut`, and moves the place behind them.
 #[tactic(auto, using(crate::proofs::KnownBytes::cut_at))]
 pub(crate) fn give_from(bytes: &[u8], at: &mut usize, buf: &mut [u8], cut: usize) -> usize
     requires gives { 0 < cut }
@@ -40,7 +28,9 @@ pub(crate) fn give_from(bytes: &[u8], at: &mut usize, buf: &mut [u8], cut: usize
     ensures bytes { drop at.old bytes.now ≡ take result buf.new ++ drop at.new bytes.now }
     ensures end { result ≡ 0 → 0 < length buf.new → drop at.new bytes.now ≡ [] }
 {
-    let count = give(&bytes[*at..], buf, cut);
+    let rest = &bytes[*at..];
+    let count = rest.len().min(buf.len()).min(cut);
+    buf[..count].copy_from_slice(&rest[..count]);
     *at += count;
     count
 }

@@ -19,7 +19,6 @@ pub enum Whole {
 }
 
 // What a text is as a whole number without a sign.
-#[derive(Clone, Copy)]
 enum Unsigned {
     Size(u64),
     TooLarge,
@@ -110,7 +109,7 @@ fn is_point(text: &[u8]) -> bool
 }
 
 // The number that the digits write, if it isn't above the limit.
-fn size_within(digits: &[u8], limit: u64) -> Option<u64>
+pub(crate) fn size_within(digits: &[u8], limit: u64) -> Option<u64>
     requires { AllDigits 10 digits.now }
     ensures { MatchOption result (limit < digits_value 10 digits.now) (λ size. (size ≡ digits_value 10 digits.now) × (size ≤ limit)) }
 {
@@ -172,13 +171,9 @@ pub fn whole_number(text: &[u8], limit: i64) -> Whole
     }
 }
 
-/// A text is at most one whole number.
-pub fn whole_number_is_one()
+/// A text is at most one whole number; and a number as it is written by `Display` is a numeral, and stands for the number.
+pub fn numerals_tell_numbers()
     ensures numeral { (text : List ℕ) (v w : ℤ) → IsNumeral text v → IsNumeral text w → v ≡ w }
     ensures whole { (text : List ℕ) (v w : ℤ) → IsWhole text v → IsWhole text w → v ≡ w }
-{}
-
-/// A number as it is written by `Display` is a numeral, and stands for the number.
-pub fn written_number_is_numeral()
-    ensures { (z : ℤ) → unsigned_abs z < 2 ^ 64 → IsNumeral (signed_decimal z) z }
+    ensures written { (z : ℤ) → unsigned_abs z < 2 ^ 64 → IsNumeral (signed_decimal z) z }
 {}

@@ -25,7 +25,7 @@ ghost use Rattle.edr_base.specs.Limits.{count_limit};
 use std::alloc::{AllocError, AllocFailed};
 
 /// A fault of the outside.
-#[derive(Clone, Copy, Debug, PartialEq, Eq)]
+#[derive(Clone, Copy)]
 pub struct Failed;
 
 /// Why a call on the outside did nothing.

@@ -9,7 +9,7 @@ use crate::outside::{Failed, Source};
 use std::alloc::{AllocError, Global};
 
 /// Why a source wasn't read whole.
-#[derive(Clone, Copy, Debug, PartialEq, Eq)]
+#[derive(Clone, Copy)]
 pub enum ReadStop {
     /// The source failed, and counted it.
     ReadFault,

@@ -9,7 +9,7 @@ ghost use Rattle.edr_base.specs.Calls.{Reads, SourceLent, Opened, asked_after, C
 ghost use Rattle.edr_base.specs.Untold.{untold_aside};
 ghost use Rattle.edr_base.specs.Limits.{count_limit};
 
-use crate::adapters::{one_more, read_from};
+use crate::counted::{one_more, read_from};
 use crate::outside::{Failed, Faults, Files, Source, Stop};
 use std::fs::File;
 use std::io::{ErrorKind, Read};
@@ -88,13 +88,7 @@ impl<R: std::rt::Files + Drop> Source for RealFiles<R> {
         if buf.is_empty() {
             return Ok(0);
         }
-        match read_from(file, buf) {
-            Ok(count) => Ok(count),
-            Err(Failed) => {
-                self.faults = one_more(self.faults);
-                Err(Failed)
-            }
-        }
+        read_from(file, buf, &mut self.faults)
     }
 }
 

@@ -9,7 +9,7 @@ ghost use Rattle.edr_base.specs.Calls.{Reads, Appended, Flushed, SourceLent, Sin
 ghost use Rattle.edr_base.specs.Untold.{untold_aside, untold_beside};
 ghost use Rattle.edr_base.specs.Limits.{count_limit};
 
-use crate::adapters::{flush_of, one_more, read_from, write_to};
+use crate::counted::{flush_of, one_more, read_from, write_to};
 use crate::outside::{Failed, Faults, Link, Sink, Source, Stop};
 use std::io::ErrorKind;
 use std::net::{Net, TcpStream};
@@ -98,13 +98,7 @@ impl<R: Net + Drop> Source for RealLink<R> {
         if buf.is_empty() {
             return Ok(0);
         }
-        match read_from(stream, buf) {
-            Ok(count) => Ok(count),
-            Err(Failed) => {
-                self.faults = one_more(self.faults);
-                Err(Failed)
-            }
-        }
+        read_from(stream, buf, &mut self.faults)
     }
 }
 
@@ -144,13 +138,7 @@ impl<R: Net + Drop> Sink for RealLink<R> {
         let Some(stream) = &mut self.stream else {
             return Err(Stop::OutOfMemory);
         };
-        match write_to(stream, piece) {
-            Ok(count) => Ok(count),
-            Err(Failed) => {
-                self.faults = one_more(self.faults);
-                Err(Stop::Failed)
-            }
-        }
+        write_to(stream, piece, &mut self.faults)
     }
 
     fn flush(&mut self) -> Result<(), Stop>
@@ -172,13 +160,7 @@ impl<R: Net + Drop> Sink for RealLink<R> {
         let Some(stream) = &mut self.stream else {
             return Ok(());
         };
-        match flush_of(stream) {
-            Ok(()) => Ok(()),
-            Err(Failed) => {
-                self.faults = one_more(self.faults);
-                Err(Stop::Failed)
-            }
-        }
+        flush_of(stream, &mut self.faults)
     }
 }
 

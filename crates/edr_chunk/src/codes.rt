@@ -54,8 +54,8 @@ pub fn samples_to<W: Width>(codes: &[W], place: usize, floor: i64, into: &mut [O
     }
 }
 
-/// The sample of one of some codes. It takes no memory.
-pub fn sample_in<W: Width>(codes: &[W], place: usize, floor: i64) -> Option<i64>
+// The sample of one of some codes.
+fn sample_in<W: Width>(codes: &[W], place: usize, floor: i64) -> Option<i64>
     requires floor { IsFloor floor }
     requires place { place < length codes.now }
     ensures { result ≡ slice_index_or (map (W.sample floor) codes.now) place None }

@@ -4,14 +4,12 @@ ghost use Rattle.edr_chunk.specs.Places.{IsShape};
 ghost use Rattle.edr_chunk.specs.LawsOfPlaces.{PlacesAreListed, ReadsByNumber, ReadsWhole, AgreesWithin, TilesAreNumbered, TilesHavePlaces, SidesAreSmall};
 
 /// The list of all places of a shape has each place within it once, at its number, and no other place.
-pub fn places_are_listed()
-    ensures { (shape : GridShape) → PlacesAreListed shape }
-{}
-
+///
 /// A list of one value for each place of a shape, in the order of the places, and a function from places to values are told
 /// by each other. The list that a function gives has at a place's number the function's value there; a list that is read at
 /// the number of each place in turn is the list again; and functions that agree on each place within the shape give one list.
 pub fn values_stand_by_number<A>()
+    ensures listed { (shape : GridShape) → PlacesAreListed shape }
     ensures reads { ReadsByNumber A }
     ensures whole { ReadsWhole A }
     ensures agrees { AgreesWithin A }

@@ -15,10 +15,7 @@ mod tile_numbers;
 mod tiles;
 mod widths;
 
-pub use laws::{
-    places_are_listed, sides_are_small, tiles_are_numbered, tiles_have_places,
-    values_stand_by_number,
-};
+pub use laws::{sides_are_small, tiles_are_numbered, tiles_have_places, values_stand_by_number};
 pub use packed::Packed;
 pub use packed_grid::PackedGrid;
 pub use packers::GridPacker;

@@ -5,8 +5,8 @@ ghost use Rattle.edr_base.specs.Limits.{IsSample, AreSamples};
 ghost use Rattle.edr_chunk.specs.Codes.{IsFloor, AreBetween};
 ghost use Rattle.edr_chunk.specs.KeptCodes.{samples};
 
-use crate::codes::{codes_of, sample_in, samples_of, samples_to};
-use crate::spans::{Span, are_all, span_of};
+use crate::codes::{codes_of, samples_of, samples_to};
+use crate::spans::{are_all, span_of};
 use edr_base::OutOfMemory;
 use std::alloc::Global;
 use std::marker::Model;
@@ -57,21 +57,13 @@ impl Packed {
                     count: values.len(),
                 },
             }),
-            _ => Packed::coded(alloc, values, span_of(values)),
+            _ => {
+                let span = span_of(values);
+                let floor = span.least - 1;
+                let codes = codes_from(alloc, values, floor, span.greatest)?;
+                Ok(Packed { floor, codes })
+            }
         }
-    }
-
-    // A list of samples as codes of one width.
-    fn coded(alloc: Global, values: &[Option<i64>], span: Span) -> Result<Packed, OutOfMemory>
-        requires samples { AreSamples values.now }
-        requires least { IsSample span.least }
-        requires greatest { IsSample span.greatest }
-        requires between { AreBetween span.least span.greatest values.now }
-        ensures { IfOk result (λ packed. packed ≡ values.now) }
-    {
-        let floor = span.least - 1;
-        let codes = codes_from(alloc, values, floor, span.greatest)?;
-        Ok(Packed { floor, codes })
     }
 
     /// The list, or want of memory.
@@ -101,21 +93,6 @@ impl Packed {
             Codes::Triples(codes) => samples_to(codes, place, self.floor, into),
             Codes::Words(codes) => samples_to(codes, place, self.floor, into),
             Codes::Whole(numbers) => samples_to(numbers, place, self.floor, into),
-        }
-    }
-
-    /// The sample at a place of the list. It takes no memory.
-    pub(crate) fn sample_at(&self, place: usize) -> Option<i64>
-        requires { place < length self.now }
-        ensures { result ≡ slice_index_or self.now place None }
-    {
-        match &self.codes {
-            Codes::Same { value, count: _ } => *value,
-            Codes::Bytes(codes) => sample_in(codes, place, self.floor),
-            Codes::Pairs(codes) => sample_in(codes, place, self.floor),
-            Codes::Triples(codes) => sample_in(codes, place, self.floor),
-            Codes::Words(codes) => sample_in(codes, place, self.floor),
-            Codes::Whole(numbers) => sample_in(numbers, place, self.floor),
         }
     }
 }

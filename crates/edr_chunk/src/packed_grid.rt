@@ -6,7 +6,6 @@ ghost use Rattle.edr_chunk.specs.Tiles.{tiles, tile_of, IsTile};
 ghost use Rattle.edr_chunk.specs.KeptTiles.{stored, IsPacked};
 ghost use Rattle.edr_base.specs.Limits.{AreSamples};
 
-use crate::reads::open_shared;
 use crate::shared::SharedPacked;
 use crate::tile_numbers::{nodes_of, place_of, tile_number, tile_shape_of, tiles_in};
 use crate::tiles::tile_from;
@@ -101,7 +100,8 @@ impl PackedGrid {
         ensures read { OnOk result (reads.new ≡ reads.old ++ tile ∷ []) }
         ensures err { OnErr result (reads.new ≡ reads.old) }
     {
-        let samples = open_shared(&self.kept[tile as usize], tile, reads)?;
+        let samples = self.kept[tile as usize].share()?;
+        reads.append(tile)?;
         let corner = place_of(tile_shape_of(self.shape), tile);
         Ok(tile_from(self.shape, corner, samples))
     }

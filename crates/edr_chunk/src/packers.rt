@@ -115,7 +115,9 @@ fn packed_tiles(
     let mut kept = Vec::new(alloc);
     for tile in 0..tiles {
         let part = cut(alloc, shape, values, place_of(coarse, tile))?;
-        kept.push(SharedPacked::of(alloc, Packed::pack(alloc, &part)?)?)?;
+        let packed = Packed::pack(alloc, &part)?;
+        drop(part);
+        kept.push(SharedPacked::of(alloc, packed)?)?;
     }
     Ok(kept)
 }

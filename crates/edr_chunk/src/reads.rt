@@ -2,7 +2,6 @@
 ghost use Rattle.std.specs.Prelude.{◌≡◌, ◌++◌, ◌∷◌, [], IfOk, OnOk, OnErr};
 
 use crate::Packed;
-use crate::shared::SharedPacked;
 use edr_base::OutOfMemory;
 use std::alloc::Global;
 use std::marker::Model;
@@ -43,8 +42,7 @@ impl Reads {
         ensures ok { OnOk result (self.new ≡ self.old ++ number ∷ []) }
         ensures err { OnErr result (self.new ≡ self.old) }
     {
-        self.numbers.push(number)?;
-        Ok(())
+        Ok(self.numbers.push(number)?)
     }
 }
 
@@ -62,20 +60,4 @@ pub fn open_packed(
     let samples = packed.unpack(alloc)?;
     reads.append(number)?;
     Ok(samples)
-}
-
-/// A tile's packed list, shared, or want of memory. The tile's number is appended to `reads`, which want of memory leaves as it
-/// was.
-pub(crate) fn open_shared(
-    packed: &SharedPacked,
-    tile: u64,
-    reads: &mut Reads,
-) -> Result<SharedPacked, OutOfMemory>
-    ensures ok { IfOk result (λ shared. shared ≡ packed.now) }
-    ensures read { OnOk result (reads.new ≡ reads.old ++ tile ∷ []) }
-    ensures err { OnErr result (reads.new ≡ reads.old) }
-{
-    let shared = packed.share()?;
-    reads.append(tile)?;
-    Ok(shared)
 }

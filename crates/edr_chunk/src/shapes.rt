@@ -6,7 +6,7 @@ ghost use Rattle.edr_chunk.specs.Places as places;
 
 /// How many parameters, times, levels, rows and columns the values of a grid have: each at least one, and one level where
 /// there is no axis of levels. Values are in the order parameter, t, z, y, x, the last fastest (OGC 21-069r2, NdArray objects).
-#[derive(Clone, Copy, Debug, PartialEq, Eq)]
+#[derive(Clone, Copy)]
 pub struct GridShape {
     /// The parameters.
     pub parameters: u64,
@@ -21,7 +21,7 @@ pub struct GridShape {
 }
 
 /// A place of a grid's values; each number counts from 0.
-#[derive(Clone, Copy, Debug, PartialEq, Eq)]
+#[derive(Clone, Copy, Debug)]
 pub struct GridPlace {
     /// The place of the parameter.
     pub parameter: u64,

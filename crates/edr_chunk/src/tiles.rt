@@ -32,8 +32,9 @@ impl Tile {
         requires { LiesIn self.now row column }
         ensures { result ≡ value_in self.now row column }
     {
-        let place = (row - self.row) as u64 * self.width as u64 + (column - self.column) as u64;
-        self.samples.packed().sample_at(place as usize)
+        let mut only = [None];
+        self.copy_row(row, column, &mut only);
+        only[0]
     }
 
     /// Puts the samples of a row of the grid, from a column on, into a list, as many as it has; None for a missing one. It

@@ -152,22 +152,7 @@ fn joined<T: Drop>(
 }
 
 // A tree of the items before one, it, those between it and another, the other, and those behind that: what is between
-// stands at the front.
-fn joined_to_front<T: Drop>(
-    alloc: Global,
-    before: Tree<T>,
-    item: Arc<T>,
-    inner: Tree<T>,
-    top: Arc<T>,
-    outer: Tree<T>,
-) -> Result<Tree<T>, OutOfMemory>
-    ensures { IfOk result (λ tree. tree ≡ before ++ arc_value item ∷ inner ++ arc_value top ∷ outer) }
-{
-    let front = joined(alloc, before, item, inner)?;
-    joined(alloc, front, top, outer)
-}
-
-// The same, but what is between stands at the back.
+// stands at the back.
 fn joined_to_back<T: Drop>(
     alloc: Global,
     before: Tree<T>,
@@ -187,14 +172,14 @@ fn divided<T: Drop>(
     alloc: Global,
     before: Tree<T>,
     item: Arc<T>,
-    inner: Tree<T>,
+    inner: &Tree<T>,
     top: Arc<T>,
     outer: Tree<T>,
 ) -> Result<Tree<T>, OutOfMemory>
-    ensures { IfOk result (λ tree. tree ≡ before ++ arc_value item ∷ inner ++ arc_value top ∷ outer) }
+    ensures { IfOk result (λ tree. tree ≡ before ++ arc_value item ∷ inner.now ++ arc_value top ∷ outer) }
 {
     let Some((low, middle, high)) = inner.parts()? else {
-        return joined_to_back(alloc, before, item, inner, top, outer);
+        return joined_to_back(alloc, before, item, Tree::empty(), top, outer);
     };
     let front = joined(alloc, before, item, low)?;
     joined_to_back(alloc, front, middle, high, top, outer)
@@ -205,36 +190,37 @@ fn turned_to_front<T: Drop>(
     alloc: Global,
     before: Tree<T>,
     item: Arc<T>,
-    behind: Tree<T>,
+    behind: &Tree<T>,
 ) -> Result<Tree<T>, OutOfMemory>
-    ensures { IfOk result (λ tree. tree ≡ before ++ arc_value item ∷ behind) }
+    ensures { IfOk result (λ tree. tree ≡ before ++ arc_value item ∷ behind.now) }
 {
     let Some((inner, top, outer)) = behind.parts()? else {
-        return joined(alloc, before, item, behind);
+        return joined(alloc, before, item, Tree::empty());
     };
     if inner.weight() < outer.weight().saturating_mul(2) {
-        joined_to_front(alloc, before, item, inner, top, outer)
+        let front = joined(alloc, before, item, inner)?;
+        joined(alloc, front, top, outer)
     } else {
-        divided(alloc, before, item, inner, top, outer)
+        divided(alloc, before, item, &inner, top, outer)
     }
 }
 
 // The same, where the side before the item weighs too much: it gives up its back.
 fn turned_to_back<T: Drop>(
     alloc: Global,
-    before: Tree<T>,
+    before: &Tree<T>,
     item: Arc<T>,
     behind: Tree<T>,
 ) -> Result<Tree<T>, OutOfMemory>
-    ensures { IfOk result (λ tree. tree ≡ before ++ arc_value item ∷ behind) }
+    ensures { IfOk result (λ tree. tree ≡ before.now ++ arc_value item ∷ behind) }
 {
     let Some((outer, top, inner)) = before.parts()? else {
-        return joined(alloc, before, item, behind);
+        return joined(alloc, Tree::empty(), item, behind);
     };
     if inner.weight() < outer.weight().saturating_mul(2) {
         joined_to_back(alloc, outer, top, inner, item, behind)
     } else {
-        divided(alloc, outer, top, inner, item, behind)
+        divided(alloc, outer, top, &inner, item, behind)
     }
 }
 
@@ -249,9 +235,9 @@ fn balanced<T: Drop>(
 {
     let (front, back) = (before.weight(), behind.weight());
     if back > front.saturating_mul(3) {
-        turned_to_front(alloc, before, item, behind)
+        turned_to_front(alloc, before, item, &behind)
     } else if front > back.saturating_mul(3) {
-        turned_to_back(alloc, before, item, behind)
+        turned_to_back(alloc, &before, item, behind)
     } else {
         joined(alloc, before, item, behind)
     }
@@ -301,9 +287,10 @@ impl<T: Drop> Tree<T> {
     fn followed_by(&self, alloc: Global, behind: &Tree<T>) -> Result<Tree<T>, OutOfMemory>
         ensures { IfOk result (λ tree. tree ≡ self.now ++ behind.now) }
     {
+        let front = self.share()?;
         match behind.first_and_others(alloc)? {
-            None => self.share(),
-            Some((first, others)) => balanced(alloc, self.share()?, first, others),
+            None => Ok(front),
+            Some((first, others)) => balanced(alloc, front, first, others),
         }
     }
 }

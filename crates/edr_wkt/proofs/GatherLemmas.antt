@@ -1,6 +1,6 @@
 -- What a loop over the items of a list has gathered.
 use Rattle.std.proofs.Common.{◌≡◌, ℕ, subst, ◌+◌, ◌<◌, ◌≤◌, min, Bool, false, List, [], ◌∷◌, ◌++◌, length, map, refl, sym, ap, ap₂, ◌∙◌, arith}
-use Rattle.std.proofs.Common.{Result, Err}
+use Rattle.std.proofs.Common.{Result, Ok, Err}
 use Rattle.std.specs.List.{sum_by}
 use Rattle.std.specs.Prelude.{IsErr}
 use Rattle.std.specs.Result.{IsErrAnd}
@@ -163,3 +163,7 @@ passed_on {T} r e h = let p = err_from_is_err_and r h.1 in p.1 ∙ ap (error T) 
 
 pub passed_back : {T U E : Type 0} (r : Result T E) (e f : E) → IsErr r × IsErrAnd r (λ g. g ≡ e) → r ≡ Err f → error U e ≡ error U f
 passed_back {T} {U} r e f h is = ap (error U) (same-error {T = T} e f (sym (passed_on r e h) ∙ is))
+
+-- an answer is no error
+pub no_error : {T E : Type 0} (x : T) (e : E) → ¬ (Ok x ≡ error T e)
+no_error x e same = cc

@@ -1,5 +1,5 @@
 //! The brackets of each kind of geometry.
-ghost use Rattle.std.specs.Prelude.{◌≡◌, ◌+◌, ◌≤◌, ◌∷◌, [], if◌then◌else◌, IfOk, Err};
+ghost use Rattle.std.specs.Prelude.{◌≡◌, ◌+◌, ◌≤◌, if◌then◌else◌, IfOk, Err};
 ghost use Rattle.edr_base.specs.Limits.{position_limit};
 ghost use Rattle.edr_wkt.specs.declared.headings.Kind.TheVariants as k;
 ghost use Rattle.edr_wkt.specs.BodyReads.{IsBodyRead, HasNoBody};
@@ -7,8 +7,8 @@ ghost use Rattle.edr_wkt.specs.BodyReads.{IsBodyRead, HasNoBody};
 use crate::areas::{read_polygons, read_rings};
 use crate::geometry::{Geometry, Polygon};
 use crate::headings::{Heading, Kind};
-use crate::lists::{Stop, read_positions};
-use edr_base::{Items, OutOfMemory};
+use crate::lists::{Stop, keep, read_positions};
+use edr_base::Items;
 use std::alloc::Global;
 
 // A line has at least so many positions.
@@ -86,15 +86,6 @@ fn read_multi_polygon<'a>(
     Ok((geometry, rest))
 }
 
-// The list of one polygon.
-fn listed(alloc: Global, polygon: Polygon) -> Result<Items<Polygon>, OutOfMemory>
-    ensures { IfOk result (λ list. list ≡ polygon ∷ []) }
-{
-    let mut polygons = Vec::new(alloc);
-    polygons.push(polygon)?;
-    Ok(Items::of(polygons))
-}
-
 // The inside of POLYGON.
 fn read_one_polygon<'a>(
     alloc: Global,
@@ -108,12 +99,13 @@ fn read_one_polygon<'a>(
     ensures not_wkt { result ≡ Err Stop.NotWkt → HasNoBody k.Polygon has_z has_m text.now }
 {
     let (rings, rest) = read_rings(alloc, has_z, has_m, text, count)?;
-    let polygons = listed(alloc, Polygon { rings })?;
+    let mut polygons = Vec::new(alloc);
+    keep(&mut polygons, Polygon { rings }, 0)?;
     let geometry = Geometry::Polygons {
         multi: false,
         has_z,
         has_m,
-        polygons,
+        polygons: Items::of(polygons),
     };
     Ok((geometry, rest))
 }

@@ -27,20 +27,13 @@ fn copy_rings(
     Ok(Items::of(copies))
 }
 
-fn copy_polygon(alloc: Global, polygon: &Polygon) -> Result<Polygon, OutOfMemory>
-    ensures { IfOk result (λ copy. copy ≡ polygon.now) }
-{
-    Ok(Polygon {
-        rings: copy_rings(alloc, polygon.rings.items())?,
-    })
-}
-
 fn copy_polygons(alloc: Global, polygons: &[Polygon]) -> Result<Items<Polygon>, OutOfMemory>
     ensures { IfOk result (λ copy. copy ≡ polygons.now) }
 {
     let mut copies = Vec::new(alloc);
     for polygon in polygons {
-        copies.push(copy_polygon(alloc, polygon)?)?;
+        let rings = copy_rings(alloc, polygon.rings.items())?;
+        copies.push(Polygon { rings })?;
     }
     Ok(Items::of(copies))
 }

@@ -1,7 +1,6 @@
 //! Lists of positions.
-ghost use Rattle.std.specs.Prelude.{◌≡◌, ◌≤◌, ◌<◌, ◌++◌, ◌∷◌, [], min, ◌+◌, IfOk, OnOk, Err};
+ghost use Rattle.std.specs.Prelude.{◌≡◌, ◌≤◌, ◌<◌, ◌++◌, ◌∷◌, [], ◌+◌, IfOk, OnOk, Err};
 ghost use Rattle.edr_base.specs.Limits.{position_limit};
-ghost use Rattle.edr_wkt.specs.Kept.{counted};
 ghost use Rattle.edr_wkt.specs.Grammar.{IsMember};
 ghost use Rattle.edr_wkt.specs.Reads.{ArePositions, HasNoItems};
 
@@ -10,8 +9,10 @@ use crate::words::read_mark;
 use edr_base::{Items, OutOfMemory, POSITION_LIMIT, Position};
 use std::alloc::Global;
 
+// Positions are counted up to one beyond the limit.
+const MOST_COUNTED: usize = POSITION_LIMIT + 1;
+
 /// Why a piece wasn't read.
-#[derive(Clone, Copy)]
 pub enum Stop {
     /// The text isn't in the grammar.
     NotWkt,
@@ -27,25 +28,6 @@ impl From<OutOfMemory> for Stop {
     fn from(_: OutOfMemory) -> Stop {
         Stop::OutOfMemory
     }
-}
-
-/// One position more, up to one beyond the limit.
-pub fn counted(count: usize) -> usize
-    requires { count ≤ position_limit + 1 }
-    ensures { result ≡ counted count 1 }
-{
-    if count <= POSITION_LIMIT {
-        count + 1
-    } else {
-        count
-    }
-}
-
-// One item more, up to four.
-fn longer(len: usize) -> usize
-    ensures { result ≡ min (len + 1) 4 }
-{
-    if len < 4 { len + 1 } else { 4 }
 }
 
 /// Keeps an item behind the others, unless the count of positions is beyond the limit.
@@ -73,14 +55,14 @@ pub fn read_positions<'a>(
     ensures not_wkt { result ≡ Err Stop.NotWkt → HasNoItems (IsMember multi has_z has_m) text.now }
 {
     let mut positions = Vec::new(alloc);
-    let mut len = 0;
+    let mut len: usize = 0;
     let mut rest = text;
     'members: loop {
         let Some((position, after)) = read_member(multi, has_z, has_m, rest) else {
             return Err(Stop::NotWkt);
         };
-        *count = counted(*count);
-        len = longer(len);
+        *count = count.saturating_add(1).min(MOST_COUNTED);
+        len = len.saturating_add(1).min(4);
         keep(&mut positions, position, *count)?;
         let Some((mark, next)) = read_mark(after) else {
             return Err(Stop::NotWkt);

@@ -21,13 +21,14 @@ pub fn read_wkt(alloc: Global, text: &[u8]) -> Result<Geometry, WktFault>
     };
     let mut count = 0;
     let (geometry, rest) = read_body(alloc, heading, inside, &mut count)?;
-    if !without_blanks(rest).is_empty() {
-        return Err(WktFault::NotWkt);
-    }
-    if count > POSITION_LIMIT {
-        return Err(WktFault::TooManyPositions);
-    }
-    match fault_of(&geometry) {
+    let fault = if !without_blanks(rest).is_empty() {
+        Some(WktFault::NotWkt)
+    } else if count > POSITION_LIMIT {
+        Some(WktFault::TooManyPositions)
+    } else {
+        fault_of(&geometry)
+    };
+    match fault {
         Some(fault) => Err(fault),
         None => Ok(geometry),
     }

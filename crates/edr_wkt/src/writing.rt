@@ -106,17 +106,6 @@ fn push_points(
     push_byte(out, b')')
 }
 
-fn push_ring(
-    out: &mut Vec<u8>,
-    has_z: bool,
-    has_m: bool,
-    ring: &[Position],
-) -> Result<(), OutOfMemory>
-    ensures { OnOk result (out.new.items ≡ out.old.items ++ ring_text has_z has_m ring.now) }
-{
-    push_points(out, false, has_z, has_m, ring)
-}
-
 fn push_rings(
     out: &mut Vec<u8>,
     has_z: bool,
@@ -127,7 +116,7 @@ fn push_rings(
 {
     for (place, ring) in rings.iter().enumerate() {
         push_comma(out, place)?;
-        push_ring(out, has_z, has_m, ring.items())?;
+        push_points(out, false, has_z, has_m, ring.items())?;
     }
     Ok(())
 }

@@ -1,17 +1,16 @@
-use Rattle.std.proofs.Common.{arith, ◌+◌}
-use Rattle.std.proofs.lemmas.Str.Parse.{digits_value-take-le}
-use Rattle.edr_base.proofs.DigitLemmas.{digit_more}
+use Rattle.std.proofs.Common.{◌≡◌, ℕ, ◌^◌, ◌<◌, ◌≤◌, Option, Some, None, arith}
+use Rattle.std.specs.Prelude.{MatchOption}
+use Rattle.edr_base.proofs.DigitLemmas.{all_digits}
 use Rattle.edr_base.proofs.digits.value_of_digits.Goals as goal
 
-pub overflow_sub-next : goal.overflow_sub-next
-overflow_sub-next c = (digit_more c.args.digits.now c.loop-digit.digit-index c.requires c.loop-digit-test.true).0
+-- what isn't above the greatest number of 64 bits is held by them
+in_64_bits : (found : Option ℕ) (value : ℕ) → MatchOption found (18_446_744_073_709_551_615 < value) (λ size. (size ≡ value) × (size ≤ 18_446_744_073_709_551_615))
+    → MatchOption found (2 ^ 64 ≤ value) (λ size. (size ≡ value) × (size < 2 ^ 64))
+in_64_bits None value h = omega (arith, h)
+in_64_bits (Some size) value h = (h.0, omega (arith, h.1))
 
-pub returns-then-next : goal.returns-then-next
-returns-then-next c =
-    let more = digit_more c.args.digits.now c.loop-digit.digit-index c.requires c.loop-digit-test.true in
-    omega (arith, more.1, digits_value-take-le 10 c.args.digits.now (c.loop-digit.digit-index + 1) (omega arith))
+pub size_within-requires : goal.size_within-requires
+size_within-requires c = all_digits c.args.digits.now c.requires
 
-pub loop-digit-preserved : goal.loop-digit-preserved
-loop-digit-preserved c =
-    let more = digit_more c.args.digits.now c.loop-digit.digit-index c.requires c.loop-digit-test.true in
-    omega (arith, more.1)
+pub returns : goal.returns
+returns c = in_64_bits c.size_within.result _ c.size_within.ensures

@@ -4,7 +4,7 @@ use Rattle.edr_wkt.specs.Geometries.{polygon_size}
 use Rattle.edr_wkt.specs.Grammar.{IsMark, IsPolygon}
 use Rattle.edr_wkt.proofs.ListLemmas.{continues-none, continues-no_mark, mark-shorter}
 use Rattle.edr_wkt.proofs.MemberLemmas.{unique_polygon, shorter_polygon}
-use Rattle.edr_wkt.proofs.GatherLemmas.{passed_back, added-from, collects-next, collects-end, none-mark, other-mark}
+use Rattle.edr_wkt.proofs.GatherLemmas.{passed_back, added-from, collects-next, collects-end, none-mark, other-mark, no_error}
 use Rattle.edr_wkt.proofs.areas.read_polygons.Goals as goal
 
 pub returns-in_err-polygon-clause-not_wkt : goal.returns-in_err-polygon-clause-not_wkt
@@ -47,3 +47,6 @@ polygons-preserved c =
     c.polygons.rest.now c.in_ok-polygon.after.now c.in_ok-polygon.polygon c.polygons.invariant.0 c.in_ok-polygon.ensures.read c.in_ok-keep.ensures.kept in
     let P : ℕ → Type 0 = λ mark. IsMark mark c.in_ok-polygon.after.now c.in-Some.next.now in
     (collects-next _ _ _ _ _ _ _ _ _ _ (unique_polygon _ _) added (subst P c.if-mark-ne44.false c.in-Some.ensures.1), omega (arith, c.in_ok-polygon.ensures.read.after_is))
+
+pub returns-then-mark-eq41-clause-not_wkt : goal.returns-then-mark-eq41-clause-not_wkt
+returns-then-mark-eq41-clause-not_wkt c = λ e. absurd (no_error _ _ e)

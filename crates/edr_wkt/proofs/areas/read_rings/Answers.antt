@@ -3,7 +3,7 @@ use Rattle.edr_wkt.specs.Kept.{kept}
 use Rattle.edr_wkt.specs.Grammar.{IsMark, IsRing}
 use Rattle.edr_wkt.proofs.ListLemmas.{continues-none, continues-no_mark, mark-shorter}
 use Rattle.edr_wkt.proofs.MemberLemmas.{unique_ring, shorter_ring}
-use Rattle.edr_wkt.proofs.GatherLemmas.{passed_back, added-from, collects-next, collects-end, none-mark, other-mark}
+use Rattle.edr_wkt.proofs.GatherLemmas.{passed_back, added-from, collects-next, collects-end, none-mark, other-mark, no_error}
 use Rattle.edr_wkt.proofs.areas.read_rings.Goals as goal
 
 pub returns-in_err-ring-clause-not_wkt : goal.returns-in_err-ring-clause-not_wkt
@@ -46,3 +46,6 @@ rings-preserved c =
     c.rings.rest.now c.in_ok-ring.after.now c.in_ok-ring.ring c.rings.invariant.0 c.in_ok-ring.ensures.read c.in_ok-keep.ensures.kept in
     let P : ℕ → Type 0 = λ mark. IsMark mark c.in_ok-ring.after.now c.in-Some.next.now in
     (collects-next _ _ _ _ _ _ _ _ _ _ (unique_ring _ _) added (subst P c.if-mark-ne44.false c.in-Some.ensures.1), omega (arith, c.in_ok-ring.ensures.read.after_is))
+
+pub returns-then-mark-eq41-clause-not_wkt : goal.returns-then-mark-eq41-clause-not_wkt
+returns-then-mark-eq41-clause-not_wkt c = λ e. absurd (no_error _ _ e)

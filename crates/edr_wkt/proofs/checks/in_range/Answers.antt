@@ -1,6 +1,7 @@
 use Rattle.std.proofs.Common.{ℤ, pos, neg_ℤ, ◌≤ℤ◌, ◌≤◌, FitsSigned, w64, rules}
 use Rattle.std.specs.Int.RustNames.{unsigned_abs}
-use Rattle.edr_base.specs.TestLaws.{holds}
+use Rattle.std.proofs.lemmas.Bool.{false≢true}
+use Rattle.edr_base.specs.TestLaws.{holds, fails}
 use Rattle.edr_wkt.proofs.CheckLemmas.{passed, passed-back}
 use Rattle.edr_wkt.proofs.checks.in_range.Goals as goal
 
@@ -22,3 +23,10 @@ returns c =
       },
       λ r. c.is_time.ensures.1 (passed-back Time p.m fm (r.m_from, r.m_to)),
     )
+
+pub returns-then-not-is_within-3 : goal.returns-then-not-is_within-3
+returns-then-not-is_within-3 c =
+    let p = c.args.p.now in
+    let fits : FitsSigned w64 p.z = search rules in
+    let Within : ℤ → Type 0 = λ n. unsigned_abs n ≤ 100000000 in
+    (λ e. absurd (false≢true e), λ r. absurd (fails _ _ c.is_within-3.ensures c.if-not-is_within-3.true (passed-back Within p.z fits r.z)))

@@ -1,6 +1,6 @@
 use Rattle.std.proofs.Common.{Some, Ok, not, refl, sym, ap, ◌∙◌}
 use Rattle.std.proofs.lemmas.Bool.{false≢true}
-use Rattle.edr_base.proofs.PlanLemmas.{plan_kept, plan_failed, rose_by, later_same, later_by, is_failed, is_wanting, no_more, taken, cut_off, no_room, some_room}
+use Rattle.edr_base.proofs.PlanLemmas.{plan_kept, plan_failed, rose_by, later_same, later_by, is_failed, is_wanting, no_more, taken, cut_off, no_room, no_some, some_room}
 use Rattle.edr_base.proofs.memory_link.MemoryLinkSink.write.Goals as goal
 
 pub returns : goal.returns
@@ -78,3 +78,7 @@ returns-in_err-extend_from_slice c =
       plan = plan_kept _ old.plan c.strikes-fails.new.self (λ e. false≢true (ap is_failed e)) s.fails s.calls s.faults;
       kept_cut = refl;
     })
+
+pub returns-then-is_empty-clause-fails : goal.returns-then-is_empty-clause-fails
+returns-then-is_empty-clause-fails c =
+    (λ e. absurd (false≢true (ap is_failed e)), λ w. absurd (no_some _ c.if-is_empty.ensures w.1))

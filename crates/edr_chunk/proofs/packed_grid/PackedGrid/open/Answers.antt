@@ -26,7 +26,7 @@ returns-clause-ok c =
     let below : k < length kept = search rules in
     let w = subst (λ (s : GridShape). Within s corner) c.tile_shape_of.ensures.tiles c.place_of-corner.ensures.within in
     let n = subst (λ (s : GridShape). number s corner ≡ k) c.tile_shape_of.ensures.tiles c.place_of-corner.ensures.number in
-    let read : c.in_ok-samples.samples ≡ get_or kept k [] = c.in_ok-samples.ensures.ok ∙ c.index.ensures ∙ get_or_default kept k c.index.result.now [] below in
+    let read : c.in_ok-samples.samples ≡ get_or kept k [] = c.in_ok-samples.ensures ∙ c.index.ensures ∙ get_or_default kept k c.index.result.now [] below in
     let made : c.tile_from.result ≡ cut_at s corner (get_or kept k []) = c.tile_from.ensures ∙ ap (cut_at s corner) read in
     subst (λ (g : Values). IsTile g k c.tile_from.result) c.self.view_is
     (subst (λ (t : TileValue). IsTile (view_at s kept) k t) (sym made) (opened s kept k corner c.self.invariant w n))

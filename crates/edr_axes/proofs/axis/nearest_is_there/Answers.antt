@@ -1,5 +1,0 @@
-use Rattle.edr_axes.specs.AxisLaws.{nearest_is_there}
-use Rattle.edr_axes.proofs.axis.nearest_is_there.Goals as goal
-
-pub returns : goal.returns
-returns c = nearest_is_there
