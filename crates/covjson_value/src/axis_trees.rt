@@ -106,7 +106,7 @@ fn push_tuple(
     requires { All (λ name. IsAxisValue name (domains.coordinate name tuple.now)) names.now }
     ensures { OnOk result (map view items.new.items ≡ map view items.old.items ++ tuple_data names.now tuple.now ∷ []) }
 {
-    let mut values = Vec::with_capacity(alloc, names.len())?;
+    let mut values = Vec::new(alloc);
     for name in names {
         push_axis_value(&mut values, alloc, *name, coordinate(tuple, *name))?;
     }
@@ -142,7 +142,7 @@ pub fn put_coordinates(
     ensures { OnOk result (members_view members.new.entries
         ≡ put (codes "coordinates") (keys_data names.now) (members_view members.old.entries)) }
 {
-    let mut items = Vec::with_capacity(alloc, names.len())?;
+    let mut items = Vec::new(alloc);
     for name in names {
         push_text(&mut items, alloc, name.letter())?;
     }
