@@ -56,9 +56,9 @@ returns-in_ok-push_connection-3 c =
     let before = horizontal_pushed _ c.push_connection.new.items.items _ _ c.args.referencing.now.crs c.requires.empty c.in_ok-push_connection.ensures c.in_ok-horizontal.ensures c.name_of.ensures in
     let levels : map view c.if-has.items.items ≡ horizontal_data c.args.referencing.now.crs ∷ given_item (has_coordinate c.args.domain.now Z) (vertical_data c.args.referencing.now.vertical) =
     elim c.if-has.branch [
-      then-has+in_ok-vertical+in_ok-push_connection-2 w ↦ ap (λ v. map view v.items) w.items-is
+      | then-has+in_ok-vertical+in_ok-push_connection-2 w ↦ ap (λ v. map view v.items) w.items-is
           ∙ vertical_pushed _ _ _ c.push_connection.new.items.items _ _ _ (sym w.if-has.true ∙ c.has.ensures) before w.in_ok-push_connection-2.ensures w.in_ok-vertical.ensures w.name_where_given-name.ensures
-    | else-has w ↦ ap (λ v. map view v.items) w.items-is ∙ vertical_left _ _ _ _ (sym w.if-has.false ∙ c.has.ensures) before
+      | else-has w ↦ ap (λ v. map view v.items) w.items-is ∙ vertical_left _ _ _ _ (sym w.if-has.false ∙ c.has.ensures) before
     ] in
     ap (λ ds. array (items_of ds)) (temporal_pushed _ _ _ _ c.if-has.items.items _ (sym c.if-has-2.true ∙ c.has-2.ensures) levels c.in_ok-push_connection-3.ensures c.in_ok-temporal.ensures)
     ∙ listed (has_coordinate c.args.domain.now Z) (has_coordinate c.args.domain.now T) (horizontal_data c.args.referencing.now.crs) (vertical_data c.args.referencing.now.vertical) temporal_data
@@ -68,9 +68,9 @@ returns-else-has-2 c =
     let before = horizontal_pushed _ c.push_connection.new.items.items _ _ c.args.referencing.now.crs c.requires.empty c.in_ok-push_connection.ensures c.in_ok-horizontal.ensures c.name_of.ensures in
     let levels : map view c.if-has.items.items ≡ horizontal_data c.args.referencing.now.crs ∷ given_item (has_coordinate c.args.domain.now Z) (vertical_data c.args.referencing.now.vertical) =
     elim c.if-has.branch [
-      then-has+in_ok-vertical+in_ok-push_connection-2 w ↦ ap (λ v. map view v.items) w.items-is
+      | then-has+in_ok-vertical+in_ok-push_connection-2 w ↦ ap (λ v. map view v.items) w.items-is
           ∙ vertical_pushed _ _ _ c.push_connection.new.items.items _ _ _ (sym w.if-has.true ∙ c.has.ensures) before w.in_ok-push_connection-2.ensures w.in_ok-vertical.ensures w.name_where_given-name.ensures
-    | else-has w ↦ ap (λ v. map view v.items) w.items-is ∙ vertical_left _ _ _ _ (sym w.if-has.false ∙ c.has.ensures) before
+      | else-has w ↦ ap (λ v. map view v.items) w.items-is ∙ vertical_left _ _ _ _ (sym w.if-has.false ∙ c.has.ensures) before
     ] in
     ap (λ ds. array (items_of ds)) (levels ∙ temporal_left _ _ temporal_data _ (sym c.if-has-2.false ∙ c.has-2.ensures))
     ∙ listed (has_coordinate c.args.domain.now Z) (has_coordinate c.args.domain.now T) (horizontal_data c.args.referencing.now.crs) (vertical_data c.args.referencing.now.vertical) temporal_data
