@@ -51,9 +51,6 @@ put_six start one two three four five new a b c d e f whole p1 p2 p3 p4 p5 p6 h 
 pub put_seven : (start one two three four five six new a b c d e f g whole : List ℕ) → one ≡ start ++ a → two ≡ one ++ b → three ≡ two ++ c → four ≡ three ++ d → five ≡ four ++ e → six ≡ five ++ f → new ≡ six ++ g → whole ≡ a ++ (b ++ (c ++ (d ++ (e ++ (f ++ g))))) → new ≡ start ++ whole
 put_seven start one two three four five six new a b c d e f g whole p1 p2 p3 p4 p5 p6 p7 h = put_six start one two three four five new a b c d e (f ++ g) whole p1 p2 p3 p4 p5 (p7 ∙ ap (λ t. t ++ g) p6 ∙ append_assoc five f g) h
 
-pub put_eight : (start one two three four five six seven new a b c d e f g i whole : List ℕ) → one ≡ start ++ a → two ≡ one ++ b → three ≡ two ++ c → four ≡ three ++ d → five ≡ four ++ e → six ≡ five ++ f → seven ≡ six ++ g → new ≡ seven ++ i → whole ≡ a ++ (b ++ (c ++ (d ++ (e ++ (f ++ (g ++ i)))))) → new ≡ start ++ whole
-put_eight start one two three four five six seven new a b c d e f g i whole p1 p2 p3 p4 p5 p6 p7 p8 h = put_seven start one two three four five six new a b c d e f (g ++ i) whole p1 p2 p3 p4 p5 p6 (p8 ∙ ap (λ t. t ++ i) p7 ∙ append_assoc six g i) h
-
 -- ---- lists
 
 or_right : (b c : Bool) → c ≡ true → (b || c) ≡ true
@@ -341,11 +338,14 @@ pub parameter_parts : (parameter : Parameter) → keyed_parameter parameter
     ++ (codes "}},\"type\":\"Parameter\"" ++ (unit_member parameter.unit ++ codes "}"))))))
 parameter_parts parameter = parameter_of parameter.id parameter.lang parameter.label parameter.unit
 
-pub parameter_put : (parameter : Parameter) (start one two three four five six seven new : List ℕ)
-    → one ≡ start ++ quoted parameter.id → two ≡ one ++ codes ":{\"observedProperty\":{\"label\":{" → three ≡ two ++ quoted parameter.lang → four ≡ three ++ codes ":" → five ≡ four ++ quoted parameter.label
-    → six ≡ five ++ codes "}},\"type\":\"Parameter\"" → seven ≡ six ++ unit_member parameter.unit → new ≡ seven ++ codes "}" → new ≡ start ++ keyed_parameter parameter
-parameter_put parameter start one two three four five six seven new p1 p2 p3 p4 p5 p6 p7 p8 =
-    put_eight start one two three four five six seven new _ _ _ _ _ _ _ _ _ p1 p2 p3 p4 p5 p6 p7 p8 (parameter_parts parameter)
+pub parameter_put : (parameter : Parameter) (start one two three four five new : List ℕ)
+    → one ≡ start ++ quoted parameter.id → two ≡ one ++ (codes ":{\"observedProperty\":{\"label\":{" ++ quoted parameter.lang) → three ≡ two ++ (codes ":" ++ quoted parameter.label)
+    → four ≡ three ++ codes "}},\"type\":\"Parameter\"" → five ≡ four ++ unit_member parameter.unit → new ≡ five ++ codes "}" → new ≡ start ++ keyed_parameter parameter
+parameter_put parameter start one two three four five new p1 p2 p3 p4 p5 p6 =
+    put_six start one two three four five new _ _ _ _ _ _ _ p1 p2 p3 p4 p5 p6 (parameter_parts parameter)
+
+pub unit_put : (unit : List ℕ) (start one new : List ℕ) → one ≡ start ++ (codes ",\"unit\":{\"symbol\":" ++ quoted unit) → new ≡ one ++ codes "}" → new ≡ start ++ unit_member (Some unit)
+unit_put unit start one new p1 p2 = put_two start one new _ _ _ p1 p2 refl
 
 -- ---- plain texts
 

@@ -17,8 +17,7 @@ fn push_name(text: &mut Vec<u8>, alloc: Global, name: &Text) -> Result<(), OutOf
     requires { IsUtf8 name.now }
     ensures { OnOk result (text.new.items ≡ text.old.items ++ (codes "\"id\":" ++ (quoted name.now ++ codes ","))) }
 {
-    push_bytes(text, b"\"id\":")?;
-    push_quoted(text, alloc, name.bytes())?;
+    push_quoted(text, alloc, b"\"id\":", name.bytes())?;
     push_bytes(text, b",")
 }
 
