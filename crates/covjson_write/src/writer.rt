@@ -89,7 +89,6 @@ impl Writer {
 
     /// Writes the beginning of a coverage, as far as its ranges. The head is the coverage, whatever its ranges are: it needs
     /// none. A domain of more values than can be counted ends as want of memory.
-    #[tactic(auto, using(crate::proofs::SendLemmas::writes_done))]
     pub fn coverage<K: Sink>(
         &mut self,
         alloc: Global,
