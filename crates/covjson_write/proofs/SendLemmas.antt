@@ -1,5 +1,5 @@
 -- Calls that write nothing.
-use Rattle.std.proofs.Common.{ℕ, List, ◌++◌, take, Option, Result, Ok, Err, IsErr, refl, append_assoc}
+use Rattle.std.proofs.Common.{ℕ, List, ◌++◌, take, Option, Result, Ok, IsErr, refl, append_assoc}
 use Rattle.std.proofs.lemmas.Result.{IfOk-from_err}
 use Rattle.json.specs.Filled.{Placed}
 use Rattle.json.proofs.Printed.Places.{Placed-then}

@@ -5,7 +5,7 @@ use Rattle.serde_json.specs.declared.value.Value.{Value}
 use Rattle.covjson_value.specs.declared.domains.CoordinateName.TheVariants.{T, Z, Y, X}
 use Rattle.covjson_value.specs.Domains.{has_coordinate}
 use Rattle.covjson_value.specs.Puts.{system_with}
-use Rattle.covjson_value.specs.Trees.{item_if, connection_data, system_data, text_if_some, horizontal_data, vertical_data, temporal_data, referencing_data}
+use Rattle.covjson_value.specs.Trees.{item_if, connection_data, system_data, text_if_some, horizontal_data, vertical_data, temporal_data}
 use Rattle.covjson_value.proofs.domain_trees.push_systems.Goals as goal
 use Rattle.covjson_value.proofs.domain_trees.push_systems.Goals.{then-has+in_ok-vertical+in_ok-push_connection-2, else-has}
 
