@@ -5,8 +5,8 @@ ghost use Rattle.serde_json.specs.Written.{compact_text};
 ghost use Rattle.covjson_value.specs.declared.domains.CoordinateName.TheVariants.{T, Z};
 ghost use Rattle.covjson_value.specs.Domains.{has_coordinate};
 ghost use Rattle.covjson_value.specs.Coverages.{IsReferencing};
-ghost use Rattle.covjson_value.specs.Trees.{text_if_some, horizontal_data, vertical_data, temporal_data, referencing_data};
-ghost use Rattle.covjson_write.specs.HeadTexts.{name_member, later_if};
+ghost use Rattle.covjson_value.specs.Trees.{horizontal_data, vertical_data, temporal_data, referencing_data};
+ghost use Rattle.covjson_write.specs.HeadTexts.{later_if};
 
 use crate::leaves::{push_bytes, push_quoted};
 use covjson_value::{CoordinateName, Domain, Referencing};
