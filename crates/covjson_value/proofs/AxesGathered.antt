@@ -1,5 +1,5 @@
 -- The data of axes of ranges, one after another.
-use Rattle.std.proofs.Common.{◌≡◌, ℤ, ◌++◌, List, Option, Some, None, map, refl, sym, ap, ◌∙◌, append_assoc}
+use Rattle.std.proofs.Common.{◌≡◌, ℤ, ◌++◌, List, Option, Some, None, map, ap, ◌∙◌, append_assoc}
 use Rattle.serde_json.specs.Data.{Data}
 use Rattle.edr_base.specs.declared.places.Position.{Position}
 use Rattle.covjson_value.specs.declared.domains.CoordinateName.{CoordinateName}

@@ -36,18 +36,13 @@ pub fn axis_key(name: AxisName) -> &'static str
 pub fn axis_by_name(name: &str) -> Option<AxisName>
     ensures { result ≡ axis_by_name name.now }
 {
-    if name == axis_key(AxisName::T) {
-        Some(AxisName::T)
-    } else if name == axis_key(AxisName::Z) {
-        Some(AxisName::Z)
-    } else if name == axis_key(AxisName::Y) {
-        Some(AxisName::Y)
-    } else if name == axis_key(AxisName::X) {
-        Some(AxisName::X)
-    } else if name == axis_key(AxisName::Composite) {
-        Some(AxisName::Composite)
-    } else {
-        None
+    match name {
+        "t" => Some(AxisName::T),
+        "z" => Some(AxisName::Z),
+        "y" => Some(AxisName::Y),
+        "x" => Some(AxisName::X),
+        "composite" => Some(AxisName::Composite),
+        _ => None,
     }
 }
 

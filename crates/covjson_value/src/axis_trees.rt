@@ -1,14 +1,14 @@
 //! The trees of a domain's axes.
 ghost use Rattle.std.specs.Prelude.{◌≡◌, ◌++◌, ◌∷◌, [], codes, map, IfOk, OnOk, IfSome, All, option_map};
 ghost use Rattle.serde_json.specs.View.{view, members_view};
-ghost use Rattle.serde_json.specs.Data.{put};
+ghost use Rattle.serde_json.specs.Data.{object, put};
 ghost use Rattle.covjson_value.specs.Domains.{coordinate_key, axis_of, tuples_of, coordinates_of};
 ghost use Rattle.covjson_value.specs.Domains as domains;
 ghost use Rattle.covjson_value.specs.AxisNames.{axis_key, axis_name};
 ghost use Rattle.covjson_value.specs.declared.axis_names.AxisName.TheVariants.{Composite};
 ghost use Rattle.covjson_value.specs.Coverages.{IsAxisValue, IsNamedAxis, HasAxes, HasTuples};
 ghost use Rattle.covjson_value.specs.Trees.{array_of, axis_value_data, list_data, is_spanned, axis_data, keys_data, tuple_data, composite_data, axes_data};
-ghost use Rattle.covjson_value.specs.Puts.{put_if};
+ghost use Rattle.covjson_value.specs.Puts.{put_if, put_tuples};
 
 use crate::axis_names::{AxisName, axis_key, axis_name};
 use crate::domains::{CoordinateName, Domain};
@@ -50,27 +50,15 @@ fn push_axis_value(
     }
 }
 
-fn axis_values_tree(
-    alloc: Global,
-    name: CoordinateName,
-    values: &[i64],
-) -> Result<Value, OutOfMemory>
+fn list_tree(alloc: Global, name: CoordinateName, values: &[i64]) -> Result<Value, OutOfMemory>
     requires { All (IsAxisValue name) values.now }
-    ensures { IfOk result (λ v. view v ≡ array_of (axis_value_data name) values.now) }
+    ensures { IfOk result (λ v. view v ≡ list_data name values.now) }
 {
     let mut items = Vec::with_capacity(alloc, values.len())?;
     for value in values {
         push_axis_value(&mut items, alloc, name, *value)?;
     }
-    Ok(Value::Array(items))
-}
-
-fn list_tree(alloc: Global, name: CoordinateName, values: &[i64]) -> Result<Value, OutOfMemory>
-    requires { All (IsAxisValue name) values.now }
-    ensures { IfOk result (λ v. view v ≡ list_data name values.now) }
-{
-    let values = axis_values_tree(alloc, name, values)?;
-    only_member(alloc, "values", values)
+    only_member(alloc, "values", Value::Array(items))
 }
 
 /// Whether the values of an axis of a name are written by their count, the first and the last (OGC 21-069r2, regularly
@@ -96,8 +84,8 @@ fn axis_tree(alloc: Global, name: CoordinateName, values: &[i64]) -> Result<Valu
     }
 }
 
-// A coordinate of a tuple.
-fn coordinate(tuple: &Position, name: CoordinateName) -> i64
+/// A coordinate of a tuple.
+pub fn coordinate(tuple: &Position, name: CoordinateName) -> i64
     ensures { result ≡ domains.coordinate name tuple.now }
 {
     match name {
@@ -118,13 +106,14 @@ fn push_tuple(
     requires { All (λ name. IsAxisValue name (domains.coordinate name tuple.now)) names.now }
     ensures { OnOk result (map view items.new.items ≡ map view items.old.items ++ tuple_data names.now tuple.now ∷ []) }
 {
-    let mut values = Vec::with_capacity(alloc, names.len())?;
+    let mut values = Vec::new(alloc);
     for name in names {
         push_axis_value(&mut values, alloc, *name, coordinate(tuple, *name))?;
     }
     push_tree(items, Value::Array(values))
 }
 
+// Puts the names of the coordinates of some tuples, and these.
 fn put_tuples(
     members: &mut Map<String, Value>,
     alloc: Global,
@@ -133,8 +122,10 @@ fn put_tuples(
 ) -> Result<(), OutOfMemory>
     requires { All (λ tuple. All (λ name. IsAxisValue name (domains.coordinate name tuple)) names.now) tuples.now }
     ensures { OnOk result (members_view members.new.entries
-        ≡ put (codes "values") (array_of (tuple_data names.now) tuples.now) (members_view members.old.entries)) }
+        ≡ put_tuples (keys_data names.now) (array_of (tuple_data names.now) tuples.now) (members_view members.old.entries)) }
 {
+    put_coordinates(members, alloc, names)?;
+    put_text(members, alloc, "dataType", "tuple")?;
     let mut items = Vec::with_capacity(alloc, tuples.len())?;
     for tuple in tuples {
         push_tuple(&mut items, alloc, names, tuple)?;
@@ -151,7 +142,7 @@ pub fn put_coordinates(
     ensures { OnOk result (members_view members.new.entries
         ≡ put (codes "coordinates") (keys_data names.now) (members_view members.old.entries)) }
 {
-    let mut items = Vec::with_capacity(alloc, names.len())?;
+    let mut items = Vec::new(alloc);
     for name in names {
         push_text(&mut items, alloc, name.letter())?;
     }
@@ -188,11 +179,8 @@ fn put_composite(
 {
     match domain.tuples() {
         Some(tuples) => {
-            let names = domain.coordinates();
             let mut composite = Map::new(alloc);
-            put_coordinates(&mut composite, alloc, names)?;
-            put_text(&mut composite, alloc, "dataType", "tuple")?;
-            put_tuples(&mut composite, alloc, names, tuples)?;
+            put_tuples(&mut composite, alloc, domain.coordinates(), tuples)?;
             let axis = Value::Object(composite);
             put_tree(members, alloc, axis_key(AxisName::Composite), axis)
         }
@@ -200,22 +188,20 @@ fn put_composite(
     }
 }
 
-/// Puts a domain's axes.
+/// Puts each of a domain's axes into an object that has no member.
 pub fn put_axes(
     members: &mut Map<String, Value>,
     alloc: Global,
     domain: &Domain,
 ) -> Result<(), OutOfMemory>
+    requires empty { members.old.entries ≡ [] }
     requires axes { HasAxes domain.now }
     requires tuples { HasTuples domain.now }
-    ensures { OnOk result (members_view members.new.entries
-        ≡ put (codes "axes") (axes_data domain.now) (members_view members.old.entries)) }
+    ensures { OnOk result (object (members_view members.new.entries) ≡ axes_data domain.now) }
 {
-    let mut axes = Map::new(alloc);
-    put_composite(&mut axes, alloc, domain)?;
-    put_axis(&mut axes, alloc, domain, CoordinateName::T)?;
-    put_axis(&mut axes, alloc, domain, CoordinateName::X)?;
-    put_axis(&mut axes, alloc, domain, CoordinateName::Y)?;
-    put_axis(&mut axes, alloc, domain, CoordinateName::Z)?;
-    put_tree(members, alloc, "axes", Value::Object(axes))
+    put_composite(members, alloc, domain)?;
+    put_axis(members, alloc, domain, CoordinateName::T)?;
+    put_axis(members, alloc, domain, CoordinateName::X)?;
+    put_axis(members, alloc, domain, CoordinateName::Y)?;
+    put_axis(members, alloc, domain, CoordinateName::Z)
 }

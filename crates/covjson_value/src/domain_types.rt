@@ -1,6 +1,6 @@
 //! The domain types by their names.
 ghost use Rattle.std.specs.Prelude.{◌≡◌};
-ghost use Rattle.covjson_value.specs.DomainTypes.{type_by_name, type_key};
+ghost use Rattle.covjson_value.specs.DomainTypes.{type_by_name};
 
 /// The type of a domain (OGC 21-069r2, Domain types).
 #[derive(Clone, Copy)]
@@ -17,20 +17,6 @@ pub enum DomainType {
     MultiPoint,
     /// Several places at their times.
     Trajectory,
-}
-
-/// The name of a type in CoverageJSON. It takes no memory.
-pub(crate) fn type_key(kind: DomainType) -> &'static str
-    ensures { result.now ≡ type_key kind }
-{
-    match kind {
-        DomainType::Grid => "Grid",
-        DomainType::Point => "Point",
-        DomainType::PointSeries => "PointSeries",
-        DomainType::VerticalProfile => "VerticalProfile",
-        DomainType::MultiPoint => "MultiPoint",
-        DomainType::Trajectory => "Trajectory",
-    }
 }
 
 /// The type that has a name in CoverageJSON, and none where no type has it. It takes no memory.

@@ -5,7 +5,7 @@ ghost use Rattle.edr_axes.specs.Axes.{axis_length, IsAxis};
 ghost use Rattle.covjson_value.specs.DomainTypes.{kind_of, type_key};
 ghost use Rattle.covjson_value.specs.declared.domains.CoordinateName.TheVariants.{T, Z, Y, X};
 
-use crate::domain_types::{DomainType, type_key};
+use crate::domain_types::DomainType;
 use edr_axes::Axis;
 use edr_base::{Items, Position};
 use std::slice;
@@ -28,7 +28,7 @@ pub enum CoordinateName {
 /// x and y are in metres of the coordinate reference system, z is a level in metres, and t is a time
 /// in seconds since 1970-01-01T00:00:00Z. In a valid coverage coordinates and levels have a size of at most
 /// `COORDINATE_LIMIT`, and times lie in the years 0000 to 9999.
-#[derive(Debug, Drop)]
+#[derive(Drop)]
 pub enum Domain {
     /// All nodes of some axes (domain type `Grid`).
     Grid {
@@ -328,7 +328,14 @@ impl Domain {
     pub fn type_name(&self) -> &'static str
         ensures { result.now ≡ type_key (kind_of self.now) }
     {
-        type_key(self.kind())
+        match self.kind() {
+            DomainType::Grid => "Grid",
+            DomainType::Point => "Point",
+            DomainType::PointSeries => "PointSeries",
+            DomainType::VerticalProfile => "VerticalProfile",
+            DomainType::MultiPoint => "MultiPoint",
+            DomainType::Trajectory => "Trajectory",
+        }
     }
 
     /// The values of an axis of the domain's ranges: in a Grid each axis that it has, and else one that has

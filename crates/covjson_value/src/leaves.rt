@@ -7,7 +7,7 @@ ghost use Rattle.covjson_value.specs.Trees.{sample_data, array_of};
 ghost use Rattle.covjson_value.specs.Puts.{put_if};
 
 use edr_axes::{times_are_written, write_instant};
-use edr_base::{OutOfMemory, Text};
+use edr_base::OutOfMemory;
 use serde_json::{Map, Value};
 use std::alloc::Global;
 use std::str;
@@ -21,14 +21,6 @@ pub fn text_of(bytes: &[u8]) -> &str
         Ok(text) => text,
         Err(_) => unreachable!(),
     }
-}
-
-/// A text.
-pub fn text_tree(alloc: Global, text: &Text) -> Result<Value, OutOfMemory>
-    requires { IsUtf8 text.now }
-    ensures { IfOk result (λ v. view v ≡ string text.now) }
-{
-    Ok(Value::try_from_str(alloc, text_of(text.bytes()))?)
 }
 
 /// A time, as its text. It is in seconds since 1970-01-01T00:00:00Z.

@@ -16,7 +16,7 @@ mod trees;
 mod validity;
 
 pub use axis_names::{AxisName, axis_by_name, axis_key, axis_name};
-pub use axis_trees::is_spanned;
+pub use axis_trees::{coordinate, is_spanned};
 pub use coverages::{Coverage, Document, NdArray, Parameter, Referencing};
 pub use domain_types::{DomainType, type_by_name};
 pub use domains::{CoordinateName, Domain};

@@ -2,23 +2,14 @@
 ghost use Rattle.std.specs.Prelude.{◌≡◌, codes, IfOk, OnOk, All, IfSome, IsUtf8, option_map};
 ghost use Rattle.serde_json.specs.View.{view, members_view};
 ghost use Rattle.covjson_value.specs.Coverages.{IsParameter, AscendById};
-ghost use Rattle.covjson_value.specs.Trees.{property_data, unit_data, parameter_data, parameters_data};
+ghost use Rattle.covjson_value.specs.Trees.{unit_data, parameter_data, parameters_data};
 ghost use Rattle.covjson_value.specs.Puts.{put_if};
 
 use crate::coverages::Parameter;
-use crate::leaves::{only_member, put_tree, text_of, text_tree, typed_object};
+use crate::leaves::{only_member, put_tree, text_of, typed_object};
 use edr_base::{OutOfMemory, Text};
 use serde_json::{Map, Value};
 use std::alloc::Global;
-
-fn property_tree(alloc: Global, parameter: &Parameter) -> Result<Value, OutOfMemory>
-    requires { IsParameter parameter.now }
-    ensures { IfOk result (λ v. view v ≡ property_data parameter.now) }
-{
-    let label = text_tree(alloc, &parameter.label)?;
-    let labels = only_member(alloc, text_of(parameter.lang.bytes()), label)?;
-    only_member(alloc, "label", labels)
-}
 
 // Puts the unit of a parameter, where it has one.
 fn put_unit(
@@ -32,7 +23,7 @@ fn put_unit(
 {
     match unit {
         Some(unit) => {
-            let symbol = text_tree(alloc, unit)?;
+            let symbol = Value::try_from_str(alloc, text_of(unit.bytes()))?;
             put_tree(
                 members,
                 alloc,
@@ -48,7 +39,9 @@ fn parameter_tree(alloc: Global, parameter: &Parameter) -> Result<Value, OutOfMe
     requires { IsParameter parameter.now }
     ensures { IfOk result (λ v. view v ≡ parameter_data parameter.now) }
 {
-    let property = property_tree(alloc, parameter)?;
+    let label = Value::try_from_str(alloc, text_of(parameter.label.bytes()))?;
+    let labels = only_member(alloc, text_of(parameter.lang.bytes()), label)?;
+    let property = only_member(alloc, "label", labels)?;
     let mut members = Map::new(alloc);
     put_tree(&mut members, alloc, "observedProperty", property)?;
     put_unit(&mut members, alloc, &parameter.unit)?;

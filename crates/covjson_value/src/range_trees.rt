@@ -4,8 +4,8 @@ ghost use Rattle.serde_json.specs.Data.{put};
 ghost use Rattle.serde_json.specs.View.{view, members_view};
 ghost use Rattle.covjson_value.specs.Coverages.{IsParameter, AscendById};
 ghost use Rattle.covjson_value.specs.Domains.{composite_alone, range_axis_of, range_tuples_of, range_axes};
-ghost use Rattle.covjson_value.specs.Trees.{array_if_some, name_data, length_data, range_data, ranges_data};
-ghost use Rattle.covjson_value.specs.Puts.{axis_alone, put_if};
+ghost use Rattle.covjson_value.specs.Trees.{array_of, array_if_some, name_data, length_data, sample_data, range_data, ranges_data};
+ghost use Rattle.covjson_value.specs.Puts.{axis_alone, put_if, put_range};
 
 use crate::axis_names::{AxisName, axis_key, axis_name};
 use crate::coverages::{NdArray, Parameter};
@@ -94,29 +94,31 @@ fn put_array(
     }
 }
 
-fn put_axes(
+// Puts the members of a range, but for its type.
+fn put_members(
     members: &mut Map<String, Value>,
     alloc: Global,
     domain: &Domain,
+    range: &NdArray,
 ) -> Result<(), OutOfMemory>
     ensures { OnOk result (members_view members.new.entries
-        ≡ put_if (codes "shape") (array_if_some (map length_data (range_axes domain.now)))
-        (put_if (codes "axisNames") (array_if_some (map name_data (range_axes domain.now))) (members_view members.old.entries))) }
+        ≡ put_range (array_if_some (map name_data (range_axes domain.now))) (array_if_some (map length_data (range_axes domain.now))) (array_of sample_data range.now.values)
+        (members_view members.old.entries)) }
 {
     let mut names = Vec::new(alloc);
     let mut lengths = Vec::new(alloc);
     push_axes(&mut names, &mut lengths, alloc, domain)?;
     put_array(members, alloc, "axisNames", names)?;
-    put_array(members, alloc, "shape", lengths)
+    put_array(members, alloc, "shape", lengths)?;
+    put_text(members, alloc, "dataType", "integer")?;
+    put_samples(members, alloc, range.values.items())
 }
 
 fn range_tree(alloc: Global, domain: &Domain, range: &NdArray) -> Result<Value, OutOfMemory>
     ensures { IfOk result (λ v. view v ≡ range_data domain.now range.now) }
 {
     let mut members = Map::new(alloc);
-    put_axes(&mut members, alloc, domain)?;
-    put_text(&mut members, alloc, "dataType", "integer")?;
-    put_samples(&mut members, alloc, range.values.items())?;
+    put_members(&mut members, alloc, domain, range)?;
     typed_object(members, alloc, "NdArray")
 }
 

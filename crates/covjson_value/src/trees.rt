@@ -1,11 +1,11 @@
 //! The trees of coverages and documents.
 ghost use Rattle.std.specs.Prelude.{◌≡◌, codes, All, IfOk, OnOk, IfSome, IsUtf8, false, option_map};
-ghost use Rattle.serde_json.specs.Data.{string, put};
+ghost use Rattle.serde_json.specs.Data.{string};
 ghost use Rattle.serde_json.specs.View.{view, members_view};
 ghost use Rattle.serde_json.specs.Written.{has_float};
 ghost use Rattle.covjson_value.specs.Coverages.{IsValid, IsValidDocument};
 ghost use Rattle.covjson_value.specs.Trees.{array_of, domain_data, parameters_data, ranges_data, coverage_data, collection_data, document_data};
-ghost use Rattle.covjson_value.specs.Puts.{put_if, put_head, put_rest};
+ghost use Rattle.covjson_value.specs.Puts.{put_if, put_coverage};
 
 use crate::coverages::{Coverage, Document};
 use crate::domain_trees::put_domain;
@@ -32,30 +32,19 @@ fn put_id(
     }
 }
 
-// Puts the domain of a coverage, and its id where it has one.
-fn put_head(
+// Puts the members of a coverage, but for its type.
+fn put_members(
     members: &mut Map<String, Value>,
     alloc: Global,
     coverage: &Coverage,
 ) -> Result<(), OutOfMemory>
     requires { IsValid coverage.now }
     ensures { OnOk result (members_view members.new.entries
-        ≡ put_head (domain_data coverage.now.domain coverage.now.referencing) (option_map string coverage.now.id) (members_view members.old.entries)) }
+        ≡ put_coverage (domain_data coverage.now.domain coverage.now.referencing) (option_map string coverage.now.id) (parameters_data coverage.now.parameters)
+        (ranges_data coverage.now.domain coverage.now.parameters coverage.now.ranges) (members_view members.old.entries)) }
 {
     put_domain(members, alloc, &coverage.domain, &coverage.referencing)?;
-    put_id(members, alloc, &coverage.id)
-}
-
-// Puts its parameters, and a range for each.
-fn put_rest(
-    members: &mut Map<String, Value>,
-    alloc: Global,
-    coverage: &Coverage,
-) -> Result<(), OutOfMemory>
-    requires { IsValid coverage.now }
-    ensures { OnOk result (members_view members.new.entries
-        ≡ put_rest (parameters_data coverage.now.parameters) (ranges_data coverage.now.domain coverage.now.parameters coverage.now.ranges) (members_view members.old.entries)) }
-{
+    put_id(members, alloc, &coverage.id)?;
     let parameters = coverage.parameters.items();
     put_tree(
         members,
@@ -72,17 +61,6 @@ fn put_rest(
     )
 }
 
-// A coverage, member by member.
-fn object_of(alloc: Global, coverage: &Coverage) -> Result<Value, OutOfMemory>
-    requires { IsValid coverage.now }
-    ensures { IfOk result (λ v. view v ≡ coverage_data coverage.now) }
-{
-    let mut members = Map::new(alloc);
-    put_head(&mut members, alloc, coverage)?;
-    put_rest(&mut members, alloc, coverage)?;
-    typed_object(members, alloc, "Coverage")
-}
-
 /// The tree of a coverage (OGC 21-069r2, Coverage objects) that is valid (`Coverage::is_valid`), with the members of each
 /// object in ascending order of their keys. An axis x, y or z of 3 to `NODE_LIMIT` values that are equally far apart is
 /// written by `num`, `start` and `stop`; every other axis lists its values. Want of memory is the only error.
@@ -91,31 +69,21 @@ pub fn tree_of(alloc: Global, coverage: &Coverage) -> Result<Value, OutOfMemory>
     ensures tree { IfOk result (λ v. view v ≡ coverage_data coverage.now) }
     ensures no_float { IfOk result (λ v. has_float (view v) ≡ false) }
 {
-    object_of(alloc, coverage)
-}
-
-fn put_coverages(
-    members: &mut Map<String, Value>,
-    alloc: Global,
-    coverages: &[Coverage],
-) -> Result<(), OutOfMemory>
-    requires { All IsValid coverages.now }
-    ensures { OnOk result (members_view members.new.entries
-        ≡ put (codes "coverages") (array_of coverage_data coverages.now) (members_view members.old.entries)) }
-{
-    let mut items = Vec::with_capacity(alloc, coverages.len())?;
-    for coverage in coverages {
-        push_tree(&mut items, tree_of(alloc, coverage)?)?;
-    }
-    put_tree(members, alloc, "coverages", Value::Array(items))
+    let mut members = Map::new(alloc);
+    put_members(&mut members, alloc, coverage)?;
+    typed_object(members, alloc, "Coverage")
 }
 
 fn collection_tree(alloc: Global, coverages: &[Coverage]) -> Result<Value, OutOfMemory>
     requires { All IsValid coverages.now }
     ensures { IfOk result (λ v. view v ≡ collection_data (array_of coverage_data coverages.now)) }
 {
+    let mut items = Vec::with_capacity(alloc, coverages.len())?;
+    for coverage in coverages {
+        push_tree(&mut items, tree_of(alloc, coverage)?)?;
+    }
     let mut members = Map::new(alloc);
-    put_coverages(&mut members, alloc, coverages)?;
+    put_tree(&mut members, alloc, "coverages", Value::Array(items))?;
     typed_object(members, alloc, "CoverageCollection")
 }
 

@@ -76,12 +76,6 @@ fn is_tuple(domain: &Domain, tuple: &Position) -> bool
     )
 }
 
-fn are_tuples(domain: &Domain, tuples: &[Position]) -> bool
-    ensures { IsTrue result ↔ All (IsTuple (coordinates_of domain.now)) tuples.now }
-{
-    tuples.iter().all(|tuple| is_tuple(domain, tuple))
-}
-
 fn never_fall(tuples: &[Position]) -> bool
     ensures { IsTrue result ↔ NeverFall (map (coordinate T) tuples.now) }
 {
@@ -98,7 +92,11 @@ fn has_good_tuples(domain: &Domain) -> bool
     ensures { IsTrue result ↔ IfSome (tuples_of domain.now) (AreTuples (coordinates_of domain.now)) }
 {
     match domain.tuples() {
-        Some(tuples) => !tuples.is_empty() && are_tuples(domain, tuples) && never_fall(tuples),
+        Some(tuples) => {
+            !tuples.is_empty()
+                && tuples.iter().all(|tuple| is_tuple(domain, tuple))
+                && never_fall(tuples)
+        }
         None => true,
     }
 }

@@ -51,9 +51,6 @@ put_six start one two three four five new a b c d e f whole p1 p2 p3 p4 p5 p6 h 
 pub put_seven : (start one two three four five six new a b c d e f g whole : List ℕ) → one ≡ start ++ a → two ≡ one ++ b → three ≡ two ++ c → four ≡ three ++ d → five ≡ four ++ e → six ≡ five ++ f → new ≡ six ++ g → whole ≡ a ++ (b ++ (c ++ (d ++ (e ++ (f ++ g))))) → new ≡ start ++ whole
 put_seven start one two three four five six new a b c d e f g whole p1 p2 p3 p4 p5 p6 p7 h = put_six start one two three four five new a b c d e (f ++ g) whole p1 p2 p3 p4 p5 (p7 ∙ ap (λ t. t ++ g) p6 ∙ append_assoc five f g) h
 
-pub put_eight : (start one two three four five six seven new a b c d e f g i whole : List ℕ) → one ≡ start ++ a → two ≡ one ++ b → three ≡ two ++ c → four ≡ three ++ d → five ≡ four ++ e → six ≡ five ++ f → seven ≡ six ++ g → new ≡ seven ++ i → whole ≡ a ++ (b ++ (c ++ (d ++ (e ++ (f ++ (g ++ i)))))) → new ≡ start ++ whole
-put_eight start one two three four five six seven new a b c d e f g i whole p1 p2 p3 p4 p5 p6 p7 p8 h = put_seven start one two three four five six new a b c d e f (g ++ i) whole p1 p2 p3 p4 p5 p6 (p8 ∙ ap (λ t. t ++ i) p7 ∙ append_assoc six g i) h
-
 -- ---- lists
 
 or_right : (b c : Bool) → c ≡ true → (b || c) ≡ true
@@ -109,6 +106,17 @@ list_put {W = W} data_of values k start old new past old_is new_is =
     ∙ append_assoc (start ++ codes "[") (texts values) (codes "]") ∙ append_assoc start (codes "[") (texts values ++ codes "]")
     ∙ ap (λ t. start ++ 91 ∷ t) (sym (items_are data_of false values))
 
+-- and other text before and behind these
+between_put : {W : Type 0} (data_of : W → Data) (values : List W) (k : ℕ) (start before behind old new : List ℕ) → length values ≤ k
+    → old ≡ (start ++ (before ++ codes "[")) ++ with_commas false (map (λ v. compact_text (data_of v)) (take k values)) → new ≡ old ++ (codes "]" ++ behind)
+    → new ≡ start ++ (before ++ (compact_text (array_of data_of values) ++ behind))
+between_put {W = W} data_of values k start before behind old new past old_is new_is =
+    let texts : List W → List ℕ = λ vs. with_commas false (map (λ v. compact_text (data_of v)) vs) in
+    new_is ∙ ap (λ t. t ++ (codes "]" ++ behind)) (old_is ∙ ap (λ vs. (start ++ (before ++ codes "[")) ++ texts vs) (take_all k values past))
+    ∙ append_assoc (start ++ (before ++ codes "[")) (texts values) (codes "]" ++ behind) ∙ append_assoc start (before ++ codes "[") (texts values ++ (codes "]" ++ behind))
+    ∙ ap (λ t. start ++ t) (append_assoc before (codes "[") (texts values ++ (codes "]" ++ behind))
+    ∙ ap (λ t. before ++ 91 ∷ t) (sym (append_assoc (texts values) (codes "]") behind) ∙ ap (λ t. t ++ behind) (sym (items_are data_of false values))))
+
 members_are : (later : Bool) (parameters : List Parameter)
     → members_text later (members_in_order (map named_parameter parameters)) ≡ with_commas later (map keyed_parameter parameters) ++ codes "}"
 members_are later [] = refl
@@ -139,10 +147,10 @@ pub list_parts : (name : CoordinateName) (values : List ℤ) → compact_text (l
 unfolding json_on_literals
 list_parts name values = refl
 
-pub composite_parts : (names : List CoordinateName) (tuples : List Position) → compact_text (composite_data names tuples)
-    ≡ codes "{\"coordinates\":" ++ (compact_text (keys_data names) ++ (codes ",\"dataType\":\"tuple\",\"values\":" ++ (compact_text (array_of (tuple_data names) tuples) ++ codes "}")))
+composite_text : (names : List CoordinateName) (tuples : List Position) → member_text false (axis_key Composite) (Some (composite_data names tuples))
+    ≡ codes "\"composite\":{\"coordinates\":" ++ (compact_text (keys_data names) ++ (codes ",\"dataType\":\"tuple\",\"values\":" ++ (compact_text (array_of (tuple_data names) tuples) ++ codes "}")))
 unfolding json_on_literals
-composite_parts names tuples = refl
+composite_text names tuples = refl
 
 pub span_put : (values : List ℤ) (start one two three four five six new : List ℕ)
     → one ≡ start ++ codes "{\"num\":" → two ≡ one ++ decimal (length values) → three ≡ two ++ codes ",\"start\":" → four ≡ three ++ compact_text (integer (value_at values 0))
@@ -150,15 +158,11 @@ pub span_put : (values : List ℤ) (start one two three four five six new : List
 span_put values start one two three four five six new p1 p2 p3 p4 p5 p6 p7 =
     put_seven start one two three four five six new _ _ _ _ _ _ _ _ p1 p2 p3 p4 p5 p6 p7 (span_text values)
 
-pub list_axis_put : (name : CoordinateName) (values : List ℤ) (start one two new : List ℕ)
-    → one ≡ start ++ codes "{\"values\":" → two ≡ one ++ compact_text (array_of (axis_value_data name) values) → new ≡ two ++ codes "}" → new ≡ start ++ compact_text (list_data name values)
-list_axis_put name values start one two new p1 p2 p3 = put_three start one two new _ _ _ _ p1 p2 p3 (list_parts name values)
-
-pub composite_put : (names : List CoordinateName) (tuples : List Position) (start one two three four new : List ℕ)
-    → one ≡ start ++ codes "{\"coordinates\":" → two ≡ one ++ compact_text (keys_data names) → three ≡ two ++ codes ",\"dataType\":\"tuple\",\"values\":"
-    → four ≡ three ++ compact_text (array_of (tuple_data names) tuples) → new ≡ four ++ codes "}" → new ≡ start ++ compact_text (composite_data names tuples)
-composite_put names tuples start one two three four new p1 p2 p3 p4 p5 =
-    put_five start one two three four new _ _ _ _ _ _ p1 p2 p3 p4 p5 (composite_parts names tuples)
+pub list_axis_put : (name : CoordinateName) (values : List ℤ) (k : ℕ) (start old new : List ℕ) → length values ≤ k
+    → old ≡ (start ++ codes "{\"values\":[") ++ with_commas false (map (λ v. compact_text (axis_value_data name v)) (take k values)) → new ≡ old ++ codes "]}"
+    → new ≡ start ++ compact_text (list_data name values)
+list_axis_put name values k start old new past old_is new_is =
+    between_put (axis_value_data name) values k start (codes "{\"values\":") (codes "}") old new past old_is new_is ∙ ap (λ t. start ++ t) (sym (list_parts name values))
 
 -- a member was put
 pub member_put : (later : Bool) (key : List ℕ) (d : Data) (start one two three new : List ℕ)
@@ -166,15 +170,14 @@ pub member_put : (later : Bool) (key : List ℕ) (d : Data) (start one two three
 member_put later key d start one two three new p1 p2 p3 p4 =
     put_four start one two three new (comma_if later) (quoted key) (codes ":") (compact_text d) (member_text later key (Some d)) p1 p2 p3 p4 refl
 
-pub composite_member_put : (d : Data) (start one new : List ℕ) → one ≡ start ++ codes "\"composite\":" → new ≡ one ++ compact_text d → new ≡ start ++ member_text false (axis_key Composite) (Some d)
-unfolding json_on_literals
-composite_member_put d start one new p1 p2 = put_two start one new (codes "\"composite\":") (compact_text d) (member_text false (axis_key Composite) (Some d)) p1 p2 refl
-
-pub composite_given_put : (domain : Domain) (tuples : List Position) (start one new : List ℕ) → Some tuples ≡ tuples_of domain
-    → one ≡ start ++ codes "\"composite\":" → new ≡ one ++ compact_text (composite_data (coordinates_of domain) tuples)
+-- the composite axis was put, which the domain has
+pub composite_put : (domain : Domain) (names : List CoordinateName) (tuples : List Position) (start one two three four new : List ℕ) → Some tuples ≡ tuples_of domain → names ≡ coordinates_of domain
+    → one ≡ start ++ codes "\"composite\":{\"coordinates\":" → two ≡ one ++ compact_text (keys_data names) → three ≡ two ++ codes ",\"dataType\":\"tuple\",\"values\":"
+    → four ≡ three ++ compact_text (array_of (tuple_data names) tuples) → new ≡ four ++ codes "}"
     → new ≡ start ++ member_text false (axis_key Composite) (option_map (composite_data (coordinates_of domain)) (tuples_of domain))
-composite_given_put domain tuples start one new given p1 p2 =
-    composite_member_put (composite_data (coordinates_of domain) tuples) start one new p1 p2
+composite_put domain names tuples start one two three four new given named p1 p2 p3 p4 p5 =
+    put_five start one two three four new _ _ _ _ _ _ p1 p2 p3 p4 p5 (composite_text names tuples)
+    ∙ ap (λ ns. start ++ member_text false (axis_key Composite) (Some (composite_data ns tuples))) named
     ∙ ap (λ o. start ++ member_text false (axis_key Composite) (option_map (composite_data (coordinates_of domain)) o)) given
 
 -- a member that may be left out, before others
@@ -275,10 +278,11 @@ pub horizontal_put : (crs start one two new : List ℕ)
     → new ≡ start ++ compact_text (horizontal_data crs)
 horizontal_put crs start one two new p1 p2 p3 = put_three start one two new _ _ _ _ p1 p2 p3 (horizontal_parts crs)
 
+-- behind another system
 pub vertical_put : (vertical : Option (List ℕ)) (start one two new : List ℕ)
-    → one ≡ start ++ codes "{\"coordinates\":[\"z\"],\"system\":{" → two ≡ one ++ name_member vertical → new ≡ two ++ codes "\"type\":\"VerticalCRS\"}}"
-    → new ≡ start ++ compact_text (vertical_data vertical)
-vertical_put vertical start one two new p1 p2 p3 = put_three start one two new _ _ _ _ p1 p2 p3 (vertical_parts vertical)
+    → one ≡ start ++ codes ",{\"coordinates\":[\"z\"],\"system\":{" → two ≡ one ++ name_member vertical → new ≡ two ++ codes "\"type\":\"VerticalCRS\"}}"
+    → new ≡ start ++ later_if true (compact_text (vertical_data vertical))
+vertical_put vertical start one two new p1 p2 p3 = put_three start one two new _ _ _ _ p1 p2 p3 (ap (λ (t : List ℕ). 44 ∷ t) (vertical_parts vertical))
 
 pub temporal_put : (start : List ℕ) → start ++ codes ",{\"coordinates\":[\"t\"],\"system\":{\"calendar\":\"Gregorian\",\"type\":\"TemporalRS\"}}" ≡ start ++ later_if true (compact_text temporal_data)
 temporal_put start = ap (λ (t : List ℕ). start ++ 44 ∷ t) (sym temporal_parts)
@@ -334,11 +338,14 @@ pub parameter_parts : (parameter : Parameter) → keyed_parameter parameter
     ++ (codes "}},\"type\":\"Parameter\"" ++ (unit_member parameter.unit ++ codes "}"))))))
 parameter_parts parameter = parameter_of parameter.id parameter.lang parameter.label parameter.unit
 
-pub parameter_put : (parameter : Parameter) (start one two three four five six seven new : List ℕ)
-    → one ≡ start ++ quoted parameter.id → two ≡ one ++ codes ":{\"observedProperty\":{\"label\":{" → three ≡ two ++ quoted parameter.lang → four ≡ three ++ codes ":" → five ≡ four ++ quoted parameter.label
-    → six ≡ five ++ codes "}},\"type\":\"Parameter\"" → seven ≡ six ++ unit_member parameter.unit → new ≡ seven ++ codes "}" → new ≡ start ++ keyed_parameter parameter
-parameter_put parameter start one two three four five six seven new p1 p2 p3 p4 p5 p6 p7 p8 =
-    put_eight start one two three four five six seven new _ _ _ _ _ _ _ _ _ p1 p2 p3 p4 p5 p6 p7 p8 (parameter_parts parameter)
+pub parameter_put : (parameter : Parameter) (start one two three four five new : List ℕ)
+    → one ≡ start ++ quoted parameter.id → two ≡ one ++ (codes ":{\"observedProperty\":{\"label\":{" ++ quoted parameter.lang) → three ≡ two ++ (codes ":" ++ quoted parameter.label)
+    → four ≡ three ++ codes "}},\"type\":\"Parameter\"" → five ≡ four ++ unit_member parameter.unit → new ≡ five ++ codes "}" → new ≡ start ++ keyed_parameter parameter
+parameter_put parameter start one two three four five new p1 p2 p3 p4 p5 p6 =
+    put_six start one two three four five new _ _ _ _ _ _ _ p1 p2 p3 p4 p5 p6 (parameter_parts parameter)
+
+pub unit_put : (unit : List ℕ) (start one new : List ℕ) → one ≡ start ++ (codes ",\"unit\":{\"symbol\":" ++ quoted unit) → new ≡ one ++ codes "}" → new ≡ start ++ unit_member (Some unit)
+unit_put unit start one new p1 p2 = put_two start one new _ _ _ p1 p2 refl
 
 -- ---- plain texts
 

@@ -1,5 +1,5 @@
 -- Calls that write nothing.
-use Rattle.std.proofs.Common.{ℕ, List, ◌++◌, take, Option, Result, Ok, Err, IsErr, refl, append_assoc}
+use Rattle.std.proofs.Common.{ℕ, List, ◌++◌, take, Option, Result, Ok, IsErr, refl, append_assoc}
 use Rattle.std.proofs.lemmas.Result.{IfOk-from_err}
 use Rattle.json.specs.Filled.{Placed}
 use Rattle.json.proofs.Printed.Places.{Placed-then}
@@ -14,9 +14,9 @@ writes_nothing r w text fails = record { whole = IfOk-from_err r _ fails; front 
 pub writes_done : {T E : Type 0} (x : T) (U : Type 0) (y : U) (text : List ℕ) (old new : Option (List ℕ)) → Writes {E = E} (Ok x) text old new → Writes {T = U} {E = E} (Ok y) text old new
 writes_done x U y text old new writes = record { whole = writes.whole; front = writes.front }
 
--- and what was begun before a fault, before it ends another call
-pub writes_failed : {T E : Type 0} (e : E) (U : Type 0) (text : List ℕ) (old new : Option (List ℕ)) → Writes {T = T} (Err e) text old new → Writes {T = U} (Err e) text old new
-writes_failed e U text old new writes = record { whole = tt; front = writes.front }
+-- and what was begun before a fault, when that ends another call
+pub writes_stopped : {T U E : Type 0} (r : Result U E) (s : Result T E) (text : List ℕ) (old new : Option (List ℕ)) → IsErr r → Writes s text old new → Writes r text old new
+writes_stopped r s text old new fails writes = record { whole = IfOk-from_err r _ fails; front = writes.front }
 
 -- what three texts put at the front of a piece are together was written
 pub three_written : {T E : Type 0} (r : Result T E) {a b c d x y z : List ℕ} {i j k : ℕ} (old new : Option (List ℕ)) → Placed a b 0 x i → Placed b c i y j → Placed c d j z k

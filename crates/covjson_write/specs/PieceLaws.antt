@@ -45,10 +45,6 @@ coverages_on n (coverage ∷ coverages) more =
     ap (λ text. coverage_piece n coverage ++ text) (coverages_on (suc n) coverages more ∙ ap (λ k. coverages_from (suc n) coverages ++ coverages_from k more) (next n (length coverages)))
     ∙ sym (append_assoc (coverage_piece n coverage) (coverages_from (suc n) coverages) (coverages_from (n + suc (length coverages)) more))
 
--- one value
-pub value_alone : (n : ℕ) (value : Option ℤ) → values_from n (value ∷ []) ≡ value_piece n value
-value_alone n value = append-nil (value_piece n value)
-
 -- one value more
 pub values_more : (n : ℕ) (values : List (Option ℤ)) (k : ℕ) → k < length values
     → values_from n (take (k + 1) values) ≡ values_from n (take k values) ++ value_piece (n + k) (get_or values k None)

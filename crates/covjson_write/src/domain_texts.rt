@@ -12,7 +12,7 @@ ghost use Rattle.covjson_write.specs.HeadTexts.{member_text};
 use crate::leaves::{push_bytes, push_comma, push_integer, push_time, quoted_axis, quoted_name};
 use crate::regular_axes::push_span;
 use crate::system_texts::push_referencing;
-use covjson_value::{CoordinateName, Domain, Referencing, axis_name, is_spanned};
+use covjson_value::{CoordinateName, Domain, Referencing, axis_name, coordinate, is_spanned};
 use edr_base::{OutOfMemory, Position};
 use std::alloc::Global;
 
@@ -26,29 +26,16 @@ fn push_axis_value(text: &mut Vec<u8>, name: CoordinateName, value: i64) -> Resu
     }
 }
 
-fn push_axis_values(
-    text: &mut Vec<u8>,
-    name: CoordinateName,
-    values: &[i64],
-) -> Result<(), OutOfMemory>
-    requires { All (IsAxisValue name) values.now }
-    ensures { OnOk result (text.new.items ≡ text.old.items ++ compact_text (array_of (axis_value_data name) values.now)) }
-{
-    push_bytes(text, b"[")?;
-    for place in 0..values.len() {
-        push_comma(text, place > 0)?;
-        push_axis_value(text, name, values[place])?;
-    }
-    push_bytes(text, b"]")
-}
-
 fn push_list(text: &mut Vec<u8>, name: CoordinateName, values: &[i64]) -> Result<(), OutOfMemory>
     requires { All (IsAxisValue name) values.now }
     ensures { OnOk result (text.new.items ≡ text.old.items ++ compact_text (list_data name values.now)) }
 {
-    push_bytes(text, b"{\"values\":")?;
-    push_axis_values(text, name, values)?;
-    push_bytes(text, b"}")
+    push_bytes(text, b"{\"values\":[")?;
+    for place in 0..values.len() {
+        push_comma(text, place > 0)?;
+        push_axis_value(text, name, values[place])?;
+    }
+    push_bytes(text, b"]}")
 }
 
 fn push_values(text: &mut Vec<u8>, name: CoordinateName, values: &[i64]) -> Result<(), OutOfMemory>
@@ -82,18 +69,6 @@ fn push_axis(
     push_bytes(text, b":")?;
     push_values(text, name, values)?;
     Ok(true)
-}
-
-// A coordinate of a tuple.
-fn coordinate(tuple: &Position, name: CoordinateName) -> i64
-    ensures { result ≡ domains.coordinate name tuple.now }
-{
-    match name {
-        CoordinateName::T => tuple.m,
-        CoordinateName::Z => tuple.z,
-        CoordinateName::Y => tuple.y,
-        CoordinateName::X => tuple.x,
-    }
 }
 
 fn push_tuple(
@@ -140,21 +115,6 @@ fn push_names(text: &mut Vec<u8>, names: &[CoordinateName]) -> Result<(), OutOfM
     push_bytes(text, b"]")
 }
 
-fn push_composite_values(
-    text: &mut Vec<u8>,
-    names: &[CoordinateName],
-    tuples: &[Position],
-) -> Result<(), OutOfMemory>
-    requires { All (λ tuple. All (λ name. IsAxisValue name (domains.coordinate name tuple)) names.now) tuples.now }
-    ensures { OnOk result (text.new.items ≡ text.old.items ++ compact_text (composite_data names.now tuples.now)) }
-{
-    push_bytes(text, b"{\"coordinates\":")?;
-    push_names(text, names)?;
-    push_bytes(text, b",\"dataType\":\"tuple\",\"values\":")?;
-    push_tuples(text, names, tuples)?;
-    push_bytes(text, b"}")
-}
-
 // The member of the composite axis, where the domain has one. The answer is whether it stands.
 fn push_composite(text: &mut Vec<u8>, domain: &Domain) -> Result<bool, OutOfMemory>
     requires { HasTuples domain.now }
@@ -165,8 +125,12 @@ fn push_composite(text: &mut Vec<u8>, domain: &Domain) -> Result<bool, OutOfMemo
     let Some(tuples) = domain.tuples() else {
         return Ok(false);
     };
-    push_bytes(text, b"\"composite\":")?;
-    push_composite_values(text, domain.coordinates(), tuples)?;
+    let names = domain.coordinates();
+    push_bytes(text, b"\"composite\":{\"coordinates\":")?;
+    push_names(text, names)?;
+    push_bytes(text, b",\"dataType\":\"tuple\",\"values\":")?;
+    push_tuples(text, names, tuples)?;
+    push_bytes(text, b"}")?;
     Ok(true)
 }
 

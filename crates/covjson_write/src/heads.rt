@@ -23,8 +23,7 @@ fn push_id(text: &mut Vec<u8>, alloc: Global, id: &Option<Text>) -> Result<(), O
     let Some(id) = id else {
         return Ok(());
     };
-    push_bytes(text, b",\"id\":")?;
-    push_quoted(text, alloc, id.bytes())
+    push_quoted(text, alloc, b",\"id\":", id.bytes())
 }
 
 fn push_head(
@@ -62,7 +61,7 @@ fn quoted_text(alloc: Global, text: &Text) -> Result<Text, OutOfMemory>
     ensures { IfOk result (λ quotation. quotation ≡ quoted text.now) }
 {
     let mut quotation = Vec::with_capacity(alloc, text.bytes().len())?;
-    push_quoted(&mut quotation, alloc, text.bytes())?;
+    push_quoted(&mut quotation, alloc, b"", text.bytes())?;
     Ok(Text::from_vec(quotation))
 }
 

@@ -68,11 +68,17 @@ fn push_escaped(text: &mut Vec<u8>, alloc: Global, bytes: &[u8]) -> Result<(), O
     Ok(())
 }
 
-/// Puts a text of UTF-8 in quotes.
-pub fn push_quoted(text: &mut Vec<u8>, alloc: Global, bytes: &[u8]) -> Result<(), OutOfMemory>
+/// Puts bytes as they are, and a text of UTF-8 in quotes behind them.
+pub fn push_quoted(
+    text: &mut Vec<u8>,
+    alloc: Global,
+    before: &[u8],
+    bytes: &[u8],
+) -> Result<(), OutOfMemory>
     requires { IsUtf8 bytes.now }
-    ensures { OnOk result (text.new.items ≡ text.old.items ++ quoted bytes.now) }
+    ensures { OnOk result (text.new.items ≡ text.old.items ++ (before.now ++ quoted bytes.now)) }
 {
+    push_bytes(text, before)?;
     if is_plain(bytes) {
         push_plain(text, bytes)
     } else {

@@ -17,8 +17,7 @@ fn push_unit(text: &mut Vec<u8>, alloc: Global, unit: &Option<Text>) -> Result<(
     let Some(unit) = unit else {
         return Ok(());
     };
-    push_bytes(text, b",\"unit\":{\"symbol\":")?;
-    push_quoted(text, alloc, unit.bytes())?;
+    push_quoted(text, alloc, b",\"unit\":{\"symbol\":", unit.bytes())?;
     push_bytes(text, b"}")
 }
 
@@ -30,11 +29,14 @@ fn push_parameter(
     requires { IsParameter parameter.now }
     ensures { OnOk result (text.new.items ≡ text.old.items ++ keyed_parameter parameter.now) }
 {
-    push_quoted(text, alloc, parameter.id.bytes())?;
-    push_bytes(text, b":{\"observedProperty\":{\"label\":{")?;
-    push_quoted(text, alloc, parameter.lang.bytes())?;
-    push_bytes(text, b":")?;
-    push_quoted(text, alloc, parameter.label.bytes())?;
+    push_quoted(text, alloc, b"", parameter.id.bytes())?;
+    push_quoted(
+        text,
+        alloc,
+        b":{\"observedProperty\":{\"label\":{",
+        parameter.lang.bytes(),
+    )?;
+    push_quoted(text, alloc, b":", parameter.label.bytes())?;
     push_bytes(text, b"}},\"type\":\"Parameter\"")?;
     push_unit(text, alloc, &parameter.unit)?;
     push_bytes(text, b"}")

@@ -11,45 +11,35 @@ use crate::heads::{coverage_text, keys_of, range_text};
 use crate::places::{place_comma, place_slice};
 use crate::range_heads::RangeHead;
 use covjson_value::Coverage;
-use edr_base::{Items, OutOfMemory, SendFault, Sink, Text, send};
+use edr_base::{OutOfMemory, SendFault, Sink, Text, send};
 use std::alloc::Global;
 
-/// Writes the beginning of a document.
-pub fn send_begin<K: Sink>(sink: &mut K, many: bool) -> Result<(), SendFault>
-    ensures bytes { Writes result (document_begin many) (K.written sink.old) (K.written sink.new) }
-    ensures flushed { K.flushed sink.new ≡ K.flushed sink.old }
-    ensures lent { SinkLent (K.beside sink.old) (K.beside sink.new) (K.faults sink.old) (K.faults sink.new) }
-    ensures cause { IsErrOf result SendFault.WriteFault → Rose (K.faults sink.old) (K.faults sink.new) }
+/// What stands before the coverages of a document.
+pub fn document_begin(many: bool) -> &'static [u8]
+    ensures { result.now ≡ document_begin many }
+{
+    if many { b"{\"coverages\":[" } else { b"" }
+}
+
+/// What stands behind them.
+pub fn document_end(many: bool) -> &'static [u8]
+    ensures { result.now ≡ document_end many }
 {
     if many {
-        send(sink, b"{\"coverages\":[")
+        b"],\"type\":\"CoverageCollection\"}"
     } else {
-        send(sink, b"")
+        b""
     }
 }
 
-/// Writes the end of a document.
-pub fn send_end<K: Sink>(sink: &mut K, many: bool) -> Result<(), SendFault>
-    ensures bytes { Writes result (document_end many) (K.written sink.old) (K.written sink.new) }
-    ensures flushed { K.flushed sink.new ≡ K.flushed sink.old }
-    ensures lent { SinkLent (K.beside sink.old) (K.beside sink.new) (K.faults sink.old) (K.faults sink.new) }
-    ensures cause { IsErrOf result SendFault.WriteFault → Rose (K.faults sink.old) (K.faults sink.new) }
+/// What stands behind the values of a range, which is the last of its coverage or not.
+pub fn values_end(last: bool) -> &'static [u8]
+    ensures { result.now ≡ codes "]}" ++ (if last then coverage_end else []) }
 {
-    if many {
-        send(sink, b"],\"type\":\"CoverageCollection\"}")
+    if last {
+        b"]}},\"type\":\"Coverage\"}"
     } else {
-        send(sink, b"")
-    }
-}
-
-/// No parameters, and ranges of no value.
-pub fn no_head(alloc: Global) -> RangeHead
-    ensures { result ≡ record { keys = []; opening = []; count = 0 } }
-{
-    RangeHead {
-        keys: Items::of(Vec::new(alloc)),
-        opening: Text::from_vec(Vec::new(alloc)),
-        count: 0,
+        b"]}"
     }
 }
 
@@ -151,18 +141,4 @@ pub fn send_range<K: Sink>(
     }
     let text = range_text(alloc, later, key, opening)?;
     send(sink, &text)
-}
-
-/// Writes the end of a range, and of the coverage with its last range.
-pub fn send_range_end<K: Sink>(sink: &mut K, last: bool) -> Result<(), SendFault>
-    ensures bytes { Writes result (codes "]}" ++ (if last then coverage_end else [])) (K.written sink.old) (K.written sink.new) }
-    ensures flushed { K.flushed sink.new ≡ K.flushed sink.old }
-    ensures lent { SinkLent (K.beside sink.old) (K.beside sink.new) (K.faults sink.old) (K.faults sink.new) }
-    ensures cause { IsErrOf result SendFault.WriteFault → Rose (K.faults sink.old) (K.faults sink.new) }
-{
-    if last {
-        send(sink, b"]}},\"type\":\"Coverage\"}")
-    } else {
-        send(sink, b"]}")
-    }
 }

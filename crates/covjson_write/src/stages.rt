@@ -1,7 +1,7 @@
 //! Where a writer of documents stands.
 
 /// Where a writer of documents stands in the text.
-#[derive(Clone, Copy, PartialEq, Eq)]
+#[derive(Clone, Copy)]
 pub enum Stage {
     /// Before a coverage, or before the document's end.
     Ready,

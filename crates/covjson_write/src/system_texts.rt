@@ -5,8 +5,8 @@ ghost use Rattle.serde_json.specs.Written.{compact_text};
 ghost use Rattle.covjson_value.specs.declared.domains.CoordinateName.TheVariants.{T, Z};
 ghost use Rattle.covjson_value.specs.Domains.{has_coordinate};
 ghost use Rattle.covjson_value.specs.Coverages.{IsReferencing};
-ghost use Rattle.covjson_value.specs.Trees.{text_if_some, horizontal_data, vertical_data, temporal_data, referencing_data};
-ghost use Rattle.covjson_write.specs.HeadTexts.{name_member, later_if};
+ghost use Rattle.covjson_value.specs.Trees.{horizontal_data, vertical_data, temporal_data, referencing_data};
+ghost use Rattle.covjson_write.specs.HeadTexts.{later_if};
 
 use crate::leaves::{push_bytes, push_quoted};
 use covjson_value::{CoordinateName, Domain, Referencing};
@@ -17,20 +17,8 @@ fn push_name(text: &mut Vec<u8>, alloc: Global, name: &Text) -> Result<(), OutOf
     requires { IsUtf8 name.now }
     ensures { OnOk result (text.new.items ≡ text.old.items ++ (codes "\"id\":" ++ (quoted name.now ++ codes ","))) }
 {
-    push_bytes(text, b"\"id\":")?;
-    push_quoted(text, alloc, name.bytes())?;
+    push_quoted(text, alloc, b"\"id\":", name.bytes())?;
     push_bytes(text, b",")
-}
-
-// The name of the system of x and y, unless it is empty.
-fn push_horizontal_name(text: &mut Vec<u8>, alloc: Global, crs: &Text) -> Result<(), OutOfMemory>
-    requires { IsUtf8 crs.now }
-    ensures { OnOk result (text.new.items ≡ text.old.items ++ name_member (text_if_some crs.now)) }
-{
-    if crs.bytes().is_empty() {
-        return Ok(());
-    }
-    push_name(text, alloc, crs)
 }
 
 fn push_horizontal(text: &mut Vec<u8>, alloc: Global, crs: &Text) -> Result<(), OutOfMemory>
@@ -38,36 +26,10 @@ fn push_horizontal(text: &mut Vec<u8>, alloc: Global, crs: &Text) -> Result<(), 
     ensures { OnOk result (text.new.items ≡ text.old.items ++ compact_text (horizontal_data crs.now)) }
 {
     push_bytes(text, b"{\"coordinates\":[\"x\",\"y\"],\"system\":{")?;
-    push_horizontal_name(text, alloc, crs)?;
-    push_bytes(text, b"\"type\":\"ProjectedCRS\"}}")
-}
-
-// The name of the system of z, where it is known.
-fn push_vertical_name(
-    text: &mut Vec<u8>,
-    alloc: Global,
-    vertical: &Option<Text>,
-) -> Result<(), OutOfMemory>
-    requires { IfSome vertical.now IsUtf8 }
-    ensures { OnOk result (text.new.items ≡ text.old.items ++ name_member vertical.now) }
-{
-    match vertical {
-        Some(name) => push_name(text, alloc, name),
-        None => Ok(()),
+    if !crs.bytes().is_empty() {
+        push_name(text, alloc, crs)?;
     }
-}
-
-fn push_vertical(
-    text: &mut Vec<u8>,
-    alloc: Global,
-    vertical: &Option<Text>,
-) -> Result<(), OutOfMemory>
-    requires { IfSome vertical.now IsUtf8 }
-    ensures { OnOk result (text.new.items ≡ text.old.items ++ compact_text (vertical_data vertical.now)) }
-{
-    push_bytes(text, b"{\"coordinates\":[\"z\"],\"system\":{")?;
-    push_vertical_name(text, alloc, vertical)?;
-    push_bytes(text, b"\"type\":\"VerticalCRS\"}}")
+    push_bytes(text, b"\"type\":\"ProjectedCRS\"}}")
 }
 
 // The system of the levels, where the domain has some.
@@ -84,8 +46,11 @@ fn push_levels(
     if !domain.has(CoordinateName::Z) {
         return Ok(());
     }
-    push_bytes(text, b",")?;
-    push_vertical(text, alloc, vertical)
+    push_bytes(text, b",{\"coordinates\":[\"z\"],\"system\":{")?;
+    if let Some(name) = vertical {
+        push_name(text, alloc, name)?;
+    }
+    push_bytes(text, b"\"type\":\"VerticalCRS\"}}")
 }
 
 // The system of the times, where the domain has some.

@@ -34,17 +34,6 @@ pub fn place_one(buffer: &mut [u8], number: usize, sample: Option<i64>) -> usize
     place_value(buffer, next, sample)
 }
 
-// Puts a value behind others, with a comma before it.
-#[inline(always)]
-fn place_later(buffer: &mut [u8], at: usize, sample: Option<i64>) -> usize
-    requires { at + 24 ≤ length buffer.old }
-    ensures text { Placed buffer.old buffer.new at (value_piece 1 sample) result }
-    ensures short { result ≤ at + 24 }
-{
-    let next = place_byte(buffer, at, b',');
-    place_value(buffer, next, sample)
-}
-
 /// Puts values behind others, each with a comma before it.
 pub fn place_values(buffer: &mut [u8], start: usize, samples: &[Option<i64>]) -> usize
     requires { start + 24 * length samples.now ≤ length buffer.old }
@@ -53,7 +42,8 @@ pub fn place_values(buffer: &mut [u8], start: usize, samples: &[Option<i64>]) ->
 {
     let mut at = start;
     for sample in samples {
-        at = place_later(buffer, at, *sample);
+        let next = place_byte(buffer, at, b',');
+        at = place_value(buffer, next, *sample);
     }
     at
 }

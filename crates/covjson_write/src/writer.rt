@@ -1,17 +1,17 @@
 //! Documents written in pieces.
-ghost use Rattle.std.specs.Prelude.{◌≡◌, ◌≤◌, ◌<◌, ◌+◌, ◌++◌, true, false, length, IfOk, OnOk, OnErr, IsErrOf, [], ◌∷◌};
+ghost use Rattle.std.specs.Prelude.{◌≡◌, ◌≤◌, ◌<◌, ◌+◌, ◌++◌, true, false, length, IfOk, OnOk, OnErr, IsErrOf};
 ghost use Rattle.edr_base.specs.Outside.{Rose};
 ghost use Rattle.edr_base.specs.Calls.{SinkLent, Writes};
 ghost use Rattle.serde_json.specs.Written.{comma_if};
 ghost use Rattle.covjson_write.specs.declared.stages.Stage.TheVariants.{Ready, Within, Open, Failed};
-ghost use Rattle.covjson_write.specs.Pieces.{value_piece, values_from, range_begin, range_end, coverage_begin, document_begin, document_end};
+ghost use Rattle.covjson_write.specs.Pieces.{values_from, range_begin, range_end, coverage_begin, document_begin, document_end};
 
 use crate::range_heads::RangeHead;
-use crate::sending::{no_head, send_begin, send_coverage, send_end, send_range, send_range_end};
+use crate::sending::{document_begin, document_end, send_coverage, send_range, values_end};
 use crate::stages::Stage;
 use crate::values::send_values;
 use covjson_value::Coverage;
-use edr_base::{SendFault, Sink};
+use edr_base::{Items, SendFault, Sink, Text, send};
 use std::alloc::Global;
 use std::marker::Model;
 
@@ -65,29 +65,19 @@ impl Writer {
         ensures lent { SinkLent (K.beside sink.old) (K.beside sink.new) (K.faults sink.old) (K.faults sink.new) }
         ensures cause { IsErrOf result SendFault.WriteFault → Rose (K.faults sink.old) (K.faults sink.new) }
     {
-        send_begin(sink, many)?;
+        send(sink, document_begin(many))?;
         Ok(Writer {
             many,
             begun: false,
             stage: Stage::Ready,
-            head: no_head(alloc),
+            head: RangeHead {
+                keys: Items::of(Vec::new(alloc)),
+                opening: Text::from_vec(Vec::new(alloc)),
+                count: 0,
+            },
             ranges: 0,
             values: 0,
         })
-    }
-
-    /// Whether the document is a collection.
-    pub fn is_many(&self) -> bool
-        ensures { result ≡ self.now.many }
-    {
-        self.many
-    }
-
-    /// Whether a coverage was begun.
-    pub fn has_begun(&self) -> bool
-        ensures { result ≡ self.now.begun }
-    {
-        self.begun
     }
 
     /// Where it stands.
@@ -97,30 +87,8 @@ impl Writer {
         self.stage
     }
 
-    /// What the ranges of the last coverage hang on, beside their values.
-    pub fn head(&self) -> &RangeHead
-        ensures { result.now ≡ self.now.head }
-    {
-        &self.head
-    }
-
-    /// How many ranges of the last coverage are whole.
-    pub fn ranges_written(&self) -> usize
-        ensures { result ≡ self.now.ranges }
-    {
-        self.ranges
-    }
-
-    /// How many values the open range has.
-    pub fn values_written(&self) -> usize
-        ensures { result ≡ self.now.values }
-    {
-        self.values
-    }
-
     /// Writes the beginning of a coverage, as far as its ranges. The head is the coverage, whatever its ranges are: it needs
     /// none. A domain of more values than can be counted ends as want of memory.
-    #[tactic(auto, using(crate::proofs::SendLemmas::writes_done))]
     pub fn coverage<K: Sink>(
         &mut self,
         alloc: Global,
@@ -137,20 +105,13 @@ impl Writer {
         ensures lent { SinkLent (K.beside sink.old) (K.beside sink.new) (K.faults sink.old) (K.faults sink.new) }
         ensures cause { IsErrOf result SendFault.WriteFault → Rose (K.faults sink.old) (K.faults sink.new) }
     {
-        match send_coverage(alloc, sink, self.begun, head) {
-            Ok(kept) => {
-                self.begun = true;
-                self.stage = Stage::Within;
-                self.head = kept;
-                self.ranges = 0;
-                self.values = 0;
-                Ok(())
-            }
-            Err(fault) => {
-                self.stage = Stage::Failed;
-                Err(fault)
-            }
-        }
+        self.stage = Stage::Failed;
+        self.head = send_coverage(alloc, sink, self.begun, head)?;
+        self.begun = true;
+        self.stage = Stage::Within;
+        self.ranges = 0;
+        self.values = 0;
+        Ok(())
     }
 
     /// Writes the beginning of the next parameter's range, as far as its values. `parameter` is its place among the
@@ -186,21 +147,6 @@ impl Writer {
             Err(_) => self.stage = Stage::Failed,
         }
         outcome
-    }
-
-    /// Writes the next value of the open range, or null where it is absent. It takes no memory.
-    #[tactic(auto, using(crate::specs::PieceLaws::value_alone))]
-    pub fn value<K: Sink>(&mut self, sink: &mut K, sample: Option<i64>) -> Result<(), SendFault>
-        requires open { self.old.stage ≡ Open }
-        requires room { self.old.values < self.old.head.count }
-        ensures writer { OnOk result (self.new ≡ with_values self.old 1) }
-        ensures failed { OnErr result (self.new.stage ≡ Failed) }
-        ensures bytes { Writes result (value_piece self.old.values sample) (K.written sink.old) (K.written sink.new) }
-        ensures flushed { K.flushed sink.new ≡ K.flushed sink.old }
-        ensures lent { SinkLent (K.beside sink.old) (K.beside sink.new) (K.faults sink.old) (K.faults sink.new) }
-        ensures cause { IsErrOf result SendFault.WriteFault → Rose (K.faults sink.old) (K.faults sink.new) }
-    {
-        self.values(sink, &[sample])
     }
 
     /// Writes the next values of the open range, with null where one is absent. It takes no memory, and gathers pieces of
@@ -241,7 +187,7 @@ impl Writer {
     {
         let count = self.head.keys.items().len();
         let last = added(self.ranges, 1, count) == count;
-        let outcome = send_range_end(sink, last);
+        let outcome = send(sink, values_end(last));
         match outcome {
             Ok(()) => {
                 self.stage = if last { Stage::Ready } else { Stage::Within };
@@ -262,6 +208,6 @@ impl Writer {
         ensures lent { SinkLent (K.beside sink.old) (K.beside sink.new) (K.faults sink.old) (K.faults sink.new) }
         ensures cause { IsErrOf result SendFault.WriteFault → Rose (K.faults sink.old) (K.faults sink.new) }
     {
-        send_end(sink, self.many)
+        send(sink, document_end(self.many))
     }
 }

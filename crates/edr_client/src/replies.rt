@@ -8,7 +8,7 @@ use edr_base::{OutOfMemory, Text};
 use edr_reply::MessageFault;
 
 /// A reply of data.
-#[derive(Debug, Drop)]
+#[derive(Drop)]
 pub struct Reply {
     /// The number of the edition that it is from, where its field `X-Edr-Edition` gives one.
     pub edition: Option<u64>,

@@ -1,18 +1,20 @@
-use Rattle.std.proofs.Common.{codes, refl, map, ap, ◌∙◌, arith}
+use Rattle.std.proofs.Common.{codes, refl, map, ap, ap₂, ◌∙◌, arith}
 use Rattle.std.proofs.lemmas.List.{take_all}
-use Rattle.serde_json.specs.Data.{array}
-use Rattle.serde_json.specs.View.{items_of, members_view}
+use Rattle.std.proofs.lemmas.Result.{on_ok_weaker}
+use Rattle.serde_json.specs.Data.{array, string, put}
+use Rattle.serde_json.specs.View.{items_of}
 use Rattle.serde_json.proofs.Views.{view-Array}
 use Rattle.covjson_value.specs.Trees.{tuple_data}
-use Rattle.covjson_value.proofs.Gathered.{views_more, put_gathered}
+use Rattle.covjson_value.proofs.Gathered.{views_more}
 use Rattle.covjson_value.proofs.axis_trees.put_tuples.Goals as goal
 
 pub returns : goal.returns
 returns c =
-    put_gathered c.put_tree.result (codes "values") _ _ (members_view c.args.members.now.entries) _
-    (view-Array c.loop-tuple.items
-    ∙ ap (λ ds. array (items_of ds)) (c.loop-tuple.invariant ∙ ap (map (tuple_data c.args.names.now)) (take_all _ _ (omega arith))))
-    c.put_tree.ensures
+    let gathered =
+    view-Array c.loop-tuple.items
+    ∙ ap (λ ds. array (items_of ds)) (c.loop-tuple.invariant ∙ ap (map (tuple_data c.args.names.now)) (take_all _ _ (omega arith))) in
+    let before = c.in_ok-put_text.ensures ∙ ap (put (codes "dataType") (string (codes "tuple"))) c.in_ok-put_coordinates.ensures in
+    on_ok_weaker c.put_tree.result (λ last. last ∙ ap₂ (put (codes "values")) gathered before) c.put_tree.ensures
 
 pub loop-tuple-preserved : goal.loop-tuple-preserved
 loop-tuple-preserved c =

@@ -1,4 +1,4 @@
-use Rattle.covjson_value.proofs.trees.put_rest.Goals as goal
+use Rattle.covjson_value.proofs.trees.put_members.Goals as goal
 
 pub parameters_tree-requires-clause-each : goal.parameters_tree-requires-clause-each
 parameters_tree-requires-clause-each c = rw c.items-parameters.ensures c.requires.parameters

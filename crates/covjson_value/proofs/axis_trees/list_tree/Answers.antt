@@ -1,18 +1,21 @@
-use Rattle.std.proofs.Common.{map, get_or, pos, ap, ◌∙◌, sym, subst, arith}
+use Rattle.std.proofs.Common.{codes, map, get_or, pos, ap, ◌∙◌, sym, subst, arith}
 use Rattle.std.proofs.lemmas.List.{take_all}
-use Rattle.serde_json.specs.Data.{array}
+use Rattle.std.proofs.lemmas.Result.{IfOk-weaker}
+use Rattle.serde_json.specs.Data.{array, object, no_members, member}
 use Rattle.serde_json.specs.View.{items_of}
 use Rattle.serde_json.proofs.Views.{view-Array}
 use Rattle.covjson_value.specs.Trees.{axis_value_data}
 use Rattle.covjson_value.specs.Coverages.{IsAxisValue}
 use Rattle.covjson_value.proofs.AxisValues.{axis_value_kept}
 use Rattle.covjson_value.proofs.Gathered.{views_more}
-use Rattle.covjson_value.proofs.axis_trees.axis_values_tree.Goals as goal
+use Rattle.covjson_value.proofs.axis_trees.list_tree.Goals as goal
 
 pub returns : goal.returns
 returns c =
+    let gathered =
     view-Array c.loop-value.items
-    ∙ ap (λ ds. array (items_of ds)) (c.loop-value.invariant ∙ ap (map (axis_value_data c.args.name)) (take_all _ _ (omega arith)))
+    ∙ ap (λ ds. array (items_of ds)) (c.loop-value.invariant ∙ ap (map (axis_value_data c.args.name)) (take_all _ _ (omega arith))) in
+    IfOk-weaker c.only_member.result _ _ (λ v is. is ∙ ap (λ d. object (member (codes "values") d no_members)) gathered) c.only_member.ensures
 
 pub loop-value-preserved : goal.loop-value-preserved
 loop-value-preserved c =

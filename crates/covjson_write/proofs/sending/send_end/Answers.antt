@@ -1,4 +1,0 @@
-use Rattle.covjson_write.proofs.sending.send_end.Goals as goal
-
-pub returns-then-many-clause-bytes : goal.returns-then-many-clause-bytes
-returns-then-many-clause-bytes g c = rw (c.if-many.true) c.send.ensures.bytes
