@@ -1,11 +1,11 @@
 //! Why a text or a tree stands for no coverage.
-ghost use Rattle.std.specs.Prelude.{◌≡◌, IfOk};
+ghost use Rattle.std.specs.Prelude.{◌≡◌};
 ghost use Rattle.covjson_checks.specs.declared.faults.CovFault.TheVariants.{OutOfMemory as WantsMemory};
 ghost use Rattle.covjson_checks.specs.TextFaults.{fault_of_text};
 
 use edr_base::{OutOfMemory, Text};
 use edr_json::JsonFault;
-use std::alloc::{AllocError, AllocFailed, Global};
+use std::alloc::{AllocError, AllocFailed};
 
 /// A member of a document, by which a fault says where it is (OGC 21-069r2, CoverageJSON objects).
 #[derive(Clone, Copy, Debug)]
@@ -114,25 +114,4 @@ impl From<JsonFault> for CovFault {
             JsonFault::OutOfMemory => CovFault::OutOfMemory,
         }
     }
-}
-
-/// UnsupportedDomain with that text.
-pub fn unsupported_domain(alloc: Global, text: &str) -> Result<CovFault, OutOfMemory>
-    ensures { IfOk result (λ fault. fault ≡ CovFault.UnsupportedDomain text.now) }
-{
-    Ok(CovFault::UnsupportedDomain(Text::of(alloc, text.as_bytes())?))
-}
-
-/// UnsupportedSystem with that text.
-pub fn unsupported_system(alloc: Global, text: &str) -> Result<CovFault, OutOfMemory>
-    ensures { IfOk result (λ fault. fault ≡ CovFault.UnsupportedSystem text.now) }
-{
-    Ok(CovFault::UnsupportedSystem(Text::of(alloc, text.as_bytes())?))
-}
-
-/// UnsupportedRange with that text.
-pub fn unsupported_range(alloc: Global, text: &str) -> Result<CovFault, OutOfMemory>
-    ensures { IfOk result (λ fault. fault ≡ CovFault.UnsupportedRange text.now) }
-{
-    Ok(CovFault::UnsupportedRange(Text::of(alloc, text.as_bytes())?))
 }

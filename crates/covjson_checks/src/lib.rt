@@ -6,7 +6,7 @@ mod members;
 mod texts;
 mod turned;
 
-pub use faults::{CovFault, Member, unsupported_domain, unsupported_range, unsupported_system};
+pub use faults::{CovFault, Member};
 pub use members::{
     Wanted, found_or_missing, is_within, lent, list_at, need, need_form, need_wholes, number_at,
     object_at, part, text_at, wholes, wholes_or_nulls,

@@ -1,10 +1,9 @@
 //! Members of objects and items of lists, each with the fault where it isn't as it has to be.
-ghost use Rattle.std.specs.Prelude.{◌≡◌, ◌<◌, ◌^◌, is_some, option_map};
+ghost use Rattle.std.specs.Prelude.{◌≡◌, ◌<◌, ◌^◌, option_map};
 ghost use Rattle.serde_json.specs.View.{view, items_view, members_view, number_view};
 ghost use Rattle.serde_json.specs.Find.{get};
 ghost use Rattle.covjson_checks.specs.Answers.{GivesAnswer, GivesUnlessMemory, each};
 ghost use Rattle.edr_base.specs.FirstThatApplies.{or_fault};
-ghost use Rattle.edr_json.specs.Trees.{whole_of};
 ghost use Rattle.covjson_checks.specs.Members as members;
 
 use crate::faults::{CovFault, Member};
@@ -103,16 +102,6 @@ pub fn number_at(tree: &Value, member: Member) -> Result<&Number, CovFault>
     }
 }
 
-// The number as it is held whole, or NotWhole.
-fn held_whole(number: &Number, member: Member) -> Result<i128, CovFault>
-    ensures { result ≡ members.held_whole member (number_view number.now) }
-{
-    match number.as_i128() {
-        Some(whole) => Ok(whole),
-        None => Err(CovFault::NotWhole(member)),
-    }
-}
-
 /// The size is at most that.
 pub fn is_within(value: i128, limit: u64) -> bool
     ensures { result ≡ members.is_within limit value }
@@ -126,7 +115,9 @@ fn whole_within(tree: &Value, member: Member, limit: u64) -> Result<i64, CovFaul
     ensures { result ≡ members.whole_within member limit (view tree.now) }
 {
     let number = number_at(tree, member)?;
-    let whole = held_whole(number, member)?;
+    let Some(whole) = number.as_i128() else {
+        return Err(CovFault::NotWhole(member));
+    };
     if !is_within(whole, limit) {
         return Err(CovFault::OutOfRange(member));
     }
@@ -145,22 +136,16 @@ fn whole_or_null(tree: &Value, member: Member, limit: u64) -> Result<Option<i64>
     Ok(Some(whole))
 }
 
-fn is_whole(item: &Value) -> bool
-    ensures { result ≡ is_some (whole_of (view item.now)) }
-{
-    whole_of(item).is_some()
-}
-
 fn is_wanted(item: &Value, wanted: Wanted) -> bool
     ensures { result ≡ members.is_wanted wanted (view item.now) }
 {
     match wanted {
         Wanted::Texts => item.is_string(),
         Wanted::Numbers => item.is_number(),
-        Wanted::Wholes => is_whole(item),
+        Wanted::Wholes => whole_of(item).is_some(),
         Wanted::Naturals => item.is_u64(),
         Wanted::NumbersOrNulls => item.is_null() || item.is_number(),
-        Wanted::WholesOrNulls => item.is_null() || is_whole(item),
+        Wanted::WholesOrNulls => item.is_null() || whole_of(item).is_some(),
     }
 }
 

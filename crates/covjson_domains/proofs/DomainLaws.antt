@@ -1,5 +1,5 @@
 -- The answer to the tree of a domain is that domain exactly where the tree stands for it.
-use Rattle.std.specs.Prelude.{IfSome, is_some}
+use Rattle.std.specs.Prelude.{Result, IfSome, is_some}
 use Rattle.std.proofs.Common.{◌≡◌, ◌<◌, ◌^◌, Bool, false, List, [], ◌∷◌, length, ℤ, All, Option, Some, None, Ok, codes, refl, sym, ap, ◌∙◌, subst}
 use Rattle.std.proofs.lemmas.Bool.{false≢true, false_from_ne_true}
 use Rattle.std.proofs.lemmas.List.Elements.{All-nil, All-cons}
@@ -95,6 +95,10 @@ each_read kind all r t z y x Z = z
 each_read kind all r t z y x Y = y
 each_read kind all r t z y x X = x
 
+-- what is answered is one value
+same_ok : {T F : Type 0} (x y : T) → ◌≡◌ {A = Result T F} (Ok x) (Ok y) → x ≡ y
+same_ok x y h = cc
+
 -- the axes that were read
 pub axes_are_read : InstantsAreRead → (kind : DomainType) (members : Members) → All (IsAxisOf kind) (names_of members) → (r : ReadAxes) → axes_read kind (object members) ≡ Ok r → AreRead kind members r
 axes_are_read instants kind members keys r h =
@@ -105,7 +109,7 @@ axes_are_read instants kind members keys r h =
     let x = and_then_ok (axis_by (presence kind axis.X) X axes) _ r y.2 in
     let c = and_then_ok (composite_by (presence kind axis.Composite) (tuple_kind kind (is_some z.0)) axes) _ r x.2 in
     let made : ReadAxes = record { t = t.0; z = z.0; y = y.0; x = x.0; composite = c.0 } in
-    let same : made ≡ r = let e = c.2 in cc in
+    let same : made ≡ r = same_ok made r c.2 in
     let read : AreRead kind members made = record {
       each = each_read kind members made
           (axis_if_stands instants (presence kind axis.T) T (get (axis_key (axis_name T)) axes) t.0 (only_there kind members keys axis.T) t.1)
@@ -154,7 +158,7 @@ domain_stands instants found tree r h =
     let read = and_then_ok (axes_read kind.0 axes.0) _ r axes.2 in
     let are = axes_stand kind.0 tree axes.0 axes.1 in
     let answer : axes_read kind.0 (object are.members) ≡ Ok read.0 = ap (axes_read kind.0) (sym are.axes_are) ∙ read.1 in
-    let same : formed kind.0 read.0 ≡ r = let e = read.2 in cc in
+    let same : formed kind.0 read.0 ≡ r = same_ok (formed kind.0 read.0) r read.2 in
     let stands = formed_stands found tree kind.0 read.0 (type_stands found kind.0 kind.1) axes.0 are (axes_are_read instants kind.0 are.members are.keys read.0 answer) in
     subst (λ (q : ReadDomain). StandsForDomain found tree q.turned q.domain) same stands
 

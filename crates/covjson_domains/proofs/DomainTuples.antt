@@ -112,8 +112,8 @@ formed_tuples Trajectory found r h only = with_tuples (tuple_kind Trajectory (is
 
 -- places have no axis of their coordinates beside them
 once_spots : (t : Option ℤ) (has_z : Bool) (spots : List Position) (name : CoordinateName) → is_among name (spot_names has_z) ≡ true → IsNone (axis_of (domain.MultiPoint t has_z spots) name)
-once_spots t true spots T among = cc
-once_spots t false spots T among = cc
+once_spots t true spots T among = absurd (false≢true among)
+once_spots t false spots T among = absurd (false≢true among)
 once_spots t has_z spots Z among = refl
 once_spots t has_z spots Y among = refl
 once_spots t has_z spots X among = refl

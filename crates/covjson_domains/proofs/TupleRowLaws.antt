@@ -27,7 +27,6 @@ use Rattle.covjson_checks.specs.PlaceLaws.{each_decides}
 use Rattle.covjson_checks.specs.RowLaws.{HaveAnswer, find_within, check_answers, gives_answers, told, FaultIs, option_fault, then_fault}
 use Rattle.covjson_domains.specs.declared.tuples.ReadTuples.{ReadTuples}
 use Rattle.covjson_domains.specs.declared.tuples.TupleKind.{TupleKind}
-use Rattle.covjson_domains.specs.declared.tuples.TupleKind.TheVariants.{Places, Steps, LevelSteps}
 use Rattle.covjson_domains.specs.declared.tuples.Test.{Test}
 use Rattle.covjson_domains.specs.declared.tuples.Test.TheVariants.{Form, Whole, Within}
 use Rattle.covjson_value.specs.declared.domain_types.DomainType.{DomainType}
@@ -308,21 +307,6 @@ of_kind MultiPoint level names (inr h) = record { has_z = true; may = λ e. refl
 of_kind Trajectory None names (inl h) = record { has_z = false; may = λ e. refl; named = h }
 of_kind Trajectory None names (inr h) = record { has_z = true; may = λ e. refl; named = h }
 of_kind Trajectory (Some axis) names h = record { has_z = false; may = λ e. absurd (false≢true e); named = h }
-
--- a kind has tuples with levels or without by their names
-one_kind : (kind : TupleKind) (one other : Bool) → names_of kind one ≡ names_of kind other → one ≡ other
-one_kind Places true true h = refl
-one_kind Places true false h = cc
-one_kind Places false true h = cc
-one_kind Places false false h = refl
-one_kind Steps true true h = refl
-one_kind Steps true false h = cc
-one_kind Steps false true h = cc
-one_kind Steps false false h = refl
-one_kind LevelSteps true true h = refl
-one_kind LevelSteps true false h = cc
-one_kind LevelSteps false true h = cc
-one_kind LevelSteps false false h = refl
 
 -- what is read of the member `coordinates`
 abbrev names_read : TupleKind → Data → Answer Bool

@@ -8,7 +8,7 @@ ghost use Rattle.covjson_value.specs.AxisNames.{axis_name};
 ghost use Rattle.covjson_domains.specs.AxisAnswers as axes;
 ghost use Rattle.covjson_domains.specs.AxisAnswers.{IfNeeded};
 
-use crate::domain_types::{Presence, is_single, left_out, presence_of};
+use crate::domain_types::{Presence, left_out, presence_of};
 use crate::spans::spanned;
 use covjson_checks::{
     CovFault, Member, Wanted, list_at, need_form, need_wholes, object_at, part, text_at, wholes,
@@ -39,35 +39,16 @@ fn member_of(name: CoordinateName) -> Member
     }
 }
 
-fn has_some(items: &Vec<Value>) -> bool
-    ensures { result ≡ axes.has_some (items_view items.now.items) }
-{
-    if items.is_empty() {
-        return false;
-    }
-    true
-}
-
 /// The items of the member `values`, of which there are some: WrongType.
 pub fn value_items(axis: &Value, member: Member) -> Result<&Vec<Value>, CovFault>
     ensures { GivesAnswer (λ v. items_view v.now.items) result (axes.value_items member (view axis.now)) }
 {
     let list = part(axis, "values", member)?;
     let items = list_at(list, member)?;
-    if !has_some(items) {
+    if items.is_empty() {
         return Err(CovFault::WrongType(member));
     }
     Ok(items)
-}
-
-// Listed numbers.
-fn coordinates(alloc: Global, axis: &Value, member: Member) -> Result<Vec<i64>, CovFault>
-    ensures { GivesUnlessMemory (λ v. v.items) result (axes.coordinates member (view axis.now)) }
-{
-    let items = value_items(axis, member)?;
-    need_form(items, Wanted::Numbers, member)?;
-    need_wholes(items, Wanted::Wholes, member)?;
-    wholes(alloc, items, member, COORDINATE_LIMIT)
 }
 
 /// The time of a text, of which the place is that: WrongType, BadTime.
@@ -109,25 +90,13 @@ fn axis_numbers(alloc: Global, axis: &Value, member: Member) -> Result<Vec<i64>,
     ensures { GivesUnlessMemory (λ v. v.items) result (axes.axis_numbers member (view axis.now)) }
 {
     let _members = object_at(axis, member)?;
-    if axis.get("values").is_some() {
-        coordinates(alloc, axis, member)
-    } else {
-        spanned(alloc, axis, member)
+    if axis.get("values").is_none() {
+        return spanned(alloc, axis, member);
     }
-}
-
-// The values of an axis as the tree has them.
-fn axis_values(alloc: Global, axis: &Value, name: CoordinateName) -> Result<Vec<i64>, CovFault>
-    ensures { GivesUnlessMemory (λ v. v.items) result (axes.axis_values name (view axis.now)) }
-{
-    match name {
-        CoordinateName::T => axis_times(alloc, axis),
-        CoordinateName::Z | CoordinateName::Y | CoordinateName::X => axis_numbers(
-            alloc,
-            axis,
-            member_of(name),
-        ),
-    }
+    let items = value_items(axis, member)?;
+    need_form(items, Wanted::Numbers, member)?;
+    need_wholes(items, Wanted::Wholes, member)?;
+    wholes(alloc, items, member, COORDINATE_LIMIT)
 }
 
 // Descending values, turned round.
@@ -162,20 +131,14 @@ fn in_direction(alloc: Global, values: Vec<i64>, member: Member) -> Result<ReadA
 fn axis_read(alloc: Global, axis: &Value, name: CoordinateName) -> Result<ReadAxis, CovFault>
     ensures { GivesUnlessMemory (λ r. r) result (axes.axis_read name (view axis.now)) }
 {
-    let values = axis_values(alloc, axis, name)?;
-    in_direction(alloc, values, member_of(name))
-}
-
-// As many values as the axis of its domain type has: WrongCount.
-fn need_count(read: &ReadAxis, name: CoordinateName, wanted: Presence) -> Result<(), CovFault>
-    ensures { result ≡ axes.need_count wanted name read.now }
-{
-    let count = read.axis.len();
-    if !is_single(wanted) || count == 1 {
-        Ok(())
-    } else {
-        Err(CovFault::WrongCount(member_of(name), 1, count as u128))
-    }
+    let member = member_of(name);
+    let values = match name {
+        CoordinateName::T => axis_times(alloc, axis)?,
+        CoordinateName::Z | CoordinateName::Y | CoordinateName::X => axis_numbers(
+            alloc, axis, member,
+        )?,
+    };
+    in_direction(alloc, values, member)
 }
 
 /// The axis of a name as a domain of the type has it: Missing where that needs it, then its form, its values and their
@@ -193,7 +156,10 @@ pub fn axis_by(
     match tree.get(axis_key(axis_name(name))) {
         Some(axis) => {
             let read = axis_read(alloc, axis, name)?;
-            need_count(&read, name, wanted)?;
+            let count = read.axis.len();
+            if count != 1 && matches!(wanted, Presence::OptionalSingle | Presence::Single) {
+                return Err(CovFault::WrongCount(member_of(name), 1, count as u128));
+            }
             Ok(Some(read))
         }
         None => {

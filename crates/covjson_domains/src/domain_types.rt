@@ -67,45 +67,13 @@ pub fn presence_of(kind: DomainType, name: AxisName) -> Presence
     }
 }
 
-// Whether the axis has to be there.
-fn is_needed(presence: Presence) -> bool
-    ensures { result ≡ types.is_needed presence }
-{
-    match presence {
-        Presence::Required | Presence::Single => true,
-        Presence::Absent | Presence::Optional | Presence::OptionalSingle => false,
-    }
-}
-
-/// Whether the axis has a single value.
-pub fn is_single(presence: Presence) -> bool
-    ensures { result ≡ types.is_single presence }
-{
-    match presence {
-        Presence::OptionalSingle | Presence::Single => true,
-        Presence::Absent | Presence::Optional | Presence::Required => false,
-    }
-}
-
 /// Nothing, where the axis may be left out: Missing.
 pub fn left_out(presence: Presence, member: Member) -> Result<(), CovFault>
     ensures { result ≡ types.left_out presence member }
 {
-    if is_needed(presence) {
-        Err(CovFault::Missing(member))
-    } else {
-        Ok(())
-    }
-}
-
-// Whether the axis may be there.
-fn is_allowed(presence: Presence) -> bool
-    ensures { result ≡ types.is_allowed presence }
-{
     match presence {
-        Presence::Absent => false,
-        Presence::Optional | Presence::Required | Presence::OptionalSingle | Presence::Single =>
-            true,
+        Presence::Required | Presence::Single => Err(CovFault::Missing(member)),
+        Presence::Absent | Presence::Optional | Presence::OptionalSingle => Ok(()),
     }
 }
 
@@ -114,7 +82,7 @@ fn may_have(kind: DomainType, key: &str) -> bool
     ensures { result ≡ types.may_have kind key.now }
 {
     match axis_by_name(key) {
-        Some(name) => is_allowed(presence_of(kind, name)),
+        Some(name) => !matches!(presence_of(kind, name), Presence::Absent),
         None => false,
     }
 }

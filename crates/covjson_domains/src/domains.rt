@@ -14,8 +14,7 @@ use crate::axes::{ReadAxis, axis_by};
 use crate::domain_types::{Presence, has_no_others, left_out, presence_of};
 use crate::tuples::{ReadTuples, TupleKind, tuples_read};
 use covjson_checks::{
-    CovFault, Member, ReadDomain, Turned, found_or_missing, need, object_at, text_at,
-    unsupported_domain,
+    CovFault, Member, ReadDomain, Turned, found_or_missing, need, object_at, text_at, text_of,
 };
 use covjson_value::{AxisName, CoordinateName, Domain, DomainType, axis_key, type_by_name};
 use edr_axes::{Axis, instants_are_read};
@@ -45,7 +44,7 @@ fn type_at(alloc: Global, found: Option<&Value>) -> Result<DomainType, CovFault>
     let name = text_at(found, Member::DomainType)?;
     match type_by_name(name) {
         Some(kind) => Ok(kind),
-        None => Err(unsupported_domain(alloc, name)?),
+        None => Err(CovFault::UnsupportedDomain(text_of(alloc, name)?)),
     }
 }
 
@@ -235,24 +234,6 @@ fn tuples_of(read: &mut Option<ReadTuples>) -> ReadTuples
     }
 }
 
-// The domain of these axes, and which of them were turned round.
-fn formed(kind: DomainType, read: ReadAxes) -> ReadDomain
-    requires needed { HasNeeded kind read }
-    requires counted { CompositeCounted read.composite }
-    ensures formed { result ≡ domains.formed kind read }
-    ensures counted { AreCounted result.domain }
-{
-    let turned = Turned {
-        t: is_turned_round(&read.t),
-        z: is_turned_round(&read.z),
-        y: is_turned_round(&read.y),
-        x: is_turned_round(&read.x),
-    };
-    let mut read = read;
-    let domain = domain_formed(kind, &mut read);
-    ReadDomain { domain, turned }
-}
-
 // The domain of a tree: its type, the names of its axes, and then axis by axis.
 fn domain_read(alloc: Global, tree: &Value, found: Option<&Value>) -> Result<ReadDomain, CovFault>
     ensures answer { GivesUnlessMemory (λ read. read) result (domains.domain_of (option_map (λ v. view v.now) found.entry) (view tree.now)) }
@@ -260,8 +241,15 @@ fn domain_read(alloc: Global, tree: &Value, found: Option<&Value>) -> Result<Rea
 {
     let kind = type_at(alloc, found)?;
     let axes = axes_at(tree, kind)?;
-    let read = axes_read(alloc, axes, kind)?;
-    Ok(formed(kind, read))
+    let mut read = axes_read(alloc, axes, kind)?;
+    let turned = Turned {
+        t: is_turned_round(&read.t),
+        z: is_turned_round(&read.z),
+        y: is_turned_round(&read.y),
+        x: is_turned_round(&read.x),
+    };
+    let domain = domain_formed(kind, &mut read);
+    Ok(ReadDomain { domain, turned })
 }
 
 /// The domain of a tree, whose type was found there or elsewhere, or the fault of the first check that isn't passed: of its

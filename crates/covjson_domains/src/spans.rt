@@ -119,22 +119,6 @@ fn spanned_between(
     regular(alloc, first, last, count)
 }
 
-// The values by these numbers: NotWhole where one of them or the step isn't whole, then OutOfRange.
-fn spanned_by(
-    alloc: Global,
-    start: &Number,
-    stop: &Number,
-    num: &Number,
-    member: Member,
-) -> Result<Vec<i64>, CovFault>
-    ensures { GivesUnlessMemory (λ v. v.items) result (spans.spanned_by member (number_view start.now) (number_view stop.now) (number_view num.now)) }
-{
-    let first = whole_in(start, member)?;
-    let last = whole_in(stop, member)?;
-    let count = whole_in(num, member)?;
-    spanned_between(alloc, first, last, count, member)
-}
-
 /// The values of an axis of numbers by `start`, `stop` and `num`: WrongType, then NotWhole where one of them or the step
 /// isn't whole, then OutOfRange.
 pub fn spanned(alloc: Global, axis: &Value, member: Member) -> Result<Vec<i64>, CovFault>
@@ -143,5 +127,8 @@ pub fn spanned(alloc: Global, axis: &Value, member: Member) -> Result<Vec<i64>, 
     let start = number_in(axis, "start", member)?;
     let stop = number_in(axis, "stop", member)?;
     let num = number_in(axis, "num", member)?;
-    spanned_by(alloc, start, stop, num, member)
+    let first = whole_in(start, member)?;
+    let last = whole_in(stop, member)?;
+    let count = whole_in(num, member)?;
+    spanned_between(alloc, first, last, count, member)
 }

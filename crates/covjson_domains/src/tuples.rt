@@ -74,15 +74,6 @@ fn names_of(kind: TupleKind, has_z: bool) -> &'static [CoordinateName]
     }
 }
 
-fn may_have_z(kind: TupleKind) -> bool
-    ensures { result ≡ tuples.may_have_z kind }
-{
-    match kind {
-        TupleKind::Places | TupleKind::Steps => true,
-        TupleKind::LevelSteps => false,
-    }
-}
-
 // The items are the names of these coordinates, in this order.
 fn are_keys(names: &[CoordinateName], items: &Vec<Value>) -> bool
     ensures { result ≡ tuples.are_keys names.now (items_view items.now.items) }
@@ -98,18 +89,6 @@ fn are_keys(names: &[CoordinateName], items: &Vec<Value>) -> bool
     true
 }
 
-fn has_z_by_keys(kind: TupleKind, keys: &Vec<Value>) -> Option<bool>
-    ensures { result ≡ tuples.has_z_by_keys kind (items_view keys.now.items) }
-{
-    if are_keys(names_of(kind, false), keys) {
-        Some(false)
-    } else if may_have_z(kind) && are_keys(names_of(kind, true), keys) {
-        Some(true)
-    } else {
-        None
-    }
-}
-
 // Whether the tuples of an axis have levels of their own: WrongType.
 fn axis_has_z(axis: &Value, kind: TupleKind) -> Result<bool, CovFault>
     ensures { result ≡ tuples.axis_has_z kind (view axis.now) }
@@ -120,22 +99,12 @@ fn axis_has_z(axis: &Value, kind: TupleKind) -> Result<bool, CovFault>
     }
     let list = part(axis, "coordinates", Member::Composite)?;
     let keys = list_at(list, Member::Composite)?;
-    match has_z_by_keys(kind, keys) {
-        Some(has_z) => Ok(has_z),
-        None => Err(CovFault::WrongType(Member::Composite)),
-    }
-}
-
-fn number_passes(test: Test, item: &Value) -> bool
-    ensures { result ≡ tuples.number_passes test (view item.now) }
-{
-    match test {
-        Test::Form => item.is_number(),
-        Test::Whole => whole_of(item).is_some(),
-        Test::Within => match whole_of(item) {
-            Some(value) => is_within(value, COORDINATE_LIMIT),
-            None => false,
-        },
+    if are_keys(names_of(kind, false), keys) {
+        Ok(false)
+    } else if !matches!(kind, TupleKind::LevelSteps) && are_keys(names_of(kind, true), keys) {
+        Ok(true)
+    } else {
+        Err(CovFault::WrongType(Member::Composite))
     }
 }
 
@@ -147,7 +116,14 @@ fn passes(test: Test, name: CoordinateName, item: &Value) -> bool
             Test::Form => item.is_string(),
             Test::Whole | Test::Within => true,
         },
-        CoordinateName::Z | CoordinateName::Y | CoordinateName::X => number_passes(test, item),
+        CoordinateName::Z | CoordinateName::Y | CoordinateName::X => match test {
+            Test::Form => item.is_number(),
+            Test::Whole => whole_of(item).is_some(),
+            Test::Within => match whole_of(item) {
+                Some(value) => is_within(value, COORDINATE_LIMIT),
+                None => false,
+            },
+        },
     }
 }
 
@@ -218,23 +194,16 @@ fn number_of(name: CoordinateName, names: &[CoordinateName], items: &Vec<Value>)
     }
 }
 
-// The time of a tuple at that place, and 0 where it has none: BadTime.
-fn time_if(place: usize, value: Option<&Value>) -> Result<i64, CovFault>
-    ensures { result ≡ tuples.time_if place (option_map (λ v. view v.now) value.entry) }
-{
-    match value {
-        Some(value) => time_at(value, Member::Composite, place),
-        None => Ok(0),
-    }
-}
-
 // The tuple of a list, at that place: BadTime.
 fn tuple_at(names: &[CoordinateName], place: usize, tuple: &Value) -> Result<Position, CovFault>
     requires { tuples.list_passes Test.Within names.now (as_array (view tuple.now)) ≡ true }
     ensures { result ≡ tuples.tuple_at names.now place (view tuple.now) }
 {
     let items = list_at(tuple, Member::Composite)?;
-    let time = time_if(place, value_of(CoordinateName::T, names, items))?;
+    let time = match value_of(CoordinateName::T, names, items) {
+        Some(value) => time_at(value, Member::Composite, place)?,
+        None => 0,
+    };
     Ok(Position {
         x: number_of(CoordinateName::X, names, items),
         y: number_of(CoordinateName::Y, names, items),

@@ -4,8 +4,7 @@ ghost use Rattle.std.specs.Bool.{OnTrue};
 ghost use Rattle.std.specs.List.{slice_index_or};
 ghost use Rattle.covjson_value.specs.Domains.{count_of};
 ghost use Rattle.covjson_checks.specs.Answers.{GivesUnlessMemory};
-ghost use Rattle.covjson_checks.specs.Turns.{unturned};
-ghost use Rattle.covjson_ranges.specs.Ranges.{AreInside, AreRangeAxes, tree_number};
+ghost use Rattle.covjson_ranges.specs.Ranges.{AreRangeAxes};
 ghost use Rattle.covjson_ranges.specs.Orders.{below, ordered, IsUsual, IsUnturned, in_row, StaysInside, AreRows};
 ghost use Rattle.covjson_checks.specs.declared.faults.CovFault.TheVariants.{OutOfMemory};
 
@@ -46,23 +45,8 @@ struct Row {
     turned: bool,
 }
 
-// How far from each other the neighbours on an axis stand in a tree: the number there of the second place on it.
-fn step_to(domain: &Domain, names: &[AxisName], second: Places) -> usize
-    requires axes { AreRangeAxes domain.now names.now }
-    requires few { count_of domain.now < 2 ^ 64 }
-    requires inside { AreInside domain.now second }
-    ensures { result ≡ tree_number domain.now unturned names.now second }
-{
-    let unturned = Turned {
-        t: false,
-        z: false,
-        y: false,
-        x: false,
-    };
-    tree_number(domain, unturned, names, second)
-}
-
-// The rows of a domain: its tuples where it has several, else its columns.
+// The rows of a domain: its tuples where it has several, else its columns. Neighbours on an axis stand as far from each other in
+// a tree as the number there of the second place on it says.
 fn row_of(domain: &Domain, turned: Turned, names: &[AxisName]) -> Row
     requires axes { AreRangeAxes domain.now names.now }
     requires few { count_of domain.now < 2 ^ 64 }
@@ -71,6 +55,12 @@ fn row_of(domain: &Domain, turned: Turned, names: &[AxisName]) -> Row
 {
     let tuples = axis_len(domain, AxisName::Composite);
     let columns = axis_len(domain, AxisName::X);
+    let unturned = Turned {
+        t: false,
+        z: false,
+        y: false,
+        x: false,
+    };
     let origin = Places {
         t: 0,
         z: 0,
@@ -81,13 +71,13 @@ fn row_of(domain: &Domain, turned: Turned, names: &[AxisName]) -> Row
     if tuples > 1 {
         Row {
             length: tuples,
-            step: step_to(domain, names, Places { tuple: 1, ..origin }),
+            step: tree_number(domain, unturned, names, Places { tuple: 1, ..origin }),
             turned: false,
         }
     } else if columns > 1 {
         Row {
             length: columns,
-            step: step_to(domain, names, Places { x: 1, ..origin }),
+            step: tree_number(domain, unturned, names, Places { x: 1, ..origin }),
             turned: turned.x,
         }
     } else {

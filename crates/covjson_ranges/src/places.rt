@@ -63,37 +63,19 @@ pub fn has_axis(domain: &Domain, name: AxisName) -> bool
     }
 }
 
-fn place_on(places: Places, name: AxisName) -> usize
-    ensures { result ≡ ranges.place_on places name }
-{
-    match name {
-        AxisName::T => places.t,
-        AxisName::Z => places.z,
-        AxisName::Y => places.y,
-        AxisName::X => places.x,
-        AxisName::Composite => places.tuple,
-    }
-}
-
-fn is_turned(turned: Turned, name: AxisName) -> bool
-    ensures { result ≡ ranges.is_range_turned turned name }
-{
-    match name {
-        AxisName::T => turned.t,
-        AxisName::Z => turned.z,
-        AxisName::Y => turned.y,
-        AxisName::X => turned.x,
-        AxisName::Composite => false,
-    }
-}
-
 // The place on an axis as the tree has it.
 fn tree_place(domain: &Domain, turned: Turned, places: Places, name: AxisName) -> usize
     requires { AreInside domain.now places }
     ensures { result ≡ ranges.tree_place domain.now turned places name }
 {
-    let place = place_on(places, name);
-    if is_turned(turned, name) {
+    let (place, is_turned) = match name {
+        AxisName::T => (places.t, turned.t),
+        AxisName::Z => (places.z, turned.z),
+        AxisName::Y => (places.y, turned.y),
+        AxisName::X => (places.x, turned.x),
+        AxisName::Composite => (places.tuple, false),
+    };
+    if is_turned {
         axis_len(domain, name) - 1 - place
     } else {
         place

@@ -16,7 +16,7 @@ use crate::orders::in_order;
 use crate::places::{axis_len, has_axis};
 use covjson_checks::{
     CovFault, Member, ReadDomain, Wanted, list_at, need, need_form, need_wholes, object_at,
-    unsupported_range, wholes_or_nulls,
+    text_of, wholes_or_nulls,
 };
 use covjson_value::{AxisName, Domain, NdArray, axis_by_name};
 use edr_base::{Items, SAMPLE_LIMIT};
@@ -31,7 +31,7 @@ fn need_array(alloc: Global, tree: &Value) -> Result<(), CovFault>
     let _members = object_at(tree, Member::Ranges)?;
     let kind = text_or_empty(tree, "type");
     if kind != "NdArray" {
-        return Err(unsupported_range(alloc, kind)?);
+        return Err(CovFault::UnsupportedRange(text_of(alloc, kind)?));
     }
     Ok(())
 }
@@ -43,7 +43,7 @@ fn need_integers(alloc: Global, tree: &Value) -> Result<(), CovFault>
     let _data_type = need(tree, "dataType", Member::DataType)?;
     let name = text_or_empty(tree, "dataType");
     if name != "integer" {
-        return Err(unsupported_range(alloc, name)?);
+        return Err(CovFault::UnsupportedRange(text_of(alloc, name)?));
     }
     Ok(())
 }
@@ -154,26 +154,21 @@ fn names_at(alloc: Global, tree: &Value, domain: &Domain) -> Result<Vec<AxisName
     Ok(names)
 }
 
-// A whole number from 0, which has to be that length: WrongType, WrongCount.
-fn need_length(item: &Value, length: usize) -> Result<(), CovFault>
-    ensures { result ≡ ranges.length_is length (view item.now) }
-{
-    let Some(found) = item.as_u64() else {
-        return Err(CovFault::WrongType(Member::Shape));
-    };
-    if found != length as u64 {
-        return Err(CovFault::WrongCount(Member::Shape, length as u128, found as u128));
-    }
-    Ok(())
-}
-
-// The lengths of these axes: WrongCount.
+// The lengths of these axes, each a whole number from 0: WrongType, WrongCount.
 fn need_lengths(items: &Vec<Value>, names: &[AxisName], domain: &Domain) -> Result<(), CovFault>
     requires { length items.now.items ≡ length names.now }
     ensures { result ≡ ranges.lengths_are (map (axes.length_of domain.now) names.now) (items_view items.now.items) }
 {
     for place in 0..names.len() {
-        need_length(&items[place], axis_len(domain, names[place]))?;
+        let length = axis_len(domain, names[place]);
+        match items[place].as_u64() {
+            Some(found) => {
+                if found != length as u64 {
+                    return Err(CovFault::WrongCount(Member::Shape, length as u128, found as u128));
+                }
+            }
+            None => return Err(CovFault::WrongType(Member::Shape)),
+        }
     }
     Ok(())
 }

@@ -22,7 +22,7 @@ use Rattle.covjson_read.specs.CollectedAnswers.{ranges_from, has_members, ranges
 use Rattle.covjson_read.specs.Standing.{StandsForRanges}
 use Rattle.covjson_read.specs.Rows.{ParameterRows, EachRangeRows, RangesRows}
 use Rattle.covjson_checks.specs.RowLaws.{HaveAnswer, find_answers, check_answers, then_answers, gives_answers, passed, passed_then}
-use Rattle.covjson_read.proofs.RowAnswers.{one_is_answer}
+use Rattle.covjson_read.proofs.RowAnswers.{one_is_answer, same_ok}
 use Rattle.covjson_read.proofs.SystemLaws.{given_found}
 use Rattle.covjson_read.proofs.ParameterLaws.{parameter_rows, parameter_tells, parameter_passes, object_found}
 
@@ -69,7 +69,7 @@ each_tells : RangeRowsAreWhatStand → (read : ReadDomain) (parameters : Data) (
     → EachRange read parameters ms r.parameters r.ranges
 each_tells stand_for read parameters no_members r h =
     let made : ReadRanges = record { parameters = []; ranges = [] } in
-    let same : made ≡ r = cc in
+    let same : made ≡ r = sym (same_ok r made h) in
     subst (λ (s : ReadRanges). EachRange read parameters no_members s.parameters s.ranges) same
     (record { ids = refl; parameters_stand = All-nil (StandsAmong parameters); ranges_stand = tt })
 each_tells stand_for read parameters (member id d ms) r h =
@@ -78,7 +78,7 @@ each_tells stand_for read parameters (member id d ms) r h =
     let a = passed_then p.2 in
     let o = passed_then a.2 in
     let made : ReadRanges = record { parameters = p.0 ∷ o.0.parameters; ranges = a.0 ∷ o.0.ranges } in
-    let same : made ≡ r = let e = o.2 in cc in
+    let same : made ≡ r = sym (same_ok r made o.2) in
     let rest = each_tells stand_for read parameters ms o.0 o.1 in
     let parameter = parameter_tells id f.0 p.0 p.1 in
     let among : StandsAmong parameters p.0 = record { d = f.0; named = ap (λ k. get k parameters) parameter.0 ∙ f.1; stands = parameter.1 } in

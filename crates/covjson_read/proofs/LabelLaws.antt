@@ -13,6 +13,7 @@ use Rattle.covjson_checks.specs.RowLaws.{FaultIs, ok_fault, option_fault, check_
 use Rattle.edr_json.specs.AnswerLaws.{and_then_ok, or_fault_ok, check_ok}
 use Rattle.covjson_checks.specs.CheckLaws.{object_ok, text_ok}
 use Rattle.edr_json.specs.AnswerLaws.{and_then_given, or_fault_given, check_given}
+use Rattle.covjson_read.proofs.RowAnswers.{same_ok}
 
 -- ---- labels
 
@@ -78,7 +79,7 @@ label_stands m d p h =
     let t = and_then_ok (text_at m s.0.1) _ p s.2 in
     let is_object = object_ok _ a.0 b.0 b.1 in
     let is_text = text_ok _ s.0.1 t.0 t.1 in
-    let same : (s.0.0, t.0) ≡ p = cc in
+    let same : (s.0.0, t.0) ≡ p = same_ok (s.0.0, t.0) p t.2 in
     let said = label_said a.0 b.0 s.0 t.0 p is_object (or_fault_ok chosen _ s.0 s.1) is_text same in
     record {
       members = b.0;

@@ -13,6 +13,7 @@ use Rattle.covjson_read.specs.ParameterAnswers.{parameter_of}
 use Rattle.covjson_ranges.specs.RangeAnswers.{range_of}
 use Rattle.covjson_read.specs.CollectedAnswers.{ranges_from, has_members, ranges_in}
 use Rattle.edr_json.specs.AnswerLaws.{and_then_ok, check_ok}
+use Rattle.covjson_read.proofs.RowAnswers.{same_ok}
 
 -- where there are members there are parameters
 some_from : (read : ReadDomain) (parameters : Data) (ms : Members) (r : ReadRanges) → has_members ms ≡ true → ranges_from read parameters ms ≡ Ok r → 0 < length r.parameters
@@ -23,7 +24,7 @@ some_from read parameters (member id d ms) r some h =
     let a = and_then_ok (range_of read d) _ r p.2 in
     let o = and_then_ok (ranges_from read parameters ms) _ r a.2 in
     let made : ReadRanges = record { parameters = p.0 ∷ o.0.parameters; ranges = a.0 ∷ o.0.ranges } in
-    let same : made ≡ r = cc in
+    let same : made ≡ r = same_ok made r o.2 in
     subst (λ (q : ReadRanges). 0 < length q.parameters) same (omega arith)
 
 -- there is a parameter at least

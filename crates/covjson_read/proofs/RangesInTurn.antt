@@ -39,6 +39,11 @@ after_these kept found answer = and_then answer (λ others. Ok (record { paramet
 abbrev pub from_here : ReadDomain → Data → List Parameter → List NdArray → Entries → Answer ReadRanges
 from_here read parameters kept found es = after_these kept found (ranges_from read parameters (members_view es))
 
+-- nothing put before an answer
+after_none : (answer : Answer ReadRanges) → after_these [] [] answer ≡ answer
+after_none (Ok others) = refl
+after_none (Err f) = refl
+
 -- ranges put before those that are put before others
 twice : (kept : List Parameter) (found : List NdArray) (p : Parameter) (r : NdArray) (answer : Answer ReadRanges)
     → after_these kept found (and_then answer (λ others. Ok (record { parameters = p ∷ others.parameters; ranges = r ∷ others.ranges })))
@@ -76,6 +81,11 @@ entry_first : (read : ReadDomain) (parameters : Data) (next : Entries) (k : Stri
 entry_first read parameters next k v =
     tree_first (ranges_from read parameters (members_view next)) (need (string_bytes k) Parameters parameters) (parameter_of (string_bytes k)) (range_of read (view v))
 
+-- none before those of all entries
+pub from_none : (read : ReadDomain) (parameters : Data) (kept : List Parameter) (found : List NdArray) (es : Entries) → kept ≡ [] → found ≡ []
+    → from_here read parameters kept found es ≡ ranges_from read parameters (members_view es)
+from_none read parameters kept found es no_parameter no_range = rw (no_parameter, no_range) (after_none (ranges_from read parameters (members_view es)))
+
 -- one range more, and one entry fewer that is left
 pub one_more : (read : ReadDomain) (parameters : Data) (kept all_kept : List Parameter) (found all_found : List NdArray) (es next : Entries) (k : String Global) (v : Value) (p : Parameter)
     (r : NdArray) (all : Answer ReadRanges) → es ≡ (k, v) ∷ next → from_here read parameters kept found es ≡ all → range_with read parameters (string_bytes k) (view v) ≡ Ok (p, r)
@@ -88,17 +98,18 @@ one_more read parameters kept all_kept found all_found es next k v p r all is be
     rw (pushed, put) (sym (twice kept found p r left)) ∙ sym here ∙ before
 
 -- a fault at an entry is the answer of all
-module _ (read : ReadDomain) (parameters : Data) (kept : List Parameter) (found : List NdArray) (es next : Entries) (k : String Global) (v : Value) (all : Answer ReadRanges) (r : Result ReadRanges CovFault)
+module _ {T : Type 0} (seen : T → ReadRanges) (read : ReadDomain) (parameters : Data) (kept : List Parameter) (found : List NdArray) (es next : Entries) (k : String Global) (v : Value)
+    (all : Answer ReadRanges) (r : Result T CovFault)
     (fault : CovFault) (is : es ≡ (k, v) ∷ next) (before : from_here read parameters kept found es ≡ all) (same : IsErrAnd r (λ e. e ≡ fault)) where
-  answered : (r : Result ReadRanges CovFault) → IsErrAnd r (λ e. e ≡ fault) → from_here read parameters kept found ((k, v) ∷ next) ≡ Err fault → GivesUnlessMemory (λ given. given) r all
+  answered : (r : Result T CovFault) → IsErrAnd r (λ e. e ≡ fault) → from_here read parameters kept found ((k, v) ∷ next) ≡ Err fault → GivesUnlessMemory seen r all
   answered (Ok u) same here = absurd same
   answered (Err e) same here = inl (sym before ∙ ap (from_here read parameters kept found) is ∙ here ∙ ap (λ f. Err f) (sym same))
 
-  wanting : (r : Result ReadRanges CovFault) → IsErrAnd r (λ e. e ≡ fault) → fault ≡ OutOfMemory → GivesUnlessMemory (λ given. given) r all
+  wanting : (r : Result T CovFault) → IsErrAnd r (λ e. e ≡ fault) → fault ≡ OutOfMemory → GivesUnlessMemory seen r all
   wanting (Ok u) same memory = absurd same
   wanting (Err e) same memory = inr (same ∙ memory)
 
-  pub entry_stops : (range_with read parameters (string_bytes k) (view v) ≡ Err fault) ⊎ (fault ≡ OutOfMemory) → GivesUnlessMemory (λ given. given) r all
+  pub entry_stops : (range_with read parameters (string_bytes k) (view v) ≡ Err fault) ⊎ (fault ≡ OutOfMemory) → GivesUnlessMemory seen r all
   entry_stops (inl stops) = answered r same (ap (after_these kept found) (entry_first read parameters next k v) ∙ rw stops refl)
   entry_stops (inr memory) = wanting r same memory
 

@@ -1,6 +1,6 @@
 -- More of rows of checks and the computation of their answer.
 use Rattle.std.specs.Prelude.{Result, ◌↔◌}
-use Rattle.std.proofs.Common.{◌≡◌, Ok, sym, subst}
+use Rattle.std.proofs.Common.{◌≡◌, Ok, Err, sym, subst}
 use Rattle.covjson_checks.specs.RowLaws.{HasOneAnswer, HaveAnswer}
 
 -- where rows have one answer, an answer that follows them is that one
@@ -16,3 +16,7 @@ answer_stands Rows answer Stands has tells passes x =
 -- what an answer gives is one value
 pub same_ok : {T F : Type 0} (x y : T) → ◌≡◌ {A = Result T F} (Ok x) (Ok y) → x ≡ y
 same_ok x y h = cc
+
+-- and a value is no fault
+pub not_fault : {T F : Type 0} (x : T) (f : F) → ¬ (◌≡◌ {A = Result T F} (Ok x) (Err f))
+not_fault x f h = cc

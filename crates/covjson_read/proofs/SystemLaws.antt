@@ -12,7 +12,7 @@ use Rattle.covjson_checks.specs.Members.{list_at}
 use Rattle.edr_base.specs.FirstThatApplies.{or_fault}
 use Rattle.edr_json.specs.TreeLaws.{as_array_some}
 use Rattle.covjson_checks.specs.RowLaws.{HaveAnswer, Finds, option_finds, find_answers, then_answers, passed, passed_then, find_within, check_within}
-use Rattle.covjson_read.proofs.RowAnswers.{answer_stands}
+use Rattle.covjson_read.proofs.RowAnswers.{answer_stands, same_ok, not_fault}
 use Rattle.covjson_checks.specs.Places.{EachItem, NoItem, IsFirstItem}
 use Rattle.covjson_read.specs.Systems.{IsConnection, IsPlane, IsOtherCalendar, IsVertical, system_text, system_name, StandsForVertical, StandsForReferencing}
 use Rattle.covjson_read.specs.SystemAnswers.{all_that, first_that, is_connection, is_plane, is_other_calendar, is_vertical, vertical_name, only_gregorian, referencing_of}
@@ -112,9 +112,9 @@ rows_tell has_z found r h =
     let p = passed c.1 in
     let k = passed p.2 in
     let g = passed_then k.1 in
-    let none : NoItem IsOtherCalendar e.0 = elim g.1 [ inl w ↦ w.0 | inr w ↦ let x = w.2 in cc ] in
+    let none : NoItem IsOtherCalendar e.0 = elim g.1 [ inl w ↦ w.0 | inr w ↦ absurd (not_fault _ _ w.2) ] in
     let s = g.2 in
-    let same : s.0 ≡ r = let x = s.2 in cc in
+    let same : s.0 ≡ r = sym (same_ok r s.0 s.2) in
     record {
       entries = e.0;
       list = l.1 ∙ ap Some e.1;

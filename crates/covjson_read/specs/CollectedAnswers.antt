@@ -1,7 +1,9 @@
 -- All ranges of a coverage, each with its parameter, or the first check that fails, as a computation.
-use Rattle.std.specs.Prelude.{[], ◌∷◌, codes, Bool, true, false, Ok}
+use Rattle.std.specs.Prelude.{List, [], ◌∷◌, codes, Bool, true, false, Ok}
 use Rattle.serde_json.specs.Data.{Data, Members, no_members, member}
 use Rattle.edr_base.specs.FirstThatApplies.{and_then, check}
+use Rattle.covjson_value.specs.declared.coverages.NdArray.{NdArray}
+use Rattle.covjson_value.specs.declared.coverages.Parameter.{Parameter}
 use Rattle.covjson_checks.specs.declared.turned.ReadDomain.{ReadDomain}
 use Rattle.covjson_checks.specs.declared.faults.Member.TheVariants.{Parameters, Ranges}
 use Rattle.covjson_checks.specs.declared.faults.CovFault.TheVariants.{WrongCount}
@@ -10,6 +12,10 @@ use Rattle.covjson_checks.specs.Members.{need, object_at}
 use Rattle.covjson_ranges.specs.RangeAnswers.{range_of}
 use Rattle.covjson_read.specs.declared.collected.ReadRanges.{ReadRanges}
 use Rattle.covjson_read.specs.ParameterAnswers.{parameter_of}
+
+-- parameters and ranges together
+abbrev pub both : List Parameter → List NdArray → ReadRanges
+both kept found = record { parameters = kept; ranges = found }
 
 -- each range in turn with the parameter of its name
 abbrev pub ranges_from : ReadDomain → Data → Members → Answer ReadRanges

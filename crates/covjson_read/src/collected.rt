@@ -1,13 +1,8 @@
 //! All ranges of a coverage, each with its parameter.
-ghost use Rattle.std.specs.Prelude.{◌≡◌, IfOk, Ok};
+ghost use Rattle.std.specs.Prelude.{◌≡◌, [], IfOk};
 ghost use Rattle.serde_json.specs.View.{view, members_view};
-ghost use Rattle.edr_base.specs.FirstThatApplies.{and_then};
-ghost use Rattle.covjson_value.specs.Coverages.{HasAxes, HasTuples, IsParameter, IsRange};
-ghost use Rattle.covjson_checks.specs.declared.faults.Member.TheVariants.{Parameters};
+ghost use Rattle.covjson_value.specs.Coverages.{HasAxes, HasTuples};
 ghost use Rattle.covjson_checks.specs.Answers.{GivesUnlessMemory};
-ghost use Rattle.covjson_checks.specs.Members.{need};
-ghost use Rattle.covjson_ranges.specs.RangeAnswers.{range_of};
-ghost use Rattle.covjson_read.specs.ParameterAnswers.{parameter_of};
 ghost use Rattle.covjson_read.specs.Parameters.{HaveNames};
 ghost use Rattle.covjson_read.specs.Collected.{AreValid};
 ghost use Rattle.covjson_read.specs.CollectedAnswers as ranges;
@@ -29,53 +24,32 @@ pub struct ReadRanges {
     pub ranges: Items<NdArray>,
 }
 
-// A range, with the parameter of its name.
-fn range_with(
-    alloc: Global,
-    id: &str,
-    range: &Value,
-    parameters: &Value,
-    read: &ReadDomain,
-) -> Result<(Parameter, NdArray), CovFault>
-    requires axes { HasAxes read.now.domain }
-    requires tuples { HasTuples read.now.domain }
-    requires named { HaveNames (view parameters.now) }
-    ensures answer { GivesUnlessMemory (λ p. p) result (
-        and_then (need id.now Parameters (view parameters.now)) (λ tree.
-        and_then (parameter_of id.now tree) (λ parameter.
-        and_then (range_of read.now (view range.now)) (λ array. Ok (parameter, array))))) }
-    ensures valid { IfOk result (λ p. IsParameter p.0 × IsRange read.now.domain p.1) }
-{
-    let tree = need(parameters, id, Member::Parameters)?;
-    let parameter = parameter_of(alloc, id, tree)?;
-    let array = range_of(alloc, range, read)?;
-    Ok((parameter, array))
-}
-
-// Each range in turn, with the parameter of its name.
+// Each range in turn, and the parameter of its name, put to none.
 fn ranges_from(
     alloc: Global,
     members: &Map<String, Value>,
     parameters: &Value,
     read: &ReadDomain,
-) -> Result<ReadRanges, CovFault>
+    kept: &mut Vec<Parameter>,
+    found: &mut Vec<NdArray>,
+) -> Result<(), CovFault>
     requires axes { HasAxes read.now.domain }
     requires tuples { HasTuples read.now.domain }
     requires named { HaveNames (view parameters.now) }
-    ensures answer { GivesUnlessMemory (λ r. r) result (ranges.ranges_from read.now (view parameters.now) (members_view members.now.entries)) }
-    ensures valid { IfOk result (λ r. AreValid read.now.domain r.parameters r.ranges) }
+    requires none_kept { kept.old.items ≡ [] }
+    requires none_found { found.old.items ≡ [] }
+    ensures answer { GivesUnlessMemory (λ _. ranges.both kept.new.items found.new.items) result (
+        ranges.ranges_from read.now (view parameters.now) (members_view members.now.entries)) }
+    ensures valid { IfOk result (λ _. AreValid read.now.domain kept.new.items found.new.items) }
 {
-    let mut kept = Vec::new(alloc);
-    let mut found = Vec::new(alloc);
     for (id, range) in members.iter() {
-        let (parameter, array) = range_with(alloc, id, range, parameters, read)?;
+        let tree = need(parameters, id, Member::Parameters)?;
+        let parameter = parameter_of(alloc, id, tree)?;
         kept.push(parameter)?;
+        let array = range_of(alloc, range, read)?;
         found.push(array)?;
     }
-    Ok(ReadRanges {
-        parameters: Items::of(kept),
-        ranges: Items::of(found),
-    })
+    Ok(())
 }
 
 /// The ranges of a coverage and their parameters: Missing, WrongType, WrongCount, and then range by range.
@@ -96,5 +70,11 @@ pub fn ranges_in(
     if members.is_empty() {
         return Err(CovFault::WrongCount(Member::Ranges, 1, 0));
     }
-    ranges_from(alloc, members, parameters, read)
+    let mut kept = Vec::new(alloc);
+    let mut found = Vec::new(alloc);
+    ranges_from(alloc, members, parameters, read, &mut kept, &mut found)?;
+    Ok(ReadRanges {
+        parameters: Items::of(kept),
+        ranges: Items::of(found),
+    })
 }

@@ -1,9 +1,7 @@
 //! Coverages (OGC 21-069r2, Coverage objects).
-ghost use Rattle.std.specs.Prelude.{◌≡◌, ◌≢◌, ◌<◌, length, IfOk, IfErr, IfSome, IsUtf8, Ok, Err, option_map, codes};
+ghost use Rattle.std.specs.Prelude.{◌≡◌, ◌≢◌, ◌<◌, length, IfOk, IfErr, Err, option_map, codes};
 ghost use Rattle.serde_json.specs.Data.{null};
 ghost use Rattle.serde_json.specs.View.{view};
-ghost use Rattle.serde_json.specs.Find.{get};
-ghost use Rattle.edr_json.specs.Trees.{text_in};
 ghost use Rattle.covjson_value.specs.Coverages.{HasAxes, HasTuples, IsValid};
 ghost use Rattle.edr_base.specs.FirstThatApplies.{and_then};
 ghost use Rattle.covjson_checks.specs.Answers.{GivesAnswer, GivesUnlessMemory};
@@ -30,14 +28,6 @@ use edr_json::{text_in, text_or_empty};
 use serde_json::Value;
 use std::alloc::Global;
 
-// Its name, where it is a text.
-fn id_of(alloc: Global, tree: &Value) -> Result<Option<Text>, CovFault>
-    ensures value { GivesUnlessMemory (λ id. id) result (Ok (text_in (codes "id") (view tree.now))) }
-    ensures utf8 { IfOk result (λ id. IfSome id IsUtf8) }
-{
-    text_where_given(alloc, text_in(tree, "id"))
-}
-
 // An object of type Coverage: WrongType, Missing.
 fn is_coverage(tree: &Value) -> Result<&Value, CovFault>
     ensures { GivesAnswer (λ v. view v.now) result (answers.is_coverage (view tree.now)) }
@@ -48,15 +38,6 @@ fn is_coverage(tree: &Value) -> Result<&Value, CovFault>
         return Err(CovFault::WrongType(Member::Kind));
     }
     Ok(tree)
-}
-
-// The domain of a coverage, an object: Missing, WrongType.
-fn domain_at(tree: &Value) -> Result<&Value, CovFault>
-    ensures { GivesAnswer (λ v. view v.now) result (answers.domain_at (view tree.now)) }
-{
-    let domain = need(tree, "domain", Member::Domain)?;
-    let _members = object_at(domain, Member::Domain)?;
-    Ok(domain)
 }
 
 // The type of a domain: its own, else that of the coverage, else that of the collection.
@@ -109,7 +90,7 @@ fn parts_over(
     ensures answer { GivesUnlessMemory (with_domain read.now.domain) result (over_domain (view collection.now) (view tree.now) (view domain.now) read.now) }
     ensures valid { IfOk result (λ p. IsValid (with_domain read.now.domain p)) }
 {
-    let id = id_of(alloc, tree)?;
+    let id = text_where_given(alloc, text_in(tree, "id"))?;
     let levels = read.domain.has(CoordinateName::Z);
     let referencing = referencing_of(alloc, lent(domain, collection, "referencing"), levels)?;
     let ranges = ranges_over(alloc, tree, collection, read)?;
@@ -120,19 +101,16 @@ fn parts_over(
     })
 }
 
-// The coverage over a domain that was read.
-fn over_domain(
-    alloc: Global,
-    tree: &Value,
-    collection: &Value,
-    domain: &Value,
-    read: ReadDomain,
-) -> Result<Coverage, CovFault>
-    requires axes { HasAxes read.domain }
-    requires tuples { HasTuples read.domain }
-    ensures answer { GivesUnlessMemory (λ c. c) result (over_domain (view collection.now) (view tree.now) (view domain.now) read) }
+/// The coverage that a tree of JSON stands for within a collection, which lends it what it lacks: its type of domain, its
+/// systems and its parameters. The collection is null where there is none.
+pub fn coverage_in(alloc: Global, tree: &Value, collection: &Value) -> Result<Coverage, CovFault>
+    ensures answer { GivesUnlessMemory (λ c. c) result (answers.coverage_in (view collection.now) (view tree.now)) }
     ensures valid { IfOk result IsValid }
 {
+    let _tree = is_coverage(tree)?;
+    let domain = need(tree, "domain", Member::Domain)?;
+    let _members = object_at(domain, Member::Domain)?;
+    let read = domain_of(alloc, domain, type_of(domain, tree, collection))?;
     let Parts {
         id,
         referencing,
@@ -145,18 +123,6 @@ fn over_domain(
         parameters: ranges.parameters,
         ranges: ranges.ranges,
     })
-}
-
-/// The coverage that a tree of JSON stands for within a collection, which lends it what it lacks: its type of domain, its
-/// systems and its parameters. The collection is null where there is none.
-pub fn coverage_in(alloc: Global, tree: &Value, collection: &Value) -> Result<Coverage, CovFault>
-    ensures answer { GivesUnlessMemory (λ c. c) result (answers.coverage_in (view collection.now) (view tree.now)) }
-    ensures valid { IfOk result IsValid }
-{
-    let _tree = is_coverage(tree)?;
-    let domain = domain_at(tree)?;
-    let read = domain_of(alloc, domain, type_of(domain, tree, collection))?;
-    over_domain(alloc, tree, collection, domain, read)
 }
 
 /// The coverage that a tree of JSON stands for by itself.

@@ -21,14 +21,6 @@ use edr_json::{read_tree, text_or_empty};
 use serde_json::Value;
 use std::alloc::Global;
 
-fn one_coverage(alloc: Global, tree: &Value) -> Result<Document, CovFault>
-    ensures answer { GivesUnlessMemory (λ d. d) result (answers.one_coverage (view tree.now)) }
-    ensures valid { IfOk result IsValidDocument }
-{
-    let coverage = coverage_alone(alloc, tree)?;
-    Ok(Document::One(coverage))
-}
-
 // The coverages of a collection, in turn.
 fn coverages_in(
     alloc: Global,
@@ -61,7 +53,7 @@ fn document_of_type(alloc: Global, tree: &Value, kind: &str) -> Result<Document,
     ensures valid { IfOk result IsValidDocument }
 {
     if kind == "Coverage" {
-        one_coverage(alloc, tree)
+        Ok(Document::One(coverage_alone(alloc, tree)?))
     } else if kind == "CoverageCollection" {
         many_coverages(alloc, tree)
     } else {

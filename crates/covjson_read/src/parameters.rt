@@ -1,5 +1,5 @@
 //! Parameters (OGC 21-069r2, Parameter objects).
-ghost use Rattle.std.specs.Prelude.{◌≡◌, option_map, IfOk, codes, None};
+ghost use Rattle.std.specs.Prelude.{◌≡◌, option_map, IfOk, codes};
 ghost use Rattle.serde_json.specs.View.{view, members_view};
 ghost use Rattle.serde_json.specs.Find.{get};
 ghost use Rattle.covjson_value.specs.Coverages.{IsParameter};
@@ -27,15 +27,6 @@ fn all_texts(members: &Map<String, Value>) -> bool
     true
 }
 
-fn first_said(members: &Map<String, Value>) -> Option<(&str, &Value)>
-    ensures { option_map (λ p. (p.0.now, view p.1.now)) result ≡ parameters.said_in None (members_view members.now.entries) }
-{
-    for (lang, text) in members.iter() {
-        return Some((lang, text));
-    }
-    None
-}
-
 // Of a label's members that of English, else the first; with its language.
 fn said_in<'a>(label: &'a Value, members: &'a Map<String, Value>) -> Option<(&'a str, &'a Value)>
     ensures { option_map (λ p. (p.0.now, view p.1.now)) result
@@ -44,7 +35,10 @@ fn said_in<'a>(label: &'a Value, members: &'a Map<String, Value>) -> Option<(&'a
     if let Some(english) = label.get("en") {
         return Some(("en", english));
     }
-    first_said(members)
+    for (lang, text) in members.iter() {
+        return Some((lang, text));
+    }
+    None
 }
 
 // The language and the text of a label.
@@ -107,19 +101,12 @@ fn parameter_unit(tree: &Value) -> Result<Option<&str>, CovFault>
     Ok(Some(text))
 }
 
-fn parameter_form(tree: &Value) -> Result<(), CovFault>
-    ensures { result ≡ parameters.parameter_form (view tree.now) }
-{
-    let _label = parameter_label(tree)?;
-    let _unit = parameter_unit(tree)?;
-    Ok(())
-}
-
 fn parameter_forms(members: &Map<String, Value>) -> Result<(), CovFault>
     ensures { result ≡ parameters.parameter_forms (members_view members.now.entries) }
 {
     for (_, tree) in members.iter() {
-        parameter_form(tree)?;
+        let _label = parameter_label(tree)?;
+        let _unit = parameter_unit(tree)?;
     }
     Ok(())
 }

@@ -6,9 +6,7 @@ ghost use Rattle.covjson_checks.specs.Answers.{GivesUnlessMemory};
 ghost use Rattle.covjson_read.specs.Systems as systems;
 ghost use Rattle.covjson_read.specs.SystemAnswers as answers;
 
-use covjson_checks::{
-    CovFault, Member, found_or_missing, list_at, text_of, text_where_given, unsupported_system,
-};
+use covjson_checks::{CovFault, Member, found_or_missing, list_at, text_of, text_where_given};
 use covjson_value::{CoordinateName, Referencing};
 use edr_json::{is_text, text_in, text_or_empty};
 use serde_json::Value;
@@ -38,17 +36,12 @@ fn holds(entry: &Value, name: &str) -> bool
     }
 }
 
-fn is_connection(entry: &Value) -> bool
-    ensures { result ≡ answers.is_connection (view entry.now) }
-{
-    entry.get("coordinates").is_some() && entry.get("system").is_some()
-}
-
+// Whether each entry has coordinates and a system.
 fn all_connections(entries: &Vec<Value>) -> bool
     ensures { result ≡ answers.all_that answers.is_connection (items_view entries.now.items) }
 {
     for entry in entries {
-        if !is_connection(entry) {
+        if entry.get("coordinates").is_none() || entry.get("system").is_none() {
             return false;
         }
     }
@@ -65,18 +58,12 @@ fn system_text<'a>(entry: &'a Value, name: &str) -> &'a str
     }
 }
 
-fn is_plane(entry: &Value) -> bool
-    ensures { result ≡ answers.is_plane (view entry.now) }
-{
-    holds(entry, CoordinateName::X.letter()) && holds(entry, CoordinateName::Y.letter())
-}
-
 // The first entry of both coordinates of the plane.
 fn first_plane(entries: &Vec<Value>) -> Option<&Value>
     ensures { option_map (λ v. view v.now) result ≡ answers.first_that answers.is_plane (items_view entries.now.items) }
 {
     for entry in entries {
-        if is_plane(entry) {
+        if holds(entry, CoordinateName::X.letter()) && holds(entry, CoordinateName::Y.letter()) {
             return Some(entry);
         }
     }
@@ -119,16 +106,6 @@ fn first_vertical(entries: &Vec<Value>) -> Option<&Value>
     None
 }
 
-// The name of an entry's system, where it is a text.
-fn system_name(entry: &Value) -> Option<&str>
-    ensures { option_map (λ s. s.now) result ≡ systems.system_name (view entry.now) }
-{
-    match entry.get("system") {
-        Some(system) => text_in(system, "id"),
-        None => None,
-    }
-}
-
 // The name of the system of levels, where there are levels.
 fn vertical_name(has_z: bool, entries: &Vec<Value>) -> Option<&str>
     ensures { option_map (λ s. s.now) result ≡ answers.vertical_name has_z (items_view entries.now.items) }
@@ -137,7 +114,10 @@ fn vertical_name(has_z: bool, entries: &Vec<Value>) -> Option<&str>
         return None;
     }
     match first_vertical(entries) {
-        Some(entry) => system_name(entry),
+        Some(entry) => match entry.get("system") {
+            Some(system) => text_in(system, "id"),
+            None => None,
+        },
         None => None,
     }
 }
@@ -147,7 +127,10 @@ fn only_gregorian(alloc: Global, entries: &Vec<Value>) -> Result<(), CovFault>
     ensures { GivesUnlessMemory (λ u. u) result (answers.only_gregorian (answers.first_that answers.is_other_calendar (items_view entries.now.items))) }
 {
     match first_other_calendar(entries) {
-        Some(entry) => Err(unsupported_system(alloc, system_text(entry, "calendar"))?),
+        Some(entry) => {
+            let calendar = text_of(alloc, system_text(entry, "calendar"))?;
+            Err(CovFault::UnsupportedSystem(calendar))
+        }
         None => Ok(()),
     }
 }
@@ -164,7 +147,7 @@ fn plane_in(alloc: Global, entries: &Vec<Value>) -> Result<&Value, CovFault>
     };
     let kind = system_text(plane, "type");
     if kind != "ProjectedCRS" {
-        return Err(unsupported_system(alloc, kind)?);
+        return Err(CovFault::UnsupportedSystem(text_of(alloc, kind)?));
     }
     Ok(plane)
 }

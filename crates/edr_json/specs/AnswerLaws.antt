@@ -1,5 +1,5 @@
 -- Laws of answers, one check after another.
-use Rattle.std.specs.Prelude.{Result, IfOk, ⊤, not, is_some}
+use Rattle.std.specs.Prelude.{⊤, not, is_some}
 use Rattle.std.proofs.Common.{◌≡◌, subst, List, [], ◌∷◌, ◌++◌, All, Bool, true, false, Option, Some, None, Ok, Err, refl, sym, ap, ◌∙◌}
 use Rattle.std.proofs.lemmas.List.Elements.{All-cons, All-nil, All-append}
 use Rattle.edr_base.specs.FirstThatApplies.{Answer, and_then, or_fault, check}
@@ -13,11 +13,6 @@ and_then_ok (Err f) next y h = cc
 pub or_fault_ok : {F T : Type 0} (o : Option T) (f : F) (x : T) → or_fault o f ≡ Ok x → o ≡ Some x
 or_fault_ok None f x h = cc
 or_fault_ok (Some y) f x h = cc
-
--- and what two facts of it tell together
-pub if_both : {T F : Type 0} (r : Result T F) (P Q R : T → Type 0) → ((x : T) → P x → Q x → R x) → IfOk r P → IfOk r Q → IfOk r R
-if_both (Ok x) P Q R step h k = step x h k
-if_both (Err f) P Q R step h k = tt
 
 -- a test was passed
 pub check_ok : {F : Type 0} (b : Bool) (f : F) (x : ⊤) → check b f ≡ Ok x → b ≡ true

@@ -8,7 +8,7 @@ use serde_json::{Category, Value};
 use std::alloc::Global;
 
 /// Why a text isn't read to a tree.
-#[derive(Clone, Copy, Debug, PartialEq, Eq)]
+#[derive(Clone, Copy)]
 pub enum JsonFault {
     /// The text isn't JSON (RFC 8259), or has more than 127 lists and objects in each other.
     NotJson,

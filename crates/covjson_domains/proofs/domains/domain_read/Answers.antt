@@ -1,4 +1,4 @@
-use Rattle.std.proofs.Common.{Ok, sym, ap}
+use Rattle.std.proofs.Common.{refl}
 use Rattle.serde_json.specs.View.{view}
 use Rattle.edr_json.specs.AnswerLaws.{and_then_given}
 use Rattle.covjson_domains.proofs.domains.domain_read.Goals as goal
@@ -7,4 +7,5 @@ pub returns-clause-answer : goal.returns-clause-answer
 returns-clause-answer c =
     and_then_given _ _ c.in_ok-kind.kind _ c.in_ok-kind.ensures
     (and_then_given _ _ (view c.in_ok-axes.axes.now) _ c.in_ok-axes.ensures
-    (and_then_given _ _ c.in_ok-read.read _ c.in_ok-read.ensures.answer (ap Ok (sym c.formed.ensures.formed))))
+    (and_then_given _ _ c.in_ok-read.read _ c.in_ok-read.ensures.answer
+    (rw (c.domain_formed-domain.ensures.formed, c.is_turned_round.ensures, c.is_turned_round-2.ensures, c.is_turned_round-3.ensures, c.is_turned_round-4.ensures) refl)))

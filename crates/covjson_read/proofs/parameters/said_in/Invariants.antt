@@ -1,7 +1,7 @@
 use Rattle.std.proofs.Common.{◌≡◌, None}
 use Rattle.serde_json.specs.View.{members_view}
 use Rattle.covjson_read.specs.ParameterAnswers.{said_in}
-use Rattle.covjson_read.proofs.parameters.first_said.Given as goal
+use Rattle.covjson_read.proofs.parameters.said_in.Given as goal
 
 abbrev pub invariant-loop-lang : goal.invariant-loop-lang
 invariant-loop-lang l = said_in None (members_view l.lang-iterator) ≡ said_in None (members_view l.members.entries)
