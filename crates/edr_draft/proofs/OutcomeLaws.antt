@@ -1,5 +1,5 @@
 -- Each change has one outcome, and leaves the collections that it isn't about.
-use Rattle.std.proofs.Common.{◌≡◌, ◌≢◌, ◌⊎◌, inl, inr, ℕ, codes, List, [], ◌∷◌, Option, Some, None, IfSome, refl, sym, ap, ◌∙◌, subst, arith}
+use Rattle.std.proofs.Common.{◌≡◌, ◌≢◌, ◌⊎◌, inl, inr, ℕ, ◌==◌, if◌then◌else◌, codes, List, [], ◌∷◌, Option, Some, None, IfSome, refl, sym, ap, ◌∙◌, subst}
 use Rattle.covjson_value.specs.declared.coverages.Coverage.{Coverage}
 use Rattle.covjson_value.specs.declared.coverages.Referencing.{Referencing}
 use Rattle.covjson_value.specs.Coverages.{IsValid}
@@ -8,7 +8,7 @@ use Rattle.edr_edition.specs.declared.kinds.Kind.{Kind}
 use Rattle.edr_draft.specs.declared.changes.Change.{Change}
 use Rattle.edr_draft.specs.declared.changes.Change.TheVariants.{Collection, Grid, Station, DropCollection, DropInstance, DropStation, Bare}
 use Rattle.edr_draft.specs.declared.changes.ChangeFault.{ChangeFault}
-use Rattle.edr_draft.specs.declared.changes.ChangeFault.TheVariants.{SameCollection, UnknownCollection, TooManyNodes, ParametersDiffer, OutOfMemory}
+use Rattle.edr_draft.specs.declared.changes.ChangeFault.TheVariants.{SameCollection, UnknownCollection, WrongKind, UnknownInstance, UnknownStation, NoTimes, CrsDiffers, TooManyNodes, ParametersDiffer, LevelsDiffer, OutOfMemory}
 use Rattle.edr_edition.specs.Values.{CollectionValue, instance_id, collection_id}
 use Rattle.edr_edition.specs.Editions.{IsCollection, AreCollections}
 use Rattle.edr_station.specs.Stations.{station_id}
@@ -80,26 +80,57 @@ some_outcome cs change (inr found) = inr found
 
 -- ---- no second one
 
+-- the fault of a place in the order, with what it tells
+abbrev fault_at : ℕ → ℕ → List ℕ → ChangeFault
+fault_at place count differing =
+    if place == 1 then SameCollection else if place == 2 then UnknownCollection else if place == 3 then WrongKind else
+    if place == 4 then UnknownInstance else if place == 5 then UnknownStation else if place == 6 then NoTimes else if place == 7 then CrsDiffers else
+    if place == 8 then TooManyNodes count else if place == 9 then ParametersDiffer differing else if place == 10 then LevelsDiffer else OutOfMemory
+
+abbrev count_in : ChangeFault → ℕ
+count_in (TooManyNodes count) = count
+count_in other = 0
+
+abbrev differing_in : ChangeFault → List ℕ
+differing_in (ParametersDiffer differing) = differing
+differing_in other = []
+
+rank_back : (fault : ChangeFault) → fault_at (rank fault) (count_in fault) (differing_in fault) ≡ fault
+rank_back SameCollection = refl
+rank_back UnknownCollection = refl
+rank_back WrongKind = refl
+rank_back UnknownInstance = refl
+rank_back UnknownStation = refl
+rank_back NoTimes = refl
+rank_back CrsDiffers = refl
+rank_back (TooManyNodes count) = refl
+rank_back (ParametersDiffer differing) = refl
+rank_back LevelsDiffer = refl
+rank_back OutOfMemory = refl
+
+-- by its place a fault is known, but for what it tells
+known : (a b : ChangeFault) → rank a ≡ rank b → b ≡ fault_at (rank a) (count_in b) (differing_in b)
+known a b same = sym (rank_back b) ∙ ap (λ place. fault_at place (count_in b) (differing_in b)) (sym same)
+
 set_once : (setting : Setting) (found : Option CollectionValue) (coverage : Coverage) (a b : ChangeFault) → AppliesToSet setting found coverage a → AppliesToSet setting found coverage b → rank a ≡ rank b → a ≡ b
-set_once setting found coverage (TooManyNodes m) (TooManyNodes n) ha hb same = ap TooManyNodes (ha.0 ∙ sym hb.0)
-set_once setting None coverage (ParametersDiffer x) (ParametersDiffer y) ha hb same = absurd ha
-set_once setting (Some c) coverage (ParametersDiffer x) (ParametersDiffer y) ha hb same =
-    ap ParametersDiffer (first_difference_once c.parameters coverage.parameters x y ha.1 hb.1)
-set_once setting found coverage a b ha hb same = first_of (cc, grind arith)
+set_once setting found coverage (TooManyNodes m) b ha hb same =
+    let is : b ≡ TooManyNodes (count_in b) = known (TooManyNodes m) b same in
+    ap TooManyNodes (ha.0 ∙ sym (subst (AppliesToSet setting found coverage) is hb).0) ∙ sym is
+set_once setting None coverage (ParametersDiffer x) b ha hb same = absurd ha
+set_once setting (Some c) coverage (ParametersDiffer x) b ha hb same =
+    let is : b ≡ ParametersDiffer (differing_in b) = known (ParametersDiffer x) b same in
+    ap ParametersDiffer (first_difference_once c.parameters coverage.parameters x (differing_in b) ha.1 (subst (AppliesToSet setting (Some c) coverage) is hb).1) ∙ sym is
+set_once setting found coverage a b ha hb same = sym (known a b same)
 
-dropping_once : (found : Option CollectionValue) (id : List ℕ) (a b : ChangeFault) → AppliesToDrop found id a → AppliesToDrop found id b → rank a ≡ rank b → a ≡ b
-dropping_once found id (TooManyNodes m) b ha hb same = absurd ha
-dropping_once found id (ParametersDiffer x) b ha hb same = absurd ha
-dropping_once found id a (TooManyNodes m) ha hb same = absurd hb
-dropping_once found id a (ParametersDiffer x) ha hb same = absurd hb
-dropping_once found id a b ha hb same = first_of (cc, grind arith)
+dropping_once : (found : Option CollectionValue) (id : List ℕ) (a b : ChangeFault) → AppliesToDrop found id a → rank a ≡ rank b → a ≡ b
+dropping_once found id (TooManyNodes m) b ha same = absurd ha
+dropping_once found id (ParametersDiffer x) b ha same = absurd ha
+dropping_once found id a b ha same = sym (known a b same)
 
-dropping_station_once : (found : Option CollectionValue) (id : List ℕ) (a b : ChangeFault) → AppliesToDropStation found id a → AppliesToDropStation found id b → rank a ≡ rank b → a ≡ b
-dropping_station_once found id (TooManyNodes m) b ha hb same = absurd ha
-dropping_station_once found id (ParametersDiffer x) b ha hb same = absurd ha
-dropping_station_once found id a (TooManyNodes m) ha hb same = absurd hb
-dropping_station_once found id a (ParametersDiffer x) ha hb same = absurd hb
-dropping_station_once found id a b ha hb same = first_of (cc, grind arith)
+dropping_station_once : (found : Option CollectionValue) (id : List ℕ) (a b : ChangeFault) → AppliesToDropStation found id a → rank a ≡ rank b → a ≡ b
+dropping_station_once found id (TooManyNodes m) b ha same = absurd ha
+dropping_station_once found id (ParametersDiffer x) b ha same = absurd ha
+dropping_station_once found id a b ha same = sym (known a b same)
 
 adding_is : (cs : List CollectionValue) (id : List ℕ) (kind : Kind) (title crs : List ℕ) (vertical : Option (List ℕ)) (fault : ChangeFault)
     → Applies cs (Collection id kind title crs vertical) fault → fault ≡ SameCollection
@@ -115,8 +146,8 @@ fault_once cs (Collection id kind title crs vertical) a b ha hb same = adding_is
 fault_once cs (Grid collection instance coverage) a b ha hb same = set_once (as_instance instance) (collection_in cs collection) coverage a b ha hb same
 fault_once cs (Station collection id label coverage) a b ha hb same = set_once (as_station id) (collection_in cs collection) coverage a b ha hb same
 fault_once cs (DropCollection collection) a b ha hb same = removing_is cs collection a ha ∙ sym (removing_is cs collection b hb)
-fault_once cs (DropInstance collection instance) a b ha hb same = dropping_once (collection_in cs collection) instance a b ha hb same
-fault_once cs (DropStation collection id) a b ha hb same = dropping_station_once (collection_in cs collection) id a b ha hb same
+fault_once cs (DropInstance collection instance) a b ha hb same = dropping_once (collection_in cs collection) instance a b ha same
+fault_once cs (DropStation collection id) a b ha hb same = dropping_station_once (collection_in cs collection) id a b ha same
 fault_once cs (Bare coverage) a b ha hb same = set_once (as_instance (codes "1")) (Some (bare_collection cs coverage.referencing)) coverage a b ha hb same
 
 refused_once : (cs : List CollectionValue) (change : Change) (a b : ChangeFault) → IsRefused cs change a → IsRefused cs change b → a ≡ b

@@ -19,7 +19,6 @@ use Rattle.covjson_value.specs.Samples.{values_or_none}
 use Rattle.covjson_value.specs.Coverages.{IsAxisValue, IsNamedAxis, IsRange, IsValid, range_values}
 use Rattle.covjson_value.specs.CountLaws.{count_is}
 use Rattle.edr_ids.specs.Ids.{without_id}
-use Rattle.edr_station.specs.Stations as station
 use Rattle.edr_station.specs.Stations.{StationValue, IsAxisWithin, IsStation, station_id, values_along}
 use Rattle.edr_station.specs.declared.inputs.StationInput.{StationInput}
 use Rattle.edr_station.specs.Inputs as inputs

@@ -17,7 +17,7 @@ use Rattle.edr_edition.specs.Instances.{instance_of}
 use Rattle.edr_edition.specs.Collections.{empty_collection, without_instance, without_station}
 use Rattle.edr_draft.specs.Changes.{with_grid, with_series, bare_collection, with_changed, made, rank, as_instance, as_station, AppliesToSet, AppliesToDrop, AppliesToDropStation, Applies, IsRefused}
 use Rattle.edr_edition.specs.Stores.{collection_in}
-use Rattle.edr_draft.specs.Steps.{Finds, IsMade}
+use Rattle.edr_draft.specs.Steps.{Finds}
 use Rattle.edr_draft.proofs.RefusalLaws.{same_refuses, none_to_add, unknown_refuses, none_to_drop, set_unknown_first, drop_unknown, drop_wrong_kind, drop_unknown_instance, drop_no_fault, drop_station_unknown, drop_station_wrong_kind, drop_unknown_station, drop_station_no_fault}
 
 pub without_missing : {V : Type 0} (key : V → List ℕ) (xs : List V) (id : List ℕ) → is_some (item_of key id xs) ≡ false → without_id key id xs ≡ xs
@@ -151,11 +151,6 @@ module _ (cs : List CollectionValue) (id : List ℕ) (kind : Kind) (title : List
 pub still_finds : {T : Type 0} (Applying : ChangeFault → Type 0) (r : Result T ChangeFault) (fault : ChangeFault) → IsErrAnd r (λ e. e ≡ fault) → (fault ≢ OutOfMemory → IsLeast rank Applying fault) → Finds Applying r
 still_finds Applying (Ok u) fault same found = absurd same
 still_finds Applying (Err e) fault same found = λ other. subst (IsLeast rank Applying) (sym same) (found (λ own. other (same ∙ own)))
-
-pub still_made : {T : Type 0} (cs : List CollectionValue) (change : Change) (r : Result T ChangeFault) (fault : ChangeFault) → IsErrAnd r (λ e. e ≡ fault)
-    → (fault ≢ OutOfMemory → IsLeast rank (Applies cs change) fault) → IsMade cs change r cs
-still_made cs change (Ok u) fault same found = absurd same
-still_made cs change (Err e) fault same found = record { finds = λ other. subst (IsLeast rank (Applies cs change)) (sym same) (found (λ own. other (same ∙ own))); becomes = refl }
 
 -- ---- an instance that fits
 

@@ -5,7 +5,7 @@ ghost use Rattle.edr_draft.specs.Outcomes.{ChangesHaveOneOutcome, ChangesKeepOth
 
 use crate::drafts::Draft;
 use edr_edition::{CollectionData, editions_cross_threads};
-use edr_ids::{ById, items_are_by_id};
+use edr_ids::items_are_by_id;
 
 /// Each change either gives some collections or is refused by a fault, and by no second one; want of memory refuses none.
 pub fn changes_have_one_outcome()
@@ -31,6 +31,5 @@ pub fn drafts_cross_threads()
     ensures shared { IsSync draft.the_row }
 {
     editions_cross_threads();
-    crosses_threads::<ById<CollectionData>>();
     crosses_threads::<Draft>();
 }

@@ -38,8 +38,7 @@ pub fn add_collection(
         return Err(ChangeFault::SameCollection);
     }
     let collection = CollectionData::empty(alloc, id, kind, title, referencing)?;
-    collections.put(alloc, collection)?;
-    Ok(())
+    Ok(collections.put(alloc, collection)?)
 }
 
 // The collection of an id, where a grid may become its instance of an id, or the first fault.
@@ -92,10 +91,16 @@ pub fn set_instance(
     requires coverage { IsValid coverage }
     ensures made { IsMade collections.old (Grid collection.now id coverage) result collections.new }
 {
-    let held = held_for_grid(alloc, collections, collection, id.bytes(), &coverage)?;
+    let held = match held_for_grid(alloc, collections, collection, id.bytes(), &coverage) {
+        Ok(held) => held,
+        Err(fault) => {
+            // by name, since what falls at a `?` is proved anew in each function
+            drop(coverage);
+            return Err(fault);
+        }
+    };
     let set = with_grid(alloc, held, id, coverage)?;
-    collections.put(alloc, set)?;
-    Ok(())
+    Ok(collections.put(alloc, set)?)
 }
 
 // The collection of an id, where a series may become its station of an id, or the first fault.
@@ -159,10 +164,16 @@ pub fn set_station(
     requires coverage { IsValid coverage }
     ensures made { IsMade collections.old (Station collection.now id label coverage) result collections.new }
 {
-    let held = held_for_series(alloc, collections, collection, id.bytes(), &coverage)?;
+    let held = match held_for_series(alloc, collections, collection, id.bytes(), &coverage) {
+        Ok(held) => held,
+        Err(fault) => {
+            // by name, since what falls at a `?` is proved anew in each function
+            drop(coverage);
+            return Err(fault);
+        }
+    };
     let set = with_series(alloc, held, id, label, coverage)?;
-    collections.put(alloc, set)?;
-    Ok(())
+    Ok(collections.put(alloc, set)?)
 }
 
 /// Drops a collection: UnknownCollection.
@@ -200,8 +211,7 @@ pub fn drop_instance(
     let Some(left) = held.without_instance(alloc, id)? else {
         return Err(ChangeFault::UnknownInstance);
     };
-    collections.put(alloc, left)?;
-    Ok(())
+    Ok(collections.put(alloc, left)?)
 }
 
 /// Drops a station: UnknownCollection, WrongKind, UnknownStation.
@@ -223,8 +233,7 @@ pub fn drop_station(
     let Some(left) = held.without_station(alloc, id)? else {
         return Err(ChangeFault::UnknownStation);
     };
-    collections.put(alloc, left)?;
-    Ok(())
+    Ok(collections.put(alloc, left)?)
 }
 
 // The id and the title of the collection of bare coverages.
@@ -292,8 +301,15 @@ pub fn set_bare(
     requires coverage { IsValid coverage }
     ensures made { IsMade collections.old (Bare coverage) result collections.new }
 {
-    let (id, held) = bare_place(alloc, collections, &coverage)?;
-    let set = with_grid(alloc, &held, id, coverage)?;
-    collections.put(alloc, set)?;
-    Ok(())
+    let (id, held) = match bare_place(alloc, collections, &coverage) {
+        Ok(place) => place,
+        Err(fault) => {
+            // by name, since what falls at a `?` is proved anew in each function
+            drop(coverage);
+            return Err(fault);
+        }
+    };
+    let set = with_grid(alloc, &held, id, coverage);
+    drop(held);
+    Ok(collections.put(alloc, set?)?)
 }

@@ -28,6 +28,13 @@ next_stands seen after next stands follows is =
     subst IsStocked (sym is)
     ((stands.0.0, next_ascends stands.0.0 seen follows.1.0 follows.0 next stands.0.1 follows.1.1 follows.2), omega (arith, length-append seen (next ∷ [])))
 
+-- an edition that is put behind others, or alone, by what it is handed out as
+pub put_behind : (seen after : List EditionValue) (next shared : EditionValue) → after ≡ seen ++ shared ∷ [] → shared ≡ next → after ≡ seen ++ next ∷ []
+put_behind seen after next shared put same = put ∙ ap (λ edition. seen ++ edition ∷ []) same
+
+pub put_alone : (none after : List EditionValue) (first shared : EditionValue) → after ≡ none ++ shared ∷ [] → none ≡ [] → shared ≡ first → after ≡ first ∷ []
+put_alone none after first shared put empty same = put ∙ (ap (λ (editions : List EditionValue). editions ++ shared ∷ []) empty ∙ ap (λ edition. edition ∷ []) same)
+
 first_numbered : (number answered : ℕ) (editions : List EditionValue) → AreNumberedFrom number editions → AreNumberedFrom number (take answered editions)
 first_numbered number zero editions ascends = tt
 first_numbered number (suc answered) [] ascends = tt

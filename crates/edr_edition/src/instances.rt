@@ -1,6 +1,9 @@
 //! Instances of collections of grids.
 ghost use Rattle.std.specs.Prelude.{◌≡◌, option_map, length, All, IfOk};
 ghost use Rattle.edr_chunk.specs.Places.{IsShape};
+ghost use Rattle.covjson_value.specs.declared.domains.CoordinateName.TheVariants.{T, Z, Y, X};
+ghost use Rattle.covjson_value.specs.Domains.{axis_of};
+ghost use Rattle.covjson_value.specs.Samples.{values_or_none};
 ghost use Rattle.covjson_value.specs.declared.coverages.NdArray.{NdArray as NdArrayValue};
 ghost use Rattle.edr_base.specs.Names.{IsName};
 ghost use Rattle.edr_edition.specs.Instances.{IsTimedGrid, instance_of, values_of, IsInstance, shape_of, shape_over, FillsNodes};
@@ -143,11 +146,41 @@ fn packed_and_told(alloc: Global, coverage: &Coverage) -> Result<(PackedGrid, Ta
 }
 
 // What an instance keeps of a coverage beside its values.
-fn domain_and_parameters(coverage: Coverage) -> (Domain, Items<Parameter>)
-    ensures domain { result.0 ≡ coverage.domain }
-    ensures parameters { result.1 ≡ coverage.parameters }
+struct Frame {
+    times: Axis,
+    levels: Option<Axis>,
+    ys: Axis,
+    xs: Axis,
+    parameters: Items<Parameter>,
+}
+
+fn frame_of(coverage: Coverage) -> Frame
+    requires { IsTimedGrid coverage }
+    ensures times { result.times ≡ values_or_none (axis_of coverage.domain T) }
+    ensures levels { result.levels ≡ axis_of coverage.domain Z }
+    ensures ys { result.ys ≡ values_or_none (axis_of coverage.domain Y) }
+    ensures xs { result.xs ≡ values_or_none (axis_of coverage.domain X) }
+    ensures parameters { result.parameters ≡ coverage.parameters }
 {
-    (coverage.domain, coverage.parameters)
+    let domain = coverage.domain;
+    let parameters = coverage.parameters;
+    let Domain::Grid {
+        t,
+        z: levels,
+        y: ys,
+        x: xs,
+    } = domain
+    else {
+        unreachable!()
+    };
+    let Some(times) = t else { unreachable!() };
+    Frame {
+        times,
+        levels,
+        ys,
+        xs,
+        parameters,
+    }
 }
 
 impl Identified for GridInstance {
@@ -165,19 +198,22 @@ impl GridInstance {
         requires grid { IsTimedGrid coverage }
         ensures { IfOk result (λ instance. instance ≡ instance_of id coverage) }
     {
-        let (grid, tally) = packed_and_told(alloc, &coverage)?;
-        let (domain, parameters) = domain_and_parameters(coverage);
-        let parameters = Arc::new(alloc, parameters)?;
-        let Domain::Grid {
-            t,
-            z: levels,
-            y: ys,
-            x: xs,
-        } = domain
-        else {
-            unreachable!()
+        let (grid, tally) = match packed_and_told(alloc, &coverage) {
+            Ok(made) => made,
+            Err(fault) => {
+                // by name, since what falls at a `?` is proved anew in each function
+                drop(coverage);
+                return Err(fault);
+            }
         };
-        let Some(times) = t else { unreachable!() };
+        let Frame {
+            times,
+            levels,
+            ys,
+            xs,
+            parameters,
+        } = frame_of(coverage);
+        let parameters = Arc::new(alloc, parameters)?;
         Ok(GridInstance {
             id,
             times,

@@ -1,5 +1,6 @@
 //! Laws of instances and of editions.
 ghost use denote.Param.Send.{IsSend, IsSync};
+ghost use Rattle.edr_ids.specs.contracts.by_id.ById as by_id;
 ghost use Rattle.edr_edition.specs.contracts.collections.CollectionData as collection;
 ghost use Rattle.edr_edition.specs.contracts.editions.Edition as edition;
 ghost use Rattle.edr_edition.specs.Instances.{InstancesHaveGrids};
@@ -9,7 +10,7 @@ ghost use Rattle.edr_edition.specs.Stores.{NewestIsNewest};
 use crate::collections::CollectionData;
 use crate::editions::Edition;
 use crate::instances::GridInstance;
-use edr_ids::ById;
+use edr_ids::{ById, Identified};
 use edr_station::stations_cross_threads;
 
 /// An instance has axes within the limits, parameters in the order of their ids, and for each of them a sample, or none, at
@@ -35,16 +36,17 @@ fn crosses_threads<T: Send + Sync + Drop>()
     ensures shared { IsSync T.row }
 {}
 
-/// Editions and their collections can be sent to other threads, and shared by them.
+/// Editions, their collections and lists of these can be sent to other threads, and shared by them.
 pub fn editions_cross_threads()
     ensures sent { IsSend edition.the_row }
     ensures shared { IsSync edition.the_row }
     ensures collection_sent { IsSend collection.the_row }
     ensures collection_shared { IsSync collection.the_row }
+    ensures collections_sent { IsSend (by_id.the_row collection.the_row ⟦<CollectionData as Identified>⟧) }
+    ensures collections_shared { IsSync (by_id.the_row collection.the_row ⟦<CollectionData as Identified>⟧) }
 {
     stations_cross_threads();
     crosses_threads::<GridInstance>();
-    crosses_threads::<ById<GridInstance>>();
     crosses_threads::<CollectionData>();
     crosses_threads::<ById<CollectionData>>();
     crosses_threads::<Edition>();

@@ -1,4 +1,4 @@
-use Rattle.std.proofs.Common.{◌≡◌, ◌≢◌, ◌≤◌, length, sym, ap, ◌∙◌, subst, arith, rules}
+use Rattle.std.proofs.Common.{◌≡◌, ◌≢◌, ◌≤◌, length, sym, ap, ◌∙◌, subst, arith, rules, true≢false}
 use Rattle.edr_draft.specs.Parameters.{DifferFirstAt}
 use Rattle.edr_draft.proofs.ParameterLaws.{same_so_far, differ_here, differ_more, differ_more', same_to_end}
 use Rattle.edr_draft.proofs.differences.first_difference.Goals as goal
@@ -10,7 +10,7 @@ loop-place-preserved c =
 
 pub returns-then-not-same_parameter : goal.returns-then-not-same_parameter
 returns-then-not-same_parameter c =
-    let apart : c.index-one-place.result ≢ c.index-other-place.result = λ same. (let told = c.same_parameter.ensures.1 same in cc) in
+    let apart : c.index-one-place.result ≢ c.index-other-place.result = λ same. true≢false (sym (c.same_parameter.ensures.1 same) ∙ c.if-not-same_parameter.true) in
     subst (DifferFirstAt c.args.one.now c.args.other.now) (sym c.lower_id.ensures)
     (differ_here c.args.one.now c.args.other.now c.loop-place.place c.index-one-place.result c.index-other-place.result c.requires.one c.requires.other
     (search rules) (search rules) c.index-one-place.is c.index-other-place.is c.loop-place.invariant apart)

@@ -1,7 +1,7 @@
-use Rattle.std.proofs.Common.{Some, sym, ap, ◌∙◌, subst}
+use Rattle.std.proofs.Common.{Some, sym, subst}
 use Rattle.edr_base.specs.FirstThatApplies.{NoneApplies}
 use Rattle.edr_draft.specs.Changes.{as_instance, AppliesToSet}
-use Rattle.edr_draft.specs.Steps.{Finds, Fits}
+use Rattle.edr_draft.specs.Steps.{Finds}
 use Rattle.edr_draft.proofs.CollectionLaws.{found_is_collection}
 use Rattle.edr_draft.proofs.FaultLaws.{fits}
 use Rattle.edr_draft.proofs.StepLaws.{set_unknown, still_finds}

@@ -1,4 +1,5 @@
 use Rattle.std.proofs.Common.{◌≡◌, sym, ap, ◌∙◌, subst}
+use Rattle.std.proofs.lemmas.Result.{IfOk-weaker}
 use Rattle.std.specs.Arc.{arc_value}
 use Rattle.edr_ids.specs.Ids.{with_item}
 use Rattle.edr_edition.specs.Values.{CollectionValue, instance_id}
@@ -17,3 +18,12 @@ with-requires-clause-collection c =
     let set : c.put.new.self ≡ with_item instance_id c.args.instance collection.instances = c.in_ok-put.ensures.put ∙ ap (with_item instance_id c.args.instance) list in
     subst IsCollection (sym (instance_set collection is c.requires.kind (arc_value c.in_ok-parameters.parameters) c.put.new.self c.args.instance c.in_ok-parameters.ensures.parameters set))
     (set_instance_keeps collection c.args.instance is one c.requires.kind c.requires.same)
+
+pub returns : goal.returns
+returns c =
+    let collection = c.args.self.now in
+    let is : IsCollection collection = subst IsCollection c.self.view_is c.self.invariant.0 in
+    let list : c.in_ok-parameters.instances ≡ collection.instances = c.in_ok-parameters.ensures.instances in
+    let set : c.put.new.self ≡ with_item instance_id c.args.instance collection.instances = c.in_ok-put.ensures.put ∙ ap (with_item instance_id c.args.instance) list in
+    let become = instance_set collection is c.requires.kind (arc_value c.in_ok-parameters.parameters) c.put.new.self c.args.instance c.in_ok-parameters.ensures.parameters set in
+    IfOk-weaker c.with.result _ _ (λ found same. same ∙ become) c.with.ensures
