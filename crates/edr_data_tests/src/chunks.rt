@@ -224,7 +224,11 @@ fn is_several(
 ) -> Result<bool, OutOfMemory>
     requires { length samples.now ≡ 34320 }
 {
-    let GridShape { parameters, times, .. } = grid.shape();
+    let GridShape {
+        parameters,
+        times,
+        ..
+    } = grid.shape();
     Ok(parameters == 2 && times == 2 && grid.tiles() == 32 && has_many(alloc, grid, samples)?)
 }
 
