@@ -1,4 +1,4 @@
-ghost use Rattle.std.specs.Prelude.{◌≡◌, ◌<◌, ◌+◌, ◌^◌, IfOk, OnOk, length};
+ghost use Rattle.std.specs.Prelude.{◌≡◌, ◌<◌, ◌+◌, ◌^◌, IfOk, OnOk, IsTrue, length};
 ghost use Rattle.edr_chunk.specs.Places.{count, nodes};
 ghost use Rattle.edr_chunk.specs.Tiles.{with_parameters};
 ghost use Rattle.edr_base.specs.Limits.{HasSample, AreSamples};
@@ -216,6 +216,20 @@ fn added(alloc: Global) -> Result<PackedGrid, OutOfMemory> {
     Ok(packer.finish())
 }
 
+// Whether a shape is that of several parameters.
+fn is_several_shape(shape: GridShape) -> bool
+    ensures { IsTrue result → count shape ≡ 34320 }
+{
+    let GridShape {
+        parameters,
+        times,
+        levels,
+        rows,
+        columns,
+    } = shape;
+    parameters == 2 && times == 2 && levels == 2 && rows == 65 && columns == 66
+}
+
 // Whether a grid has several parameters, in so many tiles, and these values.
 fn is_several(
     alloc: Global,
@@ -224,12 +238,7 @@ fn is_several(
 ) -> Result<bool, OutOfMemory>
     requires { length samples.now ≡ 34320 }
 {
-    let GridShape {
-        parameters,
-        times,
-        ..
-    } = grid.shape();
-    Ok(parameters == 2 && times == 2 && grid.tiles() == 32 && has_many(alloc, grid, samples)?)
+    Ok(is_several_shape(grid.shape()) && grid.tiles() == 32 && has_many(alloc, grid, samples)?)
 }
 
 // Whether a grid of several parameters has its values, and so has one that got them in turn.
