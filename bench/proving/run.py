@@ -3,8 +3,9 @@
 
 A crate is proved for the libraries above it (`proof`), with its tests (`tests`), and once more as the base over which its edits
 are tried (`base`); then each edit is checked over that (`edits`), and programs are compiled (`programs`). The time of a process is
-read once a second, so up to a second of each isn't seen; the sum of user and system time of the whole run is exact. Run it at the
-top of a checkout, with nothing beside it:
+read once a second, so up to a second of each isn't seen; the sum of user and system time of the whole run is exact. Processor time
+goes by what else the machine does, and by what it does for others: two trees are compared by two runs at once, each begun by
+`setsid` and with half of the processors (`RT_JOBS`). Run it at the top of a checkout, with nothing else beside it:
 bench/proving/run.py             the whole gate
 bench/proving/run.py --anew      the same from nothing, where the kit keeps what passed
 bench/proving/run.py CRATE ..    the gate of these crates and of those below them, in a copy that has no others"""
@@ -40,8 +41,8 @@ def kind_of(words, folder, bases):
 
 
 def running(bases):
-    """The processes of the prover: by number and start, the crate, the kind, and the seconds so far."""
-    found = {}
+    """The processes of the prover in this session: by number and start, the crate, the kind, and the seconds so far."""
+    found, session = {}, str(os.getsid(0))
     for number in filter(str.isdigit, os.listdir("/proc")):
         try:
             with open(f"/proc/{number}/cmdline", encoding="utf-8") as file:
@@ -52,6 +53,8 @@ def running(bases):
                 fields = file.read().rsplit(")", 1)[1].split()
             folder = os.readlink(f"/proc/{number}/cwd")
         except (OSError, IndexError, UnicodeDecodeError):
+            continue
+        if fields[3] != session:
             continue
         crate = words[words.index("--crate-name") + 1]
         seconds = (int(fields[11]) + int(fields[12])) / TICKS
