@@ -1,5 +1,5 @@
 -- A collection's instances and stations, before and after a change of them.
-use Rattle.std.proofs.Common.{◌≡◌, ℕ, ◌+◌, ◌<◌, Bool, true, false, not, cond, nat_lt, if◌then◌else◌, List, [], ◌∷◌, ◌++◌, length, take, drop, get_or, Contains, refl, sym, ap, ◌∙◌, subst, arith}
+use Rattle.std.proofs.Common.{◌≡◌, ◌≢◌, ℕ, ◌+◌, ◌<◌, Bool, true, false, not, cond, nat_lt, if◌then◌else◌, List, [], ◌∷◌, ◌++◌, length, take, drop, get_or, Contains, refl, sym, ap, ◌∙◌, subst, arith}
 use Rattle.std.proofs.lemmas.Bool.{lt-ltb}
 use Rattle.std.proofs.lemmas.List.{take-append-drop}
 use Rattle.std.proofs.lemmas.List.Elements.{filter_more, filter-append}
@@ -13,6 +13,10 @@ use Rattle.edr_edition.specs.Editions.{IsCollection}
 use Rattle.edr_edition.specs.Collections.{where_some, holding, with_instance, without_instance, with_station, without_station}
 
 -- ---- before and after
+
+-- where one is among them, there are some
+pub some_there : {V : Type 0} (xs : List V) (x : V) → Contains xs x → xs ≢ []
+some_there xs x there none = omega (arith, there.1, ap length none)
 
 if_some_is : {V : Type 0} (xs : List V) (parameters : List Parameter) → (if nat_lt 0 (length xs) then parameters else []) ≡ where_some xs parameters
 if_some_is [] parameters = refl

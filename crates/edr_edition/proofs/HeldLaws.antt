@@ -1,12 +1,12 @@
 -- What is handed out of collections and editions, and what stores hold.
-use Rattle.std.proofs.Common.{◌≡◌, ℕ, ◌<◌, List, length, get_or, All, Contains, Option, Some, None, IfSome, IsSome, option_map, refl, sym, ap, subst}
+use Rattle.std.proofs.Common.{◌≡◌, ℕ, ◌<◌, List, length, get_or, All, Contains, Option, Some, None, IfSome, IsSome, option_map, refl, sym, ap, ap₂, ◌∙◌, subst}
 use Rattle.edr_ids.specs.Ids.{item_of, AscendBy}
 use Rattle.edr_edition.specs.declared.kinds.Kind.{Kind}
 use Rattle.edr_edition.specs.declared.kinds.Kind.TheVariants.{Grid, Station}
 use Rattle.edr_edition.specs.Values.{InstanceValue, CollectionValue, EditionValue, instance_id, collection_id}
 use Rattle.edr_edition.specs.Instances.{IsInstance}
 use Rattle.edr_edition.specs.Editions.{IsCollection}
-use Rattle.edr_edition.specs.Stores.{instance_named, Held, of_grid, Subject, held_in, subject_in, subject_of, IsHeldBy, IsHeld, IsSubject, held_by}
+use Rattle.edr_edition.specs.Stores.{instance_named, Held, of_grid, of_stations, Subject, StoreValue, HasBlock, held_in, subject_in, subject_of, IsHeldBy, IsHeld, IsSubject, held_by}
 use Rattle.edr_ids.specs.ListLaws.{item_found}
 use Rattle.edr_edition.proofs.NewestLaws.{newest_is_newest}
 
@@ -73,3 +73,22 @@ module _ (c : CollectionValue) (name : Option (List ℕ)) (i : Option InstanceVa
       -- what it is over is what the edition has
       pub is_subject : Some (over (held_by c i)) ≡ subject_of edition id name
       is_subject = rw (sym there) (in_collection (rw (sym there) at some))
+
+abbrev store_of : CollectionValue → Held → List ℕ → StoreValue
+store_of c held numbers = record { subject = record { collection = c; held = held }; numbers = numbers }
+
+-- a store that has an instance holds its grid
+pub holds_grid : {A : Type 0} (value : A → InstanceValue) (c : CollectionValue) (i : Option A) (x : A) (store : StoreValue) (numbers : List ℕ) → i ≡ Some x
+    → store_of c (held_by c (option_map value i)) numbers ≡ store → store.subject.held ≡ of_grid (value x)
+holds_grid value c i x store numbers is view = sym (ap (λ (s : StoreValue). s.subject.held) view) ∙ ap (λ o. held_by c (option_map value o)) is
+
+held_block : (c : CollectionValue) (held : Held) (number : ℕ) → IsHeldBy c held → HasBlock held number → held ≡ of_stations c.parameters c.stations
+held_block c (of_grid i) number by has = absurd has
+held_block c (of_stations parameters stations) number by has = ap₂ of_stations by.0 by.1
+
+-- a store that has blocks holds the stations of its collection
+pub holds_stations : (c : CollectionValue) (held : Held) (store : StoreValue) (numbers : List ℕ) (number : ℕ) → IsHeldBy c held
+    → store_of c held numbers ≡ store → HasBlock store.subject.held number → store.subject.held ≡ of_stations c.parameters c.stations
+holds_stations c held store numbers number by view has =
+    let is : held ≡ store.subject.held = ap (λ (s : StoreValue). s.subject.held) view in
+    sym is ∙ held_block c held number by (subst (λ h. HasBlock h number) (sym is) has)

@@ -1,10 +1,10 @@
 -- Shelf lists, and what a stepped shelf has given.
-use Rattle.std.proofs.Common.{◌≡◌, ℕ, zero, suc, ◌+◌, ◌-◌, ◌≤◌, ◌<◌, Bool, true, false, List, [], ◌∷◌, ◌++◌, take, drop, Option, Some, None, nat_lt, refl, sym, ap, ◌∙◌, subst, arith, add-one, append-nil}
+use Rattle.std.proofs.Common.{◌≡◌, ℕ, zero, suc, ◌+◌, ◌-◌, ◌≤◌, ◌<◌, Bool, true, false, List, [], ◌∷◌, ◌++◌, length, get_or, take, drop, Option, Some, None, nat_lt, refl, sym, ap, ◌∙◌, subst, arith, add-one, append-nil}
 use Rattle.std.proofs.lemmas.Bool.Decides.{nat_tests}
-use Rattle.std.proofs.lemmas.List.{length-append, take-append-drop}
+use Rattle.std.proofs.lemmas.List.{length-append, take-append-drop, take_more, take_all}
 use Rattle.std.proofs.Math.Seq.{take-add}
 use Rattle.edr_edition.specs.Values.{EditionValue}
-use Rattle.edr_edition.specs.Shelves.{AreNumberedFrom, IsShelfList, IsStocked, BeginsSeen, TakenGrew, IsNext, SteppedValue, given, edition_after, first_numbers, taken_of, stepped}
+use Rattle.edr_edition.specs.Shelves.{AreNumberedFrom, IsShelfList, IsStocked, BeginsSeen, EndsWith, TakenGrew, IsNext, SteppedValue, given, edition_after, first_numbers, taken_of, stepped}
 use Rattle.edr_base.specs.Limits.{count_limit}
 
 -- ---- lists that ascend
@@ -42,6 +42,11 @@ first_numbered number (suc answered) (edition ∷ editions) ascends = (ascends.0
 
 pub first_ascend : (answered : ℕ) (editions : List EditionValue) → IsShelfList editions → IsShelfList (take answered editions)
 first_ascend answered editions ascends = (ascends.0, first_numbered ascends.0 answered editions ascends.1)
+
+-- the edition at the last place is the last
+pub ends_at : (editions : List EditionValue) (place : ℕ) (edition : EditionValue) → place + 1 ≡ length editions → edition ≡ get_or editions place edition → EndsWith editions edition
+ends_at editions place edition last is =
+    (take place editions, sym (take_all (place + 1) editions (omega (arith, last))) ∙ (take_more editions place edition (omega (arith, last)) ∙ ap (λ e. take place editions ++ e ∷ []) (sym is)))
 
 -- ---- what was given
 

@@ -3,7 +3,7 @@ use Rattle.std.proofs.Common.{◌≡◌, ◌==◌, ℕ, zero, suc, false, ◌+�
 use Rattle.std.specs.List.{flat_map}
 use Rattle.std.proofs.lemmas.Bool.Decides.{nat_tests}
 use Rattle.std.proofs.lemmas.List.{take_more, take_all, flat_map_more, append-nil}
-use Rattle.edr_wkt.specs.Spelling.{joined}
+use Rattle.edr_wkt.specs.Spelling.{joined, in_brackets}
 
 -- what stands before an item, by its place
 abbrev comma_at : ℕ → List ℕ
@@ -36,6 +36,11 @@ pushed_more text xs i x d start before comma after inside is so_far comma_is aft
 -- all items
 pub pushed_all : {A : Type 0} (text : A → List ℕ) (xs : List A) (i : ℕ) (start after : List ℕ) → length xs ≤ i → after ≡ start ++ joined text (take i xs) → after ≡ start ++ joined text xs
 pushed_all text xs i start after all is = is ∙ ap (λ l. start ++ joined text l) (take_all i xs all)
+
+-- with a bracket before them and one behind
+pub bracketed : (start text before after : List ℕ) → before ≡ (start ++ 40 ∷ []) ++ text → after ≡ before ++ 41 ∷ [] → after ≡ start ++ in_brackets text
+bracketed start text before after opened closed =
+    closed ∙ (ap (λ l. l ++ 41 ∷ []) opened ∙ (append_assoc (start ++ 40 ∷ []) text (41 ∷ []) ∙ append_assoc start (40 ∷ []) (text ++ 41 ∷ [])))
 
 -- a copy of one item more
 pub copied_more : {A : Type 0} (xs : List A) (i : ℕ) (x copy : A) (before after : List A) → i < length xs → x ≡ get_or xs i x → copy ≡ x → before ≡ take i xs → after ≡ before ++ copy ∷ []

@@ -1,4 +1,5 @@
-use Rattle.std.proofs.Common.{List, ap, ◌∙◌}
+use Rattle.std.proofs.Common.{List, ap, ◌∙◌, arith}
+use Rattle.std.proofs.lemmas.List.{take_all}
 use Rattle.edr_base.specs.declared.places.Position.{Position}
 use Rattle.edr_wkt.specs.declared.geometry.Polygon.{Polygon}
 use Rattle.edr_wkt.proofs.PushLemmas.{copied_more}
@@ -11,3 +12,6 @@ pub loop-polygon-preserved : goal.loop-polygon-preserved
 loop-polygon-preserved c =
     copied_more c.args.polygons.now c.loop-polygon.polygon-index c.polygon-item.result _ c.loop-polygon.copies.items c.push.new.self.items c.loop-polygon-test.true c.polygon-item.is
     (ap polygon_of (c.in_ok-rings.ensures ∙ c.items.ensures)) c.loop-polygon.invariant c.in_ok-push.ensures.items
+
+pub returns : goal.returns
+returns c = c.of.ensures ∙ (c.loop-polygon.invariant ∙ take_all c.loop-polygon.polygon-index c.args.polygons.now (omega arith))
