@@ -76,22 +76,6 @@ fn push_comma(out: &mut Vec<u8>, place: usize) -> Result<(), OutOfMemory>
     }
 }
 
-fn push_members(
-    out: &mut Vec<u8>,
-    multi: bool,
-    has_z: bool,
-    has_m: bool,
-    positions: &[Position],
-) -> Result<(), OutOfMemory>
-    ensures { OnOk result (out.new.items ≡ out.old.items ++ joined (member_text multi has_z has_m) positions.now) }
-{
-    for (place, position) in positions.iter().enumerate() {
-        push_comma(out, place)?;
-        push_member(out, multi, has_z, has_m, position)?;
-    }
-    Ok(())
-}
-
 fn push_points(
     out: &mut Vec<u8>,
     multi: bool,
@@ -102,7 +86,10 @@ fn push_points(
     ensures { OnOk result (out.new.items ≡ out.old.items ++ in_brackets (joined (member_text multi has_z has_m) positions.now)) }
 {
     push_byte(out, b'(')?;
-    push_members(out, multi, has_z, has_m, positions)?;
+    for (place, position) in positions.iter().enumerate() {
+        push_comma(out, place)?;
+        push_member(out, multi, has_z, has_m, position)?;
+    }
     push_byte(out, b')')
 }
 
@@ -112,25 +99,13 @@ fn push_rings(
     has_m: bool,
     rings: &[Items<Position>],
 ) -> Result<(), OutOfMemory>
-    ensures { OnOk result (out.new.items ≡ out.old.items ++ joined (ring_text has_z has_m) rings.now) }
+    ensures { OnOk result (out.new.items ≡ out.old.items ++ in_brackets (joined (ring_text has_z has_m) rings.now)) }
 {
+    push_byte(out, b'(')?;
     for (place, ring) in rings.iter().enumerate() {
         push_comma(out, place)?;
         push_points(out, false, has_z, has_m, ring.items())?;
     }
-    Ok(())
-}
-
-fn push_polygon(
-    out: &mut Vec<u8>,
-    has_z: bool,
-    has_m: bool,
-    polygon: &Polygon,
-) -> Result<(), OutOfMemory>
-    ensures { OnOk result (out.new.items ≡ out.old.items ++ polygon_text has_z has_m polygon.now) }
-{
-    push_byte(out, b'(')?;
-    push_rings(out, has_z, has_m, polygon.rings.items())?;
     push_byte(out, b')')
 }
 
@@ -144,7 +119,7 @@ fn push_polygons(
 {
     for (place, polygon) in polygons.iter().enumerate() {
         push_comma(out, place)?;
-        push_polygon(out, has_z, has_m, polygon)?;
+        push_rings(out, has_z, has_m, polygon.rings.items())?;
     }
     Ok(())
 }
