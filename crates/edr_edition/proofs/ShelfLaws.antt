@@ -1,10 +1,10 @@
 -- Shelf lists, and what a stepped shelf has given.
-use Rattle.std.proofs.Common.{◌≡◌, ℕ, zero, suc, ◌+◌, ◌-◌, ◌≤◌, ◌<◌, Bool, true, false, List, [], ◌∷◌, ◌++◌, length, get_or, take, drop, Option, Some, None, nat_lt, refl, sym, ap, ◌∙◌, subst, arith, add-one, append-nil}
+use Rattle.std.proofs.Common.{◌≡◌, ℕ, zero, suc, ◌+◌, ◌-◌, ◌≤◌, ◌<◌, min, Bool, true, false, List, [], ◌∷◌, ◌++◌, length, get_or, take, drop, Option, Some, None, nat_lt, refl, sym, ap, ◌∙◌, subst, arith, add-one, append-nil}
 use Rattle.std.proofs.lemmas.Bool.Decides.{nat_tests}
-use Rattle.std.proofs.lemmas.List.{length-append, take-append-drop, take_more, take_all}
+use Rattle.std.proofs.lemmas.List.{length-append, take-append-drop, take_more, take_all, get_or_default}
 use Rattle.std.proofs.Math.Seq.{take-add}
 use Rattle.edr_edition.specs.Values.{EditionValue}
-use Rattle.edr_edition.specs.Shelves.{AreNumberedFrom, IsShelfList, IsStocked, BeginsSeen, EndsWith, TakenGrew, IsNext, SteppedValue, given, edition_after, first_numbers, taken_of, stepped}
+use Rattle.edr_edition.specs.Shelves.{AreNumberedFrom, IsShelfList, IsStocked, BeginsSeen, EndsWith, TakenGrew, IsNext, SteppedValue, given, no_edition, edition_after, first_numbers, taken_of, stepped}
 use Rattle.edr_base.specs.Limits.{count_limit}
 
 -- ---- lists that ascend
@@ -58,6 +58,12 @@ first_grow before after editions least =
 pub given_grows : (before after : SteppedValue) → after.editions ≡ before.editions → before.answered ≤ after.answered → BeginsSeen (given before) (given after)
 given_grows before after same least =
     subst (λ (editions : List EditionValue). BeginsSeen (given before) (take after.answered editions)) (sym same) (first_grow before.answered after.answered before.editions least)
+
+-- the edition at the place that is answered next
+pub answered_at : (editions : List EditionValue) (answered place : ℕ) (edition : EditionValue) → place ≡ min answered (length editions - 1) → 0 < length editions → edition ≡ get_or editions place edition
+    → edition ≡ edition_after answered editions
+answered_at editions answered place edition is some at =
+    at ∙ (get_or_default editions place edition no_edition (omega (arith, is, some)) ∙ ap (λ n. get_or editions n no_edition) is)
 
 -- all editions begin with themselves
 pub all_within : (editions : List EditionValue) → BeginsSeen editions editions

@@ -341,6 +341,7 @@ impl CollectionData {
     ) -> Result<(Arc<Items<Parameter>>, ById<GridInstance>), OutOfMemory>
         ensures parameters { IfOk result (λ shared. arc_value shared.0 ≡ instance.now.parameters) }
         ensures instances { IfOk result (λ shared. shared.1 ≡ self.now.instances) }
+        ensures instance { IsInstance instance.now }
     {
         Ok((instance.share_parameters()?, self.instances.share()?))
     }
@@ -358,7 +359,14 @@ impl CollectionData {
         ensures { IfOk result (λ collection. collection ≡ with_instance instance self.now) }
     {
         let _ = &self.head;
-        let (parameters, mut instances) = self.shared_for(&instance)?;
+        let (parameters, mut instances) = match self.shared_for(&instance) {
+            Ok(shared) => shared,
+            Err(fault) => {
+                // by name, since what falls at a `?` is proved anew in each function
+                drop(instance);
+                return Err(fault);
+            }
+        };
         instances.put(alloc, instance)?;
         self.with(Some(parameters), instances, None)
     }
@@ -402,7 +410,15 @@ impl CollectionData {
         ensures { IfOk result (λ collection. collection ≡ with_station parameters (station_of input) self.now) }
     {
         let _ = &self.head;
-        let mut stations = self.stations_beside(input.id.bytes(), parameters.items().len())?;
+        let count = parameters.items().len();
+        let mut stations = match self.stations_beside(input.id.bytes(), count) {
+            Ok(stations) => stations,
+            Err(fault) => {
+                // by name, as above
+                drop(input);
+                return Err(fault);
+            }
+        };
         stations.set(alloc, input)?;
         let parameters = Arc::new(alloc, parameters)?;
         self.with(Some(parameters), ById::empty(), Some(stations))

@@ -272,7 +272,8 @@ impl GridInstance {
 
     // The same, shared.
     pub(crate) fn share_parameters(&self) -> Result<Arc<Items<Parameter>>, OutOfMemory>
-        ensures { IfOk result (λ parameters. arc_value parameters ≡ self.now.parameters) }
+        ensures parameters { IfOk result (λ parameters. arc_value parameters ≡ self.now.parameters) }
+        ensures instance { IsInstance self.now }
     {
         Ok(Arc::try_clone(&self.parameters)?)
     }

@@ -17,7 +17,7 @@ with-requires-clause-collection c =
     let given = c.args.parameters in
     let s = station_of c.args.input in
     let is : IsCollection collection = subst IsCollection c.self.view_is c.self.invariant.0 in
-    let set : c.set.new.self.stations ≡ with_item station_id s collection.stations = c.in_ok-set.ensures.set ∙ c.in_ok-stations.ensures.same s (sym c.bytes.ensures) in
+    let set : c.set.new.self.stations ≡ with_item station_id s collection.stations = c.in_ok-set.ensures.set ∙ c.in-Ok.ensures.same s (sym c.bytes.ensures) in
     let become = station_set collection is c.requires.kind (arc_value c.in_ok-parameters.parameters) c.set.new.self.stations given s c.in_ok-parameters.ensures.ok set in
     subst (λ (xs : List InstanceValue). IsCollection (holding collection (arc_value c.in_ok-parameters.parameters) xs c.set.new.self.stations)) (sym c.empty.ensures)
     (subst IsCollection (sym become)
@@ -30,7 +30,7 @@ returns c =
     let given = c.args.parameters in
     let s = station_of c.args.input in
     let is : IsCollection collection = subst IsCollection c.self.view_is c.self.invariant.0 in
-    let set : c.set.new.self.stations ≡ with_item station_id s collection.stations = c.in_ok-set.ensures.set ∙ c.in_ok-stations.ensures.same s (sym c.bytes.ensures) in
+    let set : c.set.new.self.stations ≡ with_item station_id s collection.stations = c.in_ok-set.ensures.set ∙ c.in-Ok.ensures.same s (sym c.bytes.ensures) in
     let become = ap (λ (xs : List InstanceValue). holding collection (arc_value c.in_ok-parameters.parameters) xs c.set.new.self.stations) c.empty.ensures
     ∙ station_set collection is c.requires.kind (arc_value c.in_ok-parameters.parameters) c.set.new.self.stations given s c.in_ok-parameters.ensures.ok set in
     IfOk-weaker c.with.result _ _ (λ found same. same ∙ become) c.with.ensures

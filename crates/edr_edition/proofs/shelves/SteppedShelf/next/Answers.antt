@@ -1,7 +1,7 @@
-use Rattle.std.proofs.Common.{◌≡◌, ◌-◌, ◌<◌, min, length, get_or, ap, ◌∙◌, arith}
+use Rattle.std.proofs.Common.{◌≡◌, ◌-◌, min, length, ap, ◌∙◌, arith}
 use Rattle.std.proofs.lemmas.Result.{IfOk-weaker}
-use Rattle.std.proofs.lemmas.List.{get_or_default}
-use Rattle.edr_edition.specs.Shelves.{SteppedValue, no_edition, edition_after}
+use Rattle.edr_edition.specs.Shelves.{SteppedValue, edition_after}
+use Rattle.edr_edition.proofs.ShelfLaws.{answered_at}
 use Rattle.edr_edition.proofs.shelves.SteppedShelf.next.Goals as goal
 use goal.{then-self-last, else-self-last}
 
@@ -14,8 +14,6 @@ returns c =
       | then-self-last w ↦ omega (arith, w.place-is, w.if-self-last.true, c.len-last.ensures)
       | else-self-last w ↦ omega (arith, w.place-is, w.if-self-last.false, c.len-last.ensures)
     ] in
-    let inside : place < length editions = omega (arith, is, c.self.invariant.1) in
-    let here : c.index.result.now ≡ edition_after c.self.inside.answered editions =
-    c.index.ensures ∙ get_or_default editions place c.index.result.now no_edition inside ∙ ap (λ n. get_or editions n no_edition) is in
+    let here = answered_at editions c.self.inside.answered _ c.index.result.now (omega (arith, is)) c.self.invariant.1 c.index.ensures in
     let is_next = here ∙ ap (λ (shelf : SteppedValue). edition_after shelf.answered shelf.editions) c.self.view_is in
     IfOk-weaker c.edition.result _ _ (λ found same. same ∙ is_next) c.edition.ensures
