@@ -1,5 +1,6 @@
 -- Tags and dims: there is one heading with a bracket behind it at the front of a text.
 use Rattle.std.proofs.Common.{◌≡◌, ℕ, subst, ◌<◌, ◌≤◌, ◌==◌, ◌&&◌, Bool, true, false, cond, nat_le, List, [], ◌∷◌, ◌++◌, length, map, get_or, take, drop, refl, sym, ap, ◌∙◌, arith, append_assoc}
+use Rattle.std.specs.List.{AllByRecursion}
 use Rattle.std.specs.Char.{to_ascii_lowercase}
 use Rattle.std.proofs.lemmas.List.{length-append, length-map, map-append, take_at, drop_at}
 use Rattle.std.proofs.lemmas.Bool.Decides.{nat_tests}
@@ -58,13 +59,16 @@ kind-unique a b text x y m n =
     let P : Kind → Type 0 = λ w. x ≡ drop (length (tag_text w)) text in
     (same, subst P same (letters-at text (tag_text a) m.0 x m.1 m.2).1 ∙ sym (letters-at text (tag_text b) n.0 y n.1 n.2).1)
 
-pub kinds-none : (text : List ℕ) → HasNoLetters text (tag_text Point) → HasNoLetters text (tag_text MultiPoint) → HasNoLetters text (tag_text LineString) → HasNoLetters text (tag_text k.Polygon)
-    → HasNoLetters text (tag_text MultiPolygon) → HasNoKind text
-kinds-none text a b c d e Point = a
-kinds-none text a b c d e MultiPoint = b
-kinds-none text a b c d e LineString = c
-kinds-none text a b c d e k.Polygon = d
-kinds-none text a b c d e MultiPolygon = e
+abbrev pub kinds : List Kind
+kinds = Point ∷ MultiPoint ∷ LineString ∷ k.Polygon ∷ MultiPolygon ∷ []
+
+-- where none of all tags stands at the front, there is no kind
+pub kinds-none : (text : List ℕ) → AllByRecursion (λ kind. HasNoLetters text (tag_text kind)) kinds → HasNoKind text
+kinds-none text none Point = none.0
+kinds-none text none MultiPoint = none.1.0
+kinds-none text none LineString = none.1.1.0
+kinds-none text none k.Polygon = none.1.1.1.0
+kinds-none text none MultiPolygon = none.1.1.1.1.0
 
 -- a word of letters
 are_letters : List ℕ → Bool

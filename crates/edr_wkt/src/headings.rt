@@ -39,24 +39,36 @@ fn behind_letters<'a>(text: &'a [u8], word: &[u8]) -> Option<&'a [u8]>
     }
 }
 
+// The kinds.
+const KINDS: [Kind; 5] = [
+    Kind::Point,
+    Kind::MultiPoint,
+    Kind::LineString,
+    Kind::Polygon,
+    Kind::MultiPolygon,
+];
+
+/// The tag of a kind, in capitals.
+pub fn tag(kind: Kind) -> &'static [u8]
+    ensures { result.now ≡ tag_text kind }
+{
+    match kind {
+        Kind::Point => b"POINT",
+        Kind::MultiPoint => b"MULTIPOINT",
+        Kind::LineString => b"LINESTRING",
+        Kind::Polygon => b"POLYGON",
+        Kind::MultiPolygon => b"MULTIPOLYGON",
+    }
+}
+
 // The tag at the front, and what stands behind it.
 fn read_kind(text: &[u8]) -> Option<(Kind, &[u8])>
     ensures { MatchOption result (HasNoKind text.now) (λ r. BeginsWithKind text.now r.0 r.1.now) }
 {
-    if let Some(rest) = behind_letters(text, b"POINT") {
-        return Some((Kind::Point, rest));
-    }
-    if let Some(rest) = behind_letters(text, b"MULTIPOINT") {
-        return Some((Kind::MultiPoint, rest));
-    }
-    if let Some(rest) = behind_letters(text, b"LINESTRING") {
-        return Some((Kind::LineString, rest));
-    }
-    if let Some(rest) = behind_letters(text, b"POLYGON") {
-        return Some((Kind::Polygon, rest));
-    }
-    if let Some(rest) = behind_letters(text, b"MULTIPOLYGON") {
-        return Some((Kind::MultiPolygon, rest));
+    for kind in &KINDS {
+        if let Some(rest) = behind_letters(text, tag(*kind)) {
+            return Some((*kind, rest));
+        }
     }
     None
 }

@@ -2,10 +2,9 @@
 ghost use Rattle.std.specs.Prelude.{◌≡◌, ◌==◌, ◌++◌, ◌∷◌, [], if◌then◌else◌, OnOk, IfOk};
 ghost use Rattle.std.specs.Fmt.{signed_decimal};
 ghost use Rattle.edr_wkt.specs.Spelling.{number_text, position_text, member_text, ring_text, polygon_text, joined, in_brackets, heading_text, dims_part, areas_text, spelled};
-ghost use Rattle.edr_wkt.specs.Headings.{tag_text};
 
 use crate::geometry::{Geometry, Polygon};
-use crate::headings::Kind;
+use crate::headings::{Kind, tag};
 use edr_base::{Items, OutOfMemory, Position, Text};
 use itoa::Buffer;
 use std::alloc::Global;
@@ -130,18 +129,6 @@ fn push_heading(out: &mut Vec<u8>, kind: Kind, has_z: bool, has_m: bool) -> Resu
 {
     out.extend_from_slice(tag(kind))?;
     Ok(out.extend_from_slice(dims(has_z, has_m))?)
-}
-
-fn tag(kind: Kind) -> &'static [u8]
-    ensures { result.now ≡ tag_text kind }
-{
-    match kind {
-        Kind::Point => b"POINT",
-        Kind::MultiPoint => b"MULTIPOINT",
-        Kind::LineString => b"LINESTRING",
-        Kind::Polygon => b"POLYGON",
-        Kind::MultiPolygon => b"MULTIPOLYGON",
-    }
 }
 
 fn dims(has_z: bool, has_m: bool) -> &'static [u8]
