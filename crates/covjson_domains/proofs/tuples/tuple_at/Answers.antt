@@ -24,21 +24,12 @@ number_of-requires-clause-within c =
     let is_list = or_fault_ok (as_array (view c.args.tuple.now)) _ _ c.in_ok-items.ensures in
     ap (list_passes Within c.args.names.now) (sym is_list) ∙ c.requires
 
-pub number_of-requires-clause-number : goal.number_of-requires-clause-number
-number_of-requires-clause-number c = λ same. cc
-
 pub number_of-requires-2-clause-within : goal.number_of-requires-2-clause-within
 number_of-requires-2-clause-within c =
     let is_list = or_fault_ok (as_array (view c.args.tuple.now)) _ _ c.in_ok-items.ensures in
     ap (list_passes Within c.args.names.now) (sym is_list) ∙ c.requires
 
-pub number_of-requires-2-clause-number : goal.number_of-requires-2-clause-number
-number_of-requires-2-clause-number c = λ same. cc
-
 pub number_of-requires-3-clause-within : goal.number_of-requires-3-clause-within
 number_of-requires-3-clause-within c =
     let is_list = or_fault_ok (as_array (view c.args.tuple.now)) _ _ c.in_ok-items.ensures in
     ap (list_passes Within c.args.names.now) (sym is_list) ∙ c.requires
-
-pub number_of-requires-3-clause-number : goal.number_of-requires-3-clause-number
-number_of-requires-3-clause-number c = λ same. cc
