@@ -7,3 +7,5 @@ pub mod RowLaws
 pub mod Places
 pub mod PlaceLaws
 pub mod TextFaults
+pub mod FaultLaws
+pub mod ItemTests

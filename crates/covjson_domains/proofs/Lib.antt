@@ -21,6 +21,7 @@ pub mod DomainAxes
 pub mod DomainForms
 pub mod DomainTuples
 pub mod DomainLaws
+pub mod DomainCounts
 pub mod WrittenAxes
 pub mod WrittenTuples
 pub mod WrittenDomains

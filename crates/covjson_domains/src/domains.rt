@@ -175,10 +175,8 @@ fn value_in(read: &Option<ReadAxis>) -> Option<i64>
 
 // The domain of these axes, which are taken out of where they were read.
 fn domain_formed(kind: DomainType, read: &mut ReadAxes) -> Domain
-    requires needed { HasNeeded kind read.old }
-    requires counted { CompositeCounted read.old.composite }
-    ensures formed { result ≡ domains.domain_formed kind read.old }
-    ensures counted { AreCounted result }
+    requires { HasNeeded kind read.old }
+    ensures { result ≡ domains.domain_formed kind read.old }
 {
     match kind {
         DomainType::Grid => Domain::Grid {

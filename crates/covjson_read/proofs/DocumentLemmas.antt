@@ -1,6 +1,6 @@
 -- The answers of the items of a list in turn, and of trees by their type.
-use Rattle.std.proofs.Common.{◌≡◌, ℕ, ◌+◌, ◌<◌, List, [], ◌∷◌, ◌++◌, length, get_or, drop, Result, Ok, Err, IsErrAnd, ◌⊎◌, inl, inr, codes, refl, sym, ap, ◌∙◌}
-use Rattle.std.proofs.lemmas.List.{drop_more}
+use Rattle.std.proofs.Common.{◌≡◌, ℕ, ◌+◌, ◌<◌, ◌≤◌, List, [], ◌∷◌, ◌++◌, length, get_or, drop, Result, Ok, Err, IsErrAnd, ◌⊎◌, inl, inr, codes, refl, sym, ap, ◌∙◌}
+use Rattle.std.proofs.lemmas.List.{drop_more, at_drop_all, append-nil}
 use Rattle.serde_json.specs.Data.{Data, Members}
 use Rattle.serde_json.specs.Find.{get}
 use Rattle.serde_json.specs.View.{view, items_view}
@@ -23,6 +23,12 @@ pub each_more : {V : Type 0} (answer_of : Data → Answer V) (items : List Value
 each_more answer_of items place one found new v within is given pushed =
     let here : answer_of (view (get_or items place one)) ≡ Ok v = rw (← is) given in
     rw (pushed, drop_more items place one within, here) (onto_more found v (each answer_of (items_view (drop (place + 1) items))))
+
+-- behind the last item what was found is the answer
+pub each_found : {V : Type 0} (answer_of : Data → Answer V) (items : List Value) (place : ℕ) (found : List V) (all : Answer (List V)) → length items ≤ place
+    → onto found (each answer_of (items_view (drop place items))) ≡ all → all ≡ Ok found
+each_found answer_of items place found all past before =
+    sym before ∙ at_drop_all (λ (rest : List Value). onto found (each answer_of (items_view rest))) items place past ∙ ap Ok (append-nil found)
 
 -- an item's fault is the answer of all
 pub each_stopped : {T V : Type 0} (seen : T → List V) (r : Result T CovFault) (answer_of : Data → Answer V) (items : List Value) (place : ℕ) (one : Value) (found : List V) (fault : CovFault) (all : Answer (List V))

@@ -1,10 +1,12 @@
 pub mod ItemTests
 pub mod EntryTests
+pub mod ItemSteps
 pub mod RowAnswers
 pub mod SystemLaws
 pub mod LabelLaws
 pub mod ParameterNames
 pub mod ParameterLaws
+pub mod ParameterSteps
 pub mod CollectedLaws
 pub mod RangeSome
 pub mod RangesInTurn

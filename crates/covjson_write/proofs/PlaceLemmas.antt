@@ -1,8 +1,10 @@
 -- Digits and values put at a place of a buffer.
-use Rattle.std.proofs.Common.{◌≡◌, ℕ, suc, ◌+◌, ◌/◌, ◌%◌, ◌^◌, ◌<◌, ◌≤◌, ℤ, Option, None, List, [], ◌∷◌, ◌++◌, length, take, drop, get_or, decimal, take-add, true, Result, refl, ap, ◌∙◌, append_assoc, append-nil, arith}
+use Rattle.std.proofs.Common.{◌≡◌, ℕ, zero, suc, nat_lt, ◌+◌, ◌/◌, ◌%◌, ◌^◌, ◌<◌, ◌≤◌, ℤ, Option, None, List, [], ◌∷◌, ◌++◌, length, take, drop, get_or, decimal, take-add, true, Result, refl, ap, ◌∙◌, append_assoc, append-nil, arith}
 use Rattle.std.proofs.lemmas.Fmt.{decimal_digit, decimal_step, length-decimal-le}
 use Rattle.json.specs.Filled.{Placed}
 use Rattle.json.proofs.Printed.Places.{Placed-then}
+use Rattle.serde_json.specs.Written.{compact_text, comma_if}
+use Rattle.covjson_value.specs.Trees.{sample_data}
 use Rattle.covjson_write.specs.Pieces.{is_later, value_piece, values_from}
 use Rattle.covjson_write.specs.PieceLaws.{values_more, values_on, values_cut}
 use Rattle.edr_base.specs.Calls.{Front, Writes, Gathered}
@@ -28,6 +30,15 @@ values_later n m (value ∷ values) = ap (λ t. value_piece 1 value ++ t) (value
 pub values_split : (n : ℕ) (values : List (Option ℤ)) → 0 < length values → values_from n values ≡ value_piece n (get_or values 0 None) ++ values_from 1 (drop 1 values)
 values_split n [] some = absurd (omega arith)
 values_split n (value ∷ values) some = ap (λ t. value_piece n value ++ t) (values_later n 0 values)
+
+-- others stand before each number but the first
+pub above_is_later : (n : ℕ) → nat_lt 0 n ≡ is_later n
+above_is_later zero = refl
+above_is_later (suc n) = grind arith
+
+-- a value is put behind its comma
+pub one_placed : {a b c : List ℕ} {at end : ℕ} (n : ℕ) (value : Option ℤ) → Placed a b 0 (comma_if (nat_lt 0 n)) at → Placed b c at (compact_text (sample_data value)) end → Placed a c 0 (value_piece n value) end
+one_placed n value p q = rw (← above_is_later n) (Placed-then p q)
 
 later_is : (k : ℕ) → is_later (1 + k) ≡ true
 later_is k = ap is_later (next k)

@@ -1,4 +1,4 @@
-use Rattle.std.proofs.Common.{◌≡◌, ℤ, true, Ok, unsigned_abs, refl, sym}
+use Rattle.std.proofs.Common.{rules, ◌≡◌, ℤ, true, false, inl, Ok, unsigned_abs, refl, sym}
 use Rattle.std.proofs.lemmas.Int.{to_z-of_z}
 use mir.Syntax.{w128}
 use Rattle.covjson_checks.specs.declared.faults.Member.{Member}
@@ -10,6 +10,17 @@ use Rattle.covjson_domains.proofs.spans.spanned_between.Goals as goal
 spanned : (m : Member) (first last count : ℤ) → has_whole_steps first last count ≡ true → is_span_within first last count ≡ true
     → Ok (regular first last (unsigned_abs count)) ≡ spans.spanned_between m first last count
 spanned m first last count even within = rw (even, within) refl
+
+pub returns-then-not-has_whole_steps : goal.returns-then-not-has_whole_steps
+returns-then-not-has_whole_steps c =
+    let even : has_whole_steps c.args.first c.args.last c.args.count ≡ false = search rules in
+    rw even (inl refl)
+
+pub returns-then-not-is_span_within : goal.returns-then-not-is_span_within
+returns-then-not-is_span_within c =
+    let even : has_whole_steps c.args.first c.args.last c.args.count ≡ true = search rules in
+    let within : is_span_within c.args.first c.args.last c.args.count ≡ false = search rules in
+    rw (even, within) (inl refl)
 
 pub returns : goal.returns
 returns c =

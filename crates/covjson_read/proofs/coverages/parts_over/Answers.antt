@@ -5,7 +5,7 @@ use Rattle.covjson_read.specs.CollectedAnswers.{ranges_in}
 use Rattle.covjson_read.specs.CoverageParts.{with_domain}
 use Rattle.covjson_read.specs.ParameterAnswers.{parameters_of}
 use Rattle.covjson_read.specs.SystemAnswers.{referencing_of}
-use Rattle.covjson_read.proofs.ResultLaws.{fault_answers, stops_after, both_stop}
+use Rattle.covjson_checks.specs.FaultLaws.{fault_answers, stops_after, both_stop}
 use Rattle.covjson_read.proofs.coverages.parts_over.Goals as goal
 
 pub returns-clause-valid : goal.returns-clause-valid

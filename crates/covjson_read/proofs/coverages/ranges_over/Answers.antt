@@ -5,7 +5,7 @@ use Rattle.covjson_read.specs.ParameterAnswers.{parameters_of}
 use Rattle.covjson_read.proofs.ParameterLaws.{parameters_are}
 use Rattle.covjson_read.proofs.ParameterNames.{have_names}
 use Rattle.covjson_read.proofs.RangeSome.{some_given}
-use Rattle.covjson_read.proofs.ResultLaws.{fault_answers, stops_here}
+use Rattle.covjson_checks.specs.FaultLaws.{fault_answers, stops_here}
 use Rattle.covjson_read.proofs.coverages.ranges_over.Goals as goal
 
 pub ranges_in-requires-clause-named : goal.ranges_in-requires-clause-named

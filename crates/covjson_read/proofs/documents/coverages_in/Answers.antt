@@ -3,7 +3,7 @@ use Rattle.covjson_value.specs.Coverages.{IsValid}
 use Rattle.serde_json.specs.View.{view}
 use Rattle.covjson_read.specs.CoverageAnswers.{coverage_in}
 use Rattle.edr_json.specs.AnswerLaws.{All-push}
-use Rattle.covjson_read.proofs.DocumentLemmas.{each_more, each_stopped}
+use Rattle.covjson_read.proofs.DocumentLemmas.{each_more, each_stopped, each_found}
 use Rattle.covjson_read.proofs.documents.coverages_in.Goals as goal
 
 pub returns-in_err-coverage-clause-answer : goal.returns-in_err-coverage-clause-answer
@@ -24,3 +24,8 @@ loop-item-preserved c =
           c.push.new.self.items one within here c.in_ok-coverage.ensures.answer pushed ∙ c.loop-item.invariant.answer;
       valid = All-push IsValid c.loop-item.coverages.items c.push.new.self.items one pushed c.loop-item.invariant.valid c.in_ok-coverage.ensures.valid;
     }
+
+pub returns-clause-answer : goal.returns-clause-answer
+returns-clause-answer c =
+    each_found (coverage_in (view c.args.collection.now)) c.args.items.now.items c.loop-item.item-index c.loop-item.coverages.items _ (rw c.deref-item-items.ensures.value at c.loop-item-test.false)
+    c.loop-item.invariant.answer

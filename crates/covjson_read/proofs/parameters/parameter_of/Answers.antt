@@ -1,7 +1,7 @@
 use Rattle.std.proofs.Common.{inl, inr, subst}
 use Rattle.edr_base.specs.Names.{IsName}
 use Rattle.covjson_read.proofs.RowAnswers.{same_ok}
-use Rattle.covjson_read.proofs.ResultLaws.{fault_answers, memory_alone, stops_here, stops_after}
+use Rattle.covjson_checks.specs.FaultLaws.{fault_answers, memory_alone, stops_here, stops_after}
 use Rattle.covjson_read.proofs.parameters.parameter_of.Goals as goal
 
 pub returns-in_err-lang-clause-answer : goal.returns-in_err-lang-clause-answer
