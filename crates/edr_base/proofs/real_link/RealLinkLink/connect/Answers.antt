@@ -28,8 +28,8 @@ returns-then-matches g c =
       asked = refl;
       written = (refl, refl);
       kept = (refl, refl, refl);
-      cause = record { later = later_by _ _ _ c.args.self.now.fits refl c.one_more-self.ensures; failed = λ _. rose_by _ _ _ refl c.one_more-self.ensures };
-      counts = record { fault = λ _. c.one_more-self.ensures; none = λ no. absurd (no refl) };
+      cause = record { later = later_by _ _ _ c.args.self.now.fits refl c.saturating_add-self.ensures; failed = λ _. rose_by _ _ _ refl c.saturating_add-self.ensures };
+      counts = record { fault = λ _. c.saturating_add-self.ensures; none = λ no. absurd (no refl) };
     })
 
 pub returns-else-matches : goal.returns-else-matches
