@@ -3,7 +3,7 @@
 //! A change copies the branches on the way from the top to its place, and shares all others with the tree that it was
 //! made of. Each branch knows how many items it has, and balances its sides by that number plus one: no side weighs more
 //! than three times what the other does (Y. Hirai and K. Yamamoto, Balancing weight-balanced trees, 2011).
-ghost use Rattle.std.specs.Prelude.{◌≡◌, ◌<◌, [], ◌++◌, ◌∷◌, length, option_map, IfOk, MatchOption};
+ghost use Rattle.std.specs.Prelude.{◌≡◌, ◌<◌, [], ◌++◌, ◌∷◌, drop, length, option_map, IfOk, MatchOption};
 ghost use Rattle.std.specs.List.{slice_index_or};
 ghost use Rattle.std.specs.Arc.{arc_value};
 ghost use Rattle.edr_ids.specs.Ids as ids;
@@ -252,28 +252,45 @@ fn balanced<T: Drop>(
 }
 
 impl<T: Drop> Tree<T> {
-    // The first item and the others; None exactly where there is none.
-    fn first_and_others(&self, alloc: Global) -> Result<Option<(&Arc<T>, Tree<T>)>, OutOfMemory>
-        ensures { IfOk result (λ found. MatchOption found (self.now ≡ []) (λ parts. self.now ≡ arc_value parts.0.now ∷ parts.1)) }
+    // The first item; None exactly where there is none.
+    fn first(&self) -> Option<&Arc<T>>
+        ensures { MatchOption result (self.now ≡ []) (λ item. self.now ≡ arc_value item.now ∷ drop 1 self.now) }
     {
         let Some(branch) = &self.top else {
-            return Ok(None);
+            return None;
         };
         let branch: &Branch<T> = branch;
-        let Some((first, before)) = branch.before.first_and_others(alloc)? else {
-            return Ok(Some((&branch.item, branch.behind.share()?)));
+        match branch.before.first() {
+            Some(first) => Some(first),
+            None => Some(&branch.item),
+        }
+    }
+
+    // The items without the first.
+    fn without_first(&self, alloc: Global) -> Result<Tree<T>, OutOfMemory>
+        ensures { IfOk result (λ tree. tree ≡ drop 1 self.now) }
+    {
+        let Some(branch) = &self.top else {
+            return Ok(Tree::empty());
         };
-        let others = balanced(alloc, &before, &branch.item, &branch.behind)?;
-        Ok(Some((first, others)))
+        let branch: &Branch<T> = branch;
+        if branch.before.len() == 0 {
+            return branch.behind.share();
+        }
+        let before = branch.before.without_first(alloc)?;
+        balanced(alloc, &before, &branch.item, &branch.behind)
     }
 
     // The items of one tree and then those of another.
     fn followed_by(&self, alloc: Global, behind: &Tree<T>) -> Result<Tree<T>, OutOfMemory>
         ensures { IfOk result (λ tree. tree ≡ self.now ++ behind.now) }
     {
-        match behind.first_and_others(alloc)? {
+        match behind.first() {
             None => self.share(),
-            Some((first, others)) => balanced(alloc, self, first, &others),
+            Some(first) => {
+                let others = behind.without_first(alloc)?;
+                balanced(alloc, self, first, &others)
+            }
         }
     }
 }
