@@ -1,5 +1,5 @@
 -- The standard library's readers and writers, as sources and sinks.
-use Rattle.std.specs.Prelude.{◌≡◌, ℕ, ◌+◌, ◌-◌, min}
+use Rattle.std.specs.Prelude.{◌≡◌, ℕ, ◌+◌, min}
 use Rattle.std.specs.declared.io.traits.Read as Read
 use Rattle.std.specs.declared.io.traits.Write as Write
 use Rattle.edr_base.specs.declared.adapters.RealSource.{RealSource}

@@ -1,5 +1,5 @@
 -- The objects in memory: which of their calls fail, and what they tell.
-use Rattle.std.specs.Prelude.{ℕ, ◌+◌, ◌<◌, ◌-◌, Bool, true, false, not, bytes_eq, List, [], drop, Vec, Contains, position, option_map, unwrap_or, slice_get}
+use Rattle.std.specs.Prelude.{ℕ, ◌+◌, ◌<◌, Bool, true, false, not, bytes_eq, List, [], drop, Vec, Contains, position, option_map, unwrap_or, slice_get}
 use Rattle.std.specs.declared.option.Option.{Option}
 use Rattle.std.specs.declared.alloc.Global.{Global}
 use Rattle.std.specs.Prelude.{None, Some}

@@ -1,5 +1,5 @@
 -- What the objects in memory were made with: how much they give or take at once, and which of their calls fail.
-use Rattle.std.specs.Prelude.{◌≡◌, ℕ, ◌+◌, ◌-◌, min}
+use Rattle.std.specs.Prelude.{◌≡◌, ℕ, ◌+◌, min}
 use Rattle.edr_base.specs.declared.fault_plan.FaultPlan.{FaultPlan}
 use Rattle.edr_base.specs.declared.memory_source.MemorySource.{MemorySource}
 use Rattle.edr_base.specs.declared.memory_sink.MemorySink.{MemorySink}

@@ -8,13 +8,6 @@ ghost use Rattle.edr_base.specs.Limits.{count_limit};
 use crate::outside::{Failed, Stop};
 use std::io::{ErrorKind, Read, Write};
 
-// A count of faults after one more.
-pub(crate) fn one_more(faults: u64) -> u64
-    ensures { result ≡ min (faults + 1) count_limit }
-{
-    faults.saturating_add(1)
-}
-
 // Reads, again where a signal interrupts it, and counts a fault.
 pub(crate) fn read_from<T: Read>(
     reader: &mut T,
@@ -37,7 +30,7 @@ pub(crate) fn read_from<T: Read>(
             }
         }
     }
-    *faults = one_more(*faults);
+    *faults = faults.saturating_add(1);
     Err(Failed)
 }
 
@@ -67,7 +60,7 @@ pub(crate) fn write_to<T: Write>(
             }
         }
     }
-    *faults = one_more(*faults);
+    *faults = faults.saturating_add(1);
     Err(Stop::Failed)
 }
 
@@ -88,6 +81,6 @@ pub(crate) fn flush_of<T: Write>(writer: &mut T, faults: &mut u64) -> Result<(),
             }
         }
     }
-    *faults = one_more(*faults);
+    *faults = faults.saturating_add(1);
     Err(Stop::Failed)
 }

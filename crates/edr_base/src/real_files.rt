@@ -9,7 +9,7 @@ ghost use Rattle.edr_base.specs.Calls.{Reads, SourceLent, Opened, asked_after, C
 ghost use Rattle.edr_base.specs.Untold.{untold_aside};
 ghost use Rattle.edr_base.specs.Limits.{count_limit};
 
-use crate::counted::{one_more, read_from};
+use crate::counted::read_from;
 use crate::outside::{Failed, Faults, Files, Source, Stop};
 use std::fs::File;
 use std::io::{ErrorKind, Read};
@@ -117,7 +117,7 @@ impl<R: std::rt::Files + Drop> Files for RealFiles<R> {
             }
             Err(stop) => {
                 if matches!(stop, Stop::Failed) {
-                    self.faults = one_more(self.faults);
+                    self.faults = self.faults.saturating_add(1);
                 }
                 Err(stop)
             }

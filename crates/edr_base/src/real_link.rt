@@ -9,7 +9,7 @@ ghost use Rattle.edr_base.specs.Calls.{Reads, Appended, Flushed, SourceLent, Sin
 ghost use Rattle.edr_base.specs.Untold.{untold_aside, untold_beside};
 ghost use Rattle.edr_base.specs.Limits.{count_limit};
 
-use crate::counted::{flush_of, one_more, read_from, write_to};
+use crate::counted::{flush_of, read_from, write_to};
 use crate::outside::{Failed, Faults, Link, Sink, Source, Stop};
 use std::io::ErrorKind;
 use std::net::{Net, TcpStream};
@@ -197,7 +197,7 @@ impl<R: Net + Drop> Link for RealLink<R> {
             }
             Err(stop) => {
                 if matches!(stop, Stop::Failed) {
-                    self.faults = one_more(self.faults);
+                    self.faults = self.faults.saturating_add(1);
                 }
                 Err(stop)
             }

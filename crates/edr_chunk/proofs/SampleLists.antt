@@ -1,12 +1,12 @@
 -- Lists of samples.
-use Rattle.std.proofs.Common.{◌≡◌, ℕ, ℤ, pos, ◌+◌, ◌<◌, ◌≤ℤ◌, ◌+ℤ◌, ◌-ℤ◌, List, Option, Some, None, All, length, get_or, take, replicate, map, FitsSigned, to_z, of_z, w64, sym, ap, subst, ◌∙◌, arith, rules}
-use Rattle.std.specs.Prelude.{Bool, true, false, cond, int_lt}
+use Rattle.std.proofs.Common.{◌≡◌, ℕ, ℤ, pos, ◌+◌, ◌<◌, ◌≤ℤ◌, ◌+ℤ◌, ◌-ℤ◌, List, Option, Some, None, All, length, get_or, take, replicate, map, FitsSigned, to_z, of_z, w64, refl, sym, ap, subst, ◌∙◌, arith, rules}
+use Rattle.std.specs.Prelude.{Bool, true, false, cond, int_lt, negsuc, unwrap_or}
 use Rattle.std.specs.Int.{int_min, int_max}
-use Rattle.std.proofs.lemmas.Int.{ints, to_z-of_z}
+use Rattle.std.proofs.lemmas.Int.{ints, clamps, to_z-of_z}
 use Rattle.std.proofs.lemmas.List.{same_lists, get_or-replicate, length-replicate, length-map}
 use Rattle.std.proofs.lemmas.List.Elements.{All-more}
-use Rattle.edr_base.specs.Limits.{IsSample}
-use Rattle.edr_chunk.specs.Codes.{IsFloor, IsBetween, AreBetween, HasCode}
+use Rattle.edr_base.specs.Limits.{IsSample, HasSample}
+use Rattle.edr_chunk.specs.Codes.{IsFloor, IsBetween, AreBetween, HasCode, whole_sample}
 
 -- a list of one item again and again
 pub replicated : {X : Type 0} (xs : List X) (x : X) → All (λ y. y ≡ x) xs → xs ≡ replicate (length xs) x
@@ -69,3 +69,19 @@ lower_sample x y r a b is = sample_back r (subst IsSample (sym is) (samples_min 
 
 pub higher_sample : (x y r : ℤ) → IsSample x → IsSample y → r ≡ int_max (to_z w64 (of_z w64 x)) (to_z w64 (of_z w64 y)) → IsSample (to_z w64 (of_z w64 r))
 higher_sample x y r a b is = sample_back r (subst IsSample (sym is) (samples_max (to_z w64 (of_z w64 x)) (to_z w64 (of_z w64 y)) (sample_back x a) (sample_back y b)))
+
+-- a missing sample kept as the least number of 64 bits, and any other as itself
+pub whole_back : (floor : ℤ) (value : Option ℤ) (r : ℤ) → HasSample value → r ≡ unwrap_or value (negsuc 9_223_372_036_854_775_807) → whole_sample floor (to_z w64 (of_z w64 r)) ≡ value
+whole_back floor None r has is = rw is refl
+whole_back floor (Some v) r has is = search rules
+
+-- the lower of two samples is at most each of them, and the higher at least
+pub lower_bounds : (x y : ℤ) → IsSample x → IsSample y
+    → (to_z w64 (of_z w64 (int_min (to_z w64 (of_z w64 x)) (to_z w64 (of_z w64 y)))) ≤ℤ x) × (to_z w64 (of_z w64 (int_min (to_z w64 (of_z w64 x)) (to_z w64 (of_z w64 y)))) ≤ℤ y)
+lower_bounds x y a b =
+    rw (to_z-of_z w64 x (omega (arith, ints)), to_z-of_z w64 y (omega (arith, ints)), to_z-of_z w64 (int_min x y) (omega (arith, ints, clamps)))
+    (omega (arith, ints, clamps), omega (arith, ints, clamps))
+
+pub higher_bound : (x y : ℤ) → IsSample x → IsSample y → y ≤ℤ to_z w64 (of_z w64 (int_max (to_z w64 (of_z w64 x)) (to_z w64 (of_z w64 y))))
+higher_bound x y a b =
+    rw (to_z-of_z w64 x (omega (arith, ints)), to_z-of_z w64 y (omega (arith, ints)), to_z-of_z w64 (int_max x y) (omega (arith, ints, clamps))) (omega (arith, ints, clamps))

@@ -42,7 +42,6 @@ impl Model for Packed {
 }
 
 impl Packed {
-    #[tactic(auto, using(crate::proofs::SampleLists::replicated))]
     /// A list of samples, packed, or want of memory. A list of equal samples takes no memory of its own. Other lists take
     /// 1, 2, 3, 4 or 8 bytes a sample, missing ones too: the least in which each sample and one code more can be told apart.
     pub fn pack(alloc: Global, values: &[Option<i64>]) -> Result<Packed, OutOfMemory>

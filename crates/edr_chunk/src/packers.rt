@@ -8,7 +8,7 @@ ghost use Rattle.edr_base.specs.Limits.{AreSamples};
 use crate::cutting::cut;
 use crate::shared::SharedPacked;
 use crate::tile_numbers::{nodes_of, place_of, tile_shape_of, tiles_in};
-use crate::{GridShape, Packed, PackedGrid};
+use crate::{GridShape, PackedGrid};
 use edr_base::OutOfMemory;
 use std::alloc::Global;
 use std::marker::Model;
@@ -114,10 +114,9 @@ fn packed_tiles(
     let tiles = tiles_in(shape);
     let mut kept = Vec::new(alloc);
     for tile in 0..tiles {
-        let part = cut(alloc, shape, values, place_of(coarse, tile))?;
-        let packed = Packed::pack(alloc, &part)?;
-        drop(part);
-        kept.push(SharedPacked::of(alloc, packed)?)?;
+        let place = place_of(coarse, tile);
+        let packed = SharedPacked::pack(alloc, &cut(alloc, shape, values, place)?)?;
+        kept.push(packed)?;
     }
     Ok(kept)
 }

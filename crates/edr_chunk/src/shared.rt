@@ -1,5 +1,6 @@
 //! Packed lists that are shared.
 ghost use Rattle.std.specs.Prelude.{◌≡◌, IfOk};
+ghost use Rattle.edr_base.specs.Limits.{AreSamples};
 
 use crate::Packed;
 use edr_base::OutOfMemory;
@@ -23,10 +24,12 @@ impl Model for SharedPacked {
 }
 
 impl SharedPacked {
-    /// A list that nothing shares yet, or want of memory.
-    pub fn of(alloc: Global, packed: Packed) -> Result<SharedPacked, OutOfMemory>
-        ensures { IfOk result (λ shared. shared ≡ packed) }
+    /// A list of samples, packed, which nothing shares yet, or want of memory.
+    pub fn pack(alloc: Global, values: &[Option<i64>]) -> Result<SharedPacked, OutOfMemory>
+        requires { AreSamples values.now }
+        ensures { IfOk result (λ shared. shared ≡ values.now) }
     {
+        let packed = Packed::pack(alloc, values)?;
         Ok(SharedPacked {
             packed: Arc::new(alloc, packed)?,
         })

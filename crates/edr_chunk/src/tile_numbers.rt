@@ -83,7 +83,6 @@ pub fn tiles_in(shape: GridShape) -> u64
     coarse.parameters * nodes_of(coarse)
 }
 
-#[tactic(auto, using(crate::proofs::PlaceNumbers::tiles_le, crate::proofs::PlaceNumbers::tile_within))]
 /// The number of a place's tile. It takes no memory.
 pub fn tile_number(shape: GridShape, place: GridPlace) -> u64
     requires shape { IsShape shape }

@@ -1,5 +1,5 @@
 -- A tree that isn't empty, as the items before the one at its top, it, and those behind it.
-use Rattle.std.proofs.Common.{◌≡◌, ◌<◌, ℕ, suc, ◌+◌, ◌-◌, List, get_or, ◌∷◌, ◌++◌, length, length-append, append_assoc, Option, Some, Result, Ok, Err, IfOk, sym, ap, ◌∙◌, subst, arith}
+use Rattle.std.proofs.Common.{◌≡◌, ◌<◌, ℕ, suc, ◌+◌, ◌-◌, List, [], get_or, drop, ◌∷◌, ◌++◌, length, length-append, append_assoc, Option, Some, Result, Ok, Err, IfOk, refl, sym, ap, ◌∙◌, subst, arith}
 use Rattle.std.proofs.Math.ListN.{get_or-append}
 use Rattle.std.proofs.Math.Seq.{get_or-append_seam, get_or-append_right}
 use Rattle.std.specs.Arc.{arc_value}
@@ -55,6 +55,18 @@ followed_is (Ok tree) list whole made is = made ∙ is
 -- a side behind another item
 pub behind_is : {T : Type 0} (before inner outer behind : List T) (item top : T) → behind ≡ inner ++ top ∷ outer → (before ++ item ∷ inner) ++ top ∷ outer ≡ before ++ item ∷ behind
 behind_is before inner outer behind item top is = append_assoc before (item ∷ inner) (top ∷ outer) ∙ ap (λ list. before ++ item ∷ list) (sym is)
+
+-- ---- the first item, and the others
+pub first_is : {T : Type 0} (items more : List T) (first : T) → items ≡ first ∷ more → items ≡ first ∷ drop 1 items
+first_is items more first is = is ∙ ap (λ list. first ∷ list) (sym (ap (drop 1) is))
+
+pub others_behind : {T : Type 0} (items before : List T) (item : T) (behind : List T) → items ≡ before ++ item ∷ behind → length before ≡ 0 → behind ≡ drop 1 items
+others_behind items [] item behind is none = sym (ap (drop 1) is)
+others_behind items (x ∷ xs) item behind is none = absurd (omega (arith, none))
+
+pub others_before : {T : Type 0} (items before rest : List T) → items ≡ before ++ rest → ¬ (length before ≡ 0) → drop 1 before ++ rest ≡ drop 1 items
+others_before items [] rest is some = absurd (some refl)
+others_before items (x ∷ xs) rest is some = sym (ap (drop 1) is)
 
 -- ---- the item at a place
 

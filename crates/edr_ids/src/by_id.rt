@@ -88,7 +88,7 @@ impl<T: Identified + Drop> ById<T> {
         ensures kept { OnErr result (self.new ≡ self.old) }
     {
         let shared = Arc::new(alloc, item)?;
-        self.items = self.items.with(alloc, shared)?;
+        self.items = self.items.with(alloc, &shared)?;
         Ok(())
     }
 

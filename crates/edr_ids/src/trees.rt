@@ -3,7 +3,7 @@
 //! A change copies the branches on the way from the top to its place, and shares all others with the tree that it was
 //! made of. Each branch knows how many items it has, and balances its sides by that number plus one: no side weighs more
 //! than three times what the other does (Y. Hirai and K. Yamamoto, Balancing weight-balanced trees, 2011).
-ghost use Rattle.std.specs.Prelude.{◌≡◌, ◌<◌, [], ◌++◌, ◌∷◌, length, option_map, IfOk, MatchOption};
+ghost use Rattle.std.specs.Prelude.{◌≡◌, ◌<◌, [], ◌++◌, ◌∷◌, drop, length, option_map, IfOk, MatchOption};
 ghost use Rattle.std.specs.List.{slice_index_or};
 ghost use Rattle.std.specs.Arc.{arc_value};
 ghost use Rattle.edr_ids.specs.Ids as ids;
@@ -111,39 +111,23 @@ impl<T> Tree<T> {
     }
 }
 
-impl<T: Drop> Tree<T> {
-    // The items before the one at the top, it, and those behind it; None exactly where there is none.
-    fn parts(&self) -> Result<Option<(Tree<T>, Arc<T>, Tree<T>)>, OutOfMemory>
-        ensures { IfOk result (λ found. MatchOption found (self.now ≡ []) (λ parts. self.now ≡ parts.0 ++ arc_value parts.1 ∷ parts.2)) }
-    {
-        match &self.top {
-            None => Ok(None),
-            Some(branch) => {
-                let branch: &Branch<T> = branch;
-                let item = Arc::try_clone(&branch.item)?;
-                Ok(Some((branch.before.share()?, item, branch.behind.share()?)))
-            }
-        }
-    }
-}
-
-// A tree of the items before one, it, and those behind it.
+// A tree of the items before one, it, and those behind it, which shares them.
 fn joined<T: Drop>(
     alloc: Global,
-    before: Tree<T>,
-    item: Arc<T>,
-    behind: Tree<T>,
+    before: &Tree<T>,
+    item: &Arc<T>,
+    behind: &Tree<T>,
 ) -> Result<Tree<T>, OutOfMemory>
-    ensures { IfOk result (λ tree. tree ≡ before ++ arc_value item ∷ behind) }
+    ensures { IfOk result (λ tree. tree ≡ before.now ++ arc_value item.now ∷ behind.now) }
 {
     let (front, back) = (before.len(), behind.len());
     if back >= usize::MAX - front {
         return Err(OutOfMemory);
     }
     let branch = Branch {
-        before,
-        item,
-        behind,
+        before: before.share()?,
+        item: Arc::try_clone(item)?,
+        behind: behind.share()?,
         len: front + back + 1,
     };
     Ok(Tree {
@@ -155,142 +139,158 @@ fn joined<T: Drop>(
 // stands at the back.
 fn joined_to_back<T: Drop>(
     alloc: Global,
-    before: Tree<T>,
-    item: Arc<T>,
-    inner: Tree<T>,
-    top: Arc<T>,
-    outer: Tree<T>,
+    before: &Tree<T>,
+    item: &Arc<T>,
+    inner: &Tree<T>,
+    top: &Arc<T>,
+    outer: &Tree<T>,
 ) -> Result<Tree<T>, OutOfMemory>
-    ensures { IfOk result (λ tree. tree ≡ before ++ arc_value item ∷ inner ++ arc_value top ∷ outer) }
+    ensures { IfOk result (λ tree. tree ≡ before.now ++ arc_value item.now ∷ inner.now ++ arc_value top.now ∷ outer.now) }
 {
     let back = joined(alloc, inner, top, outer)?;
-    joined(alloc, before, item, back)
+    joined(alloc, before, item, &back)
 }
 
 // The same, but what is between is divided among the two sides.
 fn divided<T: Drop>(
     alloc: Global,
-    before: Tree<T>,
-    item: Arc<T>,
+    before: &Tree<T>,
+    item: &Arc<T>,
     inner: &Tree<T>,
-    top: Arc<T>,
-    outer: Tree<T>,
+    top: &Arc<T>,
+    outer: &Tree<T>,
 ) -> Result<Tree<T>, OutOfMemory>
-    ensures { IfOk result (λ tree. tree ≡ before ++ arc_value item ∷ inner.now ++ arc_value top ∷ outer) }
+    ensures { IfOk result (λ tree. tree ≡ before.now ++ arc_value item.now ∷ inner.now ++ arc_value top.now ∷ outer.now) }
 {
-    let Some((low, middle, high)) = inner.parts()? else {
-        return joined_to_back(alloc, before, item, Tree::empty(), top, outer);
+    let Some(branch) = &inner.top else {
+        return joined_to_back(alloc, before, item, inner, top, outer);
     };
-    let front = joined(alloc, before, item, low)?;
-    joined_to_back(alloc, front, middle, high, top, outer)
+    let branch: &Branch<T> = branch;
+    let front = joined(alloc, before, item, &branch.before)?;
+    joined_to_back(alloc, &front, &branch.item, &branch.behind, top, outer)
 }
 
 // The same as `joined`, where the side behind the item weighs too much: it gives up its front.
 fn turned_to_front<T: Drop>(
     alloc: Global,
-    before: Tree<T>,
-    item: Arc<T>,
+    before: &Tree<T>,
+    item: &Arc<T>,
     behind: &Tree<T>,
 ) -> Result<Tree<T>, OutOfMemory>
-    ensures { IfOk result (λ tree. tree ≡ before ++ arc_value item ∷ behind.now) }
+    ensures { IfOk result (λ tree. tree ≡ before.now ++ arc_value item.now ∷ behind.now) }
 {
-    let Some((inner, top, outer)) = behind.parts()? else {
-        return joined(alloc, before, item, Tree::empty());
+    let Some(branch) = &behind.top else {
+        return joined(alloc, before, item, behind);
     };
-    if inner.weight() < outer.weight().saturating_mul(2) {
-        let front = joined(alloc, before, item, inner)?;
-        joined(alloc, front, top, outer)
+    let branch: &Branch<T> = branch;
+    if branch.before.weight() < branch.behind.weight().saturating_mul(2) {
+        let front = joined(alloc, before, item, &branch.before)?;
+        joined(alloc, &front, &branch.item, &branch.behind)
     } else {
-        divided(alloc, before, item, &inner, top, outer)
+        divided(
+            alloc,
+            before,
+            item,
+            &branch.before,
+            &branch.item,
+            &branch.behind,
+        )
     }
 }
 
 // The same, where the side before the item weighs too much: it gives up its back.
 fn turned_to_back<T: Drop>(
     alloc: Global,
-    before: &Tree<T>,
-    item: Arc<T>,
-    behind: Tree<T>,
+    front: &Tree<T>,
+    item: &Arc<T>,
+    behind: &Tree<T>,
 ) -> Result<Tree<T>, OutOfMemory>
-    ensures { IfOk result (λ tree. tree ≡ before.now ++ arc_value item ∷ behind) }
+    ensures { IfOk result (λ tree. tree ≡ front.now ++ arc_value item.now ∷ behind.now) }
 {
-    let Some((outer, top, inner)) = before.parts()? else {
-        return joined(alloc, Tree::empty(), item, behind);
+    let Some(branch) = &front.top else {
+        return joined(alloc, front, item, behind);
     };
-    if inner.weight() < outer.weight().saturating_mul(2) {
-        joined_to_back(alloc, outer, top, inner, item, behind)
+    let branch: &Branch<T> = branch;
+    if branch.behind.weight() < branch.before.weight().saturating_mul(2) {
+        joined_to_back(
+            alloc,
+            &branch.before,
+            &branch.item,
+            &branch.behind,
+            item,
+            behind,
+        )
     } else {
-        divided(alloc, outer, top, &inner, item, behind)
+        divided(
+            alloc,
+            &branch.before,
+            &branch.item,
+            &branch.behind,
+            item,
+            behind,
+        )
     }
 }
 
 // The same, of sides that may differ by one change from those of a balanced tree.
 fn balanced<T: Drop>(
     alloc: Global,
-    before: Tree<T>,
-    item: Arc<T>,
-    behind: Tree<T>,
+    before: &Tree<T>,
+    item: &Arc<T>,
+    behind: &Tree<T>,
 ) -> Result<Tree<T>, OutOfMemory>
-    ensures { IfOk result (λ tree. tree ≡ before ++ arc_value item ∷ behind) }
+    ensures { IfOk result (λ tree. tree ≡ before.now ++ arc_value item.now ∷ behind.now) }
 {
     let (front, back) = (before.weight(), behind.weight());
     if back > front.saturating_mul(3) {
-        turned_to_front(alloc, before, item, &behind)
+        turned_to_front(alloc, before, item, behind)
     } else if front > back.saturating_mul(3) {
-        turned_to_back(alloc, &before, item, behind)
+        turned_to_back(alloc, before, item, behind)
     } else {
         joined(alloc, before, item, behind)
     }
 }
 
-impl<T: Drop> Branch<T> {
-    // A balanced tree of the branch's parts, with other items before its own.
-    fn with_before(&self, alloc: Global, before: Tree<T>) -> Result<Tree<T>, OutOfMemory>
-        ensures { IfOk result (λ tree. tree ≡ before ++ arc_value self.now.item ∷ self.now.behind) }
-    {
-        let item = Arc::try_clone(&self.item)?;
-        balanced(alloc, before, item, self.behind.share()?)
-    }
-
-    // The same, with other items behind its own.
-    fn with_behind(&self, alloc: Global, behind: Tree<T>) -> Result<Tree<T>, OutOfMemory>
-        ensures { IfOk result (λ tree. tree ≡ self.now.before ++ arc_value self.now.item ∷ behind) }
-    {
-        let item = Arc::try_clone(&self.item)?;
-        balanced(alloc, self.before.share()?, item, behind)
-    }
-
-    // The same, with another item in place of its own.
-    fn with_item(&self, alloc: Global, item: Arc<T>) -> Result<Tree<T>, OutOfMemory>
-        ensures { IfOk result (λ tree. tree ≡ self.now.before ++ arc_value item ∷ self.now.behind) }
-    {
-        joined(alloc, self.before.share()?, item, self.behind.share()?)
-    }
-}
-
 impl<T: Drop> Tree<T> {
-    // The first item and the others; None exactly where there is none.
-    fn first_and_others(&self, alloc: Global) -> Result<Option<(Arc<T>, Tree<T>)>, OutOfMemory>
-        ensures { IfOk result (λ found. MatchOption found (self.now ≡ []) (λ parts. self.now ≡ arc_value parts.0 ∷ parts.1)) }
+    // The first item; None exactly where there is none.
+    fn first(&self) -> Option<&Arc<T>>
+        ensures { MatchOption result (self.now ≡ []) (λ item. self.now ≡ arc_value item.now ∷ drop 1 self.now) }
     {
         let Some(branch) = &self.top else {
-            return Ok(None);
+            return None;
         };
         let branch: &Branch<T> = branch;
-        let Some((first, before)) = branch.before.first_and_others(alloc)? else {
-            return Ok(Some((Arc::try_clone(&branch.item)?, branch.behind.share()?)));
+        match branch.before.first() {
+            Some(first) => Some(first),
+            None => Some(&branch.item),
+        }
+    }
+
+    // The items without the first.
+    fn without_first(&self, alloc: Global) -> Result<Tree<T>, OutOfMemory>
+        ensures { IfOk result (λ tree. tree ≡ drop 1 self.now) }
+    {
+        let Some(branch) = &self.top else {
+            return Ok(Tree::empty());
         };
-        Ok(Some((first, branch.with_before(alloc, before)?)))
+        let branch: &Branch<T> = branch;
+        if branch.before.len() == 0 {
+            return branch.behind.share();
+        }
+        let before = branch.before.without_first(alloc)?;
+        balanced(alloc, &before, &branch.item, &branch.behind)
     }
 
     // The items of one tree and then those of another.
     fn followed_by(&self, alloc: Global, behind: &Tree<T>) -> Result<Tree<T>, OutOfMemory>
         ensures { IfOk result (λ tree. tree ≡ self.now ++ behind.now) }
     {
-        let front = self.share()?;
-        match behind.first_and_others(alloc)? {
-            None => Ok(front),
-            Some((first, others)) => balanced(alloc, front, first, others),
+        match behind.first() {
+            None => self.share(),
+            Some(first) => {
+                let others = behind.without_first(alloc)?;
+                balanced(alloc, self, first, &others)
+            }
         }
     }
 }
@@ -317,18 +317,25 @@ impl<T: Identified> Tree<T> {
 
 impl<T: Identified + Drop> Tree<T> {
     /// The items with one set.
-    pub fn with(&self, alloc: Global, item: Arc<T>) -> Result<Tree<T>, OutOfMemory>
+    pub fn with(&self, alloc: Global, item: &Arc<T>) -> Result<Tree<T>, OutOfMemory>
         requires { AscendBy T.id_of self.now }
-        ensures { IfOk result (λ tree. tree ≡ with_item T.id_of (arc_value item) self.now) }
+        ensures { IfOk result (λ tree. tree ≡ with_item T.id_of (arc_value item.now) self.now) }
     {
         let Some(branch) = &self.top else {
-            return joined(alloc, Tree::empty(), item, Tree::empty());
+            // there is nothing before the item, and nothing behind it
+            return joined(alloc, self, item, self);
         };
         let branch: &Branch<T> = branch;
         match item.id().cmp(branch.item.id()) {
-            Ordering::Less => branch.with_before(alloc, branch.before.with(alloc, item)?),
-            Ordering::Equal => branch.with_item(alloc, item),
-            Ordering::Greater => branch.with_behind(alloc, branch.behind.with(alloc, item)?),
+            Ordering::Less => {
+                let before = branch.before.with(alloc, item)?;
+                balanced(alloc, &before, &branch.item, &branch.behind)
+            }
+            Ordering::Equal => joined(alloc, &branch.before, item, &branch.behind),
+            Ordering::Greater => {
+                let behind = branch.behind.with(alloc, item)?;
+                balanced(alloc, &branch.before, &branch.item, &behind)
+            }
         }
     }
 
@@ -342,9 +349,15 @@ impl<T: Identified + Drop> Tree<T> {
         };
         let branch: &Branch<T> = branch;
         match id.cmp(branch.item.id()) {
-            Ordering::Less => branch.with_before(alloc, branch.before.without(alloc, id)?),
+            Ordering::Less => {
+                let before = branch.before.without(alloc, id)?;
+                balanced(alloc, &before, &branch.item, &branch.behind)
+            }
             Ordering::Equal => branch.before.followed_by(alloc, &branch.behind),
-            Ordering::Greater => branch.with_behind(alloc, branch.behind.without(alloc, id)?),
+            Ordering::Greater => {
+                let behind = branch.behind.without(alloc, id)?;
+                balanced(alloc, &branch.before, &branch.item, &behind)
+            }
         }
     }
 }

@@ -10,16 +10,16 @@ use Rattle.edr_base.specs.Limits.{AreSamples}
 
 pub pack-requires : goal.pack-requires
 pack-requires c =
-    let e : c.deref.result.now ≡ cut_values c.args.shape c.args.values.now c.place_of.result = search rules in
-    subst AreSamples (sym e) (cut_samples c.args.shape c.args.values.now c.place_of.result c.requires.samples)
+    let e : c.deref.result.now ≡ cut_values c.args.shape c.args.values.now c.place_of-place.result = search rules in
+    subst AreSamples (sym e) (cut_samples c.args.shape c.args.values.now c.place_of-place.result c.requires.samples)
 
 pub loop-tile-preserved : goal.loop-tile-preserved
 loop-tile-preserved c =
-    let e : c.push.new.self.items ≡ c.loop-tile.kept.items ++ cut_values c.args.shape c.args.values.now c.place_of.result ∷ [] = search rules in
-    let w = subst (λ (s : GridShape). Within s c.place_of.result) c.tile_shape_of-coarse.ensures.tiles c.place_of.ensures.within in
-    let n = subst (λ (s : GridShape). number s c.place_of.result ≡ c.loop-tile.tile) c.tile_shape_of-coarse.ensures.tiles c.place_of.ensures.number in
+    let e : c.push.new.self.items ≡ c.loop-tile.kept.items ++ cut_values c.args.shape c.args.values.now c.place_of-place.result ∷ [] = search rules in
+    let w = subst (λ (s : GridShape). Within s c.place_of-place.result) c.tile_shape_of-coarse.ensures.tiles c.place_of-place.ensures.within in
+    let n = subst (λ (s : GridShape). number s c.place_of-place.result ≡ c.loop-tile.tile) c.tile_shape_of-coarse.ensures.tiles c.place_of-place.ensures.number in
     subst (λ (k : List (List (Option ℤ))). Filled c.args.shape c.args.values.now k (c.loop-tile.tile + 1)) (sym e)
-    (filled_more c.args.shape c.args.values.now c.loop-tile.kept.items c.loop-tile.tile c.place_of.result c.loop-tile.invariant w n)
+    (filled_more c.args.shape c.args.values.now c.loop-tile.kept.items c.loop-tile.tile c.place_of-place.result c.loop-tile.invariant w n)
 
 pub returns : goal.returns
 returns c =

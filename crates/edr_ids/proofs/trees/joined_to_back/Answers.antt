@@ -5,4 +5,4 @@ use Rattle.edr_ids.proofs.trees.joined_to_back.Goals as goal
 
 pub returns : goal.returns
 returns g c =
-    followed_is _ _ _ c.joined-2.ensures (sym (behind_is c.args.before c.args.inner c.args.outer c.in_ok-back.back (arc_value c.args.item) (arc_value c.args.top) c.in_ok-back.ensures))
+    followed_is _ _ _ c.joined-2.ensures (sym (behind_is c.args.before.now c.args.inner.now c.args.outer.now c.in_ok-back.back (arc_value c.args.item.now) (arc_value c.args.top.now) c.in_ok-back.ensures))

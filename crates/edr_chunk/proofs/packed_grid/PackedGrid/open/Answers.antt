@@ -31,6 +31,9 @@ returns-clause-ok c =
     subst (λ (g : Values). IsTile g k c.tile_from.result) c.self.view_is
     (subst (λ (t : TileValue). IsTile (view_at s kept) k t) (sym made) (opened s kept k corner c.self.invariant w n))
 
+pub returns-clause-read : goal.returns-clause-read
+returns-clause-read c = c.in_ok-append.ensures.ok
+
 pub tile_from-requires : goal.tile_from-requires
 tile_from-requires c =
     subst (λ (s : GridShape). Within s c.place_of-corner.result) c.tile_shape_of.ensures.tiles c.place_of-corner.ensures.within

@@ -16,32 +16,35 @@ with-requires-in-Greater g t c κs within =
     let at = at_branch g.T.Identified.id_of c.args.self.now c.self.inside.top c.in-Some.branch c.deref-branch.result.now c.self.view_is c.in-Some.is c.deref-branch.ensures c.requires in
     (omega (arith, at.behind_shorter, c.decreases), (within, at.parts.high))
 
-pub returns-in_ok-with-in-Less : goal.returns-in_ok-with-in-Less
-returns-in_ok-with-in-Less g t c =
+pub returns-in_ok-before-in-Less : goal.returns-in_ok-before-in-Less
+returns-in_ok-before-in-Less g t c =
     let key = g.T.Identified.id_of in
-    let new = arc_value c.args.item in
+    let new = arc_value c.args.item.now in
     let branch = c.deref-branch.result.now in
     let item = arc_value branch.item in
     let at = at_branch key c.args.self.now c.self.inside.top c.in-Some.branch branch c.self.view_is c.in-Some.is c.deref-branch.ensures c.requires in
-    let less : order (key new) (key item) ≡ Less = ap (λ id. order id (key item)) (sym c.id.ensures) ∙ ap (order c.id.result.now) (sym c.id-2.ensures) ∙ sym c.cmp.ensures ∙ c.in-Less.is in
-    followed_is _ _ _ c.with_before.ensures (ap (λ list. list ++ item ∷ branch.behind) c.in_ok-with-in-Less.ensures ∙ sym (ap (with_item key new) at.is ∙ with_item-less key new branch.before item branch.behind at.parts less))
+    let found : c.cmp.result ≡ Less = c.in-Less.is in
+    let less : order (key new) (key item) ≡ Less = ap (λ id. order id (key item)) (sym c.id.ensures) ∙ ap (order c.id.result.now) (sym c.id-2.ensures) ∙ sym c.cmp.ensures ∙ found in
+    followed_is _ _ _ c.balanced.ensures (ap (λ list. list ++ item ∷ branch.behind) c.in_ok-before-in-Less.ensures ∙ sym (ap (with_item key new) at.is ∙ with_item-less key new branch.before item branch.behind at.parts less))
 
 pub returns-in-Equal : goal.returns-in-Equal
 returns-in-Equal g t c =
     let key = g.T.Identified.id_of in
-    let new = arc_value c.args.item in
+    let new = arc_value c.args.item.now in
     let branch = c.deref-branch.result.now in
     let item = arc_value branch.item in
     let at = at_branch key c.args.self.now c.self.inside.top c.in-Some.branch branch c.self.view_is c.in-Some.is c.deref-branch.ensures c.requires in
-    let same : order (key new) (key item) ≡ Equal = ap (λ id. order id (key item)) (sym c.id.ensures) ∙ ap (order c.id.result.now) (sym c.id-2.ensures) ∙ sym c.cmp.ensures ∙ c.in-Equal.is in
-    followed_is _ _ _ c.with_item.ensures (sym (ap (with_item key new) at.is ∙ with_item-equal key new branch.before item branch.behind at.parts same))
+    let found : c.cmp.result ≡ Equal = c.in-Equal.is in
+    let same : order (key new) (key item) ≡ Equal = ap (λ id. order id (key item)) (sym c.id.ensures) ∙ ap (order c.id.result.now) (sym c.id-2.ensures) ∙ sym c.cmp.ensures ∙ found in
+    followed_is _ _ _ c.joined-in-Equal.ensures (sym (ap (with_item key new) at.is ∙ with_item-equal key new branch.before item branch.behind at.parts same))
 
-pub returns-in_ok-with-in-Greater : goal.returns-in_ok-with-in-Greater
-returns-in_ok-with-in-Greater g t c =
+pub returns-in_ok-behind-in-Greater : goal.returns-in_ok-behind-in-Greater
+returns-in_ok-behind-in-Greater g t c =
     let key = g.T.Identified.id_of in
-    let new = arc_value c.args.item in
+    let new = arc_value c.args.item.now in
     let branch = c.deref-branch.result.now in
     let item = arc_value branch.item in
     let at = at_branch key c.args.self.now c.self.inside.top c.in-Some.branch branch c.self.view_is c.in-Some.is c.deref-branch.ensures c.requires in
-    let more : order (key new) (key item) ≡ Greater = ap (λ id. order id (key item)) (sym c.id.ensures) ∙ ap (order c.id.result.now) (sym c.id-2.ensures) ∙ sym c.cmp.ensures ∙ c.in-Greater.is in
-    followed_is _ _ _ c.with_behind.ensures (ap (λ list. branch.before ++ item ∷ list) c.in_ok-with-in-Greater.ensures ∙ sym (ap (with_item key new) at.is ∙ with_item-greater key new branch.before item branch.behind at.parts more))
+    let found : c.cmp.result ≡ Greater = c.in-Greater.is in
+    let more : order (key new) (key item) ≡ Greater = ap (λ id. order id (key item)) (sym c.id.ensures) ∙ ap (order c.id.result.now) (sym c.id-2.ensures) ∙ sym c.cmp.ensures ∙ found in
+    followed_is _ _ _ c.balanced-in-Greater.ensures (ap (λ list. branch.before ++ item ∷ list) c.in_ok-behind-in-Greater.ensures ∙ sym (ap (with_item key new) at.is ∙ with_item-greater key new branch.before item branch.behind at.parts more))
