@@ -11,48 +11,26 @@ use edr_make::make_feed;
 use std::alloc::Global;
 use std::rt::HostRuntime;
 
-fn add_all(feed: &mut String, parts: &[&str]) {
-    for part in parts {
-        let _ = feed.push_str(part);
-    }
-}
-
-// Adds the line of a grid or of a station: its place is a collection and an instance, or a collection and a station's id.
-fn add_coverage(feed: &mut String, place: &str, coverage: &str) {
+// The line of a grid or of a station: its place is a collection and an instance, or a collection and a station's id.
+fn coverage_line(alloc: Global, place: &str, coverage: &str) -> Option<String> {
     match place.split_once('@') {
-        Some((collection, id)) => {
-            add_all(
-                feed,
-                &[
-                    "{\"station\":{\"collection\":\"",
-                    collection,
-                    "\",\"id\":\"",
-                    id,
-                ],
-            );
-            add_all(feed, &["\",\"label\":\"S\",\"coverage\":", coverage, "}}"]);
-        }
+        Some((collection, id)) => format!(in alloc;
+            "{{\"station\":{{\"collection\":\"{collection}\",\"id\":\"{id}\",\"label\":\"S\",\"coverage\":{coverage}}}}}"
+        ).ok(),
         None => {
             let (collection, instance) = place.split_once('/').unwrap_or((place, "1"));
-            add_all(
-                feed,
-                &[
-                    "{\"grid\":{\"collection\":\"",
-                    collection,
-                    "\",\"instance\":\"",
-                    instance,
-                ],
-            );
-            add_all(feed, &["\",\"coverage\":", coverage, "}}"]);
+            format!(in alloc;
+                "{{\"grid\":{{\"collection\":\"{collection}\",\"instance\":\"{instance}\",\"coverage\":{coverage}}}}}"
+            ).ok()
         }
     }
 }
 
-// Adds the line of a word.
-fn add_line(feed: &mut String, word: &str) {
+// The line of a word.
+fn line_of(alloc: Global, word: &str) -> Option<String> {
     match word.split_once('=') {
-        Some((place, coverage)) => add_coverage(feed, place, answer_in(LINES, coverage)),
-        None => add_all(feed, &[answer_in(LINES, word)]),
+        Some((place, coverage)) => coverage_line(alloc, place, answer_in(LINES, coverage)),
+        None => String::from_str(alloc, answer_in(LINES, word)).ok(),
     }
 }
 
@@ -60,10 +38,10 @@ fn add_line(feed: &mut String, word: &str) {
 fn feed_of(alloc: Global, words: &str) -> String {
     let mut feed = String::new(alloc);
     for word in words.split(' ') {
-        if !word.is_empty() {
+        if let Some(line) = line_of(alloc, word) {
             let between = if feed.is_empty() { "" } else { "\n" };
-            add_all(&mut feed, &[between]);
-            add_line(&mut feed, word);
+            let _ = feed.push_str(between);
+            let _ = feed.push_str(&line);
         }
     }
     feed
