@@ -60,6 +60,18 @@ fn is_right(alloc: Global, cases: Cases, asked: &'static str, answer: &str) -> O
     }
 }
 
+/// What stands behind ` => ` in the first line of a table that asks this; nothing where there is none.
+pub fn answer_in(lines: &'static str, asked: &str) -> &'static str {
+    for line in lines.lines() {
+        if let Some((other, answer)) = line.split_once(" => ")
+            && other == asked
+        {
+            return answer;
+        }
+    }
+    ""
+}
+
 // The first line that isn't right; none is empty.
 fn first_wrong(alloc: Global, cases: Cases, lines: &'static str) -> &'static str {
     for line in lines.lines() {

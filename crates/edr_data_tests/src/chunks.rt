@@ -73,34 +73,35 @@ null null
 0 null 4294967295";
 
 // Whether a list is packed and comes back where its opening is noted by a number.
-fn comes_back(
-    alloc: Global,
-    samples: &[Option<i64>],
-    number: u64,
-    reads: &mut Reads,
-) -> Result<bool, OutOfMemory>
+fn comes_back(alloc: Global, samples: &[Option<i64>], number: u64, reads: &mut Reads) -> bool
     requires { AreSamples samples.now }
 {
-    let packed = Packed::pack(alloc, samples)?;
-    let opened = open_packed(alloc, &packed, number, reads)?;
-    Ok(opened.as_slice() == samples)
+    let Ok(packed) = Packed::pack(alloc, samples) else {
+        return false;
+    };
+    match open_packed(alloc, &packed, number, reads) {
+        Ok(opened) => opened.as_slice() == samples,
+        Err(_) => false,
+    }
 }
 
 // Whether the list of a line comes back, noted by the next number.
-fn line_comes_back(alloc: Global, line: &str, reads: &mut Reads) -> Result<bool, OutOfMemory> {
-    let samples = samples_of(alloc, line)?;
+fn line_comes_back(alloc: Global, line: &str, reads: &mut Reads) -> bool {
     let number = reads.numbers().len() as u64;
-    comes_back(alloc, &samples, number, reads)
+    match samples_of(alloc, line) {
+        Ok(samples) => comes_back(alloc, &samples, number, reads),
+        Err(_) => false,
+    }
 }
 
 // Whether all lists come back, and are noted by their numbers.
-fn all_come_back(alloc: Global, lists: &str) -> Result<bool, OutOfMemory> {
+fn all_come_back(alloc: Global, lists: &str) -> bool {
     let mut reads = Reads::new(alloc);
     let mut whole = true;
     for line in lists.lines() {
-        whole = line_comes_back(alloc, line, &mut reads)? && whole;
+        whole = line_comes_back(alloc, line, &mut reads) && whole;
     }
-    Ok(whole && reads.numbers() == [0, 1, 2, 3, 4, 5, 6, 7, 8, 9, 10, 11, 12].as_slice())
+    whole && reads.numbers() == [0, 1, 2, 3, 4, 5, 6, 7, 8, 9, 10, 11, 12].as_slice()
 }
 
 const SQUARE: GridShape = GridShape {
@@ -156,17 +157,16 @@ fn value_at(
 }
 
 // Whether each 17th value of a grid, read from its tile, is that of a list: some of each row and of each column.
-fn has_many(alloc: Global, grid: &PackedGrid, samples: &[Option<i64>]) -> Result<bool, OutOfMemory>
+fn has_many(alloc: Global, grid: &PackedGrid, samples: &[Option<i64>]) -> bool
     requires { length samples.now ≡ count grid.now.shape }
 {
     let mut reads = Reads::new(alloc);
+    let mut whole = true;
     for step in 0..samples.len() / 17 {
         let number = step * 17;
-        if value_at(alloc, grid, number as u64, &mut reads)? != samples[number] {
-            return Ok(false);
-        }
+        whole = value_at(alloc, grid, number as u64, &mut reads) == Ok(samples[number]) && whole;
     }
-    Ok(reads.numbers().len() == samples.len() / 17)
+    whole && reads.numbers().len() == samples.len() / 17
 }
 
 const BELOW: GridPlace = GridPlace {
@@ -178,25 +178,29 @@ const BELOW: GridPlace = GridPlace {
 };
 
 // Whether the first and the last value of the lowest row of a square are read from the tiles 2 and 3.
-fn has_lowest_row(alloc: Global, grid: &PackedGrid) -> Result<bool, OutOfMemory>
+fn has_lowest_row(alloc: Global, grid: &PackedGrid) -> bool
     requires { count grid.now.shape ≡ 4225 }
 {
     let mut reads = Reads::new(alloc);
-    let first = value_at(alloc, grid, 4_160, &mut reads)?;
-    let last = value_at(alloc, grid, 4_224, &mut reads)?;
-    Ok(first == Some(7_480) && last == Some(7_672) && reads.numbers() == [2, 3].as_slice())
+    let first = value_at(alloc, grid, 4_160, &mut reads);
+    let last = value_at(alloc, grid, 4_224, &mut reads);
+    first == Ok(Some(7_480)) && last == Ok(Some(7_672)) && reads.numbers() == [2, 3].as_slice()
 }
 
-// Whether the tiles of a square are numbered row by row, and each is opened for its values.
-fn is_tiled(alloc: Global) -> Result<bool, OutOfMemory> {
-    let samples = samples_from(alloc, 0, 4_225)?;
-    let grid = PackedGrid::pack(alloc, SQUARE, &samples)?;
-    Ok(
-        grid.tiles() == 4
-            && grid.tile_of(BELOW) == 2
-            && has_lowest_row(alloc, &grid)?
-            && has_many(alloc, &grid, &samples)?,
-    )
+// Whether the tiles of a square of these values are numbered row by row, and each is opened for its values.
+fn is_tiled(alloc: Global, samples: &[Option<i64>]) -> bool
+    requires samples { AreSamples samples.now }
+    requires count { length samples.now ≡ 4225 }
+{
+    match PackedGrid::pack(alloc, SQUARE, samples) {
+        Ok(grid) => {
+            grid.tiles() == 4
+                && grid.tile_of(BELOW) == 2
+                && has_lowest_row(alloc, &grid)
+                && has_many(alloc, &grid, samples)
+        }
+        Err(_) => false,
+    }
 }
 
 // Adds a parameter with the values from a number on.
@@ -231,26 +235,36 @@ fn is_several_shape(shape: GridShape) -> bool
 }
 
 // Whether a grid has several parameters, in so many tiles, and these values.
-fn is_several(
-    alloc: Global,
-    grid: &PackedGrid,
-    samples: &[Option<i64>],
-) -> Result<bool, OutOfMemory>
+fn is_several(alloc: Global, grid: Result<PackedGrid, OutOfMemory>, samples: &[Option<i64>]) -> bool
     requires { length samples.now ≡ 34320 }
 {
-    Ok(is_several_shape(grid.shape()) && grid.tiles() == 32 && has_many(alloc, grid, samples)?)
+    match grid {
+        Ok(grid) => {
+            is_several_shape(grid.shape()) && grid.tiles() == 32 && has_many(alloc, &grid, samples)
+        }
+        Err(_) => false,
+    }
 }
 
-// Whether a grid of several parameters has its values, and so has one that got them in turn.
-fn is_packed(alloc: Global) -> Result<bool, OutOfMemory> {
-    let samples = samples_from(alloc, 0, 34_320)?;
-    let grid = PackedGrid::pack(alloc, SEVERAL, &samples)?;
-    Ok(is_several(alloc, &grid, &samples)? && is_several(alloc, &added(alloc)?, &samples)?)
+// Whether a grid of several parameters has these values, and so has one that got them in turn.
+fn is_packed(alloc: Global, samples: &[Option<i64>]) -> bool
+    requires samples { AreSamples samples.now }
+    requires count { length samples.now ≡ 34320 }
+{
+    is_several(alloc, PackedGrid::pack(alloc, SEVERAL, samples), samples)
+        && is_several(alloc, added(alloc), samples)
+}
+
+// Whether grids of the values of the first numbers have them in their tiles.
+fn are_packed(alloc: Global) -> Result<bool, OutOfMemory> {
+    let square = samples_from(alloc, 0, 4_225)?;
+    let several = samples_from(alloc, 0, 34_320)?;
+    Ok(is_tiled(alloc, &square) && is_packed(alloc, &several))
 }
 
 #[test]
 fn lists_and_grids_come_back(rt: HostRuntime) {
     let alloc = rt.alloc();
-    assert!(rt; is_numbered() && all_come_back(alloc, LISTS) == Ok(true));
-    assert!(rt; is_tiled(alloc) == Ok(true) && is_packed(alloc) == Ok(true));
+    assert!(rt; is_numbered() && all_come_back(alloc, LISTS));
+    assert!(rt; are_packed(alloc) == Ok(true));
 }

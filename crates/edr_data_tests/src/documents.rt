@@ -6,7 +6,7 @@
 //! `A` and none. `values` has the values of each parameter, `-` for an absent one, with bars between parameters where they
 //! differ; `ranges` is how many have them, where not all have. A coverage may have an `id`, a `crs` and a `vertical`. In
 //! texts `?` stands for a byte that is no UTF-8, `_` for a blank and `^` for a line feed. What can't be read isn't there, and
-//! so is that for which memory is wanting; a domain that can't be without it gives nothing.
+//! so is that for which memory is wanting; a coordinate is 0 then, and a domain that can't be without it gives nothing.
 use covjson_value::{Coverage, Document, Domain, NdArray, Parameter, Referencing};
 use edr_axes::Axis;
 use edr_base::{Items, Position, Text};
@@ -32,36 +32,37 @@ fn number_in(line: &str, name: &str) -> Option<i64> {
     number(word(line, name)?)
 }
 
-// The number of a word, and 0 where a line hasn't it.
-fn number_or_zero(line: &str, name: &str) -> i64 {
-    number_in(line, name).unwrap_or(0)
-}
-
 fn axis(alloc: Global, line: &str, name: &str) -> Option<Axis> {
+    let text = word(line, name)?;
     let mut values = Vec::new(alloc);
-    for part in word(line, name)?.split(',') {
-        values.push(number(part)?).ok()?;
+    for part in text.split(',') {
+        if let Some(value) = number(part) {
+            let _ = values.push(value);
+        }
     }
     Axis::of(alloc, &values).ok()
 }
 
-fn tuple(text: &str) -> Option<Position> {
-    let (x, rest) = text.split_once('/')?;
-    let (y, rest) = rest.split_once('/')?;
-    let (z, m) = rest.split_once('/')?;
-    Some(Position {
-        x: number(x)?,
-        y: number(y)?,
-        z: number(z)?,
-        m: number(m)?,
-    })
+// The number of a part, and 0 where there is none.
+fn coordinate(part: Option<&str>) -> i64 {
+    number(part.unwrap_or("")).unwrap_or(0)
+}
+
+fn tuple(text: &str) -> Position {
+    let mut parts = text.split('/');
+    Position {
+        x: coordinate(parts.next()),
+        y: coordinate(parts.next()),
+        z: coordinate(parts.next()),
+        m: coordinate(parts.next()),
+    }
 }
 
 fn tuples(alloc: Global, line: &str) -> Items<Position> {
     let mut items = Vec::new(alloc);
-    for part in word(line, "at").unwrap_or("").split(',') {
-        if let Some(tuple) = tuple(part) {
-            let _ = items.push(tuple);
+    if let Some(text) = word(line, "at") {
+        for part in text.split(',') {
+            let _ = items.push(tuple(part));
         }
     }
     Items::of(items)
@@ -82,8 +83,8 @@ fn point(line: &str) -> Domain {
     Domain::Point {
         t: number_in(line, "t"),
         z: number_in(line, "z"),
-        y: number_or_zero(line, "y"),
-        x: number_or_zero(line, "x"),
+        y: coordinate(word(line, "y")),
+        x: coordinate(word(line, "x")),
     }
 }
 
@@ -91,8 +92,8 @@ fn point_series(alloc: Global, line: &str) -> Option<Domain> {
     Some(Domain::PointSeries {
         t: axis(alloc, line, "t")?,
         z: number_in(line, "z"),
-        y: number_or_zero(line, "y"),
-        x: number_or_zero(line, "x"),
+        y: coordinate(word(line, "y")),
+        x: coordinate(word(line, "x")),
     })
 }
 
@@ -100,8 +101,8 @@ fn vertical_profile(alloc: Global, line: &str) -> Option<Domain> {
     Some(Domain::VerticalProfile {
         t: number_in(line, "t"),
         z: axis(alloc, line, "z")?,
-        y: number_or_zero(line, "y"),
-        x: number_or_zero(line, "x"),
+        y: coordinate(word(line, "y")),
+        x: coordinate(word(line, "x")),
     })
 }
 

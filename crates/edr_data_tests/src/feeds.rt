@@ -1,7 +1,7 @@
 //! Feeds line by line, each as a case of a table.
 ghost use Rattle.std.specs.Prelude.{◌≤◌};
 
-use crate::cases::{Cases, are_right, is_shown};
+use crate::cases::{Cases, answer_in, are_right, is_shown};
 use crate::lines::{BYTES, FEEDS, LABELS, LINES, SUMMARIES};
 use edr_base::{MemorySink, MemorySource};
 use edr_draft::ChangeFault;
@@ -11,59 +11,26 @@ use edr_make::make_feed;
 use std::alloc::Global;
 use std::rt::HostRuntime;
 
-fn line_named(name: &str) -> &'static str {
-    for line in LINES.lines() {
-        if let Some((other, text)) = line.split_once(' ')
-            && other == name
-        {
-            return text;
-        }
-    }
-    ""
-}
-
-fn add_all(feed: &mut String, parts: &[&str]) {
-    for part in parts {
-        let _ = feed.push_str(part);
-    }
-}
-
-// Adds the line of a grid or of a station: its place is a collection and an instance, or a collection and a station's id.
-fn add_coverage(feed: &mut String, place: &str, coverage: &str) {
+// The line of a grid or of a station: its place is a collection and an instance, or a collection and a station's id.
+fn coverage_line(alloc: Global, place: &str, coverage: &str) -> Option<String> {
     match place.split_once('@') {
-        Some((collection, id)) => {
-            add_all(
-                feed,
-                &[
-                    "{\"station\":{\"collection\":\"",
-                    collection,
-                    "\",\"id\":\"",
-                    id,
-                ],
-            );
-            add_all(feed, &["\",\"label\":\"S\",\"coverage\":", coverage, "}}"]);
-        }
+        Some((collection, id)) => format!(in alloc;
+            "{{\"station\":{{\"collection\":\"{collection}\",\"id\":\"{id}\",\"label\":\"S\",\"coverage\":{coverage}}}}}"
+        ).ok(),
         None => {
             let (collection, instance) = place.split_once('/').unwrap_or((place, "1"));
-            add_all(
-                feed,
-                &[
-                    "{\"grid\":{\"collection\":\"",
-                    collection,
-                    "\",\"instance\":\"",
-                    instance,
-                ],
-            );
-            add_all(feed, &["\",\"coverage\":", coverage, "}}"]);
+            format!(in alloc;
+                "{{\"grid\":{{\"collection\":\"{collection}\",\"instance\":\"{instance}\",\"coverage\":{coverage}}}}}"
+            ).ok()
         }
     }
 }
 
-// Adds the line of a word.
-fn add_line(feed: &mut String, word: &str) {
+// The line of a word.
+fn line_of(alloc: Global, word: &str) -> Option<String> {
     match word.split_once('=') {
-        Some((place, coverage)) => add_coverage(feed, place, line_named(coverage)),
-        None => add_all(feed, &[line_named(word)]),
+        Some((place, coverage)) => coverage_line(alloc, place, answer_in(LINES, coverage)),
+        None => String::from_str(alloc, answer_in(LINES, word)).ok(),
     }
 }
 
@@ -71,10 +38,10 @@ fn add_line(feed: &mut String, word: &str) {
 fn feed_of(alloc: Global, words: &str) -> String {
     let mut feed = String::new(alloc);
     for word in words.split(' ') {
-        if !word.is_empty() {
+        if let Some(line) = line_of(alloc, word) {
             let between = if feed.is_empty() { "" } else { "\n" };
-            add_all(&mut feed, &[between]);
-            add_line(&mut feed, word);
+            let _ = feed.push_str(between);
+            let _ = feed.push_str(&line);
         }
     }
     feed
@@ -170,7 +137,7 @@ fn bytes_of(word: &str) -> &'static [u8] {
         "null" => b"\0",
         "other" => b"\xff",
         "mark" => b"\xef\xbb\xbf",
-        _ => line_named(word).as_bytes(),
+        _ => answer_in(LINES, word).as_bytes(),
     }
 }
 
@@ -241,21 +208,18 @@ fn is_long(alloc: Global, front: &[u8], blanks: usize, answer: &str) -> bool {
 }
 
 // Whether so many lists in each other are read so.
-fn is_nested(alloc: Global, depth: usize, answer: &str) -> bool {
+fn is_nested(alloc: Global, depth: u8, answer: &str) -> bool {
+    let depth = depth as usize;
     let mut line = Vec::new(alloc);
-    for _ in 0..depth {
-        let _ = line.push(b'[');
-    }
-    for _ in 0..depth {
-        let _ = line.push(b']');
-    }
-    are_read(alloc, &line, 100, answer)
+    line.resize(depth, b'[').is_ok()
+        && line.resize(2 * depth, b']').is_ok()
+        && are_read(alloc, &line, 100, answer)
 }
 
 // Whether a source of one line, in pieces, whose second call fails is read so.
 fn is_failing(alloc: Global, name: &str, answer: &str) -> bool {
     let mut line = Vec::new(alloc);
-    let _ = line.extend_from_slice(line_named(name).as_bytes());
+    let _ = line.extend_from_slice(answer_in(LINES, name).as_bytes());
     let mut fails = Vec::new(alloc);
     let _ = fails.push(2u64);
     is_read(alloc, &mut MemorySource::of(line, 100, fails), answer)

@@ -2,86 +2,86 @@
 
 /// One line and a place each; a feed names them.
 pub const LINES: &str =
-    r#"G {"domain":{"axes":{"t":{"values":["2024-01-01T00:00:00Z"]},"x":{"values":[0,100]},"y":{"values":[0]}},"domainType":"Grid","referencing":[{"coordinates":["x","y"],"system":{"id":"local","type":"ProjectedCRS"}}],"type":"Domain"},"parameters":{"temp":{"observedProperty":{"label":{"en":"Temperature"}},"type":"Parameter"}},"ranges":{"temp":{"axisNames":["t","y","x"],"dataType":"integer","shape":[1,1,2],"type":"NdArray","values":[10,null]}},"type":"Coverage"}
-H {"domain":{"axes":{"t":{"values":["2024-01-01T00:00:00Z"]},"x":{"values":[0,100]},"y":{"values":[0]}},"domainType":"Grid","referencing":[{"coordinates":["x","y"],"system":{"id":"local","type":"ProjectedCRS"}}],"type":"Domain"},"parameters":{"temp":{"observedProperty":{"label":{"en":"Heat"}},"type":"Parameter"}},"ranges":{"temp":{"axisNames":["t","y","x"],"dataType":"integer","shape":[1,1,2],"type":"NdArray","values":[10,null]}},"type":"Coverage"}
-P {"domain":{"axes":{"t":{"values":["2024-01-01T00:00:00Z"]},"x":{"values":[0]},"y":{"values":[0]}},"domainType":"Point","referencing":[{"coordinates":["x","y"],"system":{"id":"local","type":"ProjectedCRS"}}],"type":"Domain"},"parameters":{"temp":{"observedProperty":{"label":{"en":"Temperature"}},"type":"Parameter"}},"ranges":{"temp":{"dataType":"integer","type":"NdArray","values":[10]}},"type":"Coverage"}
-N {"domain":{"axes":{"x":{"values":[0,100]},"y":{"values":[0]}},"domainType":"Grid","referencing":[{"coordinates":["x","y"],"system":{"id":"local","type":"ProjectedCRS"}}],"type":"Domain"},"parameters":{"temp":{"observedProperty":{"label":{"en":"Temperature"}},"type":"Parameter"}},"ranges":{"temp":{"axisNames":["y","x"],"dataType":"integer","shape":[1,2],"type":"NdArray","values":[10,null]}},"type":"Coverage"}
-O {"domain":{"axes":{"t":{"values":["2024-01-01T00:00:00Z"]},"x":{"values":[0,100]},"y":{"values":[0]}},"domainType":"Grid","referencing":[{"coordinates":["x","y"],"system":{"id":"other","type":"ProjectedCRS"}}],"type":"Domain"},"parameters":{"temp":{"observedProperty":{"label":{"en":"Temperature"}},"type":"Parameter"}},"ranges":{"temp":{"axisNames":["t","y","x"],"dataType":"integer","shape":[1,1,2],"type":"NdArray","values":[10,null]}},"type":"Coverage"}
-U {"domain":{"axes":{"t":{"values":["2024-01-01T00:00:00Z"]},"x":{"values":[0,100]},"y":{"values":[0]}},"domainType":"Grid","referencing":[{"coordinates":["x","y"],"system":{"type":"ProjectedCRS"}}],"type":"Domain"},"parameters":{"temp":{"observedProperty":{"label":{"en":"Temperature"}},"type":"Parameter"}},"ranges":{"temp":{"axisNames":["t","y","x"],"dataType":"integer","shape":[1,1,2],"type":"NdArray","values":[10,null]}},"type":"Coverage"}
-wind {"domain":{"axes":{"t":{"values":["2024-01-01T00:00:00Z"]},"x":{"values":[0,100]},"y":{"values":[0]}},"domainType":"Grid","referencing":[{"coordinates":["x","y"],"system":{"id":"local","type":"ProjectedCRS"}}],"type":"Domain"},"parameters":{"temp":{"observedProperty":{"label":{"en":"Temperature"}},"type":"Parameter"},"wind":{"observedProperty":{"label":{"en":"Wind"}},"type":"Parameter"}},"ranges":{"temp":{"axisNames":["t","y","x"],"dataType":"integer","shape":[1,1,2],"type":"NdArray","values":[10,null]},"wind":{"axisNames":["t","y","x"],"dataType":"integer","shape":[1,1,2],"type":"NdArray","values":[1,2]}},"type":"Coverage"}
-baremore {"domain":{"axes":{"t":{"values":["2024-01-01T00:00:00Z"]},"x":{"values":[0,100]},"y":{"values":[0]}},"domainType":"Grid","referencing":[{"coordinates":["x","y"],"system":{"id":"local","type":"ProjectedCRS"}}],"type":"Domain"},"parameters":{"temp":{"observedProperty":{"label":{"en":"Temperature"}},"type":"Parameter"}},"ranges":{"temp":{"axisNames":["t","y","x"],"dataType":"integer","shape":[1,1,2],"type":"NdArray","values":[10,null]}},"type":"Coverage","publish":{}}
-publish {"publish":{}}
-collection {"collection":{"id":"a","kind":"grid","title":"A","crs":"local"}}
-vertical {"collection":{"id":"a","kind":"grid","title":"A","crs":"local","vertical":"height"}}
-drop {"drop":{"collection":"a"}}
-dropgrid {"drop":{"collection":"grid"}}
-dropinstance {"drop":{"collection":"grid","instance":"1"}}
-dropother {"drop":{"collection":"grid","instance":"2"}}
-dropofnone {"drop":{"collection":"none","instance":"1"}}
-blank  
-brace {
-list []
-number 1
-other {"a":1}
-two {"publish":{},"drop":{"collection":"a"}}
-published {"publish":{"now":true}}
-publishlist {"publish":[]}
-coverage {"type":"Coverage"}
-typeonly {"type":"Collection"}
-stationkind {"collection":{"id":"a","kind":"station","title":"A","crs":"local"}}
-station {"station":{"collection":"a","id":"s","label":"S","coverage":{}}}
-dropstation {"drop":{"collection":"a","station":"s"}}
-dropmore {"drop":{"collection":"a","instance":"1","more":1}}
-comma {"collection":{"id":"a,b","kind":"grid","title":"A","crs":"local"}}
-noname {"collection":{"id":"","kind":"grid","title":"A","crs":"local"}}
-notitle {"collection":{"id":"a","kind":"grid","crs":"local"}}
-titlenumber {"collection":{"id":"a","kind":"grid","title":1,"crs":"local"}}
-verticalnull {"collection":{"id":"a","kind":"grid","title":"A","crs":"local","vertical":null}}
-more {"collection":{"id":"a","kind":"grid","title":"A","crs":"local","more":1}}
-nocoverage {"grid":{"collection":"a","instance":"1"}}
-badcoverage {"grid":{"collection":"a","instance":"1","coverage":{"type":"Coverage"}}}
-numbercoverage {"grid":{"collection":"a","instance":"1","coverage":7}}
-equalkeys {"publish":{"now":true},"publish":{}}
-equalmembers {"drop":{"collection":"b","collection":"a"}}
-longname {"collection":{"id":"nnnnnnnnnnnnnnnnnnnnnnnnnnnnnnnnnnnnnnnnnnnnnnnnnnnnnnnnnnnnnnnnnnnnnnnnnnnnnnnnnnnnnnnnnnnnnnnnnnnnnnnnnnnnnnnnnnnnnnnnnnnnnnnn","kind":"grid","title":"A","crs":"local"}}
-longername {"collection":{"id":"nnnnnnnnnnnnnnnnnnnnnnnnnnnnnnnnnnnnnnnnnnnnnnnnnnnnnnnnnnnnnnnnnnnnnnnnnnnnnnnnnnnnnnnnnnnnnnnnnnnnnnnnnnnnnnnnnnnnnnnnnnnnnnnnn","kind":"grid","title":"A","crs":"local"}}
-gridmore {"grid":{"collection":"a","instance":"1","coverage":7,"more":1}}
-series {"domain":{"axes":{"t":{"values":["2024-01-01T00:00:00Z","2024-01-02T00:00:00Z"]},"x":{"values":[5]},"y":{"values":[7]}},"domainType":"PointSeries","referencing":[{"coordinates":["x","y"],"system":{"id":"local","type":"ProjectedCRS"}}],"type":"Domain"},"parameters":{"temp":{"observedProperty":{"label":{"en":"Temperature"}},"type":"Parameter"}},"ranges":{"temp":{"axisNames":["t"],"dataType":"integer","shape":[2],"type":"NdArray","values":[3,null]}},"type":"Coverage"}
-heat {"domain":{"axes":{"t":{"values":["2024-01-01T00:00:00Z","2024-01-02T00:00:00Z"]},"x":{"values":[5]},"y":{"values":[7]}},"domainType":"PointSeries","referencing":[{"coordinates":["x","y"],"system":{"id":"local","type":"ProjectedCRS"}}],"type":"Domain"},"parameters":{"temp":{"observedProperty":{"label":{"en":"Heat"}},"type":"Parameter"}},"ranges":{"temp":{"axisNames":["t"],"dataType":"integer","shape":[2],"type":"NdArray","values":[8,9]}},"type":"Coverage"}
-wind2 {"domain":{"axes":{"t":{"values":["2024-01-01T00:00:00Z","2024-01-02T00:00:00Z"]},"x":{"values":[5]},"y":{"values":[7]}},"domainType":"PointSeries","referencing":[{"coordinates":["x","y"],"system":{"id":"local","type":"ProjectedCRS"}}],"type":"Domain"},"parameters":{"temp":{"observedProperty":{"label":{"en":"Temperature"}},"type":"Parameter"},"wind":{"observedProperty":{"label":{"en":"Wind"}},"type":"Parameter"}},"ranges":{"temp":{"axisNames":["t"],"dataType":"integer","shape":[2],"type":"NdArray","values":[3,null]},"wind":{"axisNames":["t"],"dataType":"integer","shape":[2],"type":"NdArray","values":[1,2]}},"type":"Coverage"}
-far {"domain":{"axes":{"t":{"values":["2024-01-01T00:00:00Z"]},"x":{"values":[5]},"y":{"values":[7]}},"domainType":"PointSeries","referencing":[{"coordinates":["x","y"],"system":{"id":"other","type":"ProjectedCRS"}}],"type":"Domain"},"parameters":{"temp":{"observedProperty":{"label":{"en":"Temperature"}},"type":"Parameter"}},"ranges":{"temp":{"axisNames":["t"],"dataType":"integer","shape":[1],"type":"NdArray","values":[1]}},"type":"Coverage"}
-farheat {"domain":{"axes":{"t":{"values":["2024-01-01T00:00:00Z"]},"x":{"values":[5]},"y":{"values":[7]}},"domainType":"PointSeries","referencing":[{"coordinates":["x","y"],"system":{"id":"other","type":"ProjectedCRS"}}],"type":"Domain"},"parameters":{"temp":{"observedProperty":{"label":{"en":"Heat"}},"type":"Parameter"}},"ranges":{"temp":{"axisNames":["t"],"dataType":"integer","shape":[1],"type":"NdArray","values":[1]}},"type":"Coverage"}
-deep {"domain":{"axes":{"t":{"values":["2024-01-01T00:00:00Z"]},"x":{"values":[5]},"y":{"values":[7]},"z":{"values":[-2]}},"domainType":"PointSeries","referencing":[{"coordinates":["x","y"],"system":{"id":"local","type":"ProjectedCRS"}},{"coordinates":["z"],"system":{"type":"VerticalCRS"}}],"type":"Domain"},"parameters":{"temp":{"observedProperty":{"label":{"en":"Temperature"}},"type":"Parameter"}},"ranges":{"temp":{"axisNames":["t"],"dataType":"integer","shape":[1],"type":"NdArray","values":[-4]}},"type":"Coverage"}
-deepheat {"domain":{"axes":{"t":{"values":["2024-01-01T00:00:00Z"]},"x":{"values":[5]},"y":{"values":[7]},"z":{"values":[-2]}},"domainType":"PointSeries","referencing":[{"coordinates":["x","y"],"system":{"id":"local","type":"ProjectedCRS"}},{"coordinates":["z"],"system":{"type":"VerticalCRS"}}],"type":"Domain"},"parameters":{"temp":{"observedProperty":{"label":{"en":"Heat"}},"type":"Parameter"}},"ranges":{"temp":{"axisNames":["t"],"dataType":"integer","shape":[1],"type":"NdArray","values":[1]}},"type":"Coverage"}
-cell {"domain":{"axes":{"t":{"values":["2024-01-01T00:00:00Z"]},"x":{"values":[5]},"y":{"values":[7]}},"domainType":"Grid","referencing":[{"coordinates":["x","y"],"system":{"id":"local","type":"ProjectedCRS"}}],"type":"Domain"},"parameters":{"temp":{"observedProperty":{"label":{"en":"Temperature"}},"type":"Parameter"}},"ranges":{"temp":{"axisNames":["t","y","x"],"dataType":"integer","shape":[1,1,1],"type":"NdArray","values":[6]}},"type":"Coverage"}
-celldeep {"domain":{"axes":{"t":{"values":["2024-01-01T00:00:00Z","2024-01-02T00:00:00Z"]},"x":{"values":[5]},"y":{"values":[7]},"z":{"values":[0,5]}},"domainType":"Grid","referencing":[{"coordinates":["x","y"],"system":{"id":"local","type":"ProjectedCRS"}},{"coordinates":["z"],"system":{"type":"VerticalCRS"}}],"type":"Domain"},"parameters":{"temp":{"observedProperty":{"label":{"en":"Temperature"}},"type":"Parameter"}},"ranges":{"temp":{"axisNames":["t","z","y","x"],"dataType":"integer","shape":[2,2,1,1],"type":"NdArray","values":[1,2,null,4]}},"type":"Coverage"}
-cellstill {"domain":{"axes":{"x":{"values":[5]},"y":{"values":[7]}},"domainType":"Grid","referencing":[{"coordinates":["x","y"],"system":{"id":"local","type":"ProjectedCRS"}}],"type":"Domain"},"parameters":{"temp":{"observedProperty":{"label":{"en":"Temperature"}},"type":"Parameter"}},"ranges":{"temp":{"axisNames":["y","x"],"dataType":"integer","shape":[1,1],"type":"NdArray","values":[1]}},"type":"Coverage"}
-farstill {"domain":{"axes":{"x":{"values":[5]},"y":{"values":[7]}},"domainType":"Grid","referencing":[{"coordinates":["x","y"],"system":{"id":"other","type":"ProjectedCRS"}}],"type":"Domain"},"parameters":{"temp":{"observedProperty":{"label":{"en":"Temperature"}},"type":"Parameter"}},"ranges":{"temp":{"axisNames":["y","x"],"dataType":"integer","shape":[1,1],"type":"NdArray","values":[1]}},"type":"Coverage"}
-stations {"collection":{"id":"b","kind":"station","title":"B","crs":"local"}}
-otherkind {"collection":{"id":"a","kind":"stations","title":"A","crs":"local"}}
-nokind {"collection":{"id":"a","title":"A","crs":"local"}}
-dropb {"drop":{"collection":"b"}}
-drops {"drop":{"collection":"b","station":"s"}}
-dropt {"drop":{"collection":"b","station":"t"}}
-dropinstanceofb {"drop":{"collection":"b","instance":"s"}}
-dropstationofgrid {"drop":{"collection":"grid","station":"1"}}
-dropboth {"drop":{"collection":"b","instance":"1","station":"s"}}
-dropstationcomma {"drop":{"collection":"b","station":"a,b"}}
-dropstationmore {"drop":{"collection":"b","station":"s","more":1}}
-dropofnostation {"drop":{"station":"s"}}
-nolabel {"station":{"collection":"b","id":"s","coverage":7}}
-labelnumber {"station":{"collection":"b","id":"s","label":1,"coverage":7}}
-noid {"station":{"collection":"b","label":"S","coverage":7}}
-idcomma {"station":{"collection":"b","id":"a,b","label":"S","coverage":7}}
-nocollection {"station":{"id":"s","label":"S","coverage":7}}
-nostationcoverage {"station":{"collection":"b","id":"s","label":"S"}}
-stationinstance {"station":{"collection":"b","instance":"s","label":"S","coverage":7}}
-stationmore {"station":{"collection":"b","id":"s","label":"S","coverage":7,"more":1}}
-stationtwo {"station":{"collection":"b","id":"s","label":"S","coverage":7},"publish":{}}
-numberstation {"station":{"collection":"b","id":"s","label":"S","coverage":7}}
-badstation {"station":{"collection":"b","id":"s","label":"S","coverage":{"type":"Coverage"}}}
-anylabel {"station":{"collection":"b","id":"s","label":"Größe 猫 \ud83d\ude00","coverage":{"domain":{"axes":{"t":{"values":["2024-01-01T00:00:00Z"]},"x":{"values":[5]},"y":{"values":[7]}},"domainType":"PointSeries","referencing":[{"coordinates":["x","y"],"system":{"id":"local","type":"ProjectedCRS"}}],"type":"Domain"},"parameters":{"temp":{"observedProperty":{"label":{"en":"Temperature"}},"type":"Parameter"}},"ranges":{"temp":{"axisNames":["t"],"dataType":"integer","shape":[1],"type":"NdArray","values":[1]}},"type":"Coverage"}}}
-emptylabel {"station":{"collection":"b","id":"s","label":"","coverage":{"domain":{"axes":{"t":{"values":["2024-01-01T00:00:00Z"]},"x":{"values":[5]},"y":{"values":[7]}},"domainType":"PointSeries","referencing":[{"coordinates":["x","y"],"system":{"id":"local","type":"ProjectedCRS"}}],"type":"Domain"},"parameters":{"temp":{"observedProperty":{"label":{"en":"Temperature"}},"type":"Parameter"}},"ranges":{"temp":{"axisNames":["t"],"dataType":"integer","shape":[1],"type":"NdArray","values":[1]}},"type":"Coverage"}}}"#;
+    r#"G => {"domain":{"axes":{"t":{"values":["2024-01-01T00:00:00Z"]},"x":{"values":[0,100]},"y":{"values":[0]}},"domainType":"Grid","referencing":[{"coordinates":["x","y"],"system":{"id":"local","type":"ProjectedCRS"}}],"type":"Domain"},"parameters":{"temp":{"observedProperty":{"label":{"en":"Temperature"}},"type":"Parameter"}},"ranges":{"temp":{"axisNames":["t","y","x"],"dataType":"integer","shape":[1,1,2],"type":"NdArray","values":[10,null]}},"type":"Coverage"}
+H => {"domain":{"axes":{"t":{"values":["2024-01-01T00:00:00Z"]},"x":{"values":[0,100]},"y":{"values":[0]}},"domainType":"Grid","referencing":[{"coordinates":["x","y"],"system":{"id":"local","type":"ProjectedCRS"}}],"type":"Domain"},"parameters":{"temp":{"observedProperty":{"label":{"en":"Heat"}},"type":"Parameter"}},"ranges":{"temp":{"axisNames":["t","y","x"],"dataType":"integer","shape":[1,1,2],"type":"NdArray","values":[10,null]}},"type":"Coverage"}
+P => {"domain":{"axes":{"t":{"values":["2024-01-01T00:00:00Z"]},"x":{"values":[0]},"y":{"values":[0]}},"domainType":"Point","referencing":[{"coordinates":["x","y"],"system":{"id":"local","type":"ProjectedCRS"}}],"type":"Domain"},"parameters":{"temp":{"observedProperty":{"label":{"en":"Temperature"}},"type":"Parameter"}},"ranges":{"temp":{"dataType":"integer","type":"NdArray","values":[10]}},"type":"Coverage"}
+N => {"domain":{"axes":{"x":{"values":[0,100]},"y":{"values":[0]}},"domainType":"Grid","referencing":[{"coordinates":["x","y"],"system":{"id":"local","type":"ProjectedCRS"}}],"type":"Domain"},"parameters":{"temp":{"observedProperty":{"label":{"en":"Temperature"}},"type":"Parameter"}},"ranges":{"temp":{"axisNames":["y","x"],"dataType":"integer","shape":[1,2],"type":"NdArray","values":[10,null]}},"type":"Coverage"}
+O => {"domain":{"axes":{"t":{"values":["2024-01-01T00:00:00Z"]},"x":{"values":[0,100]},"y":{"values":[0]}},"domainType":"Grid","referencing":[{"coordinates":["x","y"],"system":{"id":"other","type":"ProjectedCRS"}}],"type":"Domain"},"parameters":{"temp":{"observedProperty":{"label":{"en":"Temperature"}},"type":"Parameter"}},"ranges":{"temp":{"axisNames":["t","y","x"],"dataType":"integer","shape":[1,1,2],"type":"NdArray","values":[10,null]}},"type":"Coverage"}
+U => {"domain":{"axes":{"t":{"values":["2024-01-01T00:00:00Z"]},"x":{"values":[0,100]},"y":{"values":[0]}},"domainType":"Grid","referencing":[{"coordinates":["x","y"],"system":{"type":"ProjectedCRS"}}],"type":"Domain"},"parameters":{"temp":{"observedProperty":{"label":{"en":"Temperature"}},"type":"Parameter"}},"ranges":{"temp":{"axisNames":["t","y","x"],"dataType":"integer","shape":[1,1,2],"type":"NdArray","values":[10,null]}},"type":"Coverage"}
+wind => {"domain":{"axes":{"t":{"values":["2024-01-01T00:00:00Z"]},"x":{"values":[0,100]},"y":{"values":[0]}},"domainType":"Grid","referencing":[{"coordinates":["x","y"],"system":{"id":"local","type":"ProjectedCRS"}}],"type":"Domain"},"parameters":{"temp":{"observedProperty":{"label":{"en":"Temperature"}},"type":"Parameter"},"wind":{"observedProperty":{"label":{"en":"Wind"}},"type":"Parameter"}},"ranges":{"temp":{"axisNames":["t","y","x"],"dataType":"integer","shape":[1,1,2],"type":"NdArray","values":[10,null]},"wind":{"axisNames":["t","y","x"],"dataType":"integer","shape":[1,1,2],"type":"NdArray","values":[1,2]}},"type":"Coverage"}
+baremore => {"domain":{"axes":{"t":{"values":["2024-01-01T00:00:00Z"]},"x":{"values":[0,100]},"y":{"values":[0]}},"domainType":"Grid","referencing":[{"coordinates":["x","y"],"system":{"id":"local","type":"ProjectedCRS"}}],"type":"Domain"},"parameters":{"temp":{"observedProperty":{"label":{"en":"Temperature"}},"type":"Parameter"}},"ranges":{"temp":{"axisNames":["t","y","x"],"dataType":"integer","shape":[1,1,2],"type":"NdArray","values":[10,null]}},"type":"Coverage","publish":{}}
+publish => {"publish":{}}
+collection => {"collection":{"id":"a","kind":"grid","title":"A","crs":"local"}}
+vertical => {"collection":{"id":"a","kind":"grid","title":"A","crs":"local","vertical":"height"}}
+drop => {"drop":{"collection":"a"}}
+dropgrid => {"drop":{"collection":"grid"}}
+dropinstance => {"drop":{"collection":"grid","instance":"1"}}
+dropother => {"drop":{"collection":"grid","instance":"2"}}
+dropofnone => {"drop":{"collection":"none","instance":"1"}}
+blank =>  
+brace => {
+list => []
+number => 1
+other => {"a":1}
+two => {"publish":{},"drop":{"collection":"a"}}
+published => {"publish":{"now":true}}
+publishlist => {"publish":[]}
+coverage => {"type":"Coverage"}
+typeonly => {"type":"Collection"}
+stationkind => {"collection":{"id":"a","kind":"station","title":"A","crs":"local"}}
+station => {"station":{"collection":"a","id":"s","label":"S","coverage":{}}}
+dropstation => {"drop":{"collection":"a","station":"s"}}
+dropmore => {"drop":{"collection":"a","instance":"1","more":1}}
+comma => {"collection":{"id":"a,b","kind":"grid","title":"A","crs":"local"}}
+noname => {"collection":{"id":"","kind":"grid","title":"A","crs":"local"}}
+notitle => {"collection":{"id":"a","kind":"grid","crs":"local"}}
+titlenumber => {"collection":{"id":"a","kind":"grid","title":1,"crs":"local"}}
+verticalnull => {"collection":{"id":"a","kind":"grid","title":"A","crs":"local","vertical":null}}
+more => {"collection":{"id":"a","kind":"grid","title":"A","crs":"local","more":1}}
+nocoverage => {"grid":{"collection":"a","instance":"1"}}
+badcoverage => {"grid":{"collection":"a","instance":"1","coverage":{"type":"Coverage"}}}
+numbercoverage => {"grid":{"collection":"a","instance":"1","coverage":7}}
+equalkeys => {"publish":{"now":true},"publish":{}}
+equalmembers => {"drop":{"collection":"b","collection":"a"}}
+longname => {"collection":{"id":"nnnnnnnnnnnnnnnnnnnnnnnnnnnnnnnnnnnnnnnnnnnnnnnnnnnnnnnnnnnnnnnnnnnnnnnnnnnnnnnnnnnnnnnnnnnnnnnnnnnnnnnnnnnnnnnnnnnnnnnnnnnnnnnn","kind":"grid","title":"A","crs":"local"}}
+longername => {"collection":{"id":"nnnnnnnnnnnnnnnnnnnnnnnnnnnnnnnnnnnnnnnnnnnnnnnnnnnnnnnnnnnnnnnnnnnnnnnnnnnnnnnnnnnnnnnnnnnnnnnnnnnnnnnnnnnnnnnnnnnnnnnnnnnnnnnnn","kind":"grid","title":"A","crs":"local"}}
+gridmore => {"grid":{"collection":"a","instance":"1","coverage":7,"more":1}}
+series => {"domain":{"axes":{"t":{"values":["2024-01-01T00:00:00Z","2024-01-02T00:00:00Z"]},"x":{"values":[5]},"y":{"values":[7]}},"domainType":"PointSeries","referencing":[{"coordinates":["x","y"],"system":{"id":"local","type":"ProjectedCRS"}}],"type":"Domain"},"parameters":{"temp":{"observedProperty":{"label":{"en":"Temperature"}},"type":"Parameter"}},"ranges":{"temp":{"axisNames":["t"],"dataType":"integer","shape":[2],"type":"NdArray","values":[3,null]}},"type":"Coverage"}
+heat => {"domain":{"axes":{"t":{"values":["2024-01-01T00:00:00Z","2024-01-02T00:00:00Z"]},"x":{"values":[5]},"y":{"values":[7]}},"domainType":"PointSeries","referencing":[{"coordinates":["x","y"],"system":{"id":"local","type":"ProjectedCRS"}}],"type":"Domain"},"parameters":{"temp":{"observedProperty":{"label":{"en":"Heat"}},"type":"Parameter"}},"ranges":{"temp":{"axisNames":["t"],"dataType":"integer","shape":[2],"type":"NdArray","values":[8,9]}},"type":"Coverage"}
+wind2 => {"domain":{"axes":{"t":{"values":["2024-01-01T00:00:00Z","2024-01-02T00:00:00Z"]},"x":{"values":[5]},"y":{"values":[7]}},"domainType":"PointSeries","referencing":[{"coordinates":["x","y"],"system":{"id":"local","type":"ProjectedCRS"}}],"type":"Domain"},"parameters":{"temp":{"observedProperty":{"label":{"en":"Temperature"}},"type":"Parameter"},"wind":{"observedProperty":{"label":{"en":"Wind"}},"type":"Parameter"}},"ranges":{"temp":{"axisNames":["t"],"dataType":"integer","shape":[2],"type":"NdArray","values":[3,null]},"wind":{"axisNames":["t"],"dataType":"integer","shape":[2],"type":"NdArray","values":[1,2]}},"type":"Coverage"}
+far => {"domain":{"axes":{"t":{"values":["2024-01-01T00:00:00Z"]},"x":{"values":[5]},"y":{"values":[7]}},"domainType":"PointSeries","referencing":[{"coordinates":["x","y"],"system":{"id":"other","type":"ProjectedCRS"}}],"type":"Domain"},"parameters":{"temp":{"observedProperty":{"label":{"en":"Temperature"}},"type":"Parameter"}},"ranges":{"temp":{"axisNames":["t"],"dataType":"integer","shape":[1],"type":"NdArray","values":[1]}},"type":"Coverage"}
+farheat => {"domain":{"axes":{"t":{"values":["2024-01-01T00:00:00Z"]},"x":{"values":[5]},"y":{"values":[7]}},"domainType":"PointSeries","referencing":[{"coordinates":["x","y"],"system":{"id":"other","type":"ProjectedCRS"}}],"type":"Domain"},"parameters":{"temp":{"observedProperty":{"label":{"en":"Heat"}},"type":"Parameter"}},"ranges":{"temp":{"axisNames":["t"],"dataType":"integer","shape":[1],"type":"NdArray","values":[1]}},"type":"Coverage"}
+deep => {"domain":{"axes":{"t":{"values":["2024-01-01T00:00:00Z"]},"x":{"values":[5]},"y":{"values":[7]},"z":{"values":[-2]}},"domainType":"PointSeries","referencing":[{"coordinates":["x","y"],"system":{"id":"local","type":"ProjectedCRS"}},{"coordinates":["z"],"system":{"type":"VerticalCRS"}}],"type":"Domain"},"parameters":{"temp":{"observedProperty":{"label":{"en":"Temperature"}},"type":"Parameter"}},"ranges":{"temp":{"axisNames":["t"],"dataType":"integer","shape":[1],"type":"NdArray","values":[-4]}},"type":"Coverage"}
+deepheat => {"domain":{"axes":{"t":{"values":["2024-01-01T00:00:00Z"]},"x":{"values":[5]},"y":{"values":[7]},"z":{"values":[-2]}},"domainType":"PointSeries","referencing":[{"coordinates":["x","y"],"system":{"id":"local","type":"ProjectedCRS"}},{"coordinates":["z"],"system":{"type":"VerticalCRS"}}],"type":"Domain"},"parameters":{"temp":{"observedProperty":{"label":{"en":"Heat"}},"type":"Parameter"}},"ranges":{"temp":{"axisNames":["t"],"dataType":"integer","shape":[1],"type":"NdArray","values":[1]}},"type":"Coverage"}
+cell => {"domain":{"axes":{"t":{"values":["2024-01-01T00:00:00Z"]},"x":{"values":[5]},"y":{"values":[7]}},"domainType":"Grid","referencing":[{"coordinates":["x","y"],"system":{"id":"local","type":"ProjectedCRS"}}],"type":"Domain"},"parameters":{"temp":{"observedProperty":{"label":{"en":"Temperature"}},"type":"Parameter"}},"ranges":{"temp":{"axisNames":["t","y","x"],"dataType":"integer","shape":[1,1,1],"type":"NdArray","values":[6]}},"type":"Coverage"}
+celldeep => {"domain":{"axes":{"t":{"values":["2024-01-01T00:00:00Z","2024-01-02T00:00:00Z"]},"x":{"values":[5]},"y":{"values":[7]},"z":{"values":[0,5]}},"domainType":"Grid","referencing":[{"coordinates":["x","y"],"system":{"id":"local","type":"ProjectedCRS"}},{"coordinates":["z"],"system":{"type":"VerticalCRS"}}],"type":"Domain"},"parameters":{"temp":{"observedProperty":{"label":{"en":"Temperature"}},"type":"Parameter"}},"ranges":{"temp":{"axisNames":["t","z","y","x"],"dataType":"integer","shape":[2,2,1,1],"type":"NdArray","values":[1,2,null,4]}},"type":"Coverage"}
+cellstill => {"domain":{"axes":{"x":{"values":[5]},"y":{"values":[7]}},"domainType":"Grid","referencing":[{"coordinates":["x","y"],"system":{"id":"local","type":"ProjectedCRS"}}],"type":"Domain"},"parameters":{"temp":{"observedProperty":{"label":{"en":"Temperature"}},"type":"Parameter"}},"ranges":{"temp":{"axisNames":["y","x"],"dataType":"integer","shape":[1,1],"type":"NdArray","values":[1]}},"type":"Coverage"}
+farstill => {"domain":{"axes":{"x":{"values":[5]},"y":{"values":[7]}},"domainType":"Grid","referencing":[{"coordinates":["x","y"],"system":{"id":"other","type":"ProjectedCRS"}}],"type":"Domain"},"parameters":{"temp":{"observedProperty":{"label":{"en":"Temperature"}},"type":"Parameter"}},"ranges":{"temp":{"axisNames":["y","x"],"dataType":"integer","shape":[1,1],"type":"NdArray","values":[1]}},"type":"Coverage"}
+stations => {"collection":{"id":"b","kind":"station","title":"B","crs":"local"}}
+otherkind => {"collection":{"id":"a","kind":"stations","title":"A","crs":"local"}}
+nokind => {"collection":{"id":"a","title":"A","crs":"local"}}
+dropb => {"drop":{"collection":"b"}}
+drops => {"drop":{"collection":"b","station":"s"}}
+dropt => {"drop":{"collection":"b","station":"t"}}
+dropinstanceofb => {"drop":{"collection":"b","instance":"s"}}
+dropstationofgrid => {"drop":{"collection":"grid","station":"1"}}
+dropboth => {"drop":{"collection":"b","instance":"1","station":"s"}}
+dropstationcomma => {"drop":{"collection":"b","station":"a,b"}}
+dropstationmore => {"drop":{"collection":"b","station":"s","more":1}}
+dropofnostation => {"drop":{"station":"s"}}
+nolabel => {"station":{"collection":"b","id":"s","coverage":7}}
+labelnumber => {"station":{"collection":"b","id":"s","label":1,"coverage":7}}
+noid => {"station":{"collection":"b","label":"S","coverage":7}}
+idcomma => {"station":{"collection":"b","id":"a,b","label":"S","coverage":7}}
+nocollection => {"station":{"id":"s","label":"S","coverage":7}}
+nostationcoverage => {"station":{"collection":"b","id":"s","label":"S"}}
+stationinstance => {"station":{"collection":"b","instance":"s","label":"S","coverage":7}}
+stationmore => {"station":{"collection":"b","id":"s","label":"S","coverage":7,"more":1}}
+stationtwo => {"station":{"collection":"b","id":"s","label":"S","coverage":7},"publish":{}}
+numberstation => {"station":{"collection":"b","id":"s","label":"S","coverage":7}}
+badstation => {"station":{"collection":"b","id":"s","label":"S","coverage":{"type":"Coverage"}}}
+anylabel => {"station":{"collection":"b","id":"s","label":"Größe 猫 \ud83d\ude00","coverage":{"domain":{"axes":{"t":{"values":["2024-01-01T00:00:00Z"]},"x":{"values":[5]},"y":{"values":[7]}},"domainType":"PointSeries","referencing":[{"coordinates":["x","y"],"system":{"id":"local","type":"ProjectedCRS"}}],"type":"Domain"},"parameters":{"temp":{"observedProperty":{"label":{"en":"Temperature"}},"type":"Parameter"}},"ranges":{"temp":{"axisNames":["t"],"dataType":"integer","shape":[1],"type":"NdArray","values":[1]}},"type":"Coverage"}}}
+emptylabel => {"station":{"collection":"b","id":"s","label":"","coverage":{"domain":{"axes":{"t":{"values":["2024-01-01T00:00:00Z"]},"x":{"values":[5]},"y":{"values":[7]}},"domainType":"PointSeries","referencing":[{"coordinates":["x","y"],"system":{"id":"local","type":"ProjectedCRS"}}],"type":"Domain"},"parameters":{"temp":{"observedProperty":{"label":{"en":"Temperature"}},"type":"Parameter"}},"ranges":{"temp":{"axisNames":["t"],"dataType":"integer","shape":[1],"type":"NdArray","values":[1]}},"type":"Coverage"}}}"#;
 
 /// The lines of a feed, and what it is read as. `a=G` sets the grid G as the instance 1 of the collection a, `a/2=G` as its 2,
 /// and `b@s=series` that series as the station s of the collection b.

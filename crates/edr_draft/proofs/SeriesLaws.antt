@@ -53,6 +53,13 @@ one_place (VerticalProfile t z y x) place times = cc
 one_place (MultiPoint t has_z spots) place times = cc
 one_place (Trajectory z has_z steps) place times = cc
 
+-- of a grid of one y, x alone tells
+pub one_row : (domain : Domain) (t z : Option (List ℤ)) (y x : List ℤ) (rows columns : ℕ) → domain ≡ Grid t z y x → rows ≡ length y → rows ≡ 1 → columns ≡ length x
+    → (columns == 1) ≡ is_at_one_place domain
+one_row domain t z y x rows columns is own one other =
+    subst (λ (d : Domain). (columns == 1) ≡ is_at_one_place d) (sym is)
+    (ap (λ n. n == 1) other ∙ ap (λ n. (n == 1) && (length x == 1)) (sym one ∙ own))
+
 levels_same : (axis : Option (List ℤ)) → axis_length axis ≡ axis_length axis
 levels_same None = refl
 levels_same (Some zs) = refl
