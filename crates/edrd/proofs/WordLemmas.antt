@@ -99,12 +99,14 @@ utf8_none words i d within none = decided (list_all is_utf8 words) refl
 
 -- ---- what was found
 
-same_settings : (a a' b b' c c' d d' e e' : Option Text) → a ≡ a' → b ≡ b' → c ≡ c' → d ≡ d' → e ≡ e' → settings_of a b c d e ≡ settings_of a' b' c' d' e'
-same_settings a a' b b' c c' d d' e e' p q r s t = rw (p, q, r, s, t) refl
+same_settings : (a a' b b' c c' d d' e e' f f' : Option Text) → a ≡ a' → b ≡ b' → c ≡ c' → d ≡ d' → e ≡ e' → f ≡ f'
+    → settings_of a b c d e f ≡ settings_of a' b' c' d' e' f'
+same_settings a a' b b' c c' d d' e e' f f' p q r s t u = rw (p, q, r, s, t, u) refl
 
-pub found_as : (f : Found) (a b c d e : Option Text) → a ≡ first_value f (codes "feed") → b ≡ first_value f (codes "port")
+pub found_as : (f : Found) (a b c d e i : Option Text) → a ≡ first_value f (codes "feed") → b ≡ first_value f (codes "port")
     → c ≡ first_value f (codes "workers") → d ≡ first_value f (codes "every") → e ≡ first_value f (codes "connections")
-    → settings_of a b c d e ≡ settings_in (rows_of f)
-found_as f a b c d e p q r s t =
-    same_settings _ _ _ _ _ _ _ _ _ _ (p ∙ first_value-rows f (codes "feed")) (q ∙ first_value-rows f (codes "port"))
+    → i ≡ first_value f (codes "idle") → settings_of a b c d e i ≡ settings_in (rows_of f)
+found_as f a b c d e i p q r s t u =
+    same_settings _ _ _ _ _ _ _ _ _ _ _ _ (p ∙ first_value-rows f (codes "feed")) (q ∙ first_value-rows f (codes "port"))
     (r ∙ first_value-rows f (codes "workers")) (s ∙ first_value-rows f (codes "every")) (t ∙ first_value-rows f (codes "connections"))
+    (u ∙ first_value-rows f (codes "idle"))

@@ -26,7 +26,7 @@ status_of ShelfFault = 11
 -- what is said on errors
 abbrev pub said_of : Ending → List ℕ
 said_of Done = []
-said_of Usage = codes "usage: edrd FEED --port P [--workers W] [--every S] [--connections C]"
+said_of Usage = codes "usage: edrd FEED --port P [--workers W] [--every S] [--connections C] [--idle I]"
 said_of (NotFeed refusal) = feed_said refusal
 said_of ReadFault = codes "read fault"
 said_of OutOfMemory = codes "out of memory"
@@ -63,7 +63,7 @@ pub record Moment : Type 0 where
 
 -- what the words ask of the doors
 abbrev pub doors_asked : Settings → DoorsAsked
-doors_asked settings = record { port = settings.port; count = settings.workers; connections = settings.connections }
+doors_asked settings = record { port = settings.port; count = settings.workers; connections = settings.connections; idle = settings.idle }
 
 -- ---- by what is asked for
 

@@ -19,6 +19,13 @@ pause_limit = 86_400
 abbrev pub default_pause : ℕ
 default_pause = 60
 
+-- how long a connection may be idle, in seconds
+abbrev pub idle_limit : ℕ
+idle_limit = 86_400
+
+abbrev pub default_idle : ℕ
+default_idle = 30
+
 -- the connections of each worker that words ask for
 abbrev pub connection_limit : ℕ
 connection_limit = 1_000_000

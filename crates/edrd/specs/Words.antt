@@ -9,10 +9,10 @@ use Rattle.clap.specs.Words.{App, Kinds, Row, Rule, Text, first_of, new_app, new
 use Rattle.clap.specs.Simple.{matches_of}
 use Rattle.clap.specs.Faults.{fault_of}
 use Rattle.edr_program.specs.Numbers.{is_number}
-use Rattle.edrd.specs.Limits.{port_limit, worker_limit, default_workers, pause_limit, default_pause, connection_limit, endless}
+use Rattle.edrd.specs.Limits.{port_limit, worker_limit, default_workers, pause_limit, default_pause, idle_limit, default_idle, connection_limit, endless}
 use Rattle.edrd.specs.declared.words.Settings.{Settings}
 
--- ---- the command: one positional argument, the feed, and four options of one value each
+-- ---- the command: one positional argument, the feed, and five options of one value each
 
 abbrev pub feed_rule : Rule
 feed_rule = record (new_rule (codes "feed")) { required = true }
@@ -25,8 +25,8 @@ option_rule name = record (new_rule name) { long = Some name }
 
 abbrev pub command : App
 command =
-    with_rule (with_rule (with_rule (with_rule (with_rule (new_app (codes "edrd")) feed_rule) port_rule)
-    (option_rule (codes "workers"))) (option_rule (codes "every"))) (option_rule (codes "connections"))
+    with_rule (with_rule (with_rule (with_rule (with_rule (with_rule (new_app (codes "edrd")) feed_rule) port_rule)
+    (option_rule (codes "workers"))) (option_rule (codes "every"))) (option_rule (codes "connections"))) (option_rule (codes "idle"))
 
 -- the words behind the name of the program
 abbrev pub all_words : List (List ℕ) → List (List ℕ)
@@ -45,13 +45,15 @@ number_or other least most None = Some other
 number_or other least most (Some word) = number_within least most word
 
 -- what is asked for, of the values of the arguments
-abbrev pub settings_of : Option Text → Option Text → Option Text → Option Text → Option Text → Option Settings
-settings_of feed port workers every connections =
+abbrev pub settings_of : Option Text → Option Text → Option Text → Option Text → Option Text → Option Text → Option Settings
+settings_of feed port workers every connections idle =
     option_and_then (λ f.
     option_and_then (λ p.
     option_and_then (λ w.
     option_and_then (λ e.
-    option_map (λ c. record { feed = f; port = p; workers = w; every = e; connections = c })
+    option_and_then (λ c.
+    option_map (λ i. record { feed = f; port = p; workers = w; every = e; connections = c; idle = i })
+    (number_or default_idle 1 idle_limit idle))
     (number_or endless 0 connection_limit connections))
     (number_or default_pause 0 pause_limit every))
     (number_or default_workers 1 worker_limit workers))
@@ -61,7 +63,7 @@ settings_of feed port workers every connections =
 abbrev pub settings_in : List Row → Option Settings
 settings_in rows =
     settings_of (first_of (codes "feed") rows) (first_of (codes "port") rows) (first_of (codes "workers") rows)
-    (first_of (codes "every") rows) (first_of (codes "connections") rows)
+    (first_of (codes "every") rows) (first_of (codes "connections") rows) (first_of (codes "idle") rows)
 
 -- nothing is asked for where a step of the parse fails
 abbrev pub unless : Kinds → Option Settings → Option Settings

@@ -17,6 +17,8 @@ pub struct DoorsAsked {
     pub count: usize,
     /// How many connections come through each at most; 0 is no end.
     pub connections: u64,
+    /// How many seconds each connection may be idle.
+    pub idle: u32,
 }
 
 /// What opens doors at a port, and closes them when no more connections come through them.
@@ -35,21 +37,15 @@ pub trait Doors: Faults {
     /// How many doors were handed back since the last `open` with `Ok`.
     ghost closed: { Self → ℕ };
 
-    /// Opens so many doors at a port, each for so many connections; 0 connections are no end of them.
+    /// Opens the doors that are asked for.
     ///
     /// `Failed` is a fault that was counted.
-    fn open(
-        &mut self,
-        alloc: Global,
-        port: u16,
-        count: usize,
-        connections: u64,
-    ) -> Result<Vec<Self::Door>, Stop>
-        ensures doors { IfOk result (λ doors. (vec_len doors ≡ count)
+    fn open(&mut self, alloc: Global, asked: DoorsAsked) -> Result<Vec<Self::Door>, Stop>
+        ensures doors { IfOk result (λ doors. (vec_len doors ≡ asked.count)
             × All (IsNew Self.Door.over Self.Door.given Self.Door.finished Self.Door.faulted Self.Door.faults) doors.items) }
-        ensures tried { tried self.new ≡ Some (record { port = port; count = count; connections = connections }, is_ok result) }
+        ensures tried { tried self.new ≡ Some (asked, is_ok result) }
         ensures last { MatchResult result
-            (λ _. (last self.new ≡ Some (record { port = port; count = count; connections = connections }))
+            (λ _. (last self.new ≡ Some asked)
             × (opens self.new ≡ min (opens self.old + 1) count_limit) × (closed self.new ≡ 0))
             (λ _. (last self.new ≡ last self.old) × (opens self.new ≡ opens self.old) × (closed self.new ≡ closed self.old)) }
         ensures cause { Cause result (Self.faults self.old) (Self.faults self.new) };

@@ -15,6 +15,12 @@ pub const PAUSE_LIMIT: u64 = 86_400;
 /// The pause where the words leave it out, in seconds.
 pub const DEFAULT_PAUSE: u64 = 60;
 
+/// A connection may be idle for at most that, in seconds.
+pub const IDLE_LIMIT: u64 = 86_400;
+
+/// So long may it be idle where the words leave it out, in seconds.
+pub const DEFAULT_IDLE: u64 = 30;
+
 /// The words ask for at most so many connections of each worker.
 pub const CONNECTION_LIMIT: u64 = 1_000_000;
 

@@ -5,6 +5,7 @@ ghost use Rattle.edrd.specs.Limits.{accept_limit};
 ghost use Rattle.edr_base.specs.Limits.{count_limit};
 
 use crate::accept::Accept;
+use crate::patience::{PatientReader, PatientWriter, patient_ends};
 use edr_base::{Failed, Faults, RealSink, RealSource};
 use edr_serve::{Connection, Served};
 use std::alloc::Global;
@@ -14,9 +15,6 @@ use std::rt::HostRuntime;
 use std::time::Duration;
 use std::{io, thread};
 
-// How long a read or a write of a connection waits for its peer, in seconds.
-const PATIENCE: u64 = 30;
-
 // How many bytes of replies are gathered before they are written: the chunks of a long body go out many at a time.
 const GATHERED: usize = 65_536;
 
@@ -24,10 +22,10 @@ const GATHERED: usize = 65_536;
 const PAUSE: u64 = 10;
 
 /// What a peer sends.
-pub type Input = RealSource<TcpStream>;
+pub type Input = RealSource<PatientReader>;
 
 /// What is sent to a peer.
-pub type Output = RealSink<BufWriter<TcpStream>>;
+pub type Output = RealSink<BufWriter<PatientWriter>>;
 
 /// A door that takes so many connections.
 #[derive(Drop)]
@@ -36,6 +34,7 @@ pub struct RealDoor {
     alloc: Global,
     listener: TcpListener,
     most: u64,
+    idle: u32,
     given: u64,
     finished: u64,
     faulted: u64,
@@ -72,18 +71,26 @@ fn step_after(error: &io::Error) -> Step {
 }
 
 // Both ends of a stream.
-fn ends_of(alloc: Global, stream: TcpStream) -> io::Result<(Input, Output)> {
-    let patience = Duration::from_secs(PATIENCE);
-    stream.set_nodelay(true)?;
-    stream.set_read_timeout(Some(patience))?;
-    stream.set_write_timeout(Some(patience))?;
-    let writer = BufWriter::with_capacity(alloc, GATHERED, stream.try_clone()?)?;
-    Ok((RealSource::of(stream), RealSink::of(writer)))
+fn ends_of(
+    rt: HostRuntime,
+    alloc: Global,
+    stream: TcpStream,
+    idle: u32,
+) -> io::Result<(Input, Output)> {
+    let (reader, writer) = patient_ends(rt, alloc, stream, idle)?;
+    let writer = BufWriter::with_capacity(alloc, GATHERED, writer)?;
+    Ok((RealSource::of(reader), RealSink::of(writer)))
 }
 
 impl RealDoor {
     /// A door through which nothing came yet.
-    pub fn of(rt: HostRuntime, alloc: Global, listener: TcpListener, most: u64) -> RealDoor
+    pub fn of(
+        rt: HostRuntime,
+        alloc: Global,
+        listener: TcpListener,
+        most: u64,
+        idle: u32,
+    ) -> RealDoor
         requires { most ≤ accept_limit }
         ensures open_ { ⟦<RealDoor as Accept>⟧.over result ≡ false }
         ensures counts { (⟦<RealDoor as Accept>⟧.given result ≡ 0) × (⟦<RealDoor as Accept>⟧.finished result ≡ 0)
@@ -94,6 +101,7 @@ impl RealDoor {
             alloc,
             listener,
             most,
+            idle,
             given: 0,
             finished: 0,
             faulted: 0,
@@ -108,7 +116,7 @@ impl RealDoor {
         for _ in 0..u64::MAX {
             match self.listener.accept() {
                 Ok((stream, _peer)) => {
-                    if let Ok(ends) = ends_of(self.alloc, stream) {
+                    if let Ok(ends) = ends_of(self.rt, self.alloc, stream, self.idle) {
                         return Ok(ends);
                     }
                 }
@@ -130,9 +138,9 @@ impl Faults for RealDoor {
 }
 
 impl Accept for RealDoor {
-    type In = RealSource<TcpStream>;
+    type In = RealSource<PatientReader>;
 
-    type Out = RealSink<BufWriter<TcpStream>>;
+    type Out = RealSink<BufWriter<PatientWriter>>;
 
     ghost given = { λ s. s.given };
 

@@ -57,7 +57,7 @@ fn doors_at(rt: HostRuntime, alloc: Global, asked: DoorsAsked) -> io::Result<Vec
     let listener = TcpListener::bind(&rt, ("127.0.0.1", asked.port))?;
     let mut doors = Vec::new(alloc);
     for _ in 0..asked.count {
-        doors.push(RealDoor::of(rt, alloc, listener.try_clone()?, most))?;
+        doors.push(RealDoor::of(rt, alloc, listener.try_clone()?, most, asked.idle))?;
     }
     Ok(doors)
 }
@@ -79,18 +79,7 @@ impl Doors for RealDoors {
 
     ghost closed = { λ s. s.closed };
 
-    fn open(
-        &mut self,
-        alloc: Global,
-        port: u16,
-        count: usize,
-        connections: u64,
-    ) -> Result<Vec<RealDoor>, Stop> {
-        let asked = DoorsAsked {
-            port,
-            count,
-            connections,
-        };
+    fn open(&mut self, alloc: Global, asked: DoorsAsked) -> Result<Vec<RealDoor>, Stop> {
         match doors_at(self.rt, alloc, asked) {
             Ok(doors) => {
                 self.last = Some(asked);

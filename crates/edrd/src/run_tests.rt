@@ -22,10 +22,10 @@ const POSITION: &[u8] =
 // open, `told` is the first write of the errors, and a number that call of the files. Two connections come through the first
 // door, and one through the second.
 const RUNS: &str = "\
-nothing => 1 0 0 0 usage: edrd FEED --port P [--workers W] [--every S] [--connections C]
-nothing feed => 1 0 0 0 usage: edrd FEED --port P [--workers W] [--every S] [--connections C]
-nothing feed|--port|0|--workers|65 => 1 0 0 0 usage: edrd FEED --port P [--workers W] [--every S] [--connections C]
-nothing ?|--port|0 => 1 0 0 0 usage: edrd FEED --port P [--workers W] [--every S] [--connections C]
+nothing => 1 0 0 0 usage: edrd FEED --port P [--workers W] [--every S] [--connections C] [--idle I]
+nothing feed => 1 0 0 0 usage: edrd FEED --port P [--workers W] [--every S] [--connections C] [--idle I]
+nothing feed|--port|0|--workers|65 => 1 0 0 0 usage: edrd FEED --port P [--workers W] [--every S] [--connections C] [--idle I]
+nothing ?|--port|0 => 1 0 0 0 usage: edrd FEED --port P [--workers W] [--every S] [--connections C] [--idle I]
 told feed => 1 0 0 0 no
 nothing feed|--port|0|--workers|1 => 0 60 1 2 no
 nothing feed|--port|0|--every|5 => 0 5 2 3 no

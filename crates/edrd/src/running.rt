@@ -9,7 +9,7 @@ ghost use Rattle.edrd.specs.Ends.{Ends, EndsBy, GateComesBack, LeavesDoors, Leav
 ghost use Rattle.edrd.specs.Shelving.{ServeCause};
 
 use crate::accept::Accept;
-use crate::doors::Doors;
+use crate::doors::{Doors, DoorsAsked};
 use crate::endings::{Ending, tell};
 use crate::feeding::editions_in;
 use crate::gate::Gate;
@@ -60,7 +60,13 @@ fn serve_through<R: Threads + Wait + Sync, B: Doors, G: Gate + Send + Drop>(
         (option_map (λ (g : G). record { seconds = G.seconds g; granted = G.granted g; shut = G.shut g }) result.1) }
     ensures came { (result.0 ≡ Ending.Done) ⊎ (result.0 ≡ Ending.BindFault) ⊎ (result.0 ≡ Ending.OutOfMemory) }
 {
-    let acceptors = match doors.open(alloc, settings.port, settings.workers, settings.connections) {
+    let asked = DoorsAsked {
+        port: settings.port,
+        count: settings.workers,
+        connections: settings.connections,
+        idle: settings.idle,
+    };
+    let acceptors = match doors.open(alloc, asked) {
         Ok(acceptors) => acceptors,
         Err(Stop::Failed) => {
             publisher.end(rt);

@@ -206,29 +206,18 @@ impl Doors for MemoryDoors {
 
     ghost closed = { λ s. s.closed };
 
-    fn open(
-        &mut self,
-        alloc: Global,
-        port: u16,
-        count: usize,
-        connections: u64,
-    ) -> Result<Vec<MemoryDoor>, Stop> {
-        let asked = DoorsAsked {
-            port,
-            count,
-            connections,
-        };
+    fn open(&mut self, alloc: Global, asked: DoorsAsked) -> Result<Vec<MemoryDoor>, Stop> {
         self.tried = Some((asked, false));
         if self.refuses {
             self.faults = self.faults.saturating_add(1);
             return Err(Stop::Failed);
         }
-        let most = if connections == ENDLESS {
+        let most = if asked.connections == ENDLESS {
             MOST
         } else {
-            connections.min(MOST)
+            asked.connections.min(MOST)
         };
-        match doors_with(alloc, &mut self.coming, count, most) {
+        match doors_with(alloc, &mut self.coming, asked.count, most) {
             Ok(doors) => {
                 self.last = Some(asked);
                 self.tried = Some((asked, true));

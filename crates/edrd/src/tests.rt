@@ -1,6 +1,6 @@
 //! What serving through doors comes to.
 
-use crate::doors::Doors;
+use crate::doors::{Doors, DoorsAsked};
 use crate::limits::{ENDLESS, WORKER_LIMIT};
 use crate::test_coming::{CONFORMANCE, Wanted, doors_of, replies};
 use crate::test_doors::MemoryDoors;
@@ -52,7 +52,13 @@ fn served_as<R: Threads + Wait + Sync>(
         return Err(OutOfMemory);
     }
     let mut doors = MemoryDoors::of(alloc, coming, false);
-    let Ok(open) = doors.open(alloc, 0, count, ENDLESS) else {
+    let asked = DoorsAsked {
+        port: 0,
+        count,
+        connections: ENDLESS,
+        idle: 30,
+    };
+    let Ok(open) = doors.open(alloc, asked) else {
         return Err(OutOfMemory);
     };
     let gate = TurnsGate::of(turns.parse().unwrap_or(0));

@@ -8,8 +8,8 @@ ghost use Rattle.edrd.specs.Words.{all_words, asked_of};
 ghost use Rattle.edrd.specs.Settled.{IsWithin};
 
 use crate::limits::{
-    CONNECTION_LIMIT, DEFAULT_PAUSE, DEFAULT_WORKERS, ENDLESS, PAUSE_LIMIT, PORT_LIMIT,
-    WORKER_LIMIT,
+    CONNECTION_LIMIT, DEFAULT_IDLE, DEFAULT_PAUSE, DEFAULT_WORKERS, ENDLESS, IDLE_LIMIT,
+    PAUSE_LIMIT, PORT_LIMIT, WORKER_LIMIT,
 };
 use clap::error::ErrorKind;
 use clap::{Arg, ArgMatches, Command, Error};
@@ -28,6 +28,8 @@ pub struct Settings {
     pub every: u32,
     /// How many connections each worker serves at most; 0 is no end.
     pub connections: u64,
+    /// How many seconds a connection may be idle, before the first byte of a head.
+    pub idle: u32,
 }
 
 // The words behind the name of the program; None where one isn't UTF-8.
@@ -55,7 +57,8 @@ fn command<'a>(alloc: Global) -> Result<Command<'a>, AllocError>
         .arg(Arg::new(alloc, "port").long("port").required(true))?
         .arg(Arg::new(alloc, "workers").long("workers"))?
         .arg(Arg::new(alloc, "every").long("every"))?
-        .arg(Arg::new(alloc, "connections").long("connections"))
+        .arg(Arg::new(alloc, "connections").long("connections"))?
+        .arg(Arg::new(alloc, "idle").long("idle"))
 }
 
 // The number that a word writes, where it lies between two limits.
@@ -89,9 +92,11 @@ fn settings_of(
     workers: Option<&str>,
     every: Option<&str>,
     connections: Option<&str>,
+    idle: Option<&str>,
 ) -> Result<Option<Settings>, OutOfMemory>
     ensures is { IfOk result (λ settings. settings ≡ spelled.settings_of (option_map (λ word. word.now) feed.entry) (option_map (λ word. word.now) port.entry)
-        (option_map (λ word. word.now) workers.entry) (option_map (λ word. word.now) every.entry) (option_map (λ word. word.now) connections.entry)) }
+        (option_map (λ word. word.now) workers.entry) (option_map (λ word. word.now) every.entry) (option_map (λ word. word.now) connections.entry)
+        (option_map (λ word. word.now) idle.entry)) }
     ensures within { IfOk result (λ settings. IfSome settings IsWithin) }
 {
     let (Some(feed), Some(port)) = (feed, port) else {
@@ -109,12 +114,16 @@ fn settings_of(
     let Some(connections) = number_or(ENDLESS, 0, CONNECTION_LIMIT, connections) else {
         return Ok(None);
     };
+    let Some(idle) = number_or(DEFAULT_IDLE, 1, IDLE_LIMIT, idle) else {
+        return Ok(None);
+    };
     Ok(Some(Settings {
         feed: Text::of(alloc, feed.as_bytes())?,
         port: port as u16,
         workers: workers as usize,
         every: every as u32,
         connections,
+        idle: idle as u32,
     }))
 }
 
@@ -130,6 +139,7 @@ fn settings_in(alloc: Global, matches: &ArgMatches<'_>) -> Result<Option<Setting
         matches.get_str("workers"),
         matches.get_str("every"),
         matches.get_str("connections"),
+        matches.get_str("idle"),
     )
 }
 

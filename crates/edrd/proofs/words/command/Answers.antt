@@ -15,4 +15,6 @@ returns c =
     let two = c.in_ok-arg-2.ensures.shape (search rules) ∙ ap₂ with_rule one port in
     let three = c.in_ok-arg-3.ensures.shape (search rules) ∙ ap₂ with_rule two workers in
     let four = c.in_ok-arg-4.ensures.shape (search rules) ∙ ap₂ with_rule three every in
-    IfOk-weaker c.arg-5.result _ _ (λ m h. h.shape (search rules) ∙ ap₂ with_rule four connections) c.arg-5.ensures
+    let idle : rule_of c.long-5.result ≡ option_rule (codes "idle") = search rules in
+    let five = c.in_ok-arg-5.ensures.shape (search rules) ∙ ap₂ with_rule four connections in
+    IfOk-weaker c.arg-6.result _ _ (λ m h. h.shape (search rules) ∙ ap₂ with_rule five idle) c.arg-6.ensures

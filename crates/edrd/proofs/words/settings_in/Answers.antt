@@ -7,5 +7,5 @@ use Rattle.edrd.proofs.words.settings_in.Goals as goal
 pub returns-clause-is : goal.returns-clause-is
 returns-clause-is c =
     IfOk-weaker c.settings_of.result _ _
-    (λ settings h. h ∙ found_as (found_of c.args.matches.now) _ _ _ _ _ c.get_str.ensures c.get_str-2.ensures c.get_str-3.ensures c.get_str-4.ensures c.get_str-5.ensures)
+    (λ settings h. h ∙ found_as (found_of c.args.matches.now) _ _ _ _ _ _ c.get_str.ensures c.get_str-2.ensures c.get_str-3.ensures c.get_str-4.ensures c.get_str-5.ensures c.get_str-6.ensures)
     c.settings_of.ensures.is

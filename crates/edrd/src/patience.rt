@@ -1,0 +1,166 @@
+//! Streams whose peers have only so much time.
+//!
+//! All reads since the last reply was flushed share one time: so many seconds until the first byte of a head, and `PATIENCE` from there
+//! on. A reply may wait for its peer `PATIENCE` seconds, and a second more for each `LEAST_SPEED` bytes that it took. A peer
+//! whose time is up is a fault of the read or the write.
+
+use std::alloc::Global;
+use std::io;
+use std::io::{ErrorKind, Read, Write};
+use std::net::TcpStream;
+use std::rt::HostRuntime;
+use std::sync::Arc;
+use std::sync::atomic::{AtomicBool, Ordering};
+use std::time::{Duration, Instant};
+
+// How long a peer has to send a head once it began, and to take a reply that it doesn't read, in seconds.
+const PATIENCE: Duration = Duration::from_secs(30);
+
+// How many bytes of a reply a peer has to take in a second.
+const LEAST_SPEED: u64 = 16_384;
+
+// That of a time which is left, where some is.
+fn some_left(most: Duration, passed: Duration) -> io::Result<Duration> {
+    match most.checked_sub(passed) {
+        Some(left) if left > Duration::ZERO => Ok(left),
+        _ => Err(io::Error::from(ErrorKind::TimedOut)),
+    }
+}
+
+/// What a peer sends.
+#[derive(Drop)]
+pub struct PatientReader {
+    rt: HostRuntime,
+    stream: TcpStream,
+    // how long a connection may be idle
+    idle: Duration,
+    // set where a reply was flushed since the last read
+    flushed: Arc<AtomicBool, Global>,
+    // since when the peer is waited for, and whether a byte came since
+    since: Instant,
+    begun: bool,
+    // how long the stream waits in a read
+    timeout: Duration,
+}
+
+impl PatientReader {
+    // How long the next read may wait.
+    fn left(&mut self) -> io::Result<Duration> {
+        if self.flushed.swap(false, Ordering::Relaxed) {
+            self.since = Instant::now(&self.rt)?;
+            self.begun = false;
+            return Ok(self.idle);
+        }
+        let most = if self.begun { PATIENCE } else { self.idle };
+        some_left(most, self.since.elapsed(&self.rt)?)
+    }
+
+    // Has the stream wait so long in a read.
+    fn wait(&mut self, left: Duration) -> io::Result<()> {
+        if left != self.timeout {
+            self.stream.set_read_timeout(Some(left))?;
+            self.timeout = left;
+        }
+        Ok(())
+    }
+}
+
+impl Read for PatientReader {
+    fn read(&mut self, buf: &mut [u8]) -> io::Result<usize> {
+        let left = self.left()?;
+        self.wait(left)?;
+        let count = self.stream.read(buf)?;
+        if !self.begun {
+            self.begun = true;
+            // where the clock fails, the peer's time goes on from where it was
+            if let Ok(now) = Instant::now(&self.rt) {
+                self.since = now;
+            }
+        }
+        Ok(count)
+    }
+}
+
+/// What is sent to a peer.
+#[derive(Drop)]
+pub struct PatientWriter {
+    rt: HostRuntime,
+    stream: TcpStream,
+    flushed: Arc<AtomicBool, Global>,
+    // how many bytes of the reply the peer took, and how long it was waited for
+    taken: u64,
+    waited: Duration,
+    // how long the stream waits in a write
+    timeout: Duration,
+}
+
+impl PatientWriter {
+    // How long the next write may wait.
+    fn left(&self) -> io::Result<Duration> {
+        let earned = Duration::from_secs(self.taken / LEAST_SPEED);
+        let left = some_left(PATIENCE.saturating_add(earned), self.waited)?;
+        Ok(left.min(PATIENCE))
+    }
+
+    // Has the stream wait so long in a write.
+    fn wait(&mut self, left: Duration) -> io::Result<()> {
+        if left != self.timeout {
+            self.stream.set_write_timeout(Some(left))?;
+            self.timeout = left;
+        }
+        Ok(())
+    }
+}
+
+impl Write for PatientWriter {
+    fn write(&mut self, buf: &[u8]) -> io::Result<usize> {
+        let left = self.left()?;
+        self.wait(left)?;
+        let begun = Instant::now(&self.rt)?;
+        let outcome = self.stream.write(buf);
+        let waited = begun.elapsed(&self.rt).unwrap_or(left);
+        self.waited = self.waited.saturating_add(waited);
+        let count = outcome?;
+        self.taken = self.taken.saturating_add(count as u64);
+        Ok(count)
+    }
+
+    fn flush(&mut self) -> io::Result<()> {
+        self.taken = 0;
+        self.waited = Duration::ZERO;
+        self.flushed.store(true, Ordering::Relaxed);
+        self.stream.flush()
+    }
+}
+
+/// Both ends of a stream whose peer may be idle for so many seconds.
+pub fn patient_ends(
+    rt: HostRuntime,
+    alloc: Global,
+    stream: TcpStream,
+    idle: u32,
+) -> io::Result<(PatientReader, PatientWriter)> {
+    let idle = Duration::from_secs(u64::from(idle));
+    stream.set_nodelay(true)?;
+    stream.set_read_timeout(Some(idle))?;
+    stream.set_write_timeout(Some(PATIENCE))?;
+    let flushed = Arc::new(alloc, AtomicBool::new(false))?;
+    let reader = PatientReader {
+        rt,
+        stream: stream.try_clone()?,
+        idle,
+        flushed: Arc::try_clone(&flushed)?,
+        since: Instant::now(&rt)?,
+        begun: false,
+        timeout: idle,
+    };
+    let writer = PatientWriter {
+        rt,
+        stream,
+        flushed,
+        taken: 0,
+        waited: Duration::ZERO,
+        timeout: PATIENCE,
+    };
+    Ok((reader, writer))
+}
