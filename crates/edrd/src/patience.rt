@@ -14,12 +14,17 @@ use std::sync::atomic::{AtomicBool, Ordering};
 use std::time::{Duration, Instant};
 
 // How long a peer has to send a head once it began, and to take a reply that it doesn't read, in seconds.
-const PATIENCE: Duration = Duration::from_secs(30);
+const PATIENCE: u64 = 30;
 
 // How many bytes of a reply a peer has to take in a second.
 const LEAST_SPEED: u64 = 16_384;
 
-// That of a time which is left, where some is.
+// That time.
+fn patience() -> Duration {
+    Duration::from_secs(PATIENCE)
+}
+
+// What is left of a time, where some is.
 fn some_left(most: Duration, passed: Duration) -> io::Result<Duration> {
     match most.checked_sub(passed) {
         Some(left) if left > Duration::ZERO => Ok(left),
@@ -51,7 +56,7 @@ impl PatientReader {
             self.begun = false;
             return Ok(self.idle);
         }
-        let most = if self.begun { PATIENCE } else { self.idle };
+        let most = if self.begun { patience() } else { self.idle };
         some_left(most, self.since.elapsed(&self.rt)?)
     }
 
@@ -98,8 +103,8 @@ impl PatientWriter {
     // How long the next write may wait.
     fn left(&self) -> io::Result<Duration> {
         let earned = Duration::from_secs(self.taken / LEAST_SPEED);
-        let left = some_left(PATIENCE.saturating_add(earned), self.waited)?;
-        Ok(left.min(PATIENCE))
+        let left = some_left(patience().saturating_add(earned), self.waited)?;
+        Ok(left.min(patience()))
     }
 
     // Has the stream wait so long in a write.
@@ -143,7 +148,7 @@ pub fn patient_ends(
     let idle = Duration::from_secs(u64::from(idle));
     stream.set_nodelay(true)?;
     stream.set_read_timeout(Some(idle))?;
-    stream.set_write_timeout(Some(PATIENCE))?;
+    stream.set_write_timeout(Some(patience()))?;
     let flushed = Arc::new(alloc, AtomicBool::new(false))?;
     let reader = PatientReader {
         rt,
@@ -160,7 +165,7 @@ pub fn patient_ends(
         flushed,
         taken: 0,
         waited: Duration::ZERO,
-        timeout: PATIENCE,
+        timeout: patience(),
     };
     Ok((reader, writer))
 }
