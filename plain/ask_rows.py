@@ -1,7 +1,7 @@
 """Prints worked rows of `ask`, in the form that rows.py runs, or runs them on a program.
 
     python3 plain/ask_rows.py | python3 plain/rows.py /dev/stdin
-    python3 plain/ask_rows.py --edr crates/edr/out/edr [--large]
+    python3 plain/ask_rows.py --edr release/edr [--large]
 
 The answers are written in `worked` as texts, and not by the plain program. `--large` adds the rows of about 2,000,000 values or 5,000
 coverages.

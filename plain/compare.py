@@ -1,6 +1,6 @@
 """Compares the proved program with the plain one on random inputs.
 
-    python3 plain/compare.py --edr crates/edr/out/edr --answers crates/edr_answers/out/edr_answers --seed 1 --count 1000
+    python3 plain/compare.py --edr release/edr --answers crates/edr_answers/out/edr_answers --seed 1 --count 1000
 
 `--edr` names the program, which is asked by its words and its input (the kinds `ask`, `check`, `line`, `replay`, `show` and `fetch`);
 `--answers` names `edr_answers`, which gives what the readers answer (all other kinds). With `--tried` in place of `--edr`, `rt try` runs

@@ -1,7 +1,7 @@
 """Prints worked rows of `ask` and `check` about stations, and of the faults of their feeds, in the form that rows.py runs.
 
     python3 plain/station_rows.py | python3 plain/rows.py /dev/stdin
-    python3 plain/station_rows.py | python3 plain/rows.py --stage 1 --edr crates/edr/out/edr /dev/stdin
+    python3 plain/station_rows.py | python3 plain/rows.py --stage 1 --edr release/edr /dev/stdin
     python3 plain/station_rows.py | python3 plain/rows.py --answers crates/edr_answers/out/edr_answers /dev/stdin
 
 The answers are written in `worked` as texts, and not by the plain program. `--large` adds stations of 4,000,000 values and replies of 2,000,000.

@@ -16,7 +16,7 @@ HERE = os.path.dirname(os.path.abspath(__file__))
 sys.path.insert(0, os.path.join(HERE, ".."))
 from measure import bench, measure  # noqa: E402
 
-EDR = os.path.join(HERE, "..", "..", "crates", "edr", "out", "edr")
+EDR = os.path.join(HERE, "..", "..", "release", "edr")
 SEED = 20260101
 REFERENCING = (
     '[{"coordinates":["x","y"],"system":{"id":"local","type":"ProjectedCRS"}},'

@@ -126,7 +126,7 @@ def growth(folder):
 
 def main():
     if not os.path.exists(EDR):
-        sys.exit("the program isn't built: run ./edr once")
+        sys.exit("release/edr is missing: release/renew puts it there")
     grids = [
         ("1 KB", 20, 20, 0, 9),
         ("4,000,000 samples of one digit", 2000, 2000, 0, 9),

@@ -4,7 +4,7 @@
 A reply of 499,200 values is recorded from `edr replay` over a feed that `edr make` makes, and handed out by `http.server` of
 python3, in chunks as recorded and with a length. Both clients write the table of its document to /dev/null. `show` reads a
 document of 60 MB, and its peak of memory is told beside the sizes of its text and of the tree that python3 makes of it. It
-needs the built program (run ./edr once). Run it from anywhere: bench/client/run.py"""
+takes the program of release/. Run it from anywhere: bench/client/run.py"""
 import http.server
 import os
 import random
@@ -20,7 +20,7 @@ HERE = os.path.dirname(os.path.abspath(__file__))
 sys.path.insert(0, os.path.join(HERE, ".."))
 from measure import run_once  # noqa: E402
 
-EDR = os.path.join(HERE, "..", "..", "crates", "edr", "out", "edr")
+EDR = os.path.join(HERE, "..", "..", "release", "edr")
 ENVIRONMENT = dict(os.environ, MALLOC_TRIM_THRESHOLD_="1073741824", GLIBC_TUNABLES="glibc.malloc.hugetlb=1")
 TARGET = "/collections/grid/cube?bbox=0,0,103900,47900"
 ROUNDS = 9

@@ -1,7 +1,7 @@
 #!/usr/bin/env python3
 """Measures `edrd` over real sockets of this machine, beside a plain server in Rust and beside `edr replay`.
 
-It needs the built programs (run ./edr and ./edrd once), `rustc`, and `wrk`, which loads a server with requests over
+It needs `rustc`, and `wrk`, which loads a server with requests over
 connections that are kept open; without `wrk` its own client does, more slowly, and says so. Each load is bounded in time.
 Run it from anywhere, on a machine that does nothing else: bench/daemon/run.py"""
 import importlib.util
@@ -22,8 +22,8 @@ TOP = os.path.join(HERE, "..", "..")
 SPEC = importlib.util.spec_from_file_location("replay", os.path.join(TOP, "bench", "replay", "run.py"))
 replay = importlib.util.module_from_spec(SPEC)
 SPEC.loader.exec_module(replay)
-EDR = os.path.join(TOP, "crates", "edr", "out", "edr")
-EDRD = os.path.join(TOP, "crates", "edrd", "out", "edrd")
+EDR = os.path.join(TOP, "release", "edr")
+EDRD = os.path.join(TOP, "release", "edrd")
 WORKERS = 4
 SECONDS = 8
 END = b"\r\n0\r\n\r\n"
@@ -234,7 +234,7 @@ def memory(feed):
 def main():
     for program in (EDR, EDRD):
         if not os.path.exists(program):
-            sys.exit("the programs aren't built: run ./edr and ./edrd once")
+            sys.exit("release/ lacks a program: release/renew puts it there")
     if not shutil.which("wrk"):
         print("wrk isn't here: the load is this script's own, which is slower than the servers")
     with tempfile.TemporaryDirectory() as folder:

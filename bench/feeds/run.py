@@ -188,8 +188,8 @@ def growth(folder):
 
 
 def main():
-    if not os.path.exists(os.path.join(HERE, "..", "..", "crates", "edr", "out", "edr")):
-        sys.exit("the program isn't built: run ./edr once")
+    if not os.path.exists(os.path.join(HERE, "..", "..", "release", "edr")):
+        sys.exit("release/edr is missing: release/renew puts it there")
     bench("make", NODES)
     with tempfile.TemporaryDirectory() as folder:
         reading(folder)

@@ -1,5 +1,6 @@
 #!/usr/bin/env python3
-"""Runs the gate, `rt ci`, with what it prints, and says before its last line how much processor time each crate took.
+"""Runs the gate, `rt ci`, with what it prints, and says before its last line how much processor time each crate took. Where the whole
+gate passed, the programs of release/ are compared with those that it built, and it fails where one differs.
 
 A crate is proved for the libraries above it (`proof`), with its tests (`tests`), and once more as the base over which its edits
 are tried (`base`); then each edit is checked over that (`edits`), and programs are compiled (`programs`). The time of a process is
@@ -125,6 +126,9 @@ def main():
     with tempfile.TemporaryDirectory(prefix="gate-") as room:
         status, line, seconds = gate(["rt", "ci", *["--anew"] * has_anew], cut(room, names) if names else ".")
     tell(seconds, begun)
+    sys.stdout.flush()
+    if status == 0 and not names:
+        status = subprocess.run(["release/compare"]).returncode
     print(line, end="")
     sys.exit(status)
 

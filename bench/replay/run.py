@@ -26,7 +26,7 @@ HERE = os.path.dirname(os.path.abspath(__file__))
 sys.path.insert(0, os.path.join(HERE, ".."))
 from measure import STARTER, bench, measure  # noqa: E402
 
-EDR = os.path.join(HERE, "..", "..", "crates", "edr", "out", "edr")
+EDR = os.path.join(HERE, "..", "..", "release", "edr")
 SEED = 20260101
 SIDE = 1000
 REQUESTS = 1000
@@ -287,7 +287,7 @@ def parts(folder, words, whole):
 
 def main():
     if not os.path.exists(EDR):
-        sys.exit("the program isn't built: run ./edr once")
+        sys.exit("release/edr is missing: release/renew puts it there")
     bench("targets", 0)
     # short sleeps, to the microsecond
     ctypes.CDLL(None).prctl(29, 1, 0, 0, 0)

@@ -17,7 +17,7 @@ HERE = os.path.dirname(os.path.abspath(__file__))
 sys.path.insert(0, os.path.join(HERE, ".."))
 from measure import measure  # noqa: E402
 
-EDR = os.path.join(HERE, "..", "..", "crates", "edr", "out", "edr")
+EDR = os.path.join(HERE, "..", "..", "release", "edr")
 HOURS = 24
 REQUESTS = 500
 CONNECTIONS = 7
@@ -108,7 +108,7 @@ def made(folder):
 
 def main():
     if not os.path.exists(EDR):
-        sys.exit("the program isn't built: run ./edr once")
+        sys.exit("release/edr is missing: release/renew puts it there")
     with tempfile.TemporaryDirectory() as folder:
         took, nothing, size = made(folder)
         print(f"make 7: {size:,} bytes in {took:.4f} seconds, {size / took / 1e6:.0f} MB a second; a start alone takes {nothing:.4f}")

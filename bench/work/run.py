@@ -1,7 +1,7 @@
 #!/usr/bin/env python3
 """Measures `edr work NUMBER`: the feed that is made, read, and asked four targets in one run, for each last digit that a number has.
 
-The lines have to be those of the README, but for the sum of the one node. Run it from anywhere, with `./edr` built:
+The lines have to be those of the README, but for the sum of the one node. Run it from anywhere:
 bench/work/run.py"""
 import os
 import re
@@ -11,7 +11,7 @@ ABOVE = os.path.join(os.path.dirname(os.path.abspath(__file__)), "..", "..")
 sys.path.insert(0, os.path.join(ABOVE, "bench"))
 from measure import measure  # noqa: E402
 
-EDR = os.path.join(ABOVE, "crates", "edr", "out", "edr")
+EDR = os.path.join(ABOVE, "release", "edr")
 MOST_SECONDS = 4
 
 
