@@ -23,10 +23,14 @@ port_rule = record (new_rule (codes "port")) { long = Some (codes "port"); requi
 abbrev pub option_rule : Text → Rule
 option_rule name = record (new_rule name) { long = Some name }
 
+-- the command with what it needs
+abbrev pub bare_command : App
+bare_command = with_rule (with_rule (new_app (codes "edrd")) feed_rule) port_rule
+
 abbrev pub command : App
 command =
-    with_rule (with_rule (with_rule (with_rule (with_rule (with_rule (new_app (codes "edrd")) feed_rule) port_rule)
-    (option_rule (codes "workers"))) (option_rule (codes "every"))) (option_rule (codes "connections"))) (option_rule (codes "idle"))
+    with_rule (with_rule (with_rule (with_rule bare_command (option_rule (codes "workers"))) (option_rule (codes "every")))
+    (option_rule (codes "connections"))) (option_rule (codes "idle"))
 
 -- the words behind the name of the program
 abbrev pub all_words : List (List ℕ) → List (List ℕ)

@@ -48,13 +48,20 @@ fn texts_of<'a>(alloc: Global, words: &'a [Text]) -> Result<Option<Vec<&'a str>>
     Ok(Some(texts))
 }
 
+// The command with what it needs.
+fn bare_command<'a>(alloc: Global) -> Result<Command<'a>, AllocError>
+    ensures { IfOk result (λ command. app_of command ≡ spelled.bare_command) }
+{
+    Command::new(alloc, "edrd")
+        .arg(Arg::new(alloc, "feed").required(true))?
+        .arg(Arg::new(alloc, "port").long("port").required(true))
+}
+
 // The command.
 fn command<'a>(alloc: Global) -> Result<Command<'a>, AllocError>
     ensures { IfOk result (λ command. app_of command ≡ spelled.command) }
 {
-    Command::new(alloc, "edrd")
-        .arg(Arg::new(alloc, "feed").required(true))?
-        .arg(Arg::new(alloc, "port").long("port").required(true))?
+    bare_command(alloc)?
         .arg(Arg::new(alloc, "workers").long("workers"))?
         .arg(Arg::new(alloc, "every").long("every"))?
         .arg(Arg::new(alloc, "connections").long("connections"))?
