@@ -149,7 +149,7 @@ def goals_in(said, is_here):
     goals, vanished = {}, {}
     for line in said.split("\n"):
         answer = re.match(r"(?:\./)?(proofs/\S+?):(\d+):\d+: error: (?:`([^`]+)`: )?(.*)", line)
-        left = re.match(r"note: (\S+?):(\d+):\d+: it is not proved .*\(`([^`]+)`\)$", line)
+        left = re.match(r"note: (\S+?):(\d+):\d+: it is not proved .*?\(`([^`]+)`\)", line)
         if answer and is_here(answer[1], int(answer[2])):
             (vanished if VANISHED.search(answer[4]) else goals)[answer[3] or answer[4][:80]] = None
         elif left and is_here(left[1], int(left[2])):
