@@ -89,8 +89,8 @@ fn line_of(alloc: Global, settings: &Settings) -> Result<String, AllocError> {
 fn is_asked(alloc: Global, row: &str, wanted: &str) -> Result<bool, OutOfMemory> {
     let words = words_of(alloc, row)?;
     match asked_by(alloc, &words)? {
-        Some(settings) => Ok(line_of(alloc, &settings)?.as_str() == wanted), 30
-        None => Ok(wanted == "none"), 30
+        Some(settings) => Ok(line_of(alloc, &settings)?.as_str() == wanted),
+        None => Ok(wanted == "none"),
     }
 }
 
