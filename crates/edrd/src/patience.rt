@@ -1,7 +1,7 @@
 //! Streams whose peers have only so much time.
 //!
 //! All reads since the last reply was flushed share one time: so many seconds until the first byte of a head, and `PATIENCE` from there
-//! on. A reply may wait for its peer `PATIENCE` seconds, and a second more for each `LEAST_SPEED` bytes that it took. A peer
+//! on. A reply may wait for its peer `PATIENCE` seconds; each `LEAST_SPEED` bytes that the peer takes give back one of them. A peer
 //! whose time is up is a fault of the read or the write.
 
 use std::alloc::Global;
@@ -92,47 +92,43 @@ pub struct PatientWriter {
     rt: HostRuntime,
     stream: TcpStream,
     flushed: Arc<AtomicBool, Global>,
-    // how many bytes of the reply the peer took, and how long it was waited for
-    taken: u64,
-    waited: Duration,
+    // how long the reply may still wait for its peer
+    left: Duration,
     // how long the stream waits in a write
     timeout: Duration,
 }
 
 impl PatientWriter {
-    // How long the next write may wait.
-    fn left(&self) -> io::Result<Duration> {
-        let earned = Duration::from_secs(self.taken / LEAST_SPEED);
-        let left = some_left(patience().saturating_add(earned), self.waited)?;
-        Ok(left.min(patience()))
-    }
-
-    // Has the stream wait so long in a write.
-    fn wait(&mut self, left: Duration) -> io::Result<()> {
+    // Has the stream wait in a write as long as is left.
+    fn wait(&mut self) -> io::Result<()> {
+        let left = some_left(self.left, Duration::ZERO)?;
         if left != self.timeout {
             self.stream.set_write_timeout(Some(left))?;
             self.timeout = left;
         }
         Ok(())
     }
+
+    // Counts how long the peer was waited for, and the bytes that it took then.
+    fn count(&mut self, waited: Duration, taken: usize) {
+        let earned = Duration::from_millis((taken as u64).saturating_mul(1000) / LEAST_SPEED);
+        let left = self.left.saturating_sub(waited).saturating_add(earned);
+        self.left = left.min(patience());
+    }
 }
 
 impl Write for PatientWriter {
     fn write(&mut self, buf: &[u8]) -> io::Result<usize> {
-        let left = self.left()?;
-        self.wait(left)?;
+        self.wait()?;
         let begun = Instant::now(&self.rt)?;
-        let outcome = self.stream.write(buf);
-        let waited = begun.elapsed(&self.rt).unwrap_or(left);
-        self.waited = self.waited.saturating_add(waited);
-        let count = outcome?;
-        self.taken = self.taken.saturating_add(count as u64);
+        let count = self.stream.write(buf)?;
+        let waited = begun.elapsed(&self.rt).unwrap_or(self.timeout);
+        self.count(waited, count);
         Ok(count)
     }
 
     fn flush(&mut self) -> io::Result<()> {
-        self.taken = 0;
-        self.waited = Duration::ZERO;
+        self.left = patience();
         self.flushed.store(true, Ordering::Relaxed);
         self.stream.flush()
     }
@@ -163,8 +159,7 @@ pub fn patient_ends(
         rt,
         stream,
         flushed,
-        taken: 0,
-        waited: Duration::ZERO,
+        left: patience(),
         timeout: patience(),
     };
     Ok((reader, writer))
