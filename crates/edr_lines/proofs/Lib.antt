@@ -1,5 +1,5 @@
 mod Ends
-mod Rows
+mod RectangleNodes
 mod SegmentNumbers
 mod LineGrids
 mod LineRefusals
@@ -18,8 +18,6 @@ mod StackBits
 mod AskedAxes
 mod Joined
 mod AskedPlaces
-mod SetRows
-mod RowExtents
 mod TestedPicks
 mod TestedFrames
 mod CorridorSelects
