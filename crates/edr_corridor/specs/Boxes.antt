@@ -55,9 +55,9 @@ abbrev pub TakesNodes : SegmentsValue → ℕ → GridAxes → SegmentBox → Ty
 TakesNodes s number axes box = (t z y x : ℕ) → IsNode axes t z y x → box_takes box t z y x ≡ at_segment (takes_node s axes t z y x) s.line number
 
 -- a rectangle has a row and a column at least, and no more than there are
-pub record IsWithin (rows columns : ℕ) (rectangle : Rectangle) : Type 0 where
-  pub rows : (rectangle.rows.0 < rectangle.rows.1) × (rectangle.rows.1 ≤ rows)
-  pub columns : (rectangle.columns.0 < rectangle.columns.1) × (rectangle.columns.1 ≤ columns)
+pub record IsWithin (row_count column_count : ℕ) (rectangle : Rectangle) : Type 0 where
+  pub rows : (rectangle.rows.0 < rectangle.rows.1) × (rectangle.rows.1 ≤ row_count)
+  pub columns : (rectangle.columns.0 < rectangle.columns.1) × (rectangle.columns.1 ≤ column_count)
 
 -- ranges and rectangles lie on the axes
 pub record LiesOn (axes : GridAxes) (box : SegmentBox) : Type 0 where

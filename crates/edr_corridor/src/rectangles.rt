@@ -107,7 +107,8 @@ fn rows_near(
     let start = spot_of(&segment.start);
     let end = spot_of(&segment.end);
     let strip = Strip::of(start, end, segment.rule.width);
-    lines_near(alloc, false, &strip, ys, rows, xs)
+    let rectangles = lines_near(alloc, false, &strip, ys, rows, xs)?;
+    Ok(rectangles)
 }
 
 // A place with x and y exchanged.
@@ -139,7 +140,8 @@ fn columns_near(
     let start = exchanged(&spot_of(&segment.start));
     let end = exchanged(&spot_of(&segment.end));
     let strip = Strip::of(start, end, segment.rule.width);
-    lines_near(alloc, true, &strip, xs, columns, ys)
+    let rectangles = lines_near(alloc, true, &strip, xs, columns, ys)?;
+    Ok(rectangles)
 }
 
 // The node of one row and one column, where it is near a segment.
@@ -221,9 +223,9 @@ pub fn rectangles_where(
     ensures within { IfOk result (λ rectangles. All (IsWithin (length ys.now) (length xs.now)) rectangles.items) }
     ensures near { IfOk result (λ rectangles. AreNear segment.now ys.now xs.now rectangles.items) }
 {
-    if asked {
-        rectangles_of(alloc, segment, ys, xs)
-    } else {
-        Ok(Vec::new(alloc))
+    if !asked {
+        return Ok(Vec::new(alloc));
     }
+    let rectangles = rectangles_of(alloc, segment, ys, xs)?;
+    Ok(rectangles)
 }

@@ -85,6 +85,10 @@ along_more false line range rectangle old new is pushed some lines places inside
     subst (λ (rs : List Rectangle). All (IsWithin lines places) rs) (sym pushed)
     (All-push (IsWithin lines places) old rectangle h (subst (λ (r : Rectangle). IsWithin lines places r) (sym is) (record { rows = (omega arith, omega (arith, inside)); columns = (some, within.1) })))
 
+pub none_along : (upright : Bool) (lines places : ℕ) → AreAlong upright lines places []
+none_along true lines places = All-nil (IsWithin places lines)
+none_along false lines places = All-nil (IsWithin lines places)
+
 -- ---- a line more
 
 gathered : (o e b s h : Bool) → (((o || (e && b)) || (e && s)) || (e && h)) ≡ (o || (e && (b || (s || h))))
