@@ -43,24 +43,6 @@ slice_bounds-values-end c =
     let k = as_columns sides c.args.sides.now c.sides.view_is c.args.columns c.requires.columns in
     r.end
 
-pub overflow_sub-result : goal.overflow_sub-result
-overflow_sub-result c =
-    let row : ℕ = c.args.row in let in_ = c.sides.inside in
-    let sides : SidesValue = record { times = in_.times; levels = in_.levels; row = in_.row; rows = in_.rows; column = in_.column; columns = in_.columns } in
-    let r = stands sides c.args.sides.now c.sides.view_is row c.args.plane.now c.requires.small c.requires.full c.requires.row in
-    let f = as_row sides c.args.sides.now c.sides.view_is row c.requires.row in
-    let k = as_columns sides c.args.sides.now c.sides.view_is c.args.columns c.requires.columns in
-    k.left
-
-pub overflow_sub-result-2 : goal.overflow_sub-result-2
-overflow_sub-result-2 c =
-    let row : ℕ = c.args.row in let in_ = c.sides.inside in
-    let sides : SidesValue = record { times = in_.times; levels = in_.levels; row = in_.row; rows = in_.rows; column = in_.column; columns = in_.columns } in
-    let r = stands sides c.args.sides.now c.sides.view_is row c.args.plane.now c.requires.small c.requires.full c.requires.row in
-    let f = as_row sides c.args.sides.now c.sides.view_is row c.requires.row in
-    let k = as_columns sides c.args.sides.now c.sides.view_is c.args.columns c.requires.columns in
-    omega (arith, k.left, k.ordered)
-
 pub set_range-requires-clause-ordered : goal.set_range-requires-clause-ordered
 set_range-requires-clause-ordered c =
     let row : ℕ = c.args.row in let in_ = c.sides.inside in
