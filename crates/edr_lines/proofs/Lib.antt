@@ -32,6 +32,7 @@ mod StackSizes
 mod AxisParts
 mod StackValid
 mod FoundSides
+mod MoreSides
 mod SidesValid
 mod CorridorSteps
 mod CorridorPlans

@@ -170,7 +170,7 @@ impl Model for Spread {
 }
 
 // Of no node.
-fn no_spread(alloc: Global, axes: &Axes<'_>) -> Result<Spread, OutOfMemory>
+pub(crate) fn no_spread(alloc: Global, axes: &Axes<'_>) -> Result<Spread, OutOfMemory>
     ensures { IfOk result (IsSpreadOf (counts_of axes.now) (λ t z y x. false)) }
 {
     let mut times = Vec::new(alloc);
@@ -186,7 +186,7 @@ fn no_spread(alloc: Global, axes: &Axes<'_>) -> Result<Spread, OutOfMemory>
 
 impl Spread {
     // Adds what a box takes of what is asked.
-    fn add(&mut self, corridor: &Corridor<'_>, axes: &Axes<'_>, taken: &SegmentBox)
+    pub(crate) fn add(&mut self, corridor: &Corridor<'_>, axes: &Axes<'_>, taken: &SegmentBox)
         requires along { LiesAlong axes.now corridor.now }
         requires on { LiesOn axes.now taken.now }
         requires full { (length self.old.times ≡ length axes.now.ts) × (length self.old.levels ≡ axis_length axes.now.zs) }
