@@ -342,7 +342,7 @@ fn is_tested(alloc: Global, text: &str, square: &Axis) -> bool
 }
 
 // The first of some segments of which a row of a square isn't right; none is empty.
-fn first_untested(alloc: Global, segments: &str, values: &str) -> &str {
+fn first_untested<'a>(alloc: Global, segments: &'a str, values: &'a str) -> &'a str {
     let Some(square) = axis_of(alloc, values) else {
         return values;
     };

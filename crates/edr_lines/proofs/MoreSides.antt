@@ -1,12 +1,15 @@
 -- The sides of what is taken so far, and of all that is taken: these have no fewer values.
-use Rattle.std.proofs.Common.{mul-le-mul, ◌≡◌, ℕ, zero, suc, ◌+◌, ◌-◌, ◌*◌, ◌<◌, ◌≤◌, Bool, true, false, cond, List, [], ◌∷◌, length, refl, ap, ap₂, sym, ◌∙◌, subst, arith}
+use Rattle.std.proofs.Common.{mul-le-mul, ◌≡◌, ℕ, zero, suc, ◌+◌, ◌-◌, ◌*◌, ◌<◌, ◌≤◌, Bool, true, false, cond, List, [], ◌∷◌, length, get_or, inl, inr, refl, ap, ap₂, sym, ◌∙◌, subst, arith}
 use Rattle.std.specs.Prelude.{◌&&◌, nat_lt, Option, None, Some, IfSome, MatchOption}
 use Rattle.std.specs.List.{filter, list_any, range_with_len}
-use Rattle.std.proofs.lemmas.Bool.{and_parts, false≢true}
+use Rattle.std.proofs.lemmas.Bool.{and_parts, cases_lt, false_from_ne_true, false≢true}
+use Rattle.std.proofs.lemmas.List.{get_or_past}
 use Rattle.std.proofs.lemmas.Bool.Decides.{nat_tests}
 use Rattle.edr_corridor.proofs.Lines.{some_passes}
 use Rattle.edr_corridor.specs.Segments.{at_segment}
-use Rattle.edr_corridor.specs.Boxes.{GridAxes, takes_node}
+use Rattle.edr_corridor.specs.Boxes.{GridAxes, takes_node, wants_node}
+use Rattle.edr_lines.specs.Boxes.{some_asked}
+use Rattle.edr_lines.proofs.AskedPlaces.{asked_here}
 use Rattle.edr_select.specs.ListLaws.{passes_at}
 use Rattle.edr_select.specs.Limits.{value_limit}
 use Rattle.edr_select.specs.Stacks.{SidesValue, stack_count}
@@ -104,6 +107,18 @@ module _ (parameters : List ℕ) (c : CorridorValue) (axes : GridAxes) (sides : 
         whole = λ fits. absurd (false≢true (sym fits ∙ over));
         more = λ is. (all.sides, all.are, over_more n (takes_first c axes count) (takes c axes) (first_taken c axes count) sides all.sides are all.are parameters over);
       }
+
+-- ---- nothing is asked
+
+-- no place is asked
+pub none_asked : (asked : List Bool) → some_asked asked (0, length asked) ≡ false → (k : ℕ) → get_or asked k false ≡ false
+none_asked asked none k = elim (cases_lt k (length asked)) [
+  | inr ge ↦ get_or_past asked k false ge
+  | inl lt ↦ false_from_ne_true (get_or asked k false) (λ h. false≢true (sym none ∙ asked_here asked 0 (length asked) k (omega arith) lt lt h))
+]
+
+pub nothing_taken : (c : CorridorValue) (axes : GridAxes) → ((t z : ℕ) → is_asked c t z ≡ false) → NoneTaken (counts_of axes) (takes c axes)
+nothing_taken c axes none t z y x at level row column = ap (λ b. b && wants_node c.segments axes t z y x) (none t z)
 
 -- ---- what is found
 

@@ -126,7 +126,7 @@ fn extent_of(axes: &Axes<'_>, taken: &SegmentBox) -> Option<Extent>
 }
 
 // Whether a place of a range is asked.
-fn has_asked(asked: &[bool], range: (usize, usize)) -> bool
+pub(crate) fn has_asked(asked: &[bool], range: (usize, usize)) -> bool
     requires ordered { range.0 ≤ range.1 }
     requires inside { range.1 ≤ length asked.now }
     ensures { result ≡ some_asked asked.now range }

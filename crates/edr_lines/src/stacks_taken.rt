@@ -1,17 +1,17 @@
 //! Stacks of what corridors take.
-ghost use Rattle.std.specs.Prelude.{◌≡◌, ◌≢◌, ◌<◌, ◌≤◌, ◌+◌, ◌-◌, [], nat_lt, true, false, length, IfOk, IfSome, IsSome, MatchOption};
+ghost use Rattle.std.specs.Prelude.{◌≡◌, ◌≢◌, ℕ, ◌<◌, ◌≤◌, ◌+◌, ◌-◌, [], nat_lt, true, false, length, IfOk, IfSome, IsSome, MatchOption};
 ghost use Rattle.std.specs.List.{All, filter, range_with_len, slice_index_or};
 ghost use Rattle.edr_base.specs.Limits.{node_limit, IsCoordinate};
 ghost use Rattle.edr_corridor.specs.Values.{needs_level};
 ghost use Rattle.edr_select.specs.Limits.{value_limit};
 ghost use Rattle.edr_lines.specs.Taken.{NodeTest, counts_of, NoneTaken, AreSidesOf, HasBits};
 ghost use Rattle.edr_lines.specs.Boxes.{IsSpreadOf};
-ghost use Rattle.edr_lines.specs.Corridors.{LiesAlong, takes};
+ghost use Rattle.edr_lines.specs.Corridors.{LiesAlong, is_asked, takes};
 ghost use Rattle.edr_lines.specs.Bits.{IsSmall};
 ghost use Rattle.edr_lines.specs.Plans.{IsFew, HasNodes, AreSidesOrMore, stacked_count};
 
 use crate::corridors::Corridor;
-use crate::spreads::{Axes, Extent, Spread, no_spread, spread_of};
+use crate::spreads::{Axes, Extent, Spread, has_asked, no_spread, spread_of};
 use crate::stack_domains::is_too_large;
 use crate::stack_masks::mask_of;
 use edr_base::{Items, OutOfMemory};
@@ -64,6 +64,15 @@ fn sides_spread(
     Ok(Some(sides_over(times, levels, extent)))
 }
 
+// Whether no time or no level is asked.
+fn asks_nothing(corridor: &Corridor<'_>) -> bool
+    ensures { result ≡ true → (t z : ℕ) → is_asked corridor.now t z ≡ false }
+{
+    let times = has_asked(&corridor.times, (0, corridor.times.len()));
+    let levels = has_asked(&corridor.levels, (0, corridor.levels.len()));
+    !times || !levels
+}
+
 // Whether some parameters have more values over the sides that are found than a reply may have.
 fn is_above(parameters: &[u64], found: &Option<StackSides>) -> bool
     requires parameters { parameters.now ≢ [] }
@@ -92,6 +101,9 @@ pub(crate) fn sides_within(
     requires parameters { parameters.now ≢ [] }
     ensures { IfOk result (λ found. MatchOption found (NoneTaken (counts_of axes.now) (takes corridor.now axes.now)) (AreSidesOrMore parameters.now (counts_of axes.now) (takes corridor.now axes.now))) }
 {
+    if asks_nothing(corridor) {
+        return Ok(None);
+    }
     let mut spread = no_spread(alloc, axes)?;
     for number in 0..corridor.segments.len() {
         let taken = corridor

@@ -6,8 +6,11 @@ use Rattle.edr_lines.specs.Corridors.{CorridorValue, takes, takes_first}
 use Rattle.edr_lines.specs.Boxes.{IsSpreadOf, box_passes}
 use Rattle.edr_lines.proofs.Tests.{spread_same}
 use Rattle.edr_lines.proofs.Firsts.{none_first, first_more, all_first}
-use Rattle.edr_lines.proofs.MoreSides.{nodes_where, whole_found, first_found}
+use Rattle.edr_lines.proofs.MoreSides.{nodes_where, whole_found, first_found, nothing_taken}
 use Rattle.edr_lines.proofs.stacks_taken.sides_within.Goals as goal
+
+pub returns-then-asks_nothing : goal.returns-then-asks_nothing
+returns-then-asks_nothing c = nothing_taken c.args.corridor.now c.args.axes.now (c.asks_nothing.ensures c.if-asks_nothing.true)
 
 pub loop-number-init : goal.loop-number-init
 loop-number-init c =
