@@ -9,8 +9,8 @@ use crate::words::{axis_of, coordinate, coordinates, distance, is_marked};
 use edr_axes::Axis;
 use edr_base::Spot;
 use edr_geometry::{
-    NearRanges, RowMask, Strip, geometries_are_placed, in_disc, in_polygons, near_segment, on_segment,
-    squared_distance,
+    NearRanges, RowMask, Strip, geometries_are_placed, in_disc, in_polygons, near_segment,
+    on_segment, squared_distance,
 };
 use edr_wkt::{Geometry, Polygon, read_wkt};
 use std::alloc::Global;
@@ -117,7 +117,8 @@ const STRIPS: &str = "\
 ";
 
 // Numbers from below the segments to above them.
-const SQUARE: &str = "-16 -15 -14 -13 -12 -11 -10 -9 -8 -7 -6 -5 -4 -3 -2 -1 0 1 2 3 4 5 6 7 8 9 10 11 12 13 14 15 16";
+const SQUARE: &str =
+    "-16 -15 -14 -13 -12 -11 -10 -9 -8 -7 -6 -5 -4 -3 -2 -1 0 1 2 3 4 5 6 7 8 9 10 11 12 13 14 15 16";
 
 // Segments and numbers at the ends of the limits.
 const WIDEST: &str = "\
@@ -130,8 +131,7 @@ const WIDEST: &str = "\
 1 -100000000 100000000 99999999 -100000000
 ";
 
-const WHOLE: &str =
-    "-100000000 -99999999 -50000000 -1 0 1 50000000 50000001 99999999 100000000";
+const WHOLE: &str = "-100000000 -99999999 -50000000 -1 0 1 50000000 50000001 99999999 100000000";
 
 // The numbers of two ends and a place, whether the place is on the segment, and its squared distance to the first end.
 const SEGMENTS: &str = "\
