@@ -351,7 +351,7 @@ fn is_row_in(segments: &Segments, boxes: &[SegmentBox], axes: &Axes, row: usize)
     requires xs_in { All IsCoordinate axes.now.xs }
     requires row { row < length axes.now.ys }
 {
-    let time = axes.ts.value(0);
+    let time = first_of(&axes.ts);
     let y = axes.ys.value(row);
     let mut right = true;
     for column in 0..axes.xs.len() {
