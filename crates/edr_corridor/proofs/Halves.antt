@@ -1,4 +1,4 @@
--- Halves of wholes, and the places of an axis is_between two numbers.
+-- Halves of wholes, and bands about two numbers.
 use Rattle.std.proofs.Common.{◌≡◌, ℕ, Option, None, Some, cond, to_z, of_z, w64, ap₂, ◌<◌, ◌≤◌, arith, Bool, true, false, refl, ap, subst, sym, ◌∙◌, inl, inr, List, length, count_by, ℤ, pos, ◌+ℤ◌, ◌-ℤ◌, ◌*ℤ◌, ◌<ℤ◌, ◌≤ℤ◌, int_lt, int_le, max, nat_lt}
 use Rattle.std.specs.Prelude.{◌&&◌, ◌||◌, nat_le}
 use Rattle.std.specs.Int.{int_min, int_max}
@@ -6,7 +6,6 @@ use Rattle.std.specs.Int.RustNames.{unsigned_abs, int_div}
 use Rattle.std.proofs.lemmas.Bool.{cases_lt, and_left, and_parts, and_from, le-leb, lt-leb, lt-ltb, le-ltb}
 use Rattle.std.proofs.lemmas.Int.{ints, by_lt_z}
 use Rattle.jiff_core.proofs.SignedLemmas.{signed_arith, one_part, back_small}
-use Rattle.edr_axes.specs.Axes.{value_at, SplitsValues}
 use Rattle.edr_geometry.specs.Planar.{is_among}
 use Rattle.edr_base.specs.Limits.{IsCoordinate, IsMetres}
 use Rattle.edr_base.specs.Boxes.{is_between}
@@ -14,39 +13,14 @@ use Rattle.edr_corridor.specs.declared.bands.Band.{Band}
 use Rattle.edr_corridor.specs.declared.segment.Segment.{Segment}
 use Rattle.edr_corridor.specs.Segments.{within_half, takes_height}
 use Rattle.edr_corridor.specs.Parts.{IsAbout, has_level, has_height}
-use Rattle.edr_corridor.specs.Boxes.{lies_in}
 
--- ---- places is_between two numbers
+-- ---- comparisons
 
 from_yes : (a b : ℤ) → a ≤ℤ b → int_le a b ≡ true
 from_yes a b h = grind (arith, ints)
 
 from_no : (a b : ℤ) → b <ℤ a → int_le a b ≡ false
 from_no a b h = grind (arith, ints)
-
-both_yes : (a b : Bool) → a ≡ true → (a && b) ≡ b
-both_yes a b h = ap (λ c. c && b) h
-
--- of ascending values, those from a low number to a high one
-pub lies_between : (values : List ℤ) (low high : ℤ) (first end : ℕ) → SplitsValues values low → SplitsValues values high → first ≡ count_by (λ v. int_lt v low) values
-    → end ≡ max first (count_by (λ v. int_le v high) values) → (place : ℕ) → place < length values → lies_in (first, end) place ≡ is_between low high (value_at values place)
-lies_between values low high first end below at_most first_is end_is place inside =
-    by_lt_z (value_at values place) low
-    (λ under. (let before = (below.below place).0 (inside, under) in
-    and_left (nat_le first place) (nat_lt place end) (lt-leb first place (omega (arith, first_is, before)))
-    ∙ sym (and_left (int_le low (value_at values place)) (int_le (value_at values place) high) (from_no low (value_at values place) under))))
-    (λ from. (let behind : first ≤ place = elim (cases_lt place first) [
-      | inl lt ↦ absurd (let under = ((below.below place).1 (omega (arith, first_is, lt))).1 in omega (arith, signed_arith, under, from))
-      | inr ge ↦ ge
-    ] in
-    both_yes (nat_le first place) (nat_lt place end) (le-leb first place behind)
-    ∙ by_lt_z high (value_at values place)
-    (λ over. (let after : end ≤ place = elim (cases_lt place end) [
-      | inl lt ↦ absurd (let within = ((at_most.at_most place).1 (omega (arith, end_is, behind, lt))).1 in omega (arith, signed_arith, within, over))
-      | inr ge ↦ ge
-    ] in le-ltb place end after ∙ sym (from_no (value_at values place) high over)))
-    (λ within. (let counted = (at_most.at_most place).0 (inside, within) in lt-ltb place end (omega (arith, counted, end_is)) ∙ sym (from_yes (value_at values place) high within)))
-    ∙ sym (both_yes (int_le low (value_at values place)) (int_le (value_at values place) high) (from_yes low (value_at values place) from))))
 
 -- ---- numbers come back from their bits as they were
 

@@ -5,7 +5,8 @@ use Rattle.edr_base.specs.declared.places.Position.{Position}
 use Rattle.edr_geometry.specs.Masks.{spot_at}
 use Rattle.edr_corridor.specs.Values.{SegmentsValue}
 use Rattle.edr_corridor.specs.Segments.{within_half, in_corridor, wants, at_segment}
-use Rattle.edr_corridor.specs.Boxes.{GridAxes, lies_in, is_masked, takes_node, wants_node}
+use Rattle.edr_geometry.specs.Ranges.{lies_in}
+use Rattle.edr_corridor.specs.Boxes.{GridAxes, have_place, takes_node, wants_node}
 
 -- 2024-01-01T00:00:00Z, and an hour later
 abbrev t0 : ℤ
@@ -143,10 +144,10 @@ levels_are_asked = refl
 from_the_first_to_before_the_end : map (lies_in (1, 3)) (0 ∷ 1 ∷ 2 ∷ 3 ∷ []) ≡ false ∷ true ∷ true ∷ false ∷ []
 from_the_first_to_before_the_end = refl
 
--- two masks of two columns, from the second row and the third column on
-rows_of_masks : flat_map (λ y. map (is_masked 1 2 ((true ∷ false ∷ []) ∷ (false ∷ true ∷ []) ∷ []) y) (1 ∷ 2 ∷ 3 ∷ 4 ∷ [])) (0 ∷ 1 ∷ 2 ∷ 3 ∷ [])
-    ≡ false ∷ false ∷ false ∷ false ∷ false ∷ true ∷ false ∷ false ∷ false ∷ false ∷ true ∷ false ∷ false ∷ false ∷ false ∷ false ∷ []
-rows_of_masks = refl
+-- the third and the fourth column of the second row, and the second and third row of the first column
+rows_of_rectangles : flat_map (λ y. map (have_place (record { rows = (1, 2); columns = (2, 4) } ∷ (record { rows = (1, 3); columns = (0, 1) } ∷ [])) y) (0 ∷ 1 ∷ 2 ∷ 3 ∷ [])) (0 ∷ 1 ∷ 2 ∷ 3 ∷ [])
+    ≡ false ∷ false ∷ false ∷ false ∷ true ∷ false ∷ true ∷ true ∷ true ∷ false ∷ false ∷ false ∷ false ∷ false ∷ false ∷ false ∷ []
+rows_of_rectangles = refl
 
 -- of two segments each takes its own nodes, and together they take those that are wanted
 abbrev axes : GridAxes

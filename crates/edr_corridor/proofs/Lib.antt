@@ -2,4 +2,4 @@ mod KnownLines
 pub mod Near
 pub mod Halves
 pub mod Lines
-pub mod MaskedRows
+pub mod NearNodes

@@ -9,6 +9,8 @@ use Rattle.jiff_core.proofs.SignedLemmas.{signed_arith, one_part, unsigned_abs-p
 use borrow.Author.Differences.{up, down, product_is}
 use Rattle.edr_base.specs.declared.places.Spot.{Spot}
 use Rattle.edr_geometry.specs.Planar.{near_segment, cross, along, squared_distance}
+use Rattle.edr_geometry.proofs.Outside.{square_not_negative}
+use Rattle.edr_geometry.proofs.Products.{add-times, times-add, times-sub, opposite_square}
 use Rattle.edr_corridor.specs.Segments.{within_half}
 use Rattle.edr_corridor.specs.BoxLaws.{NearPlacesAreWithin}
 
@@ -34,25 +36,6 @@ foot_far w (suc r) s u e some h k =
 
 -- ---- of whole numbers
 
-add-times : (a b c : ℤ) → (a +ℤ b) *ℤ c ≡ a *ℤ c +ℤ b *ℤ c
-add-times a b c =
-    let same : up (a +ℤ b) + (down a + down b) ≡ down (a +ℤ b) + (up a + up b) = omega (arith, signed_arith) in
-    let ups : (up (a +ℤ b) + (down a + down b)) * up c ≡ (down (a +ℤ b) + (up a + up b)) * up c = ap (λ n. n * up c) same in
-    let downs : (up (a +ℤ b) + (down a + down b)) * down c ≡ (down (a +ℤ b) + (up a + up b)) * down c = ap (λ n. n * down c) same in
-    omega (arith, signed_arith, ups, downs)
-
-times-add : (a b c : ℤ) → a *ℤ (b +ℤ c) ≡ a *ℤ b +ℤ a *ℤ c
-times-add a b c = *ℤ_comm a (b +ℤ c) ∙ add-times b c a ∙ ap₂ (λ m n. m +ℤ n) (*ℤ_comm b a) (*ℤ_comm c a)
-
-times-sub : (a b c : ℤ) → a *ℤ (b -ℤ c) ≡ a *ℤ b -ℤ a *ℤ c
-times-sub a b c =
-    let same : (b -ℤ c) +ℤ c ≡ b = omega (arith, signed_arith) in
-    let spread : a *ℤ b ≡ a *ℤ (b -ℤ c) +ℤ a *ℤ c = ap (λ n. a *ℤ n) (sym same) ∙ times-add a (b -ℤ c) c in
-    taken (a *ℤ b) (a *ℤ (b -ℤ c)) (a *ℤ c) spread
-  where
-    taken : (m n o : ℤ) → m ≡ n +ℤ o → n ≡ m -ℤ o
-    taken m n o h = omega (arith, signed_arith, h)
-
 times_assoc : (a b c : ℤ) → (a *ℤ b) *ℤ c ≡ a *ℤ (b *ℤ c)
 times_assoc a b c =
     let one = product_is a b in let two = product_is b c in
@@ -68,22 +51,6 @@ times_assoc a b c =
 
 times_turn : (a b c : ℤ) → a *ℤ (b *ℤ c) ≡ b *ℤ (a *ℤ c)
 times_turn a b c = sym (times_assoc a b c) ∙ ap (λ n. n *ℤ c) (*ℤ_comm a b) ∙ times_assoc b a c
-
-square_not_negative : (d : ℤ) → pos 0 ≤ℤ (d *ℤ d)
-square_not_negative (pos d) = omega (arith, signed_arith)
-square_not_negative (negsuc d) = omega (arith, signed_arith)
-
-opposite_square : (m o : ℤ) → m +ℤ o ≡ pos 0 → m *ℤ m ≡ o *ℤ o
-opposite_square m o h =
-    let one = times-add m m o in let two = add-times m o o in
-    let none : m *ℤ (m +ℤ o) ≡ pos 0 = ap (λ n. m *ℤ n) h ∙ zero_times m in let none_too : (m +ℤ o) *ℤ o ≡ pos 0 = ap (λ n. n *ℤ o) h ∙ (*ℤ_comm (pos 0) o ∙ zero_times o) in
-    same (m *ℤ m) (m *ℤ o) (o *ℤ o) (sym one ∙ none) (sym two ∙ none_too)
-  where
-    zero_times : (n : ℤ) → n *ℤ pos 0 ≡ pos 0
-    zero_times n = omega (arith, signed_arith)
-
-    same : (a b c : ℤ) → a +ℤ b ≡ pos 0 → b +ℤ c ≡ pos 0 → a ≡ c
-    same a b c k l = omega (arith, signed_arith, k, l)
 
 -- the length of a way and the products of two ways go together
 module _ (dx dy vx vy : ℤ) where

@@ -1,9 +1,11 @@
--- What a segment takes of the nodes of a grid: ranges of times and levels, and masks of rows.
-use Rattle.std.specs.Prelude.{◌≡◌, ℕ, ◌+◌, ◌-◌, ◌<◌, ◌≤◌, nat_lt, nat_le, ℤ, Bool, true, false, ◌&&◌, List, [], length, Option, Some, option_map}
-use Rattle.std.specs.List.{All, slice_index_or}
+-- What a segment takes of the nodes of a grid: ranges of times and levels, and rectangles of rows and columns.
+use Rattle.std.specs.Prelude.{◌≡◌, ℕ, ◌<◌, ◌≤◌, ℤ, Bool, true, ◌&&◌, List, length, Option, Some, option_map}
+use Rattle.std.specs.List.{All, list_any}
 use Rattle.edr_base.specs.declared.places.Position.{Position}
 use Rattle.edr_axes.specs.Axes.{axis_length, value_at}
 use Rattle.edr_geometry.specs.Masks.{spot_at}
+use Rattle.edr_geometry.specs.Ranges.{lies_in}
+use Rattle.edr_corridor.specs.declared.boxes.Rectangle.{Rectangle}
 use Rattle.edr_corridor.specs.declared.boxes.SegmentBox.{SegmentBox}
 use Rattle.edr_corridor.specs.Values.{SegmentsValue}
 use Rattle.edr_corridor.specs.Segments.{within_half, segment_takes, at_segment, wants}
@@ -36,33 +38,36 @@ wants_node s axes t z y x = wants s (value_at axes.ts t) (level_at axes.zs z) (s
 
 -- ---- boxes
 
--- a place lies in a range: from its first place to before its end
-abbrev pub lies_in : ℕ × ℕ → ℕ → Bool
-lies_in range place = nat_le range.0 place && nat_lt place range.1
+-- a rectangle has a row and a column
+abbrev pub has_place : Rectangle → ℕ → ℕ → Bool
+has_place rectangle y x = lies_in rectangle.rows y && lies_in rectangle.columns x
 
--- some rows from one on have a mask, of some columns from one on: the mask of a row has a column
-abbrev pub is_masked : ℕ → ℕ → List (List Bool) → ℕ → ℕ → Bool
-is_masked first_row first_column rows y x =
-    (nat_le first_row y && nat_le first_column x) && slice_index_or (slice_index_or rows (y - first_row) []) (x - first_column) false
+-- one of some rectangles has them
+abbrev pub have_place : List Rectangle → ℕ → ℕ → Bool
+have_place rectangles y x = list_any (λ rectangle. has_place rectangle y x) rectangles
 
--- a box takes the node of some places: those of time and level lie in its ranges, and the mask of the row has the column
+-- a box takes the node of some places: those of time and level lie in its ranges, and a rectangle has the row and the column
 abbrev pub box_takes : SegmentBox → ℕ → ℕ → ℕ → ℕ → Bool
-box_takes box t z y x = lies_in box.times t && (lies_in box.levels z && is_masked box.first_row box.first_column box.rows.items y x)
+box_takes box t z y x = lies_in box.times t && (lies_in box.levels z && have_place box.rectangles.items y x)
 
 -- a box takes the nodes that the segment of a number takes, and no others
 abbrev pub TakesNodes : SegmentsValue → ℕ → GridAxes → SegmentBox → Type 0
 TakesNodes s number axes box = (t z y x : ℕ) → IsNode axes t z y x → box_takes box t z y x ≡ at_segment (takes_node s axes t z y x) s.line number
 
--- ranges and masks lie on the axes
+-- a rectangle has a row and a column at least, and no more than there are
+pub record IsWithin (row_count column_count : ℕ) (rectangle : Rectangle) : Type 0 where
+  pub rows : (rectangle.rows.0 < rectangle.rows.1) × (rectangle.rows.1 ≤ row_count)
+  pub columns : (rectangle.columns.0 < rectangle.columns.1) × (rectangle.columns.1 ≤ column_count)
+
+-- ranges and rectangles lie on the axes
 pub record LiesOn (axes : GridAxes) (box : SegmentBox) : Type 0 where
   pub times : (box.times.0 ≤ box.times.1) × (box.times.1 ≤ length axes.ts)
   pub levels : (box.levels.0 ≤ box.levels.1) × (box.levels.1 ≤ axis_length axes.zs)
-  pub rows : box.first_row + length box.rows.items ≤ length axes.ys
-  pub columns : All (λ row. box.first_column + length row ≤ length axes.xs) box.rows.items
+  pub rectangles : All (IsWithin (length axes.ys) (length axes.xs)) box.rectangles.items
 
--- only rows and columns at most half the width from the y and the x of the segment have a place in its masks
+-- only rows and columns at most half the width from the y and the x of the segment have a place in its rectangles
 pub record LiesNear (s : SegmentsValue) (number : ℕ) (axes : GridAxes) (box : SegmentBox) : Type 0 where
-  pub rows : (y : ℕ) → box.first_row ≤ y → y < box.first_row + length box.rows.items
+  pub rows : (y x : ℕ) → y < length axes.ys → x < length axes.xs → have_place box.rectangles.items y x ≡ true
       → at_segment (λ a b. within_half a.y b.y s.width (value_at axes.ys y)) s.line number ≡ true
-  pub columns : All (λ row. (x : ℕ) → box.first_column ≤ x → x < box.first_column + length row
-      → at_segment (λ a b. within_half a.x b.x s.width (value_at axes.xs x)) s.line number ≡ true) box.rows.items
+  pub columns : (y x : ℕ) → y < length axes.ys → x < length axes.xs → have_place box.rectangles.items y x ≡ true
+      → at_segment (λ a b. within_half a.x b.x s.width (value_at axes.xs x)) s.line number ≡ true

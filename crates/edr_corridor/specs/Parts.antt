@@ -1,6 +1,6 @@
--- For private clauses: one segment, the numbers about its ends, and the masks of the rows near it.
-use Rattle.std.specs.Prelude.{◌≡◌, ℕ, ◌+◌, ◌<◌, ◌≤◌, ℤ, pos, ◌+ℤ◌, ◌-ℤ◌, ◌*ℤ◌, int_le, Bool, true, false, ◌&&◌, ◌||◌, List, length, Option, None, Some, is_some, IsSome, IfSome}
-use Rattle.std.specs.List.{All}
+-- For private clauses: one segment, the numbers about its ends, and the rectangles of the nodes near it.
+use Rattle.std.specs.Prelude.{◌≡◌, ℕ, ◌+◌, ◌<◌, ◌≤◌, ℤ, pos, ◌+ℤ◌, ◌-ℤ◌, ◌*ℤ◌, int_le, ◌==◌, Bool, true, false, ◌&&◌, ◌||◌, List, length, Option, None, Some, is_some, IsSome, IfSome}
+use Rattle.std.specs.List.{All, list_any}
 use Rattle.edr_base.specs.declared.places.Position.{Position}
 use Rattle.edr_wkt.specs.Faults.{IsInRange}
 use Rattle.edr_axes.specs.Axes.{value_at}
@@ -8,13 +8,15 @@ use Rattle.edr_base.specs.Limits.{IsCoordinate, IsMetres}
 use Rattle.edr_geometry.specs.Limits.{IsSpot}
 use Rattle.edr_geometry.specs.Masks.{spot_at}
 use Rattle.edr_geometry.specs.Planar.{spot_of, near_segment}
+use Rattle.edr_geometry.specs.Ranges.{StripValue, lies_in, IsRange}
 use Rattle.edr_corridor.specs.declared.bands.Band.{Band}
+use Rattle.edr_corridor.specs.declared.boxes.Rectangle.{Rectangle}
 use Rattle.edr_corridor.specs.declared.segment.Node.{Node}
 use Rattle.edr_corridor.specs.declared.segment.Segment.{Segment}
 use Rattle.edr_corridor.specs.declared.segment.Rule.{Rule}
 use Rattle.edr_corridor.specs.Values.{SegmentsValue}
 use Rattle.edr_corridor.specs.Segments.{takes_between, takes_height, within_half, at_segment}
-use Rattle.edr_corridor.specs.Boxes.{is_masked}
+use Rattle.edr_corridor.specs.Boxes.{has_place, have_place, IsWithin}
 
 -- ---- bands
 
@@ -75,17 +77,52 @@ pub record IsSegmentAt (s : SegmentsValue) (number : ℕ) (segment : Segment) : 
   pub rule_is : segment.rule ≡ record { has_z = s.has_z; has_m = s.has_m; width = s.width; level = s.level; height = s.height }
   pub ends_are : (test : Position → Position → Bool) → at_segment test s.line number ≡ test segment.start segment.end
 
--- ---- strips
+-- ---- rectangles
 
--- masks of some rows from one on, of some columns from one on, have the nodes of a plane that are near the segment, and no others
-abbrev pub HasSpots : Segment → List ℤ → List ℤ → ℕ → ℕ → List (List Bool) → Type 0
-HasSpots segment ys xs first_row first_column masks = (y x : ℕ) → y < length ys → x < length xs
-    → is_masked first_row first_column masks y x ≡ has_spot segment (value_at ys y) (value_at xs x)
+-- a y, and an x, is at most half the width from those from one end of a segment to the other
+abbrev pub near_y : Segment → ℤ → Bool
+near_y segment y = within_half segment.start.y segment.end.y segment.rule.width y
 
--- they lie on the axes, and only rows and columns at most half the width away have a place in them
-pub record IsStrip (segment : Segment) (ys xs : List ℤ) (first_row first_column : ℕ) (masks : List (List Bool)) : Type 0 where
-  pub rows : first_row + length masks ≤ length ys
-  pub columns : All (λ row. first_column + length row ≤ length xs) masks
-  pub near_rows : (y : ℕ) → first_row ≤ y → y < first_row + length masks → within_half segment.start.y segment.end.y segment.rule.width (value_at ys y) ≡ true
-  pub near_columns : All (λ row. (x : ℕ) → first_column ≤ x → x < first_column + length row
-      → within_half segment.start.x segment.end.x segment.rule.width (value_at xs x) ≡ true) masks
+abbrev pub near_x : Segment → ℤ → Bool
+near_x segment x = within_half segment.start.x segment.end.x segment.rule.width x
+
+-- a range has the places of the values that pass a test
+pub record HasPlaces (values : List ℤ) (test : ℤ → Bool) (range : ℕ × ℕ) : Type 0 where
+  pub inside : IsRange (length values) range
+  pub lies : (place : ℕ) → place < length values → lies_in range place ≡ test (value_at values place)
+
+-- some rectangles have the nodes of a plane that are near the segment, and no others
+abbrev pub HaveSpots : Segment → List ℤ → List ℤ → List Rectangle → Type 0
+HaveSpots segment ys xs rectangles = (y x : ℕ) → y < length ys → x < length xs → have_place rectangles y x ≡ has_spot segment (value_at ys y) (value_at xs x)
+
+-- only nodes near in y and in x have a place in them
+pub record AreNear (segment : Segment) (ys xs : List ℤ) (rectangles : List Rectangle) : Type 0 where
+  pub rows : (y x : ℕ) → y < length ys → x < length xs → have_place rectangles y x ≡ true → near_y segment (value_at ys y) ≡ true
+  pub columns : (y x : ℕ) → y < length ys → x < length xs → have_place rectangles y x ≡ true → near_x segment (value_at xs x) ≡ true
+
+-- the rectangle of a range of places along a row, or along a column where it is upright
+abbrev pub rectangle_along : Bool → ℕ → ℕ × ℕ → Rectangle
+rectangle_along true line range = record { rows = range; columns = (line, line + 1) }
+rectangle_along false line range = record { rows = (line, line + 1); columns = range }
+
+-- a place along a line of a plane: along a row, or along a column
+abbrev pub has_along : Bool → Rectangle → ℕ → ℕ → Bool
+has_along true rectangle line place = has_place rectangle place line
+has_along false rectangle line place = has_place rectangle line place
+
+abbrev pub have_along : Bool → List Rectangle → ℕ → ℕ → Bool
+have_along upright rectangles line place = list_any (λ rectangle. has_along upright rectangle line place) rectangles
+
+-- rectangles lie on so many lines of so many places
+abbrev pub AreAlong : Bool → ℕ → ℕ → List Rectangle → Type 0
+AreAlong true lines places rectangles = All (IsWithin places lines) rectangles
+AreAlong false lines places rectangles = All (IsWithin lines places) rectangles
+
+-- rectangles have more places than others had: those of a range along a line
+abbrev pub HaveMore : Bool → ℕ → ℕ × ℕ → List Rectangle → List Rectangle → Type 0
+HaveMore upright line range old new = (l p : ℕ) → have_along upright new l p ≡ (have_along upright old l p || ((l == line) && lies_in range p))
+
+-- rectangles have the places of the lines of a range that are near a strip, and no others
+abbrev pub HaveNear : Bool → StripValue → List ℤ → List ℤ → ℕ × ℕ → List Rectangle → Type 0
+HaveNear upright strip lines values range rectangles = (l p : ℕ) → l < length lines → p < length values
+    → have_along upright rectangles l p ≡ (lies_in range l && near_segment (spot_at (value_at lines l) (value_at values p)) strip.a strip.b strip.width)

@@ -3,21 +3,11 @@ ghost use Rattle.std.specs.Prelude.{◌≡◌, ◌≤◌, ◌<◌, ◌+◌, ◌/
 ghost use Rattle.std.specs.Int.RustNames.{unsigned_abs};
 ghost use Rattle.edr_axes.specs.Axes.{value_at};
 ghost use Rattle.edr_base.specs.Limits.{IsCoordinate, IsMetres, coordinate_limit, distance_limit};
-ghost use Rattle.edr_base.specs.Boxes.{is_between};
-ghost use Rattle.edr_corridor.specs.Boxes.{lies_in};
+ghost use Rattle.edr_geometry.specs.Ranges.{lies_in};
 ghost use Rattle.edr_corridor.specs.Parts.{IsBand, IsAbout, band_has};
 
-use edr_axes::{Axis, bounds_split_axes};
-
-/// The places, from 0, of the values from a low number to a high one: the first, and the one behind the last.
-pub fn places_between(axis: &Axis, low: i64, high: i64) -> (usize, usize)
-    ensures inside { (result.0 ≤ result.1) × (result.1 ≤ length axis.now) }
-    ensures lies { (place : ℕ) → place < length axis.now → lies_in result place ≡ is_between low high (value_at axis.now place) }
-{
-    bounds_split_axes();
-    let _ascending = axis.values();
-    axis.range(low, high)
-}
+use edr_axes::Axis;
+use edr_geometry::places_between;
 
 /// The numbers at most half a whole below a low number and above a high one.
 #[derive(Clone, Copy)]

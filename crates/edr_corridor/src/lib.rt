@@ -4,10 +4,10 @@
 mod bands;
 mod boxes;
 mod laws;
+mod rectangles;
 mod segment;
 mod segments;
-mod strips;
 
-pub use boxes::SegmentBox;
+pub use boxes::{Rectangle, SegmentBox};
 pub use laws::{boxes_are_wanted, corridors_are_cut, near_places_are_within};
 pub use segments::Segments;

@@ -3,13 +3,15 @@ ghost use Rattle.std.specs.Prelude.{◌≡◌, ◌≤◌, ◌<◌, ◌&&◌, ℕ
 ghost use Rattle.edr_base.specs.declared.places.Spot.{Spot};
 ghost use Rattle.edr_axes.specs.Axes.{value_at, axis_length};
 ghost use Rattle.edr_geometry.specs.Planar as plane;
-ghost use Rattle.edr_corridor.specs.Boxes.{lies_in, level_at};
+ghost use Rattle.edr_geometry.specs.Ranges.{lies_in};
+ghost use Rattle.edr_geometry.specs.Limits.{IsSpot};
+ghost use Rattle.edr_corridor.specs.Boxes.{level_at};
 ghost use Rattle.edr_corridor.specs.Parts.{IsSegment, IsPlacedNode, IsBand, IsAbout, needs_level, has_level, has_time, has_height, has_spot};
 
-use crate::bands::{Band, places_between};
+use crate::bands::Band;
 use edr_axes::Axis;
 use edr_base::{Position, Spot};
-use edr_geometry::{near_segment, spot_of};
+use edr_geometry::{near_segment, places_between, spot_of};
 
 /// What a corridor asks of each segment of its line, in metres.
 #[derive(Clone, Copy, Debug)]
@@ -80,15 +82,15 @@ impl Segment {
         }
     }
 
-    // Whether it takes the place of a node.
-    fn takes_spot(&self, node: &Node) -> bool
+    /// Whether it takes the place of a node.
+    pub fn takes_spot(&self, spot: Spot) -> bool
         requires segment { IsSegment self.now }
-        requires node { IsPlacedNode node.now }
-        ensures { result ≡ plane.near_segment node.now.spot (plane.spot_of self.now.start) (plane.spot_of self.now.end) self.now.rule.width }
+        requires spot_in { IsSpot spot }
+        ensures { result ≡ plane.near_segment spot (plane.spot_of self.now.start) (plane.spot_of self.now.end) self.now.rule.width }
     {
         let start = spot_of(&self.start);
         let end = spot_of(&self.end);
-        near_segment(node.spot, start, end, self.rule.width)
+        near_segment(spot, start, end, self.rule.width)
     }
 
     /// Whether it takes time, level and place of a node.
@@ -97,7 +99,7 @@ impl Segment {
         requires node { IsPlacedNode node.now }
         ensures { result ≡ (has_time self.now (Some node.now.t) && (has_height self.now node.now.z && has_spot self.now node.now.spot.y node.now.spot.x)) }
     {
-        self.takes_time(node) && self.takes_level(node) && self.takes_spot(node)
+        self.takes_time(node) && self.takes_level(node) && self.takes_spot(node.spot)
     }
 
     /// The places, from 0, of the times that it takes: the first, and the one behind the last.

@@ -10,8 +10,8 @@ ghost use Rattle.edr_corridor.specs.Boxes.{TakesNodes, LiesOn, LiesNear};
 ghost use Rattle.edr_corridor.specs.Parts.{IsSegment, IsSegmentAt};
 
 use crate::boxes::SegmentBox;
+use crate::rectangles::rectangles_where;
 use crate::segment::{Node, Rule, Segment};
-use crate::strips::strip_where;
 use edr_axes::Axis;
 use edr_base::{OutOfMemory, Position, Spot};
 use std::alloc::Global;
@@ -142,7 +142,8 @@ impl Segments {
     /// What the segment of a number, from 0, takes of the nodes of a grid, or want of memory.
     ///
     /// The axes have times in seconds since 1970-01-01T00:00:00Z, and levels, y and x in metres. Where the line has z or a level is
-    /// asked there is an axis of levels. Only rows and columns at most half the width away from the segment are looked at.
+    /// asked there is an axis of levels. Only rows, or columns where these are fewer, at most
+    /// half the width away from the segment are looked at.
     pub fn box_of(
         &self,
         alloc: Global,
@@ -165,13 +166,10 @@ impl Segments {
         let times = segment.times_on(ts);
         let levels = segment.levels_on(zs);
         let asked = have_places(times, levels);
-        let strip = strip_where(alloc, asked, &segment, ys, xs)?;
         Ok(SegmentBox {
             times,
             levels,
-            first_row: strip.first_row,
-            first_column: strip.first_column,
-            rows: strip.rows,
+            rectangles: rectangles_where(alloc, asked, &segment, ys, xs)?,
         })
     }
 }

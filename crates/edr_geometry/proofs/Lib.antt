@@ -4,4 +4,7 @@ pub mod Edges
 pub mod FlagLemmas
 pub mod Placed
 pub mod Outside
-pub mod Beside
+pub mod Products
+pub mod SpanLemmas
+pub mod StripLemmas
+pub mod StripNumbers

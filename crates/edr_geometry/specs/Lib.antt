@@ -1,5 +1,7 @@
 pub mod Limits
 pub mod Masks
 pub mod Planar
+pub mod Ranges
 pub mod Rows
+pub mod Spans
 pub mod Ways

@@ -1,5 +1,5 @@
 -- For private clauses: ways, discs and segments within the limits.
-use Rattle.std.specs.Prelude.{◌≤◌, ◌*◌, ℤ, ◌-ℤ◌, ◌<ℤ◌}
+use Rattle.std.specs.Prelude.{◌≤◌, ◌*◌}
 use Rattle.std.specs.Int.RustNames.{unsigned_abs}
 use Rattle.edr_geometry.specs.declared.points.Way.{Way}
 use Rattle.edr_geometry.specs.declared.discs.Disc.{Disc}
@@ -22,7 +22,3 @@ pub record IsSegment (segment : Segment) : Type 0 where
 pub record IsDisc (disc : Disc) : Type 0 where
   pub centre_in : IsSpot disc.centre
   pub radius_in : IsMetres disc.radius
-
--- an x is left of both ends of a segment by more than its width
-abbrev pub IsLeftOf : ℤ → Segment → Type 0
-IsLeftOf x segment = (segment.width <ℤ (segment.a.x -ℤ x)) × (segment.width <ℤ (segment.b.x -ℤ x))

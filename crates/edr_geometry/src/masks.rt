@@ -1,4 +1,4 @@
-//! Masks: which places of a row lie in polygons, in a disc, near a segment.
+//! Masks: which places of a row lie in polygons or in a disc.
 ghost use Rattle.std.specs.Prelude.{◌≡◌, IfOk, OnOk, ℕ, ◌+◌, ◌<◌, length, ◌||◌, false, MatchOption, slice_index_or};
 ghost use Rattle.std.specs.List.{All, flat_map};
 ghost use Rattle.edr_base.specs.Limits.{IsCoordinate, IsMetres};
@@ -9,9 +9,7 @@ ghost use Rattle.edr_geometry.specs.Masks.{row_of, IsSet, NoneSet};
 
 use crate::borders::touches_polygon;
 use crate::discs::{Disc, disc_of};
-use crate::near::Segment;
 use crate::rows::Row;
-use crate::strips::segment_of;
 use crate::toggles::join_odd;
 use crate::traces::trace_polygon;
 use edr_axes::Axis;
@@ -141,31 +139,6 @@ impl RowMask {
         let row = Row { y, xs: xs.values() };
         Ok(RowMask {
             places: disc_of(alloc, &Disc { centre, radius }, &row)?,
-        })
-    }
-
-    /// The places of a row at most half a width, in metres, from a segment, or want of memory.
-    ///
-    /// `y` and the values of `xs` are metres. At each place it is `near_segment` of that node. Only places within `width` of
-    /// the range of the ends' x are tested.
-    pub fn of_segment(
-        alloc: Global,
-        a: Spot,
-        b: Spot,
-        width: i64,
-        y: i64,
-        xs: &Axis,
-    ) -> Result<RowMask, OutOfMemory>
-        requires a_in { IsSpot a }
-        requires b_in { IsSpot b }
-        requires width_in { IsMetres width }
-        requires y_in { IsCoordinate y }
-        requires xs_in { All IsCoordinate xs.now }
-        ensures { IfOk result (λ mask. mask ≡ row_of (λ p. plane.near_segment p a b width) y xs.now) }
-    {
-        let row = Row { y, xs: xs.values() };
-        Ok(RowMask {
-            places: segment_of(alloc, &Segment { a, b, width }, &row)?,
         })
     }
 

@@ -1,9 +1,8 @@
 //! Places near a segment, in whole numbers.
-ghost use Rattle.std.specs.Prelude.{◌≡◌, ◌≤◌, ◌+◌, ℤ, ◌+ℤ◌, ◌*ℤ◌, ◌<ℤ◌, ◌&&◌, int_le, int_lt, pos};
-ghost use Rattle.std.specs.Int.RustNames.{unsigned_abs};
+ghost use Rattle.std.specs.Prelude.{◌≡◌, ◌*ℤ◌, int_le, pos};
 ghost use Rattle.edr_geometry.specs.Limits.{IsSpot};
-ghost use Rattle.edr_base.specs.Limits.{IsMetres, coordinate_limit, distance_limit};
-ghost use Rattle.edr_geometry.specs.Ways.{IsSegment, IsLeftOf};
+ghost use Rattle.edr_base.specs.Limits.{IsMetres};
+ghost use Rattle.edr_geometry.specs.Ways.{IsSegment};
 ghost use Rattle.edr_geometry.specs.Planar as plane;
 
 use crate::points::{Way, squared_distance};
@@ -18,16 +17,16 @@ pub struct Segment {
 }
 
 impl Segment {
-    // The square of the width, in square metres.
-    fn squared_width(&self) -> i128
+    /// The square of the width, in square metres.
+    pub fn squared_width(&self) -> i128
         requires { IsSegment self.now }
         ensures { result ≡ self.now.width *ℤ self.now.width }
     {
         (self.width * self.width) as i128
     }
 
-    // The square of the length, in square metres.
-    fn squared_length(&self) -> i128
+    /// The square of the length, in square metres.
+    pub fn squared_length(&self) -> i128
         requires { IsSegment self.now }
         ensures { result ≡ plane.squared_distance self.now.a self.now.b }
     {
@@ -96,38 +95,6 @@ impl Segment {
         ensures { result ≡ int_le (plane.squared_distance self.now.a self.now.b) (plane.along p.now self.now.a self.now.b) }
     {
         self.squared_length() <= self.along(p) as i128
-    }
-
-    /// An x such that no place left of it is near the segment.
-    pub fn least_x(&self) -> i64
-        requires { IsSegment self.now }
-        ensures small { unsigned_abs result ≤ coordinate_limit + distance_limit }
-        ensures left { (x : ℤ) → x <ℤ result → IsLeftOf x self.now }
-    {
-        if self.a.x < self.b.x {
-            self.a.x - self.width
-        } else {
-            self.b.x - self.width
-        }
-    }
-
-    // Whether a place is right of an end by more than the width.
-    fn is_end_left_of(&self, end: &Spot, p: &Spot) -> bool
-        requires segment { IsSegment self.now }
-        requires end_in { IsSpot end.now }
-        ensures { result ≡ int_lt (end.now.x +ℤ self.now.width) p.now.x }
-    {
-        end.x + self.width < p.x
-    }
-
-    /// Whether a place is right of both ends by more than the width.
-    pub fn is_left_of(&self, p: &Spot) -> bool
-        requires { IsSegment self.now }
-        ensures { result ≡ (int_lt (self.now.a.x +ℤ self.now.width) p.now.x && int_lt (self.now.b.x +ℤ self.now.width) p.now.x) }
-    {
-        let start = self.is_end_left_of(&self.a, p);
-        let end = self.is_end_left_of(&self.b, p);
-        start && end
     }
 
     /// Whether a place is at most half the width from the segment.

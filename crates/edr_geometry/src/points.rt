@@ -19,8 +19,8 @@ fn is_among(one: i64, other: i64, v: i64) -> bool
 /// The way from one place to another, in metres.
 #[derive(Clone, Copy)]
 pub struct Way {
-    x: i64,
-    y: i64,
+    pub x: i64,
+    pub y: i64,
 }
 
 impl Way {

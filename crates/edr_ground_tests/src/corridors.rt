@@ -1,5 +1,5 @@
 //! Corridors that people can draw: a line for each row of nodes, cut here. `#` is a place that is wanted, `.` one that isn't.
-ghost use Rattle.std.specs.Prelude.{◌≡◌, true, IfSome, IsSome};
+ghost use Rattle.std.specs.Prelude.{◌≡◌, ◌<◌, true, length, IfSome, IsSome};
 ghost use Rattle.std.specs.List.{All};
 ghost use Rattle.edr_wkt.specs.Faults.{IsGeometry};
 ghost use Rattle.edr_base.specs.Limits.{IsCoordinate, IsMetres};
@@ -7,8 +7,7 @@ ghost use Rattle.edr_corridor.specs.Values.{needs_level};
 
 use crate::words::{axis_of, coordinate, distance, is_marked};
 use edr_axes::Axis;
-use edr_corridor::{SegmentBox, Segments};
-use edr_geometry::RowMask;
+use edr_corridor::{Rectangle, SegmentBox, Segments};
 use edr_wkt::{Geometry, read_wkt};
 use std::alloc::Global;
 use std::rt::HostRuntime;
@@ -84,6 +83,22 @@ const ROWS: &str = "\
 0 100000000 400000000;LINESTRING(0 0,0 0);0 -100000000 0;0 => #
 0 100000000 399999999;LINESTRING(0 0,0 0);0 -100000000 0;0 => .
 ";
+
+// Corridors whose nodes are tested one by one, of a tall plane and of a wide one.
+const PLANES: &str = "\
+10 - -;LINESTRING(-30 -20,30 20)
+10 - -;LINESTRING(-20 -30,20 30,-20 35,0 -40)
+0 - -;LINESTRING(0 0,5 10)
+0 - -;LINESTRING(5 -100,5 100)
+7 - -;LINESTRING(-100 4,100 5)
+24 - -;LINESTRING(0 0,0 0)
+400000000 - -;LINESTRING(0 0,1 1)
+30 - -;LINESTRING(100 0,100 100)
+";
+
+const MANY: &str = "-40 -35 -30 -25 -20 -15 -10 -5 0 5 10 15 20 25 30 35 40";
+
+const FEW: &str = "-5 0 5";
 
 // A level, where there is one.
 fn level_if(text: &str) -> Option<i64>
@@ -203,27 +218,30 @@ fn are_wanted(segments: &Segments, t: i64, z: Option<i64>, y: i64, xs: &Axis, pi
     right
 }
 
-// Whether a mask of some columns from one on has a column.
-fn is_set_from(mask: &RowMask, first: usize, place: usize) -> bool {
-    first <= place && place - first < mask.len() && mask.is_set(place - first)
+// Whether a place lies in a range.
+fn lies_in(range: (usize, usize), place: usize) -> bool {
+    range.0 <= place && place < range.1
 }
 
-// Whether a box takes the node of the first time, level and row in some column.
-fn takes_first(taken: &SegmentBox, place: usize) -> bool {
-    if taken.times != (0, 1) || taken.levels != (0, 1) || taken.first_row != 0 {
-        return false;
+// Whether one of some rectangles has a row and a column.
+fn have_place(rectangles: &[Rectangle], row: usize, column: usize) -> bool {
+    let mut has = false;
+    for one in rectangles {
+        has = lies_in(one.rows, row) && lies_in(one.columns, column) || has;
     }
-    match taken.rows.first() {
-        Some(mask) => is_set_from(mask, taken.first_column, place),
-        None => false,
-    }
+    has
+}
+
+// Whether a box takes the node of the first time and level in a row and a column.
+fn takes_place(taken: &SegmentBox, row: usize, column: usize) -> bool {
+    taken.times == (0, 1) && taken.levels == (0, 1) && have_place(&taken.rectangles, row, column)
 }
 
 // Whether one of some boxes does.
-fn one_takes_first(boxes: &[SegmentBox], place: usize) -> bool {
+fn one_takes(boxes: &[SegmentBox], row: usize, column: usize) -> bool {
     let mut taken = false;
     for one in boxes {
-        taken = takes_first(one, place) || taken;
+        taken = takes_place(one, row, column) || taken;
     }
     taken
 }
@@ -232,7 +250,7 @@ fn one_takes_first(boxes: &[SegmentBox], place: usize) -> bool {
 fn are_taken(boxes: &[SegmentBox], count: usize, picture: &str) -> bool {
     let mut right = count == picture.len();
     for place in 0..count {
-        right = one_takes_first(boxes, place) == is_marked(picture, place) && right;
+        right = one_takes(boxes, 0, place) == is_marked(picture, place) && right;
     }
     right
 }
@@ -327,6 +345,55 @@ fn is_row(alloc: Global, corridor: &str, line: &str, at: &str, along: &str, pict
     }
 }
 
+// Whether each node of a row is wanted exactly where a box takes it.
+fn is_row_in(segments: &Segments, boxes: &[SegmentBox], axes: &Axes, row: usize) -> bool
+    requires ys_in { All IsCoordinate axes.now.ys }
+    requires xs_in { All IsCoordinate axes.now.xs }
+    requires row { row < length axes.now.ys }
+{
+    let time = first_of(&axes.ts);
+    let y = axes.ys.value(row);
+    let mut right = true;
+    for column in 0..axes.xs.len() {
+        let wanted = segments.wants(time, None, y, axes.xs.value(column));
+        right = one_takes(boxes, row, column) == wanted && right;
+    }
+    right
+}
+
+// Whether each node of a plane is wanted exactly where a box takes it.
+fn is_plane(alloc: Global, corridor: &str, line: &str, axes: &Axes) -> Option<bool>
+    requires ys_in { All IsCoordinate axes.now.ys }
+    requires xs_in { All IsCoordinate axes.now.xs }
+{
+    let segments = segments_of(alloc, corridor, line, None)?;
+    let boxes = boxes_of(alloc, &segments, &axes.ts, None, &axes.ys, &axes.xs)?;
+    let mut right = true;
+    for row in 0..axes.ys.len() {
+        right = is_row_in(&segments, &boxes, axes, row) && right;
+    }
+    Some(right)
+}
+
+// Whether the nodes of a plane of these rows and columns are wanted so.
+fn is_right_plane(alloc: Global, corridor: &str, rows: &str, columns: &str) -> bool {
+    let (asked, line) = corridor.split_once(';').unwrap_or((corridor, ""));
+    match axes_of(alloc, "0", "-", rows, columns) {
+        Some(axes) => is_plane(alloc, asked, line, &axes) == Some(true),
+        None => false,
+    }
+}
+
+// The first corridor of which a plane isn't right, tall or wide; none is empty.
+fn first_wrong_plane(alloc: Global, corridors: &str) -> &str {
+    for line in corridors.lines() {
+        if !is_right_plane(alloc, line, MANY, FEW) || !is_right_plane(alloc, line, FEW, MANY) {
+            return line;
+        }
+    }
+    ""
+}
+
 // Whether a line is right.
 fn is_right(alloc: Global, asked: &str, picture: &str) -> bool {
     let (corridor, rest) = asked.split_once(';').unwrap_or((asked, ""));
@@ -346,11 +413,12 @@ fn first_wrong(alloc: Global, lines: &str) -> &str {
     ""
 }
 
-// Whether there are two masks: the first one begins at place 0, the last one ends at place 2.
-fn are_two_masks(rows: &[RowMask]) -> Option<bool> {
-    let first = rows.first()?.first();
-    let last = rows.last()?.last();
-    Some(rows.len() == 2 && first == Some(0) && last == Some(2))
+// Whether the first place of some rectangles is in the first row and the second column, and the last in the second row and the
+// fourth column.
+fn are_corners(rectangles: &[Rectangle]) -> Option<bool> {
+    let first = rectangles.first()?;
+    let last = rectangles.last()?;
+    Some(first.rows.0 == 0 && first.columns.0 == 1 && last.rows.1 == 2 && last.columns.1 == 4)
 }
 
 // Whether the second of two segments takes these times, levels, rows and columns of a grid.
@@ -367,8 +435,7 @@ fn is_second_box(alloc: Global, segments: &Segments, axes: &Axes) -> Option<bool
         .box_of(alloc, 1, &axes.ts, zs, &axes.ys, &axes.xs)
         .ok()?;
     let ranges = taken.times == (1, 3) && taken.levels == (0, 4);
-    let corner = taken.first_row == 0 && taken.first_column == 1;
-    Some(ranges && corner && are_two_masks(&taken.rows)?)
+    Some(ranges && are_corners(&taken.rectangles)?)
 }
 
 // Whether the last of the two segments of a line takes its part of a grid.
@@ -393,6 +460,11 @@ fn rows_of_nodes(rt: HostRuntime) {
 }
 
 #[test]
-fn ranges_and_masks(rt: HostRuntime) {
+fn planes_of_nodes(rt: HostRuntime) {
+    assert_eq!(rt; first_wrong_plane(rt.alloc(), PLANES), "");
+}
+
+#[test]
+fn ranges_and_rectangles(rt: HostRuntime) {
     assert_eq!(rt; is_box(rt.alloc()), Some(true));
 }

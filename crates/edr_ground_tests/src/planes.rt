@@ -9,8 +9,8 @@ use crate::words::{axis_of, coordinate, coordinates, distance, is_marked};
 use edr_axes::Axis;
 use edr_base::Spot;
 use edr_geometry::{
-    RowMask, geometries_are_placed, in_disc, in_polygons, near_segment, on_segment,
-    squared_distance,
+    NearRanges, RowMask, Strip, geometries_are_placed, in_disc, in_polygons, near_segment,
+    on_segment, squared_distance,
 };
 use edr_wkt::{Geometry, Polygon, read_wkt};
 use std::alloc::Global;
@@ -85,6 +85,53 @@ const ROWS: &str = "\
 0;-100000000 0 100000000;SEGMENT 141421357 -100000000 -100000000 100000000 100000000 => ###
 0;-100000000 0 100000000;SEGMENT 141421356 -100000000 -100000000 100000000 100000000 => .#.
 ";
+
+// Segments by width and ends: slanted, flat, upright, back, of no length, far away, of width 0 and 1, with places on their border.
+const STRIPS: &str = "\
+10 -7 -3 6 8
+10 6 8 -7 -3
+10 -7 8 6 -3
+10 6 -3 -7 8
+10 -6 0 7 0
+10 7 0 -6 0
+10 0 -6 0 7
+10 0 7 0 -6
+10 1 2 1 2
+10 40 40 60 80
+10 -40 2 60 4
+0 -8 -6 8 6
+0 -3 -3 5 5
+0 4 4 4 4
+1 0 0 2 2
+1 -9 1 9 0
+2 0 0 2 2
+3 -9 -1 9 0
+5 0 0 10 10
+7 3 -15 4 15
+24 -2 -1 2 1
+40 -1 0 0 1
+400000000 0 0 1 1
+0 -100000000 -100000000 100000000 100000000
+1 -100000000 99999999 100000000 -100000000
+10 -100000000 -99999997 100000000 100000000
+";
+
+// Numbers from below the segments to above them.
+const SQUARE: &str =
+    "-16 -15 -14 -13 -12 -11 -10 -9 -8 -7 -6 -5 -4 -3 -2 -1 0 1 2 3 4 5 6 7 8 9 10 11 12 13 14 15 16";
+
+// Segments and numbers at the ends of the limits.
+const WIDEST: &str = "\
+141421357 -100000000 -100000000 100000000 100000000
+141421356 -100000000 -100000000 100000000 100000000
+282842713 100000000 -100000000 -100000000 100000000
+400000000 -100000000 100000000 -100000000 100000000
+399999999 100000000 100000000 100000000 100000000
+400000000 100000000 -100000000 100000000 100000000
+1 -100000000 100000000 99999999 -100000000
+";
+
+const WHOLE: &str = "-100000000 -99999999 -50000000 -1 0 1 50000000 50000001 99999999 100000000";
 
 // The numbers of two ends and a place, whether the place is on the segment, and its squared distance to the first end.
 const SEGMENTS: &str = "\
@@ -186,10 +233,6 @@ fn mask_of(alloc: Global, shape: &str, y: i64, xs: &Axis) -> Option<RowMask>
         let disc = disc_of(alloc, text)?;
         return RowMask::of_disc(alloc, disc.centre, disc.radius, y, xs).ok();
     }
-    if let Some(text) = shape.strip_prefix("SEGMENT ") {
-        let segment = segment_of(alloc, text)?;
-        return RowMask::of_segment(alloc, segment.a, segment.b, segment.width, y, xs).ok();
-    }
     let geometry = read_wkt(alloc, shape.as_bytes()).ok()?;
     RowMask::of_polygons(alloc, polygons_in(&geometry)?, y, xs).ok()
 }
@@ -235,17 +278,96 @@ fn are_taken(alloc: Global, shape: &str, y: i64, xs: &Axis, picture: &str) -> bo
     whole
 }
 
+// Whether a place lies in a range.
+fn lies_in(range: (usize, usize), place: usize) -> bool {
+    range.0 <= place && place < range.1
+}
+
+// Whether a place lies in one of three ranges.
+fn lies_in_some(ranges: &NearRanges, place: usize) -> bool {
+    let before = lies_in(ranges.before, place);
+    let beside = lies_in(ranges.beside, place);
+    before || beside || lies_in(ranges.behind, place)
+}
+
+// Whether the ranges of a row near a segment have these places.
+fn is_near_row(alloc: Global, text: &str, y: i64, xs: &Axis, picture: &str) -> bool
+    requires y_in { IsCoordinate y }
+    requires xs_in { All IsCoordinate xs.now }
+{
+    let Some(segment) = segment_of(alloc, text) else {
+        return false;
+    };
+    let ranges = Strip::of(segment.a, segment.b, segment.width).near_row(y, xs);
+    let mut whole = xs.len() == picture.len();
+    for place in 0..xs.len() {
+        whole = lies_in_some(&ranges, place) == is_marked(picture, place) && whole;
+    }
+    whole
+}
+
+// Whether the ranges of a row are those of the test of each of its places.
+fn is_tested_row(segment: &Segment, y: i64, xs: &Axis) -> bool
+    requires a_in { IsSpot segment.now.a }
+    requires b_in { IsSpot segment.now.b }
+    requires width_in { IsMetres segment.now.width }
+    requires y_in { IsCoordinate y }
+    requires xs_in { All IsCoordinate xs.now }
+{
+    let ranges = Strip::of(segment.a, segment.b, segment.width).near_row(y, xs);
+    let mut whole = true;
+    for place in 0..xs.len() {
+        let p = Spot {
+            x: xs.value(place),
+            y,
+        };
+        let near = near_segment(p, segment.a, segment.b, segment.width);
+        whole = lies_in_some(&ranges, place) == near && whole;
+    }
+    whole
+}
+
+// Whether the ranges of the rows of a square are those of the test of each of its places.
+fn is_tested(alloc: Global, text: &str, square: &Axis) -> bool
+    requires { All IsCoordinate square.now }
+{
+    let Some(segment) = segment_of(alloc, text) else {
+        return false;
+    };
+    let mut whole = true;
+    for place in 0..square.len() {
+        whole = is_tested_row(&segment, square.value(place), square) && whole;
+    }
+    whole
+}
+
+// The first of some segments of which a row of a square isn't right; none is empty.
+fn first_untested<'a>(alloc: Global, segments: &'a str, values: &'a str) -> &'a str {
+    let Some(square) = axis_of(alloc, values) else {
+        return values;
+    };
+    for line in segments.lines() {
+        if !is_tested(alloc, line, &square) {
+            return line;
+        }
+    }
+    ""
+}
+
 fn is_masked(alloc: Global, shape: &str, y: i64, xs: &Axis, picture: &str) -> bool
     requires y_in { IsCoordinate y }
     requires xs_in { All IsCoordinate xs.now }
 {
+    if let Some(text) = shape.strip_prefix("SEGMENT ") {
+        return is_near_row(alloc, text, y, xs, picture);
+    }
     match mask_of(alloc, shape, y, xs) {
         Some(mask) => is_mask(&mask, picture),
         None => false,
     }
 }
 
-// Whether a row is taken so by a shape: by its mask, and by the test of each place.
+// Whether a row is taken so by a shape: by its mask or its ranges, and by the test of each place.
 fn is_row(alloc: Global, row: &str, shape: &str, picture: &str) -> bool {
     let (first, second) = row.split_once(';').unwrap_or((row, ""));
     match (coordinate(first), axis_of(alloc, second)) {
@@ -324,6 +446,12 @@ fn join_to(alloc: Global, first: &str, second: &str, picture: &str) -> bool {
 fn rows_and_segments(rt: HostRuntime) {
     assert_eq!(rt; first_wrong(rt.alloc(), ROWS), "");
     assert_eq!(rt; first_wrong(rt.alloc(), SEGMENTS), "");
+}
+
+#[test]
+fn strips_are_tested(rt: HostRuntime) {
+    assert_eq!(rt; first_untested(rt.alloc(), STRIPS, SQUARE), "");
+    assert_eq!(rt; first_untested(rt.alloc(), WIDEST, WHOLE), "");
 }
 
 #[test]

@@ -4,7 +4,7 @@ use Rattle.std.proofs.lemmas.Bool.{cases_eq}
 use Rattle.std.specs.Prelude.{◌&&◌, ◌||◌, ◌⊎◌}
 use Rattle.std.proofs.Math.ListN.{set}
 use Rattle.std.proofs.lemmas.Bool.Decides.{nat_tests}
-use Rattle.edr_corridor.specs.Boxes.{lies_in}
+use Rattle.edr_geometry.specs.Ranges.{lies_in}
 use Rattle.edr_select.specs.ListLaws.{any_range}
 use Rattle.edr_lines.specs.Boxes.{some_asked, SetAsked}
 use Rattle.edr_lines.proofs.Ends.{any_none}

@@ -5,7 +5,8 @@ use Rattle.std.specs.List.{list_any, range_with_len}
 use Rattle.std.proofs.lemmas.Bool.{false_from_ne_true, and_parts}
 use Rattle.std.proofs.lemmas.List.{get_or-replicate, length-replicate}
 use Rattle.edr_corridor.specs.declared.boxes.SegmentBox.{SegmentBox}
-use Rattle.edr_corridor.specs.Boxes.{lies_in, box_takes}
+use Rattle.edr_geometry.specs.Ranges.{lies_in}
+use Rattle.edr_corridor.specs.Boxes.{box_takes}
 use Rattle.edr_select.specs.ListLaws.{both, passes_at, any_range}
 use Rattle.edr_lines.specs.declared.spreads.Extent.{Extent}
 use Rattle.edr_lines.specs.Taken.{Counts, NodeTest, either, some_at_time, some_at_level}

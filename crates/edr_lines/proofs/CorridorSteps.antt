@@ -24,7 +24,7 @@ use Rattle.edr_lines.specs.Asked.{IsAskedAlong}
 use Rattle.edr_lines.specs.Bits.{IsSmall}
 use Rattle.edr_lines.specs.Corridors as corridors
 use Rattle.edr_lines.specs.Corridors.{CorridorValue, IsCorridorOf}
-use Rattle.edr_lines.specs.Plans.{axes_of, IsFew, HasNodes, stacked_count}
+use Rattle.edr_lines.specs.Plans.{axes_of, IsFew, HasNodes, AreSidesOrMore, stacked_count}
 use Rattle.edr_lines.specs.Taken.{counts_of, NoneTaken, AreSidesOf}
 use Rattle.edr_lines.proofs.GridSides.{is_few, rows_placed, columns_placed}
 use Rattle.edr_lines.proofs.StackSizes.{nodes_fit}
@@ -107,18 +107,19 @@ levels_there c q i corridor along axes axes_are lacks needs =
 
 -- ---- sides
 
-module _ (i : InstanceValue) (corridor : CorridorValue) (axes : GridAxes) (axes_are : axes ≡ axes_of i) (found : Option SidesValue)
-    (is : MatchOption found (NoneTaken (counts_of axes) (corridors.takes corridor axes)) (AreSidesOf (counts_of axes) (corridors.takes corridor axes))) where
-  there : MatchOption found (NoneTaken (counts_of (axes_of i)) (corridors.takes corridor (axes_of i))) (AreSidesOf (counts_of (axes_of i)) (corridors.takes corridor (axes_of i)))
-  there = subst (λ (a : GridAxes). MatchOption found (NoneTaken (counts_of a) (corridors.takes corridor a)) (AreSidesOf (counts_of a) (corridors.takes corridor a))) axes_are is
+module _ (i : InstanceValue) (corridor : CorridorValue) (axes : GridAxes) (axes_are : axes ≡ axes_of i) (parameters : List ℕ) (found : Option SidesValue)
+    (is : MatchOption found (NoneTaken (counts_of axes) (corridors.takes corridor axes)) (AreSidesOrMore parameters (counts_of axes) (corridors.takes corridor axes))) where
+  abbrev Found : GridAxes → Option SidesValue → Type 0
+  Found a o = MatchOption o (NoneTaken (counts_of a) (corridors.takes corridor a)) (AreSidesOrMore parameters (counts_of a) (corridors.takes corridor a))
+
+  there : Found (axes_of i) found
+  there = subst (λ (a : GridAxes). Found a found) axes_are is
 
   pub none_found : found ≡ None → NoneTaken (counts_of (axes_of i)) (corridors.takes corridor (axes_of i))
-  none_found e =
-      subst (λ (o : Option SidesValue). MatchOption o (NoneTaken (counts_of (axes_of i)) (corridors.takes corridor (axes_of i))) (AreSidesOf (counts_of (axes_of i)) (corridors.takes corridor (axes_of i)))) e there
+  none_found e = subst (λ (o : Option SidesValue). Found (axes_of i) o) e there
 
-  pub sides_found : (sides : SidesValue) → found ≡ Some sides → AreSidesOf (counts_of (axes_of i)) (corridors.takes corridor (axes_of i)) sides
-  sides_found sides e =
-      subst (λ (o : Option SidesValue). MatchOption o (NoneTaken (counts_of (axes_of i)) (corridors.takes corridor (axes_of i))) (AreSidesOf (counts_of (axes_of i)) (corridors.takes corridor (axes_of i)))) e there
+  pub sides_found : (sides : SidesValue) → found ≡ Some sides → AreSidesOrMore parameters (counts_of (axes_of i)) (corridors.takes corridor (axes_of i)) sides
+  sides_found sides e = subst (λ (o : Option SidesValue). Found (axes_of i) o) e there
 
 -- sides of few enough values are small
 pub are_small : (i : InstanceValue) (corridor : CorridorValue) (h : HasGrid i) (sides : SidesValue)

@@ -1,5 +1,5 @@
 mod Ends
-mod Rows
+mod RectangleNodes
 mod SegmentNumbers
 mod LineGrids
 mod LineRefusals
@@ -18,8 +18,6 @@ mod StackBits
 mod AskedAxes
 mod Joined
 mod AskedPlaces
-mod SetRows
-mod RowExtents
 mod TestedPicks
 mod TestedFrames
 mod CorridorSelects
@@ -34,6 +32,7 @@ mod StackSizes
 mod AxisParts
 mod StackValid
 mod FoundSides
+mod MoreSides
 mod SidesValid
 mod CorridorSteps
 mod CorridorPlans

@@ -6,7 +6,8 @@ use Rattle.std.proofs.lemmas.Bool.{eq-eqb, cases_eq, lt-ltb, le-ltb, ne_eqb, and
 use Rattle.std.proofs.lemmas.Bool.Decides.{nat_tests}
 use borrow.Rule.Slice.PartMut.{put_mid}
 use Rattle.edr_corridor.specs.declared.boxes.SegmentBox.{SegmentBox}
-use Rattle.edr_corridor.specs.Boxes.{lies_in, box_takes}
+use Rattle.edr_geometry.specs.Ranges.{lies_in}
+use Rattle.edr_corridor.specs.Boxes.{box_takes}
 use Rattle.edr_select.specs.Stacks.{SidesValue, plane_size, time_at, level_at}
 use Rattle.edr_lines.specs.Bits.{InBox, PlaneSet, LevelTest, LevelSet, LevelsSet, TimeSet, TimesSet, node_number, level_number, time_number, time_size, takes_below}
 use Rattle.edr_lines.specs.Boxes.{has_node}

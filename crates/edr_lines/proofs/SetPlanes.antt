@@ -1,19 +1,23 @@
--- A plane that is set where a box has a node, row by row.
-use Rattle.std.proofs.Common.{◌≡◌, ℕ, ◌+◌, ◌-◌, ◌*◌, ◌<◌, ◌≤◌, Bool, true, false, List, [], length, get_or, take, drop, eqb, refl, ap, ap₂, sym, ◌∙◌, subst, arith, inl, inr, length-take, length-drop}
+-- A plane that is set where a box has a node, rectangle by rectangle and row by row.
+use Rattle.std.proofs.Common.{◌≡◌, ℕ, ◌+◌, ◌-◌, ◌*◌, ◌<◌, ◌≤◌, Bool, true, false, List, [], length, get_or, take, drop, replicate, eqb, refl, ap, ap₂, sym, ◌∙◌, subst, arith, inl, inr, length-take, length-drop, All}
 use Rattle.std.proofs.Math.Bool.{or_assoc}
-use Rattle.std.specs.Prelude.{◌&&◌, ◌||◌, nat_le, Option, None, Some, is_some, MatchOption}
+use Rattle.std.specs.Prelude.{◌&&◌, ◌||◌}
 use Rattle.std.proofs.Math.Nat.{mul-le-mul_left}
-use Rattle.std.proofs.lemmas.Bool.{eq-eqb, and_parts, le-leb, cases_eq, ne_eqb}
+use Rattle.std.proofs.lemmas.Bool.{cases_lt, cases_eq, eq-eqb, ne_eqb, or_right}
+use Rattle.std.proofs.lemmas.Bool.Decides.{nat_tests}
+use Rattle.std.proofs.lemmas.List.{get_or-replicate, length-replicate}
+use Rattle.edr_corridor.specs.declared.boxes.Rectangle.{Rectangle}
 use Rattle.edr_corridor.specs.declared.boxes.SegmentBox.{SegmentBox}
-use Rattle.edr_base.specs.Limits.{node_limit}
-use Rattle.edr_geometry.specs.Masks.{IsSet, NoneSet}
+use Rattle.edr_geometry.specs.Ranges.{lies_in}
+use Rattle.edr_corridor.specs.Boxes.{has_place}
 use Rattle.edr_select.specs.Stacks.{SidesValue, plane_size}
 use borrow.Rule.Slice.PartMut.{put_mid}
-use Rattle.edr_lines.specs.Bits.{RowSet, BoxFits, InBox, PlaneSet, IsSmall, node_number}
-use Rattle.edr_lines.specs.Boxes.{has_node, has_above, has_in_row}
-use Rattle.edr_lines.proofs.Rows.{none_above, all_above, above_more}
-use Rattle.edr_lines.proofs.RowExtents.{node_set}
-use Rattle.edr_lines.proofs.Blocks.{block_end, block_full, block_set}
+use Rattle.edr_lines.specs.Bits.{RangeSet, RowFits, ColumnsFit, InBox, PlaneSet, IsSmall, node_number, is_in_row}
+use Rattle.edr_lines.specs.Boxes.{has_node, has_first}
+use Rattle.edr_lines.proofs.RectangleNodes.{no_rectangles, all_rectangles, rectangle_more}
+use Rattle.edr_lines.proofs.AskedPlaces.{lies_at}
+use Rattle.edr_lines.proofs.RangePlaces.{before_first, behind_end}
+use Rattle.edr_lines.proofs.Blocks.{block_end, block_full, block_set, put_full, put_before, put_behind, put_at}
 
 pub or_none : (b c : Bool) → c ≡ false → b ≡ (b || c)
 or_none true c h = refl
@@ -29,19 +33,6 @@ plane_few sides small = few sides.rows sides.columns (omega (arith, small.rows))
     few : (a b : ℕ) → a ≤ 4_000_000 → b ≤ 4_000_000 → a * b ≤ 16_000_000_000_000
     few a b h k = let one : a * b ≤ a * 4_000_000 = mul-le-mul_left a k in omega (arith, one, h)
 
--- a place of a mask that is set
-pub record SetAt (mask : List Bool) : Type 0 where
-  pub place : ℕ
-  pub is : get_or mask place false ≡ true
-
-pub some_set : (found : Option ℕ) (mask : List Bool) → MatchOption found (NoneSet mask 0 (length mask)) (λ place. IsSet mask place × NoneSet mask 0 place) → is_some found ≡ true → SetAt mask
-some_set None mask h some = cc
-some_set (Some place) mask h some = record { place = place; is = h.0.1 }
-
-pub none_set : (found : Option ℕ) (mask : List Bool) → MatchOption found (NoneSet mask 0 (length mask)) (λ place. IsSet mask place × NoneSet mask 0 place) → is_some found ≡ false → NoneSet mask 0 (length mask)
-none_set None mask h none = h
-none_set (Some place) mask h none = cc
-
 -- where a node stands in its plane
 pub in_columns : (sides : SidesValue) (y x : ℕ) → InBox sides y x → x - sides.column < sides.columns
 in_columns sides y x n = omega (arith, n.left, n.right)
@@ -49,108 +40,138 @@ in_columns sides y x n = omega (arith, n.left, n.right)
 pub in_rows : (sides : SidesValue) (y x : ℕ) → InBox sides y x → y - sides.row < sides.rows
 in_rows sides y x n = omega (arith, n.low, n.high)
 
--- ---- a row of a box
+-- ---- a range
 
-module _ (sides : SidesValue) (box : SegmentBox) (number : ℕ) (mask : List Bool) (is : mask ≡ get_or box.rows.items number []) where
-  set_node : (k : ℕ) → get_or mask k false ≡ true → has_node box (box.first_row + number) (box.first_column + k) ≡ true
-  set_node k set = (and_parts (eqb (box.first_row + number) (box.first_row + number)) (has_node box (box.first_row + number) (box.first_column + k)) (node_set box number mask is k set)).1
-
-  -- a place of its mask that is set lies in the sides
-  pub row_fits : BoxFits sides box → (k : ℕ) → get_or mask k false ≡ true → (sides.column ≤ box.first_column + k) × (box.first_column + k < sides.column + sides.columns)
-  row_fits fits k set = (fits (box.first_row + number) (box.first_column + k) (set_node k set)).1
-
-  -- and so does the row, where there is one
-  pub row_lies : BoxFits sides box → SetAt mask → (sides.row ≤ box.first_row + number) × (box.first_row + number < sides.row + sides.rows)
-  row_lies fits set = (fits (box.first_row + number) (box.first_column + set.place) (set_node set.place set.is)).0
-
-  -- where none is, nothing is set
-  pub no_row_set : ((y x : ℕ) → has_in_row box number y x ≡ false) → (plane : List Bool) → PlaneSet sides (has_in_row box number) plane plane
-  no_row_set none plane = record { full = refl; set = λ y x n. or_none (get_or plane (node_number sides y x) false) (has_in_row box number y x) (none y x) }
-
-  module _ (low : sides.row ≤ box.first_row + number) (high : box.first_row + number < sides.row + sides.rows) where
-    abbrev first : ℕ
-    first = box.first_row + number - sides.row
-
-    -- the truth values of the row are those of its mask
-    same_node : (y x : ℕ) → InBox sides y x
-        → (eqb (y - sides.row) first && (nat_le box.first_column (sides.column + (x - sides.column)) && get_or mask (sides.column + (x - sides.column) - box.first_column) false)) ≡ has_in_row box number y x
-    same_node y x n = elim (cases_eq y (box.first_row + number)) [
-      | inl e ↦ ap₂ (λ (b : Bool) (m : ℕ). b && (nat_le box.first_column m && get_or mask (m - box.first_column) false)) (eq-eqb (y - sides.row) first (ap (λ k. k - sides.row) e)) (column_at x n.left)
-          ∙ ap (λ (m : List Bool). nat_le box.first_column x && get_or m (x - box.first_column) false) (is ∙ ap (λ k. get_or box.rows.items k []) (sym (row_at y e)))
-          ∙ sym (ap₂ (λ (b c : Bool). b && ((c && nat_le box.first_column x) && get_or (get_or box.rows.items (y - box.first_row) []) (x - box.first_column) false))
-          (eq-eqb y (box.first_row + number) e) (le-leb box.first_row y (omega (arith, e))))
-      | inr differs ↦ ap (λ b. b && (nat_le box.first_column (sides.column + (x - sides.column)) && get_or mask (sides.column + (x - sides.column) - box.first_column) false))
-          (ne_eqb (y - sides.row) first (λ h. differs (apart y n.low h)))
-          ∙ sym (ap (λ b. b && has_node box y x) (ne_eqb y (box.first_row + number) differs))
-    ]
-      where
-        column_at : (x : ℕ) → sides.column ≤ x → sides.column + (x - sides.column) ≡ x
-        column_at x left = omega (arith, left)
-
-        row_at : (y : ℕ) → y ≡ box.first_row + number → y - box.first_row ≡ number
-        row_at y e = omega (arith, e)
-
-        apart : (y : ℕ) → sides.row ≤ y → y - sides.row ≡ first → y ≡ box.first_row + number
-        apart y from h = omega (arith, from, h, low)
-
-    pub row_set : (plane ws : List Bool) → length plane ≡ plane_size sides
-        → RowSet mask box.first_column sides.column (take (first * sides.columns + sides.columns - first * sides.columns) (drop (first * sides.columns) plane)) ws
-        → PlaneSet sides (has_in_row box number) plane (put_mid (first * sides.columns) (first * sides.columns + sides.columns - first * sides.columns) plane ws)
-    row_set plane ws full r =
-        let among : first < sides.rows = omega (arith, low, high) in
-        let long = part_long plane (first * sides.columns) sides.columns (omega (arith, full, block_end first sides.rows sides.columns among)) in
-        record {
-          full = block_full plane ws sides.columns sides.rows first full among r.full;
-          set = λ y x n.
-              block_set plane ws sides.columns sides.rows first full among r.full (y - sides.row) (x - sides.column) (in_columns sides y x n)
-              (nat_le box.first_column (sides.column + (x - sides.column)) && get_or mask (sides.column + (x - sides.column) - box.first_column) false)
-              (r.set (x - sides.column) (omega (arith, long, in_columns sides y x n)))
-              ∙ ap (λ b. get_or plane (node_number sides y x) false || b) (same_node y x n);
-        }
-
--- where a row with a place that is set stands in its plane
-pub record RowStands (sides : SidesValue) (box : SegmentBox) (number : ℕ) (mask plane : List Bool) : Type 0 where
-  pub fits : BoxFits sides box
-  pub full : length plane ≡ plane_size sides
-  pub low : sides.row ≤ box.first_row + number
-  pub high : box.first_row + number < sides.row + sides.rows
-  pub few : box.first_row + number < node_limit
-  pub end : (box.first_row + number - sides.row) * sides.columns + sides.columns ≤ length plane
-  pub small : (box.first_row + number - sides.row) * sides.columns + sides.columns ≤ 16_000_000_000_000
-  pub long : length (take ((box.first_row + number - sides.row) * sides.columns + sides.columns - (box.first_row + number - sides.row) * sides.columns) (drop ((box.first_row + number - sides.row) * sides.columns) plane))
-      ≡ sides.columns
-
-pub row_stands : (sides now : SidesValue) (box : SegmentBox) (number : ℕ) (mask plane : List Bool) → mask ≡ get_or box.rows.items number [] → sides ≡ now → IsSmall now → length plane ≡ plane_size now
-    → BoxFits now box → SetAt mask → RowStands sides box number mask plane
-row_stands sides now box number mask plane is same small_now full_now fits_now set =
-    let small : IsSmall sides = subst (λ (s : SidesValue). IsSmall s) (sym same) small_now in
-    let full : length plane ≡ plane_size sides = full_now ∙ ap (λ (s : SidesValue). plane_size s) (sym same) in
-    let fits : BoxFits sides box = subst (λ (s : SidesValue). BoxFits s box) (sym same) fits_now in
-    let lies = row_lies sides box number mask is fits set in
-    let end = block_end (box.first_row + number - sides.row) sides.rows sides.columns (omega (arith, lies.0, lies.1)) in
+pub range_set : (from end : ℕ) (old ws : List Bool) → from ≤ end → end ≤ length old → ws ≡ replicate (end - from) true → RangeSet (from, end) old (put_mid from (end - from) old ws)
+range_set from end old ws ordered inside is =
+    let long : length ws ≡ end - from = ap (λ (l : List Bool). length l) is ∙ length-replicate (end - from) true in
     record {
-      fits = fits;
-      full = full;
-      low = lies.0;
-      high = lies.1;
-      few = omega (arith, lies.1, small.rows);
-      end = omega (arith, full, end);
-      small = omega (arith, end, plane_few sides small);
-      long = part_long plane ((box.first_row + number - sides.row) * sides.columns) sides.columns (omega (arith, full, end));
+      full = put_full old ws from end ordered inside long;
+      set = λ k below. elim (cases_lt k from) [
+        | inl lt ↦ put_before old ws from end ordered inside long k lt ∙ or_none (get_or old k false) (lies_in (from, end) k) (before_first (from, end) k lt)
+        | inr ge ↦ elim (cases_lt k end) [
+          | inr past ↦ put_behind old ws from end ordered inside long k past ∙ or_none (get_or old k false) (lies_in (from, end) k) (behind_end (from, end) k past)
+          | inl lt ↦
+              let at : from + (k - from) ≡ k = omega (arith, ge) in
+              ap (λ i. get_or (put_mid from (end - from) old ws) i false) (sym at)
+              ∙ put_at old ws from end ordered inside long (k - from) (omega (arith, ge, lt))
+              ∙ ap (λ (l : List Bool). get_or l (k - from) false) is
+              ∙ get_or-replicate (end - from) (k - from) true false (omega (arith, ge, lt))
+              ∙ sym (or_right (get_or old k false) (lies_in (from, end) k) (lies_at from end k ge lt))
+        ]
+      ];
     }
 
--- ---- row by row
+-- ---- a row
+
+module _ (sides : SidesValue) (row : ℕ) (columns : ℕ × ℕ) (r : RowFits sides row) (c : ColumnsFit sides columns) where
+  -- the truth values of the row are those of the range
+  same_columns : (x : ℕ) → sides.column ≤ x → lies_in (columns.0 - sides.column, columns.1 - sides.column) (x - sides.column) ≡ lies_in columns x
+  same_columns x left = grind (arith, nat_tests, c.left, c.ordered)
+
+  same_node : (y x : ℕ) → InBox sides y x → (eqb (y - sides.row) (row - sides.row) && lies_in (columns.0 - sides.column, columns.1 - sides.column) (x - sides.column)) ≡ is_in_row row columns y x
+  same_node y x n = ap₂ (λ a b. a && b) (same_row y n.low) (same_columns x n.left)
+    where
+      same_row : (y : ℕ) → sides.row ≤ y → eqb (y - sides.row) (row - sides.row) ≡ eqb y row
+      same_row y low = grind (arith, nat_tests, r.low)
+
+  pub row_set : (plane ws : List Bool) → length plane ≡ plane_size sides
+      → RangeSet (columns.0 - sides.column, columns.1 - sides.column) (take ((row - sides.row) * sides.columns + sides.columns - (row - sides.row) * sides.columns) (drop ((row - sides.row) * sides.columns) plane)) ws
+      → PlaneSet sides (is_in_row row columns) plane (put_mid ((row - sides.row) * sides.columns) ((row - sides.row) * sides.columns + sides.columns - (row - sides.row) * sides.columns) plane ws)
+  row_set plane ws full s =
+      let among : row - sides.row < sides.rows = omega (arith, r.low, r.high) in
+      let long = part_long plane ((row - sides.row) * sides.columns) sides.columns (omega (arith, full, block_end (row - sides.row) sides.rows sides.columns among)) in
+      record {
+        full = block_full plane ws sides.columns sides.rows (row - sides.row) full among s.full;
+        set = λ y x n.
+            block_set plane ws sides.columns sides.rows (row - sides.row) full among s.full (y - sides.row) (x - sides.column) (in_columns sides y x n)
+            (lies_in (columns.0 - sides.column, columns.1 - sides.column) (x - sides.column))
+            (s.set (x - sides.column) (omega (arith, long, in_columns sides y x n)))
+            ∙ ap (λ b. get_or plane (node_number sides y x) false || b) (same_node y x n);
+      }
+
+-- where a row stands in its plane
+pub record RowStands (sides : SidesValue) (row : ℕ) (plane : List Bool) : Type 0 where
+  pub end : (row - sides.row) * sides.columns + sides.columns ≤ length plane
+  pub small : (row - sides.row) * sides.columns + sides.columns ≤ 16_000_000_000_000
+  pub long : length (take ((row - sides.row) * sides.columns + sides.columns - (row - sides.row) * sides.columns) (drop ((row - sides.row) * sides.columns) plane)) ≡ sides.columns
+
+pub row_stands : (sides : SidesValue) (row : ℕ) (plane : List Bool) → IsSmall sides → length plane ≡ plane_size sides → RowFits sides row → RowStands sides row plane
+row_stands sides row plane small full fits =
+    let end = block_end (row - sides.row) sides.rows sides.columns (omega (arith, fits.low, fits.high)) in
+    record {
+      end = omega (arith, full, end);
+      small = omega (arith, end, plane_few sides small);
+      long = part_long plane ((row - sides.row) * sides.columns) sides.columns (omega (arith, full, end));
+    }
+
+-- the same where the sides are read as others that are equal
+module _ (sides now : SidesValue) (same : sides ≡ now) where
+  pub as_small : IsSmall now → IsSmall sides
+  as_small h = subst (λ (s : SidesValue). IsSmall s) (sym same) h
+
+  pub as_full : (plane : List Bool) → length plane ≡ plane_size now → length plane ≡ plane_size sides
+  as_full plane h = h ∙ ap (λ (s : SidesValue). plane_size s) (sym same)
+
+  pub as_row : (row : ℕ) → RowFits now row → RowFits sides row
+  as_row row h = subst (λ (s : SidesValue). RowFits s row) (sym same) h
+
+  pub as_columns : (columns : ℕ × ℕ) → ColumnsFit now columns → ColumnsFit sides columns
+  as_columns columns h = subst (λ (s : SidesValue). ColumnsFit s columns) (sym same) h
+
+  pub stands : (row : ℕ) (plane : List Bool) → IsSmall now → length plane ≡ plane_size now → RowFits now row → RowStands sides row plane
+  stands row plane small full fits = row_stands sides row plane (as_small small) (as_full plane full) (as_row row fits)
+
+-- ---- a rectangle, row by row
+
+-- the rows of a range, of some columns
+abbrev pub is_in_rows : ℕ → ℕ → ℕ × ℕ → ℕ → ℕ → Bool
+is_in_rows first end columns y x = lies_in (first, end) y && lies_in columns x
+
+module _ (sides : SidesValue) (columns : ℕ × ℕ) where
+  pub no_rows_set : (first : ℕ) (plane : List Bool) → PlaneSet sides (is_in_rows first first columns) plane plane
+  no_rows_set first plane = record { full = refl; set = λ y x n. or_none (get_or plane (node_number sides y x) false) (is_in_rows first first columns y x) (nothing y x) }
+    where
+      nothing : (y x : ℕ) → is_in_rows first first columns y x ≡ false
+      nothing y x = ap (λ b. b && lies_in columns x) (empty y)
+        where
+          empty : (y : ℕ) → lies_in (first, first) y ≡ false
+          empty y = grind (arith, nat_tests)
+
+  pub row_more : (first row : ℕ) (old mid new : List Bool) → first ≤ row → PlaneSet sides (is_in_rows first row columns) old mid → PlaneSet sides (is_in_row row columns) mid new
+      → PlaneSet sides (is_in_rows first (row + 1) columns) old new
+  row_more first row old mid new ordered p r = record {
+    full = r.full ∙ p.full;
+    set = λ y x n. r.set y x n ∙ ap (λ b. b || is_in_row row columns y x) (p.set y x n) ∙ or_assoc (get_or old (node_number sides y x) false) (is_in_rows first row columns y x) (is_in_row row columns y x)
+        ∙ ap (λ b. get_or old (node_number sides y x) false || b) (more y x);
+  }
+    where
+      apart : (a b c : Bool) → ((a && c) || (b && c)) ≡ ((a || b) && c)
+      apart true true true = refl
+      apart true true false = refl
+      apart true false true = refl
+      apart true false false = refl
+      apart false b c = refl
+
+      next : (y : ℕ) → (lies_in (first, row) y || eqb y row) ≡ lies_in (first, row + 1) y
+      next y = grind (arith, nat_tests, ordered)
+
+      more : (y x : ℕ) → (is_in_rows first row columns y x || is_in_row row columns y x) ≡ is_in_rows first (row + 1) columns y x
+      more y x = apart (lies_in (first, row) y) (eqb y row) (lies_in columns x) ∙ ap (λ b. b && lies_in columns x) (next y)
+
+-- ---- a box, rectangle by rectangle
 
 module _ (sides : SidesValue) (box : SegmentBox) where
-  pub no_rows_set : (plane : List Bool) → PlaneSet sides (has_above box 0) plane plane
-  no_rows_set plane = record { full = refl; set = λ y x n. or_none (get_or plane (node_number sides y x) false) (has_above box 0 y x) (none_above box y x) }
+  pub no_rectangles_set : (plane : List Bool) → PlaneSet sides (has_first box 0) plane plane
+  no_rectangles_set plane = record { full = refl; set = λ y x n. or_none (get_or plane (node_number sides y x) false) (has_first box 0 y x) (no_rectangles box y x) }
 
-  pub row_more : (count : ℕ) (old mid new : List Bool) → PlaneSet sides (has_above box count) old mid → PlaneSet sides (has_in_row box count) mid new → PlaneSet sides (has_above box (count + 1)) old new
-  row_more count old mid new p r = record {
+  pub rectangle_set : (count : ℕ) (rectangle : Rectangle) (old mid new : List Bool) → count < length box.rectangles.items → rectangle ≡ get_or box.rectangles.items count rectangle
+      → PlaneSet sides (has_first box count) old mid → PlaneSet sides (has_place rectangle) mid new → PlaneSet sides (has_first box (count + 1)) old new
+  rectangle_set count rectangle old mid new inside is p r = record {
     full = r.full ∙ p.full;
-    set = λ y x n. r.set y x n ∙ ap (λ b. b || has_in_row box count y x) (p.set y x n) ∙ or_assoc (get_or old (node_number sides y x) false) (has_above box count y x) (has_in_row box count y x)
-        ∙ ap (λ b. get_or old (node_number sides y x) false || b) (sym (above_more box count y x));
+    set = λ y x n. r.set y x n ∙ ap (λ b. b || has_place rectangle y x) (p.set y x n) ∙ or_assoc (get_or old (node_number sides y x) false) (has_first box count y x) (has_place rectangle y x)
+        ∙ ap (λ b. get_or old (node_number sides y x) false || b) (sym (rectangle_more box count rectangle inside is y x));
   }
 
-  pub all_rows_set : (count : ℕ) (old new : List Bool) → length box.rows.items ≤ count → PlaneSet sides (has_above box count) old new → PlaneSet sides (has_node box) old new
-  all_rows_set count old new all p = record { full = p.full; set = λ y x n. p.set y x n ∙ ap (λ b. get_or old (node_number sides y x) false || b) (all_above box count y x all) }
+  pub all_rectangles_set : (count : ℕ) (old new : List Bool) → length box.rectangles.items ≤ count → PlaneSet sides (has_first box count) old new → PlaneSet sides (has_node box) old new
+  all_rectangles_set count old new all p = record { full = p.full; set = λ y x n. p.set y x n ∙ ap (λ b. get_or old (node_number sides y x) false || b) (all_rectangles box count y x all) }

@@ -1,12 +1,15 @@
 -- The truth values of a stack are those of what the first segments of a corridor take.
 use Rattle.std.proofs.Common.{◌≡◌, ℕ, ◌+◌, ◌-◌, ◌*◌, ◌<◌, ◌≤◌, ◌^◌, Bool, true, false, List, [], length, get_or, replicate, ap, ap₂, sym, ◌∙◌, subst, arith, inl, inr, Contains}
-use Rattle.std.specs.Prelude.{◌&&◌, ◌||◌, nat_le}
+use Rattle.std.specs.Prelude.{◌&&◌, ◌||◌}
 use Rattle.std.specs.List.{filter, range_with_len}
 use Rattle.std.proofs.Math.Nat.{mul-le-mul_left}
 use Rattle.std.proofs.lemmas.Bool.{cases_lt, and_parts}
 use Rattle.std.proofs.lemmas.List.{get_or-replicate, length-replicate, get_or_past, get_or_default}
+use Rattle.std.proofs.lemmas.List.Folds.{Any-from_list_any, list_any_at}
+use Rattle.edr_geometry.specs.Ranges.{lies_in}
+use Rattle.edr_corridor.specs.declared.boxes.Rectangle.{Rectangle}
 use Rattle.edr_corridor.specs.declared.boxes.SegmentBox.{SegmentBox}
-use Rattle.edr_corridor.specs.Boxes.{GridAxes, LiesOn, TakesNodes, takes_node, wants_node, box_takes}
+use Rattle.edr_corridor.specs.Boxes.{GridAxes, LiesOn, TakesNodes, takes_node, wants_node, box_takes, has_place}
 use Rattle.edr_corridor.specs.Segments.{at_segment}
 use Rattle.edr_select.specs.Listings.{NumbersRise}
 use Rattle.edr_select.specs.RiseLaws.{numbers_rise}
@@ -19,6 +22,7 @@ use Rattle.edr_lines.specs.Boxes.{box_passes, has_node}
 use Rattle.edr_lines.specs.Bits.{DoRise, IsSmall, TimesFit, TimesSet, InBox, node_number}
 use Rattle.edr_lines.proofs.Tests.{some_of, pair_at, some_pair}
 use Rattle.edr_lines.proofs.Firsts.{first_more, all_first, none_first}
+use Rattle.edr_lines.proofs.RectangleNodes.{is_in, has_this}
 
 same_place : (i many j size k : ℕ) → (i * many + j) * size + k ≡ i * (many * size) + (j * size + k)
 same_place i many j size k = omega arith
@@ -32,29 +36,17 @@ all_false count k = elim (cases_lt k count) [
 -- ---- nodes of a box lie on the axes
 
 module _ (axes : GridAxes) (box : SegmentBox) (on : LiesOn axes box) where
-  abbrev row : ℕ → List Bool
-  row y = get_or box.rows.items (y - box.first_row) []
-
-  some_row : (y x : ℕ) → get_or (row y) (x - box.first_column) false ≡ true → y - box.first_row < length box.rows.items
-  some_row y x h = elim (cases_lt (y - box.first_row) (length box.rows.items)) [
-    | inl lt ↦ lt
-    | inr ge ↦ (let none : get_or (row y) (x - box.first_column) false ≡ false =
-        ap (λ (m : List Bool). get_or m (x - box.first_column) false) (get_or_past box.rows.items (y - box.first_row) [] ge) in
-        let both : true ≡ false = sym h ∙ none in cc)
-  ]
-
-  some_column : (y x : ℕ) → get_or (row y) (x - box.first_column) false ≡ true → x - box.first_column < length (row y)
-  some_column y x h = elim (cases_lt (x - box.first_column) (length (row y))) [
-    | inl lt ↦ lt
-    | inr ge ↦ (let none : get_or (row y) (x - box.first_column) false ≡ false = get_or_past (row y) (x - box.first_column) false ge in
-        let both : true ≡ false = sym h ∙ none in cc)
-  ]
-
   pub node_on : (y x : ℕ) → has_node box y x ≡ true → (y < length axes.ys) × (x < length axes.xs)
   node_on y x h =
-      let bit = (and_parts (nat_le box.first_row y && nat_le box.first_column x) (get_or (row y) (x - box.first_column) false) h).1 in
-      let down = some_row y x bit in let across = some_column y x bit in
-      (omega (arith, on.rows, down), omega (arith, on.columns (y - box.first_row) [] down, across))
+      let some = Any-from_list_any (λ r. has_place r y x) box.rectangles.items h in
+      of_one some.0 some.1 some.2 (ap (λ r. has_place r y x) some.3 ∙ some.4)
+    where
+      of_one : (k : ℕ) (d : Rectangle) → k < length box.rectangles.items → has_place (get_or box.rectangles.items k d) y x ≡ true → (y < length axes.ys) × (x < length axes.xs)
+      of_one k d inside passes =
+          let rectangle = get_or box.rectangles.items k d in
+          let within = on.rectangles k d inside in
+          let at = is_in rectangle y x passes in
+          (omega (arith, at.high, within.rows.1), omega (arith, at.right, within.columns.1))
 
 -- ---- sides
 
@@ -113,8 +105,10 @@ module _ (corridor : CorridorValue) (axes : GridAxes) (sides : SidesValue) (s : 
 
   module _ (number : ℕ) (box : SegmentBox) (taken : TakesNodes corridor.segments number axes box) where
     -- where its ranges have a time and a level of the sides, its nodes lie in these
-    pub box_fits : number + 1 < length corridor.segments.line → LiesOn axes box → TimesFit sides box
-    box_fits inside on i j at among lies_t lies_z y x has =
+    nodes_fit : number + 1 < length corridor.segments.line → LiesOn axes box → (i j : ℕ) → i < length sides.times → j < length sides.levels → lies_in box.times (time_at sides i) ≡ true
+        → lies_in box.levels (level_at sides j) ≡ true → (y x : ℕ) → has_node box y x ≡ true
+        → ((sides.row ≤ y) × (y < sides.row + sides.rows)) × ((sides.column ≤ x) × (x < sides.column + sides.columns))
+    nodes_fit inside on i j at among lies_t lies_z y x has =
         let t = time_at sides i in let z = level_at sides j in
         let on_axes = node_on axes box on y x has in
         let segment : at_segment (takes_node corridor.segments axes t z y x) corridor.segments.line number ≡ true =
@@ -132,6 +126,23 @@ module _ (corridor : CorridorValue) (axes : GridAxes) (sides : SidesValue) (s : 
         any_range (λ t. some_of (λ z y. takes corridor axes t z y x) n.levels n.rows) 0 n.times t (omega arith) (omega (arith, time_on i at))
         (some_pair (λ z y. takes corridor axes t z y x) n.levels n.rows z y (level_on j among) on_axes.0 passes) in
         ((s.rows.low y on_axes.0 in_row, s.rows.high y on_axes.0 in_row), (s.columns.low x on_axes.1 in_column, s.columns.high x on_axes.1 in_column))
+
+    -- and so do its rectangles
+    pub box_fits : number + 1 < length corridor.segments.line → LiesOn axes box → TimesFit sides box
+    box_fits inside on i j at among lies_t lies_z = λ k d here.
+        let r = get_or box.rectangles.items k d in
+        let w = on.rectangles k d here in
+        let fits = nodes_fit inside on i j at among lies_t lies_z in
+        let has = λ (y x : ℕ). list_any_at (λ rectangle. has_place rectangle y x) box.rectangles.items k d here in
+        let low = fits r.rows.0 r.columns.0 (has r.rows.0 r.columns.0 (has_this r r.rows.0 r.columns.0 (omega arith) w.rows.0 (omega arith) w.columns.0)) in
+        let high = fits (r.rows.1 - 1) (r.columns.1 - 1) (has (r.rows.1 - 1) (r.columns.1 - 1)
+        (has_this r (r.rows.1 - 1) (r.columns.1 - 1) (omega (arith, w.rows.0)) (omega (arith, w.rows.0)) (omega (arith, w.columns.0)) (omega (arith, w.columns.0)))) in
+        record {
+          low = low.0.0;
+          ordered = omega (arith, w.rows.0);
+          high = omega (arith, w.rows.0, high.0.1);
+          columns = record { left = low.1.0; ordered = omega (arith, w.columns.0); right = omega (arith, w.columns.0, high.1.1) };
+        }
 
     -- with what it takes
     pub bits_more : (old new : List Bool) → HasBits (takes_first corridor axes number) (record { sides = sides; mask = old }) → TimesSet sides (box_takes box) old new

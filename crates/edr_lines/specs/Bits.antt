@@ -1,10 +1,11 @@
 -- The truth values of the nodes of a stack, and where a box sets them; for the calls that plan, and private clauses.
-use Rattle.std.specs.Prelude.{◌≡◌, ℕ, ◌+◌, ◌-◌, ◌*◌, ◌<◌, ◌≤◌, ◌^◌, ◌==◌, nat_le, Bool, true, false, ◌&&◌, ◌||◌, List, length}
-use Rattle.std.specs.List.{slice_index_or}
+use Rattle.std.specs.Prelude.{◌≡◌, ℕ, ◌+◌, ◌-◌, ◌*◌, ◌<◌, ◌≤◌, ◌^◌, ◌==◌, Bool, true, false, ◌&&◌, ◌||◌, List, length}
+use Rattle.std.specs.List.{All, slice_index_or}
 use Rattle.edr_base.specs.Limits.{node_limit}
 use Rattle.edr_chunk.specs.RowMajor.{place_in_row}
+use Rattle.edr_geometry.specs.Ranges.{lies_in}
+use Rattle.edr_corridor.specs.declared.boxes.Rectangle.{Rectangle}
 use Rattle.edr_corridor.specs.declared.boxes.SegmentBox.{SegmentBox}
-use Rattle.edr_corridor.specs.Boxes.{lies_in}
 use Rattle.edr_select.specs.Listings.{NumbersRise}
 use Rattle.edr_select.specs.Stacks.{SidesValue, plane_size, time_at, level_at}
 use Rattle.edr_select.specs.Masks.{AreAmong}
@@ -19,18 +20,36 @@ pub record IsSmall (sides : SidesValue) : Type 0 where
 
 -- ---- for private clauses
 
--- the places of a mask that is set, from a column on, are those of a row of so many columns from another on
-abbrev pub RowFits : List Bool → ℕ → ℕ → ℕ → Type 0
-RowFits mask first column columns = (k : ℕ) → k < length mask → slice_index_or mask k false ≡ true → (column ≤ first + k) × (first + k < column + columns)
-
--- a row was set where a mask is
-pub record RowSet (mask : List Bool) (first column : ℕ) (old new : List Bool) : Type 0 where
+-- the places of a range were set
+pub record RangeSet (range : ℕ × ℕ) (old new : List Bool) : Type 0 where
   pub full : length new ≡ length old
-  pub set : (k : ℕ) → k < length old → slice_index_or new k false ≡ (slice_index_or old k false || (nat_le first (column + k) && slice_index_or mask (column + k - first) false))
+  pub set : (k : ℕ) → k < length old → slice_index_or new k false ≡ (slice_index_or old k false || lies_in range k)
 
--- the nodes of a box lie in those of some sides
+-- a row lies in some sides
+pub record RowFits (sides : SidesValue) (row : ℕ) : Type 0 where
+  pub low : sides.row ≤ row
+  pub high : row < sides.row + sides.rows
+
+-- columns lie in some sides
+pub record ColumnsFit (sides : SidesValue) (columns : ℕ × ℕ) : Type 0 where
+  pub left : sides.column ≤ columns.0
+  pub ordered : columns.0 ≤ columns.1
+  pub right : columns.1 ≤ sides.column + sides.columns
+
+-- a rectangle lies in some sides
+pub record RectangleFits (sides : SidesValue) (rectangle : Rectangle) : Type 0 where
+  pub low : sides.row ≤ rectangle.rows.0
+  pub ordered : rectangle.rows.0 ≤ rectangle.rows.1
+  pub high : rectangle.rows.1 ≤ sides.row + sides.rows
+  pub columns : ColumnsFit sides rectangle.columns
+
+-- the rectangles of a box lie in some sides
 abbrev pub BoxFits : SidesValue → SegmentBox → Type 0
-BoxFits sides box = (y x : ℕ) → has_node box y x ≡ true → ((sides.row ≤ y) × (y < sides.row + sides.rows)) × ((sides.column ≤ x) × (x < sides.column + sides.columns))
+BoxFits sides box = All (RectangleFits sides) box.rectangles.items
+
+-- the node of a row and of some columns
+abbrev pub is_in_row : ℕ → ℕ × ℕ → ℕ → ℕ → Bool
+is_in_row row columns y x = (y == row) && lies_in columns x
 
 -- where the truth value of a node of a plane stands
 abbrev pub node_number : SidesValue → ℕ → ℕ → ℕ

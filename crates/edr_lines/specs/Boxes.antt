@@ -2,7 +2,8 @@
 use Rattle.std.specs.Prelude.{◌≡◌, ℕ, ◌+◌, ◌<◌, ◌≤◌, ◌==◌, min, max, Bool, true, false, ◌&&◌, ◌||◌, List, take, length, Option, None, Some}
 use Rattle.std.specs.List.{list_any, range_with_len, slice_index_or}
 use Rattle.edr_corridor.specs.declared.boxes.SegmentBox.{SegmentBox}
-use Rattle.edr_corridor.specs.Boxes.{lies_in, is_masked, box_takes}
+use Rattle.edr_geometry.specs.Ranges.{lies_in}
+use Rattle.edr_corridor.specs.Boxes.{have_place, box_takes}
 use Rattle.edr_lines.specs.declared.spreads.Extent.{Extent}
 use Rattle.edr_lines.specs.Taken.{Counts, NodeTest, some_at_time, some_at_level}
 use Rattle.edr_lines.specs.Corridors.{CorridorValue, is_asked}
@@ -56,16 +57,13 @@ abbrev pub MatchPlane : Counts → (ℕ → ℕ → Bool) → Option Extent → 
 MatchPlane n test None = NonePasses n test
 MatchPlane n test (Some extent) = IsExtentOf n test extent
 
--- the nodes of a plane that the masks of a box have
+-- the nodes of a plane that the rectangles of a box have
 abbrev pub has_node : SegmentBox → ℕ → ℕ → Bool
-has_node box y x = is_masked box.first_row box.first_column box.rows.items y x
+has_node box y x = have_place box.rectangles.items y x
 
--- those of its first rows, and those of one row
-abbrev pub has_above : SegmentBox → ℕ → ℕ → ℕ → Bool
-has_above box count y x = is_masked box.first_row box.first_column (take count box.rows.items) y x
-
-abbrev pub has_in_row : SegmentBox → ℕ → ℕ → ℕ → Bool
-has_in_row box number y x = (y == box.first_row + number) && has_node box y x
+-- those of its first rectangles
+abbrev pub has_first : SegmentBox → ℕ → ℕ → ℕ → Bool
+has_first box count y x = have_place (take count box.rectangles.items) y x
 
 -- some node of a row and a column passes, at some time and level
 abbrev pub some_at : Counts → NodeTest → ℕ → ℕ → Bool

@@ -9,7 +9,7 @@ ghost use Rattle.edr_lines.specs.Asked.{IsAskedAlong};
 use crate::corridors::{corridor_of, segments_of};
 use crate::spreads::Axes;
 use crate::stack_domains::{domain_of, is_too_large};
-use crate::stacks_taken::{sides_taken, stack_with};
+use crate::stacks_taken::{sides_within, stack_with};
 use crate::steps::parameters_asked;
 use edr_base::{Items, Refusal};
 use edr_corridor::corridors_are_cut;
@@ -39,7 +39,7 @@ pub(crate) fn stacking_of(
     let axes = Axes::of_grid(instance);
     let segments = segments_of(alloc, query, geometry, width, height)?;
     let corridor = corridor_of(alloc, query, geometry, width, height, &segments, &axes)?;
-    let Some(sides) = sides_taken(alloc, &corridor, &axes)? else {
+    let Some(sides) = sides_within(alloc, &corridor, &axes, &parameters)? else {
         return Err(PlanFault::Refused(Refusal::NoSamples));
     };
     if is_too_large(&parameters, &sides) {

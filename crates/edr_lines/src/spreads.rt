@@ -4,16 +4,16 @@ ghost use Rattle.std.specs.List.{All};
 ghost use Rattle.edr_base.specs.Limits.{IsCoordinate};
 ghost use Rattle.edr_corridor.specs.Values.{needs_level};
 ghost use Rattle.edr_axes.specs.Axes.{axis_length};
-ghost use Rattle.edr_corridor.specs.Boxes.{LiesOn};
+ghost use Rattle.edr_corridor.specs.Boxes.{LiesOn, IsWithin, has_place};
 ghost use Rattle.edr_lines.specs.Plans.{axes_of, IsFew};
 ghost use Rattle.edr_lines.specs.Taken.{NodeTest, counts_of, either};
 ghost use Rattle.edr_lines.specs.Corridors.{LiesAlong, takes};
-ghost use Rattle.edr_lines.specs.Boxes.{MatchPlane, IsSpreadOf, SetAsked, extent_with, joined_extent, box_passes, some_asked, has_node, has_in_row};
+ghost use Rattle.edr_lines.specs.Boxes.{MatchPlane, IsExtentOf, IsSpreadOf, SetAsked, extent_with, joined_extent, box_passes, some_asked, has_node};
 
 use crate::corridors::Corridor;
 use edr_axes::Axis;
 use edr_base::OutOfMemory;
-use edr_corridor::SegmentBox;
+use edr_corridor::{Rectangle, SegmentBox};
 use edr_edition::GridInstance;
 use std::alloc::Global;
 use std::marker::Model;
@@ -98,41 +98,35 @@ fn joined(extent: Option<Extent>, other: Extent) -> Extent
     }
 }
 
-// The extent of the nodes of a row of a box, or None where it has none.
-fn extent_of_row(axes: &Axes<'_>, taken: &SegmentBox, number: usize) -> Option<Extent>
-    requires few { IsFew axes.now }
-    requires on { LiesOn axes.now taken.now }
-    requires number { number < length taken.now.rows.items }
-    ensures { MatchPlane (counts_of axes.now) (has_in_row taken.now number) result }
+// The extent of the nodes of a rectangle.
+fn extent_of_rectangle(axes: &Axes<'_>, rectangle: &Rectangle) -> Extent
+    requires { IsWithin (length axes.now.ys) (length axes.now.xs) rectangle.now }
+    ensures { IsExtentOf (counts_of axes.now) (has_place rectangle.now) result }
 {
-    let mask = &taken.rows[number];
-    let first = mask.first()?;
-    let last = mask.last()?;
-    Some(Extent {
-        top: taken.first_row + number,
-        bottom: taken.first_row + number,
-        left: taken.first_column + first,
-        right: taken.first_column + last,
-    })
+    let _ = axes;
+    Extent {
+        top: rectangle.rows.0,
+        bottom: rectangle.rows.1 - 1,
+        left: rectangle.columns.0,
+        right: rectangle.columns.1 - 1,
+    }
 }
 
 // The extent of the nodes of a plane that a box has, or None where it has none.
 fn extent_of(axes: &Axes<'_>, taken: &SegmentBox) -> Option<Extent>
-    requires few { IsFew axes.now }
     requires on { LiesOn axes.now taken.now }
     ensures { MatchPlane (counts_of axes.now) (has_node taken.now) result }
 {
     let mut extent = None;
-    for number in 0..taken.rows.len() {
-        if let Some(other) = extent_of_row(axes, taken, number) {
-            extent = Some(joined(extent, other));
-        }
+    for number in 0..taken.rectangles.len() {
+        let other = extent_of_rectangle(axes, &taken.rectangles[number]);
+        extent = Some(joined(extent, other));
     }
     extent
 }
 
 // Whether a place of a range is asked.
-fn has_asked(asked: &[bool], range: (usize, usize)) -> bool
+pub(crate) fn has_asked(asked: &[bool], range: (usize, usize)) -> bool
     requires ordered { range.0 ≤ range.1 }
     requires inside { range.1 ≤ length asked.now }
     ensures { result ≡ some_asked asked.now range }
@@ -176,7 +170,7 @@ impl Model for Spread {
 }
 
 // Of no node.
-fn no_spread(alloc: Global, axes: &Axes<'_>) -> Result<Spread, OutOfMemory>
+pub(crate) fn no_spread(alloc: Global, axes: &Axes<'_>) -> Result<Spread, OutOfMemory>
     ensures { IfOk result (IsSpreadOf (counts_of axes.now) (λ t z y x. false)) }
 {
     let mut times = Vec::new(alloc);
@@ -192,8 +186,7 @@ fn no_spread(alloc: Global, axes: &Axes<'_>) -> Result<Spread, OutOfMemory>
 
 impl Spread {
     // Adds what a box takes of what is asked.
-    fn add(&mut self, corridor: &Corridor<'_>, axes: &Axes<'_>, taken: &SegmentBox)
-        requires few { IsFew axes.now }
+    pub(crate) fn add(&mut self, corridor: &Corridor<'_>, axes: &Axes<'_>, taken: &SegmentBox)
         requires along { LiesAlong axes.now corridor.now }
         requires on { LiesOn axes.now taken.now }
         requires full { (length self.old.times ≡ length axes.now.ts) × (length self.old.levels ≡ axis_length axes.now.zs) }

@@ -1,53 +1,58 @@
 //! Which nodes of a stack a corridor takes.
 ghost use Rattle.std.specs.Prelude.{◌≡◌, ℕ, ◌<◌, ◌≤◌, ◌+◌, ◌*◌, nat_lt, true, length, IfOk, IsSome};
 ghost use Rattle.std.specs.List.{All, slice_index_or};
-ghost use Rattle.edr_base.specs.Limits.{node_limit, IsCoordinate};
+ghost use Rattle.edr_base.specs.Limits.{IsCoordinate};
 ghost use Rattle.edr_corridor.specs.Values.{needs_level};
-ghost use Rattle.edr_corridor.specs.Boxes.{lies_in, box_takes};
+ghost use Rattle.edr_geometry.specs.Ranges.{lies_in};
+ghost use Rattle.edr_corridor.specs.Boxes.{box_takes, has_place};
 ghost use Rattle.edr_select.specs.Listings.{NumbersRise};
 ghost use Rattle.edr_select.specs.Stacks.{plane_size, time_at, level_at};
-ghost use Rattle.edr_lines.specs.Bits.{RowFits, RowSet, BoxFits, PlaneSet, LevelsFit, LevelSet, LevelsSet, takes_below, TimesFit, TimeSet, TimesSet, time_size, DoRise, IsSmall};
-ghost use Rattle.edr_lines.specs.Boxes.{has_node, has_in_row};
+ghost use Rattle.edr_lines.specs.Bits.{RangeSet, RowFits, ColumnsFit, RectangleFits, BoxFits, is_in_row, PlaneSet, LevelsFit, LevelSet, LevelsSet, takes_below, TimesFit, TimeSet, TimesSet, time_size, DoRise, IsSmall};
+ghost use Rattle.edr_lines.specs.Boxes.{has_node};
 ghost use Rattle.edr_lines.specs.Corridors.{LiesAlong, takes};
 ghost use Rattle.edr_lines.specs.Taken.{counts_of, AreSidesOf, HasBits};
 
 use crate::corridors::Corridor;
 use crate::spreads::Axes;
 use edr_base::OutOfMemory;
-use edr_corridor::SegmentBox;
-use edr_geometry::RowMask;
+use edr_corridor::{Rectangle, SegmentBox};
 use edr_select::StackSides;
 use std::alloc::Global;
 
-// Sets the truth values of a row from a column on where a mask is set, whose first place stands for another column.
-fn set_row(row: &mut [bool], mask: &RowMask, first: usize, column: usize)
-    requires fits { RowFits mask.now first column (length row.old) }
-    requires few { column + length row.old ≤ node_limit }
-    ensures { RowSet mask.now first column row.old row.new }
+// Sets the truth values from a place to before another.
+fn set_range(values: &mut [bool], from: usize, end: usize)
+    requires ordered { from ≤ end }
+    requires inside { end ≤ length values.old }
+    ensures { RangeSet (from, end) values.old values.new }
 {
-    for place in 0..mask.len() {
-        if mask.is_set(place) {
-            row[first + place - column] = true;
-        }
-    }
+    values[from..end].fill(true);
 }
 
-// Sets the truth values of a row of a plane where a row of a box has a node.
-fn set_row_of(plane: &mut [bool], sides: &StackSides, taken: &SegmentBox, number: usize)
+// Sets the truth values of a row of a plane, of some columns.
+fn set_row(plane: &mut [bool], sides: &StackSides, row: usize, columns: (usize, usize))
     requires small { IsSmall sides.now }
     requires full { length plane.old ≡ plane_size sides.now }
-    requires fits { BoxFits sides.now taken.now }
-    requires number { number < length taken.now.rows.items }
-    ensures { PlaneSet sides.now (has_in_row taken.now number) plane.old plane.new }
+    requires row { RowFits sides.now row }
+    requires columns { ColumnsFit sides.now columns }
+    ensures { PlaneSet sides.now (is_in_row row columns) plane.old plane.new }
 {
-    let mask = &taken.rows[number];
-    if mask.first().is_none() {
-        return;
+    let width = sides.columns as usize;
+    let column = sides.column as usize;
+    let start = (row - sides.row as usize) * width;
+    let values = &mut plane[start..start + width];
+    set_range(values, columns.0 - column, columns.1 - column);
+}
+
+// Sets the truth values of a plane where a rectangle has a node.
+fn set_rectangle(plane: &mut [bool], sides: &StackSides, rectangle: &Rectangle)
+    requires small { IsSmall sides.now }
+    requires full { length plane.old ≡ plane_size sides.now }
+    requires fits { RectangleFits sides.now rectangle.now }
+    ensures { PlaneSet sides.now (has_place rectangle.now) plane.old plane.new }
+{
+    for row in rectangle.rows.0..rectangle.rows.1 {
+        set_row(plane, sides, row, rectangle.columns);
     }
-    let columns = sides.columns as usize;
-    let start = (taken.first_row + number - sides.row as usize) * columns;
-    let row = &mut plane[start..start + columns];
-    set_row(row, mask, taken.first_column, sides.column as usize);
 }
 
 // Sets the truth values of a plane where a box has a node.
@@ -57,8 +62,8 @@ fn set_plane(plane: &mut [bool], sides: &StackSides, taken: &SegmentBox)
     requires fits { BoxFits sides.now taken.now }
     ensures { PlaneSet sides.now (has_node taken.now) plane.old plane.new }
 {
-    for number in 0..taken.rows.len() {
-        set_row_of(plane, sides, taken, number);
+    for number in 0..taken.rectangles.len() {
+        set_rectangle(plane, sides, &taken.rectangles[number]);
     }
 }
 

@@ -1,5 +1,5 @@
 use Rattle.std.proofs.Common.{◌≡◌, ◌∙◌, ◌+◌, ◌-◌, ◌*◌, ◌<◌, ℕ, true, length, take, drop, ap, sym, subst}
-use Rattle.edr_corridor.specs.Boxes.{lies_in}
+use Rattle.edr_geometry.specs.Ranges.{lies_in}
 use borrow.Rule.Slice.PartMut.{put_mid}
 use Rattle.edr_select.specs.Stacks.{SidesValue, plane_size, level_at}
 use Rattle.edr_lines.specs.Bits.{PlaneSet, LevelSet, takes_below, time_size}

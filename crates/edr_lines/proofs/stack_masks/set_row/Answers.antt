@@ -1,29 +1,73 @@
-use Rattle.std.proofs.Common.{◌≡◌, ◌∙◌, ◌+◌, ◌-◌, ◌<◌, ℕ, true, false, Bool, List, length, get_or, take, take_all, sym, subst, arith}
-use Rattle.edr_lines.specs.Bits.{RowSet}
-use Rattle.edr_lines.proofs.SetRows.{none_set, set_more, set_same}
+use Rattle.std.proofs.Common.{◌≡◌, ◌∙◌, ◌+◌, ◌-◌, ◌*◌, ◌<◌, ◌≤◌, ℕ, length, subst, sym, arith, rules, ap}
+use borrow.Rule.Slice.PartMut.{put_mid}
+use Rattle.edr_select.specs.Stacks.{SidesValue}
+use Rattle.edr_lines.specs.Bits.{PlaneSet, is_in_row}
+use Rattle.edr_lines.proofs.SetPlanes.{row_set, stands, as_row, as_columns, as_full}
 use Rattle.edr_lines.proofs.stack_masks.set_row.Goals as goal
-use Rattle.edr_lines.proofs.stack_masks.set_row.Goals.{then-is_set, else-is_set}
 
-pub loop-place-init : goal.loop-place-init
-loop-place-init c = none_set c.args.mask.now c.args.first c.args.column c.args.row.now
+pub overflow_sub-start : goal.overflow_sub-start
+overflow_sub-start c =
+    let row : ℕ = c.args.row in let in_ = c.sides.inside in
+    let sides : SidesValue = record { times = in_.times; levels = in_.levels; row = in_.row; rows = in_.rows; column = in_.column; columns = in_.columns } in
+    let r = stands sides c.args.sides.now c.sides.view_is row c.args.plane.now c.requires.small c.requires.full c.requires.row in
+    let f = as_row sides c.args.sides.now c.sides.view_is row c.requires.row in
+    let k = as_columns sides c.args.sides.now c.sides.view_is c.args.columns c.requires.columns in
+    f.low
 
-pub loop-place-preserved : goal.loop-place-preserved
-loop-place-preserved c =
-    let mask = c.args.mask.now in let place : ℕ = c.loop-place.place in let old = c.args.row.now in let row = c.loop-place.row in
-    elim c.if-is_set.branch [
-      | then-is_set w ↦
-          (let is : get_or mask place false ≡ true = sym c.is_set.ensures ∙ w.if-is_set.true in
-          let within : place < length mask = omega arith in
-          let fits = c.requires.fits place within is in
-          let inside : c.args.first + place - c.args.column < length row = omega (arith, fits.0, fits.1, c.loop-place.invariant.full) in
-          subst (RowSet (take (place + 1) mask) c.args.first c.args.column old) (sym w.row-is)
-          (set_more mask c.args.first c.args.column place old row c.loop-place.invariant fits.0 inside is))
-      | else-is_set w ↦
-          subst (RowSet (take (place + 1) mask) c.args.first c.args.column old) (sym w.row-is)
-          (set_same mask c.args.first c.args.column place old row c.loop-place.invariant (sym c.is_set.ensures ∙ w.if-is_set.false))
-    ]
+pub overflow_mul-start : goal.overflow_mul-start
+overflow_mul-start c =
+    let row : ℕ = c.args.row in let in_ = c.sides.inside in
+    let sides : SidesValue = record { times = in_.times; levels = in_.levels; row = in_.row; rows = in_.rows; column = in_.column; columns = in_.columns } in
+    let r = stands sides c.args.sides.now c.sides.view_is row c.args.plane.now c.requires.small c.requires.full c.requires.row in
+    let f = as_row sides c.args.sides.now c.sides.view_is row c.requires.row in
+    let k = as_columns sides c.args.sides.now c.sides.view_is c.args.columns c.requires.columns in
+    let below : (row - sides.row) * sides.columns ≤ 16_000_000_000_000 = omega (arith, r.small) in
+    search rules
+
+pub overflow_add-values : goal.overflow_add-values
+overflow_add-values c =
+    let row : ℕ = c.args.row in let in_ = c.sides.inside in
+    let sides : SidesValue = record { times = in_.times; levels = in_.levels; row = in_.row; rows = in_.rows; column = in_.column; columns = in_.columns } in
+    let r = stands sides c.args.sides.now c.sides.view_is row c.args.plane.now c.requires.small c.requires.full c.requires.row in
+    let f = as_row sides c.args.sides.now c.sides.view_is row c.requires.row in
+    let k = as_columns sides c.args.sides.now c.sides.view_is c.args.columns c.requires.columns in
+    let below : (row - sides.row) * sides.columns + sides.columns ≤ 16_000_000_000_000 = r.small in
+    search rules
+
+pub slice_bounds-values-end : goal.slice_bounds-values-end
+slice_bounds-values-end c =
+    let row : ℕ = c.args.row in let in_ = c.sides.inside in
+    let sides : SidesValue = record { times = in_.times; levels = in_.levels; row = in_.row; rows = in_.rows; column = in_.column; columns = in_.columns } in
+    let r = stands sides c.args.sides.now c.sides.view_is row c.args.plane.now c.requires.small c.requires.full c.requires.row in
+    let f = as_row sides c.args.sides.now c.sides.view_is row c.requires.row in
+    let k = as_columns sides c.args.sides.now c.sides.view_is c.args.columns c.requires.columns in
+    r.end
+
+pub set_range-requires-clause-ordered : goal.set_range-requires-clause-ordered
+set_range-requires-clause-ordered c =
+    let row : ℕ = c.args.row in let in_ = c.sides.inside in
+    let sides : SidesValue = record { times = in_.times; levels = in_.levels; row = in_.row; rows = in_.rows; column = in_.column; columns = in_.columns } in
+    let r = stands sides c.args.sides.now c.sides.view_is row c.args.plane.now c.requires.small c.requires.full c.requires.row in
+    let f = as_row sides c.args.sides.now c.sides.view_is row c.requires.row in
+    let k = as_columns sides c.args.sides.now c.sides.view_is c.args.columns c.requires.columns in
+    omega (arith, k.ordered)
+
+pub set_range-requires-clause-inside : goal.set_range-requires-clause-inside
+set_range-requires-clause-inside c =
+    let row : ℕ = c.args.row in let in_ = c.sides.inside in
+    let sides : SidesValue = record { times = in_.times; levels = in_.levels; row = in_.row; rows = in_.rows; column = in_.column; columns = in_.columns } in
+    let r = stands sides c.args.sides.now c.sides.view_is row c.args.plane.now c.requires.small c.requires.full c.requires.row in
+    let f = as_row sides c.args.sides.now c.sides.view_is row c.requires.row in
+    let k = as_columns sides c.args.sides.now c.sides.view_is c.args.columns c.requires.columns in
+    omega (arith, r.long, k.right)
 
 pub returns : goal.returns
 returns c =
-    let mask = c.args.mask.now in
-    subst (λ (m : List Bool). RowSet m c.args.first c.args.column c.args.row.now c.loop-place.row) (take_all c.loop-place.place mask (omega arith)) c.loop-place.invariant
+    let row : ℕ = c.args.row in let in_ = c.sides.inside in
+    let sides : SidesValue = record { times = in_.times; levels = in_.levels; row = in_.row; rows = in_.rows; column = in_.column; columns = in_.columns } in
+    let r = stands sides c.args.sides.now c.sides.view_is row c.args.plane.now c.requires.small c.requires.full c.requires.row in
+    let f = as_row sides c.args.sides.now c.sides.view_is row c.requires.row in
+    let k = as_columns sides c.args.sides.now c.sides.view_is c.args.columns c.requires.columns in
+    let start : ℕ = (row - sides.row) * sides.columns in
+    subst (λ (s : SidesValue). PlaneSet s (is_in_row row c.args.columns) c.args.plane.now (put_mid start (start + sides.columns - start) c.args.plane.now c.set_range.new.values)) c.sides.view_is
+    (row_set sides row c.args.columns f k c.args.plane.now c.set_range.new.values (as_full sides c.args.sides.now c.sides.view_is c.args.plane.now c.requires.full) c.set_range.ensures)

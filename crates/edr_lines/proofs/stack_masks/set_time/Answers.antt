@@ -1,5 +1,6 @@
 use Rattle.std.proofs.Common.{◌≡◌, ◌∙◌, ◌+◌, ◌-◌, ◌*◌, ◌<◌, ◌≤◌, ◌^◌, ℕ, List, true, length, take, drop, ap, sym, subst, arith, rules}
-use Rattle.edr_corridor.specs.Boxes.{lies_in, box_takes}
+use Rattle.edr_geometry.specs.Ranges.{lies_in}
+use Rattle.edr_corridor.specs.Boxes.{box_takes}
 use borrow.Rule.Slice.PartMut.{put_mid}
 use Rattle.edr_select.specs.Stacks.{SidesValue, time_at}
 use Rattle.edr_lines.specs.Bits.{LevelsSet, TimeSet, takes_below, time_size}

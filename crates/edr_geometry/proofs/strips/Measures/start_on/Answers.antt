@@ -1,0 +1,42 @@
+use Rattle.std.proofs.Common.{◌≡◌, ◌≤◌, ◌∙◌, ◌+ℤ◌, ◌-ℤ◌, ◌*ℤ◌, ◌&&◌, pos, ap, ap₂, sym, subst, arith, rules, refl, int_le, int_lt, true, false, FitsSigned, to_z, of_z, w64, ℤ}
+use Rattle.std.specs.Int.RustNames.{unsigned_abs}
+use Rattle.std.proofs.lemmas.Bool.{and_right}
+use Rattle.jiff_core.proofs.SignedLemmas.{signed_arith, one_part}
+use Rattle.edr_base.specs.Limits.{IsCoordinate}
+use Rattle.edr_geometry.specs.Masks.{spot_at}
+use Rattle.edr_geometry.specs.Planar.{along, cross, squared_distance}
+use Rattle.edr_geometry.specs.Spans.{has, IsBound}
+use Rattle.edr_geometry.proofs.SpanLemmas.{back}
+use Rattle.edr_geometry.proofs.StripLemmas.{disc_of, before_start, behind_start, before_end, behind_end, right_of_line, left_of_line, in_parts}
+use Rattle.edr_geometry.proofs.StripNumbers.{fits, coordinate_back, away_back, away_fits, square_back, square_fits, rest_back, rest_fits, rest_small, way_x_small, way_y_small, start_small, line_small, length_small, sum_small}
+use Rattle.edr_geometry.proofs.strips.Measures.start_on.Goals as goal
+
+pub overflow_sub-from : goal.overflow_sub-from
+overflow_sub-from c =
+    let m = c.args.self.now in let a = m.segment.a in let y = c.args.y in let are = c.requires.are in let y_in = c.requires.y_in in
+    let y_back : to_z w64 (of_z w64 y) ≡ y = coordinate_back y y_in in
+    let a_back : to_z w64 (of_z w64 a.y) ≡ a.y = coordinate_back a.y are.segment.a_in.y in
+    let x_back : to_z w64 (of_z w64 a.x) ≡ a.x = coordinate_back a.x are.segment.a_in.x in
+    rw (a_back, y_back) (away_fits a.y y are.segment.a_in.y y_in)
+
+pub returns-clause-small : goal.returns-clause-small
+returns-clause-small c =
+    let m = c.args.self.now in let a = m.segment.a in let y = c.args.y in let are = c.requires.are in let y_in = c.requires.y_in in
+    let y_back : to_z w64 (of_z w64 y) ≡ y = coordinate_back y y_in in
+    let a_back : to_z w64 (of_z w64 a.y) ≡ a.y = coordinate_back a.y are.segment.a_in.y in
+    let x_back : to_z w64 (of_z w64 a.x) ≡ a.x = coordinate_back a.x are.segment.a_in.x in
+    let away : to_z w64 (of_z w64 (a.y -ℤ y)) ≡ a.y -ℤ y = away_back a.y y are.segment.a_in.y y_in in
+    let result : to_z w64 (of_z w64 c.along.result) ≡ c.along.result = search rules in
+    let is : c.along.result ≡ m.way.x *ℤ a.x +ℤ m.way.y *ℤ (a.y -ℤ y) = (let told = c.along.ensures in rw (x_back, a_back, y_back, away) at told) in
+    subst (λ z. unsigned_abs z ≤ 60_000_000_000_000_000) (sym (result ∙ is)) (start_small m are y y_in)
+
+pub returns-clause-is : goal.returns-clause-is
+returns-clause-is c =
+    let m = c.args.self.now in let a = m.segment.a in let y = c.args.y in let are = c.requires.are in let y_in = c.requires.y_in in
+    let y_back : to_z w64 (of_z w64 y) ≡ y = coordinate_back y y_in in
+    let a_back : to_z w64 (of_z w64 a.y) ≡ a.y = coordinate_back a.y are.segment.a_in.y in
+    let x_back : to_z w64 (of_z w64 a.x) ≡ a.x = coordinate_back a.x are.segment.a_in.x in
+    let away : to_z w64 (of_z w64 (a.y -ℤ y)) ≡ a.y -ℤ y = away_back a.y y are.segment.a_in.y y_in in
+    let result : to_z w64 (of_z w64 c.along.result) ≡ c.along.result = search rules in
+    let is : c.along.result ≡ m.way.x *ℤ a.x +ℤ m.way.y *ℤ (a.y -ℤ y) = (let told = c.along.ensures in rw (x_back, a_back, y_back, away) at told) in
+    result ∙ is

@@ -1,0 +1,76 @@
+use Rattle.std.proofs.Common.{◌≡◌, ◌∙◌, ◌+◌, ℕ, true, false, length, ap, subst, arith}
+use Rattle.std.specs.Prelude.{option_map}
+use Rattle.edr_corridor.specs.Boxes.{GridAxes, TakesNodes}
+use Rattle.edr_lines.specs.Taken.{counts_of, either}
+use Rattle.edr_lines.specs.Corridors.{CorridorValue, takes, takes_first}
+use Rattle.edr_lines.specs.Boxes.{IsSpreadOf, box_passes}
+use Rattle.edr_lines.proofs.Tests.{spread_same}
+use Rattle.edr_lines.proofs.Firsts.{none_first, first_more, all_first}
+use Rattle.edr_lines.proofs.MoreSides.{nodes_where, whole_found, first_found, nothing_taken}
+use Rattle.edr_lines.proofs.stacks_taken.sides_within.Goals as goal
+
+pub returns-then-asks_nothing : goal.returns-then-asks_nothing
+returns-then-asks_nothing c = nothing_taken c.args.corridor.now c.args.axes.now (c.asks_nothing.ensures c.if-asks_nothing.true)
+
+pub loop-number-init : goal.loop-number-init
+loop-number-init c =
+    let corridor = c.args.corridor.now in let axes = c.args.axes.now in let n = counts_of axes in
+    spread_same n (λ t z y x. false) (takes_first corridor axes 0) (none_first corridor axes) c.in_ok-spread.spread c.in_ok-spread.ensures
+
+pub sides_spread-requires-clause-spread : goal.sides_spread-requires-clause-spread
+sides_spread-requires-clause-spread c =
+    let corridor = c.args.corridor.now in let axes = c.args.axes.now in let n = counts_of axes in
+    let box = c.in_ok-taken.taken in let k : ℕ = c.loop-number.number in
+    let taken : TakesNodes corridor.segments k axes box =
+    subst (λ (a : GridAxes). TakesNodes corridor.segments k a box) c.axes.view_is
+    (subst (λ (v : CorridorValue). TakesNodes v.segments k (record { ts = c.axes.inside.ts.now; zs = option_map (λ zs. zs.now) c.axes.inside.zs; ys = c.axes.inside.ys.now; xs = c.axes.inside.xs.now }) box) c.corridor.view_is c.in_ok-taken.ensures.takes) in
+    let next : IsSpreadOf n (takes_first corridor axes (k + 1)) c.add.new.self =
+    spread_same n (either (takes_first corridor axes k) (box_passes corridor box)) (takes_first corridor axes (k + 1)) (first_more corridor axes k box taken) c.add.new.self
+    (c.add.ensures (takes_first corridor axes k) c.loop-number.invariant) in
+    (takes_first corridor axes (k + 1), next)
+
+pub is_above-requires-clause-nodes : goal.is_above-requires-clause-nodes
+is_above-requires-clause-nodes c =
+    let corridor = c.args.corridor.now in let axes = c.args.axes.now in let n = counts_of axes in
+    let box = c.in_ok-taken.taken in let k : ℕ = c.loop-number.number in
+    let taken : TakesNodes corridor.segments k axes box =
+    subst (λ (a : GridAxes). TakesNodes corridor.segments k a box) c.axes.view_is
+    (subst (λ (v : CorridorValue). TakesNodes v.segments k (record { ts = c.axes.inside.ts.now; zs = option_map (λ zs. zs.now) c.axes.inside.zs; ys = c.axes.inside.ys.now; xs = c.axes.inside.xs.now }) box) c.corridor.view_is c.in_ok-taken.ensures.takes) in
+    let next : IsSpreadOf n (takes_first corridor axes (k + 1)) c.add.new.self =
+    spread_same n (either (takes_first corridor axes k) (box_passes corridor box)) (takes_first corridor axes (k + 1)) (first_more corridor axes k box taken) c.add.new.self
+    (c.add.ensures (takes_first corridor axes k) c.loop-number.invariant) in
+    nodes_where n (takes_first corridor axes (k + 1)) c.in_ok-found.found (c.in_ok-found.ensures (takes_first corridor axes (k + 1)) next)
+
+pub returns-then-is_above : goal.returns-then-is_above
+returns-then-is_above c =
+    let corridor = c.args.corridor.now in let axes = c.args.axes.now in let n = counts_of axes in
+    let box = c.in_ok-taken.taken in let k : ℕ = c.loop-number.number in
+    let taken : TakesNodes corridor.segments k axes box =
+    subst (λ (a : GridAxes). TakesNodes corridor.segments k a box) c.axes.view_is
+    (subst (λ (v : CorridorValue). TakesNodes v.segments k (record { ts = c.axes.inside.ts.now; zs = option_map (λ zs. zs.now) c.axes.inside.zs; ys = c.axes.inside.ys.now; xs = c.axes.inside.xs.now }) box) c.corridor.view_is c.in_ok-taken.ensures.takes) in
+    let next : IsSpreadOf n (takes_first corridor axes (k + 1)) c.add.new.self =
+    spread_same n (either (takes_first corridor axes k) (box_passes corridor box)) (takes_first corridor axes (k + 1)) (first_more corridor axes k box taken) c.add.new.self
+    (c.add.ensures (takes_first corridor axes k) c.loop-number.invariant) in
+    first_found c.args.parameters.now corridor axes (k + 1) c.in_ok-found.found c.is_above.result (c.in_ok-found.ensures (takes_first corridor axes (k + 1)) next) c.is_above.ensures c.if-is_above.true
+
+pub loop-number-preserved : goal.loop-number-preserved
+loop-number-preserved c =
+    let corridor = c.args.corridor.now in let axes = c.args.axes.now in let n = counts_of axes in
+    let box = c.in_ok-taken.taken in let k : ℕ = c.loop-number.number in
+    let taken : TakesNodes corridor.segments k axes box =
+    subst (λ (a : GridAxes). TakesNodes corridor.segments k a box) c.axes.view_is
+    (subst (λ (v : CorridorValue). TakesNodes v.segments k (record { ts = c.axes.inside.ts.now; zs = option_map (λ zs. zs.now) c.axes.inside.zs; ys = c.axes.inside.ys.now; xs = c.axes.inside.xs.now }) box) c.corridor.view_is c.in_ok-taken.ensures.takes) in
+    let next : IsSpreadOf n (takes_first corridor axes (k + 1)) c.add.new.self =
+    spread_same n (either (takes_first corridor axes k) (box_passes corridor box)) (takes_first corridor axes (k + 1)) (first_more corridor axes k box taken) c.add.new.self
+    (c.add.ensures (takes_first corridor axes k) c.loop-number.invariant) in
+    next
+
+pub returns : goal.returns
+returns c =
+    let corridor = c.args.corridor.now in let axes = c.args.axes.now in let n = counts_of axes in
+    let k : ℕ = c.loop-number.number in
+    let end : k ≡ c.len-number-end.result = omega arith in
+    let all : k + 1 ≡ length corridor.segments.line = ap (λ n. n + 1) end ∙ c.len-number-end.ensures ∙ ap (λ (v : CorridorValue). length v.segments.line) c.corridor.view_is in
+    let whole : IsSpreadOf n (takes corridor axes) c.loop-number.spread =
+    spread_same n (takes_first corridor axes k) (takes corridor axes) (λ t z y x at level row column. all_first corridor axes k all t z y x) c.loop-number.spread c.loop-number.invariant in
+    whole_found c.args.parameters.now corridor axes c.in_ok-found-2.found (c.in_ok-found-2.ensures (takes corridor axes) whole)
