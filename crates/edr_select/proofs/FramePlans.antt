@@ -14,13 +14,14 @@ use Rattle.edr_select.specs.declared.plans.Reply.TheVariants.{Framed}
 use Rattle.edr_select.specs.Limits.{value_limit, coverage_limit}
 use Rattle.edr_select.specs.Documents.{document, values_in}
 use Rattle.edr_select.specs.Checks.{refused_query, grid_of}
-use Rattle.edr_select.specs.Choices.{takes_node, chosen, IsSome, parameter_places, row_of, column_of}
+use Rattle.edr_select.specs.Choices.{takes_node, chosen, IsSome, parameter_places, time_places, level_places, row_of, column_of}
 use Rattle.edr_select.specs.Planned.{head_of, parameters_at}
 use Rattle.edr_select.specs.Framings.{FrameValue, FramingValue, IsFrame, IsFraming}
-use Rattle.edr_select.specs.Masks.{IsArea, NoneTaken, MaskValue, IsMask}
+use Rattle.edr_select.specs.Masks.{IsArea, NoneTaken, MaskValue, IsMask, frame_at}
+use Rattle.edr_select.specs.Wanted.{levels_asked}
 use Rattle.edr_select.specs.Plans.{IsReplyTo}
 use Rattle.edr_select.specs.Steps.{IsAsked, refused_sizes}
-use Rattle.edr_select.specs.AreaPlans.{domain_over, IsFrameOf, TakesSome, HasNodes, framed_count, IsFramed, IsFramingIn}
+use Rattle.edr_select.specs.AreaPlans.{domain_over, TakesSome, HasNodes, framed_count, IsFramed, IsFramingIn}
 use Rattle.edr_select.specs.ListLaws.{some_member}
 use Rattle.edr_select.specs.KeptLaws.{kept_below, kept_passes}
 use Rattle.edr_select.specs.GridLaws.{IsGrid}
@@ -57,29 +58,36 @@ module _ (c : CollectionValue) (q : QueryValue) (i : InstanceValue) (asked : IsA
 
   -- ---- what is taken
 
-  module _ (parameters : List ℕ) (frame : FrameValue) (are : parameters ≡ parameter_places q.parameters i.parameters) (frame_is : IsFrameOf i q frame) where
-    takes_some : IsSome (chosen i q) → TakesSome parameters frame
+  module _ (parameters times levels : List ℕ) (are : parameters ≡ parameter_places q.parameters i.parameters)
+      (times_are : times ≡ time_places q.times i.ts) (levels_are : levels ≡ level_places (levels_asked q) i.zs) where
+    takes_some : IsSome (chosen i q) → TakesSome parameters times levels
     takes_some some = record {
-      parameters = subst (λ (ps : List ℕ). ps ≢ []) (sym are) some.parameters;
-      times = subst (λ (f : FrameValue). f.times ≢ []) (sym frame_is.is) some.times;
-      levels = subst (λ (f : FrameValue). f.levels ≢ []) (sym frame_is.is) some.levels;
+      parameters_some = subst (λ (ps : List ℕ). ps ≢ []) (sym are) some.parameters;
+      times_some = subst (λ (ts : List ℕ). ts ≢ []) (sym times_are) some.times;
+      levels_some = subst (λ (zs : List ℕ). zs ≢ []) (sym levels_are) some.levels;
     }
 
-    some_taken : TakesSome parameters frame → IsSome (chosen i q)
-    some_taken some = record {
-      parameters = subst (λ (ps : List ℕ). ps ≢ []) are some.parameters;
-      times = subst (λ (f : FrameValue). f.times ≢ []) frame_is.is some.times;
-      levels = subst (λ (f : FrameValue). f.levels ≢ []) frame_is.is some.levels;
-      spots = some_spots i q asked.each g frame_is.mask frame_is.is_mask;
-    }
-
-    pub refused_some : (b : Bool) → b ≡ false → (IsTrue b ↔ TakesSome parameters frame) → refused_sizes q s ≡ Some NoSamples
+    pub refused_some : (b : Bool) → b ≡ false → (IsTrue b ↔ TakesSome parameters times levels) → refused_sizes q s ≡ Some NoSamples
     refused_some b e test = refused_samples c q i asked (λ some. false≢true (sym e ∙ test.1 (takes_some some)))
 
-    pub framed : (b : Bool) → b ≡ true → (IsTrue b ↔ TakesSome parameters frame) → refused_query c q ≡ refused_sizes q s → IsFramed c q i parameters frame
-    framed b e test left =
-        let some = some_taken (test.0 e) in
-        record { parameters_are = are; frame_is = frame_is; some = some; refused_is = left ∙ known_samples c q i asked some }
+    some_taken : TakesSome parameters times levels → (mask : MaskValue) → IsMask i q.shape mask → IsSome (chosen i q)
+    some_taken some mask m = record {
+      parameters = subst (λ (ps : List ℕ). ps ≢ []) are some.parameters_some;
+      times = subst (λ (ts : List ℕ). ts ≢ []) times_are some.times_some;
+      levels = subst (λ (zs : List ℕ). zs ≢ []) levels_are some.levels_some;
+      spots = some_spots i q asked.each g mask m;
+    }
+
+    pub framed : (b : Bool) → b ≡ true → (IsTrue b ↔ TakesSome parameters times levels) → (mask : MaskValue) → IsMask i q.shape mask
+        → refused_query c q ≡ refused_sizes q s → IsFramed c q i parameters (frame_at times levels mask)
+    framed b e test mask m left =
+        let some = some_taken (test.0 e) mask m in
+        record {
+          parameters_are = are;
+          frame_is = record { mask = mask; is_mask = m; is = ap₂ (λ (ts zs : List ℕ). frame_at ts zs mask) times_are levels_are };
+          some = some;
+          refused_is = left ∙ known_samples c q i asked some;
+        }
 
   -- ---- the document
 
@@ -110,13 +118,15 @@ module _ (c : CollectionValue) (q : QueryValue) (i : InstanceValue) (asked : IsA
     abbrev m : IsMask i q.shape mask
     m = made.frame_is.is_mask
 
-    pub takes : TakesSome parameters frame
-    takes = takes_some parameters frame made.parameters_are made.frame_is made.some
+    pub takes : TakesSome parameters frame.times frame.levels
+    takes =
+        takes_some parameters frame.times frame.levels made.parameters_are (ap (λ (f : FrameValue). f.times) made.frame_is.is)
+        (ap (λ (f : FrameValue). f.levels) made.frame_is.is) made.some
 
     pub has_nodes : HasNodes frame
     has_nodes = record {
-      times = takes.times;
-      levels = takes.levels;
+      times = takes.times_some;
+      levels = takes.levels_some;
       rows = subst (λ (f : FrameValue). 1 ≤ f.rows) (sym made.frame_is.is) m.some_rows;
       columns = subst (λ (f : FrameValue). 1 ≤ f.columns) (sym made.frame_is.is) m.some_columns;
     }

@@ -30,10 +30,10 @@ pub record IsFrameOf (i : InstanceValue) (q : QueryValue) (frame : FrameValue) :
   pub is : frame ≡ frame_with i q mask
 
 -- some parameters are taken, at some times and levels
-pub record TakesSome (places : List ℕ) (frame : FrameValue) : Type 0 where
-  pub parameters : places ≢ []
-  pub times : frame.times ≢ []
-  pub levels : frame.levels ≢ []
+pub record TakesSome (parameters times levels : List ℕ) : Type 0 where
+  pub parameters_some : parameters ≢ []
+  pub times_some : times ≢ []
+  pub levels_some : levels ≢ []
 
 -- there is some of each
 pub record AreSome (ts zs : List ℕ) (height width : ℕ) : Type 0 where

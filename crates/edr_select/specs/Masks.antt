@@ -119,11 +119,11 @@ pub record IsMask (i : InstanceValue) (shape : Shape) (mask : MaskValue) : Type 
   pub first_column : TakesInColumn i shape mask.column
   pub last_column : TakesInColumn i shape (mask.column + mask.columns - 1)
 
--- the frame has the times and levels that a query takes, and a mask
-abbrev pub frame_with : InstanceValue → QueryValue → MaskValue → FrameValue
-frame_with i q mask = record {
-  times = time_places q.times i.ts;
-  levels = level_places (levels_asked q) i.zs;
+-- the frame of some times and levels, and of a mask
+abbrev pub frame_at : List ℕ → List ℕ → MaskValue → FrameValue
+frame_at times levels mask = record {
+  times = times;
+  levels = levels;
   row = mask.row;
   rows = mask.rows;
   column = mask.column;
@@ -132,6 +132,10 @@ frame_with i q mask = record {
   width = mask.width;
   mask = mask.bits;
 }
+
+-- the frame has the times and levels that a query takes, and a mask
+abbrev pub frame_with : InstanceValue → QueryValue → MaskValue → FrameValue
+frame_with i q mask = frame_at (time_places q.times i.ts) (level_places (levels_asked q) i.zs) mask
 
 -- an x is from the left one to the right one, and a y from the low one to the high one
 pub record IsReached (reach : Reach) (p : Position) : Type 0 where

@@ -9,7 +9,7 @@ use crate::sizes::value_product;
 
 // How many values some parameters have over a frame, or None where they are above the limit.
 fn framed_count(parameters: &[u64], frame: &Frame) -> Option<u64>
-    requires { TakesSome parameters.now frame.now }
+    requires { TakesSome parameters.now frame.now.times frame.now.levels }
     ensures { MatchOption result (value_limit < area_plans.framed_count parameters.now frame.now)
         (λ count. (count ≡ area_plans.framed_count parameters.now frame.now) × (count ≤ value_limit)) }
 {
@@ -21,7 +21,7 @@ fn framed_count(parameters: &[u64], frame: &Frame) -> Option<u64>
 
 // Whether some parameters have more values over a frame than a reply may have.
 pub(crate) fn is_too_large(parameters: &[u64], frame: &Frame) -> bool
-    requires { TakesSome parameters.now frame.now }
+    requires { TakesSome parameters.now frame.now.times frame.now.levels }
     ensures { result ≡ nat_lt value_limit (area_plans.framed_count parameters.now frame.now) }
 {
     framed_count(parameters, frame).is_none()

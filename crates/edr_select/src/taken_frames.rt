@@ -2,15 +2,15 @@
 ghost use Rattle.std.specs.Prelude.{◌≡◌, ◌↔◌, IfOk, IfErr, IsTrue, MatchOption};
 ghost use Rattle.edr_edition.specs.Instances.{HasGrid};
 ghost use Rattle.edr_query.specs.Queries.{IsShape};
-ghost use Rattle.edr_select.specs.AreaPlans.{IsFrameOf, IsFramed, TakesSome};
+ghost use Rattle.edr_select.specs.AreaPlans.{IsFramed, TakesSome};
 ghost use Rattle.edr_select.specs.Checks.{refused_query};
-ghost use Rattle.edr_select.specs.Masks.{IsArea, NoneTaken};
+ghost use Rattle.edr_select.specs.Masks.{IsArea, IsMask, NoneTaken, frame_at};
 ghost use Rattle.edr_select.specs.Steps.{IsAsked, IsFaultOf};
 
 use crate::choices::levels_of_query;
 use crate::chosen_times::times_taken;
 use crate::frames::Frame;
-use crate::masks::mask_of;
+use crate::masks::{Mask, mask_of};
 use crate::planning::PlanFault;
 use crate::steps::{names_taken, refused_asking};
 use edr_base::{Items, OutOfMemory, Refusal};
@@ -18,23 +18,32 @@ use edr_edition::{CollectionData, GridInstance};
 use edr_query::Query;
 use std::alloc::Global;
 
-// The times, the levels and the nodes of a plane that a query takes of an instance, or None where it takes no node.
-fn frame_of(
+// Whether some parameters are taken, at some times and levels.
+fn takes_some(parameters: &[u64], times: &[u64], levels: &[u64]) -> bool
+    ensures { IsTrue result ↔ TakesSome parameters.now times.now levels.now }
+{
+    !parameters.is_empty() && !times.is_empty() && !levels.is_empty()
+}
+
+// The nodes of a plane that a query takes, or None where it takes none.
+fn mask_taken(
     alloc: Global,
     query: &Query,
     instance: &GridInstance,
-) -> Result<Option<Frame>, OutOfMemory>
+) -> Result<Option<Mask>, OutOfMemory>
     requires instance { HasGrid instance.now }
     requires area { IsArea query.now.shape }
     requires shape { IsShape query.now.shape }
-    ensures { IfOk result (λ found. MatchOption found (NoneTaken instance.now query.now.shape) (IsFrameOf instance.now query.now)) }
+    ensures { IfOk result (λ found. MatchOption found (NoneTaken instance.now query.now.shape) (λ mask. IsMask instance.now query.now.shape mask)) }
 {
-    let times = times_taken(alloc, &query.times, instance.times())?;
-    let levels = levels_of_query(alloc, query, instance.levels())?;
-    let Some(mask) = mask_of(alloc, instance, &query.shape)? else {
-        return Ok(None);
-    };
-    Ok(Some(Frame {
+    mask_of(alloc, instance, &query.shape)
+}
+
+// The frame of some times and levels, and of a mask.
+fn frame_over(times: Vec<u64>, levels: Vec<u64>, mask: Mask) -> Frame
+    ensures { result ≡ frame_at times.items levels.items mask }
+{
+    Frame {
         times: Items::of(times),
         levels: Items::of(levels),
         row: mask.row,
@@ -44,17 +53,11 @@ fn frame_of(
         left: mask.left,
         width: mask.width,
         mask: Items::of(mask.bits),
-    }))
+    }
 }
 
-// Whether some parameters are taken, at some times and levels.
-fn takes_some(parameters: &[u64], frame: &Frame) -> bool
-    ensures { IsTrue result ↔ TakesSome parameters.now frame.now }
-{
-    !parameters.is_empty() && !frame.times.items().is_empty() && !frame.levels.items().is_empty()
-}
-
-// The parameters and the frame that a query takes, or the first refusal that applies but for that of its size.
+// The parameters and the frame that a query takes, or the first refusal that applies but for that of its size. Nodes are looked at
+// where some parameters are taken at some times and levels.
 pub(crate) fn frame_taken(
     alloc: Global,
     query: &Query,
@@ -70,11 +73,13 @@ pub(crate) fn frame_taken(
     if let Some(refusal) = refused_asking(query, collection, instance) {
         return Err(PlanFault::Refused(refusal));
     }
-    let Some(frame) = frame_of(alloc, query, instance)? else {
-        return Err(PlanFault::Refused(Refusal::NoSamples));
-    };
-    if !takes_some(&parameters, &frame) {
+    let times = times_taken(alloc, &query.times, instance.times())?;
+    let levels = levels_of_query(alloc, query, instance.levels())?;
+    if !takes_some(&parameters, &times, &levels) {
         return Err(PlanFault::Refused(Refusal::NoSamples));
     }
-    Ok((parameters, frame))
+    let Some(mask) = mask_taken(alloc, query, instance)? else {
+        return Err(PlanFault::Refused(Refusal::NoSamples));
+    };
+    Ok((parameters, frame_over(times, levels, mask)))
 }
