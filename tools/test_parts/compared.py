@@ -59,17 +59,18 @@ def _axis(axis: dict) -> list:
     return axis["values"] if "values" in axis else numpy.linspace(axis["start"], axis["stop"], axis["num"]).round().astype(int).tolist()
 
 
-def _expected(trial: Trial, dataset, parameter: str, instance: str, time: str, height, x: int, y: int):
-    """The value that xarray selects nearest to a place, or none where it is missing or the place lies beyond the grid."""
+def _expected(trial: Trial, dataset, series: tuple, x: list, y: list) -> list:
+    """The values that xarray selects nearest to places, at a parameter, instance, time and height; not a number where none is."""
+    parameter, instance, time, height = series
     system = dataset.attrs.get("system", 4326)
-    across, up = pyproj.Transformer.from_crs(trial.code, system, always_xy=True).transform(x, y)
-    value = trial.select(dataset, parameter, instance, datetime.fromisoformat(time[:-1]), height, across, up)
-    return None if value is None or numpy.isnan(value) else float(value)
+    across, up = pyproj.Transformer.from_crs(trial.code, system, always_xy=True).transform(numpy.array(x, float), numpy.array(y, float))
+    places = xarray.DataArray(across, dims="place"), xarray.DataArray(up, dims="place")
+    return trial.select(dataset, parameter, instance, datetime.fromisoformat(time[:-1]), height, *places).values.astype(float).tolist()
 
 
-def _agrees(sample, expected, step: float) -> bool:
-    if sample is None or expected is None:
-        return sample is None and expected is None
+def _agrees(sample, expected: float, step: float) -> bool:
+    if sample is None or numpy.isnan(expected):
+        return sample is None and bool(numpy.isnan(expected))
     return abs(sample * step - expected) <= step * 0.5 + 1e-6 * abs(expected)
 
 
@@ -77,19 +78,26 @@ def _values(trial: Trial, dataset, feed: list) -> int:
     """Compares values by chance of the feed's lines; answers how many of them are missing."""
     chance = random.Random(trial.name)
     grids = [line["grid"] for line in feed if "grid" in line]
-    absent = 0
+    drawn: dict[tuple, list] = {}
     for _ in range(COUNT):
-        grid = chance.choice(grids)
-        coverage = grid["coverage"]
-        axes = {name: _axis(axis) for name, axis in coverage["domain"]["axes"].items()}
-        parameter, held = chance.choice(sorted(coverage["ranges"].items()))
-        places = [chance.randrange(count) for count in held["shape"]]
-        at = {name: axes[name][place] for name, place in zip(held["axisNames"], places)}
-        sample = held["values"][int(numpy.ravel_multi_index(places, held["shape"]))]
-        expected = _expected(trial, dataset, parameter, grid["instance"], at["t"], at.get("z"), at["x"], at["y"])
-        assert _agrees(sample, expected, trial.steps[parameter]), f"{parameter} of {grid['instance']} at {at} is {sample}, and xarray has {expected}"
-        absent += sample is None
-    return absent
+        series, found = _drawn(chance, chance.choice(grids))
+        drawn.setdefault(series, []).append(found)
+    for series, found in drawn.items():
+        samples, x, y = zip(*found)
+        for sample, expected, *place in zip(samples, _expected(trial, dataset, series, x, y), x, y):
+            assert _agrees(sample, expected, trial.steps[series[0]]), f"{series} at {place} is {sample}, and xarray has {expected}"
+    return sum(sample is None for found in drawn.values() for sample, *_ in found)
+
+
+def _drawn(chance: random.Random, grid: dict) -> tuple[tuple, tuple]:
+    """One value by chance: its parameter, instance, time and height, and the value with its x and y."""
+    coverage = grid["coverage"]
+    axes = {name: _axis(axis) for name, axis in coverage["domain"]["axes"].items()}
+    parameter, held = chance.choice(sorted(coverage["ranges"].items()))
+    places = [chance.randrange(count) for count in held["shape"]]
+    at = {name: axes[name][place] for name, place in zip(held["axisNames"], places)}
+    sample = held["values"][int(numpy.ravel_multi_index(places, held["shape"]))]
+    return (parameter, grid["instance"], at["t"], at.get("z")), (sample, at["x"], at["y"])
 
 
 def _asked(trial: Trial, dataset, feed: list, text: bytes, edr: Edr) -> None:
@@ -97,50 +105,45 @@ def _asked(trial: Trial, dataset, feed: list, text: bytes, edr: Edr) -> None:
     chance = random.Random(trial.name + " asked")
     grids = [line["grid"] for line in feed if "grid" in line]
     for _ in range(ASKED):
-        grid = chance.choice(grids)
-        axes = {name: _axis(axis) for name, axis in grid["coverage"]["domain"]["axes"].items()}
-        at = {name: chance.choice(values) for name, values in axes.items()}
-        parameter = chance.choice(sorted(grid["coverage"]["ranges"]))
-        level = f"&z={at['z']}" if "z" in at else ""
-        target = (
-            f"/collections/file/instances/{grid['instance']}/position?coords=POINT({at['x']} {at['y']})"
-            f"&datetime={at['t']}&parameter-name={parameter}{level}"
-        )
+        series, (_, x, y) = _drawn(chance, chance.choice(grids))
+        parameter, instance, time, height = series
+        level = f"&z={height}" if height is not None else ""
+        target = f"/collections/file/instances/{instance}/position?coords=POINT({x} {y})&datetime={time}&parameter-name={parameter}{level}"
         ended = edr.ask(target, text)
         assert ended.status == 0, f"edr ask \"{target}\" ends with {ended.status}: {ended.errors}"
         sample = json.loads(ended.output)["ranges"][parameter]["values"][0]
-        expected = _expected(trial, dataset, parameter, grid["instance"], at["t"], at.get("z"), at["x"], at["y"])
+        expected = _expected(trial, dataset, series, [x], [y])[0]
         assert _agrees(sample, expected, trial.steps[parameter]), f"edr ask \"{target}\" has {sample}, and xarray {expected}"
 
 
-def _inside(values, wanted: float) -> bool:
-    return float(values.min()) - 1e-6 <= wanted <= float(values.max()) + 1e-6
+def _inside(values, wanted):
+    return (wanted >= float(values.min()) - 1e-6) & (wanted <= float(values.max()) + 1e-6)
 
 
 def _select_degrees(dataset, parameter, instance, time, height, longitude, latitude):
     """By longitudes and latitudes; those of the file may go to 360."""
     longitude = longitude % 360 if float(dataset.longitude.max()) > 180 else longitude
-    if not (_inside(dataset.longitude, longitude) and _inside(dataset.latitude, latitude)):
-        return None
     at_time = dataset.swap_dims(step="valid_time") if "step" in dataset.dims else dataset
     name = "valid_time" if "step" in dataset.dims else "time"
-    value = at_time[parameter].sel({name: time}).sel(latitude=latitude, longitude=longitude, method="nearest").values
-    return None if parameter == "t2m" and "packed" in dataset.attrs and abs(value - 273.15) > 90.001 else value
+    value = at_time[parameter].sel({name: time}).sel(latitude=latitude, longitude=longitude, method="nearest")
+    value = value.where(_inside(dataset.longitude, longitude) & _inside(dataset.latitude, latitude))
+    if parameter == "t2m" and "packed" in dataset.attrs:
+        return value.where(abs(value - 273.15) < 90.001)  # the valid range, which xarray doesn't look at
+    return value
 
 
 def _select_metres(dataset, parameter, instance, time, height, x, y):
     """By x and y of the feed, which are the file's own but for less than a metre; the file's y are kilometres."""
     run = datetime.fromisoformat(instance[:-1])
     held = dataset["wind"].sel(run=run, lead=numpy.timedelta64(int((time - run).total_seconds()), "s"), height=height)
-    return held.sel(x=x, y=y / 1_000, method="nearest").values
+    return held.sel(x=x, y=y / 1_000, method="nearest")
 
 
 def _select_lambert(dataset, parameter, instance, time, height, x, y):
     """By x and y of the file's projection."""
-    if not (_inside(dataset.x, x) and _inside(dataset.y, y)):
-        return None
     run = datetime.fromisoformat(instance[:-1])
-    return dataset["t"].sel(time=run, step=numpy.timedelta64(time - run), isobaricInhPa=850).sel(x=x, y=y, method="nearest").values
+    held = dataset["t"].sel(time=run, step=numpy.timedelta64(time - run), isobaricInhPa=850)
+    return held.sel(x=x, y=y, method="nearest").where(_inside(dataset.x, x) & _inside(dataset.y, y))
 
 
 def _open_netcdf(path):

@@ -50,7 +50,7 @@ def _packed_temperature(file, chance) -> None:
     })
     packed = chance.integers(-4_000, 4_000, temperature.shape).astype("i2")
     packed[chance.random(packed.shape) < 0.1] = -32_768
-    packed[0, 3, 4] = 9_500  # beyond the valid range
+    packed[chance.random(packed.shape) < 0.05] = 9_500  # beyond the valid range
     temperature[:] = packed
 
 

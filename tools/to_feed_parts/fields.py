@@ -6,7 +6,7 @@ import numpy
 
 from . import roles
 from .faults import Refused
-from .instants import Clock, read
+from .instants import Clock, read, written
 from .roles import role_of, text_of
 
 _BESIDE = ("coordinates", "bounds", "climatology", "grid_mapping", "cell_measures")
@@ -128,9 +128,17 @@ def _at(dataset, name: str, value: str):
     numbers = numpy.arange(dataset.sizes[name]) if held is None else numpy.atleast_1d(held.values)
     place = _place(numbers, _wanted(held, name, value))
     if place is None:
-        shown = ", ".join(str(each) for each in numbers[:12].tolist()) + (", .." if len(numbers) > 12 else "")
+        shown = ", ".join(_shown(held, name, numbers[:12])) + (", .." if len(numbers) > 12 else "")
         raise Refused(f"--at {name}={value}: `{name}` has no such value; it has {shown}")
     return dataset.isel({name: place}) if name in dataset.dims else dataset
+
+
+def _shown(held, name: str, numbers: numpy.ndarray) -> list[str]:
+    """Values of a dimension for a person: times as instants."""
+    if held is not None and role_of(name, held.attrs) in (roles.TIME, roles.REFERENCE):
+        clock = Clock(name, text_of(held.attrs, "units"), text_of(held.attrs, "calendar"))
+        return [written(seconds) for seconds in clock.instants(numbers.tolist())]
+    return [format(each, "g") if numbers.dtype.kind in "iuf" else str(each) for each in numbers.tolist()]
 
 
 def _place(numbers: numpy.ndarray, wanted: float | None) -> int | None:

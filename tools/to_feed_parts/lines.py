@@ -29,15 +29,15 @@ class Spool:
             raise Fault(WRITE, f"no file can be made for the feed in {folder or tempfile.gettempdir()}: {error.strerror}") from None
         self._line = self._all = 0
 
-    def write(self, text: str) -> None:
-        """Adds to the line."""
+    def write(self, text: str, about: str = "the file") -> None:
+        """Adds to the line what is about a variable."""
         some = text.encode("utf-8")
         self._line += len(some)
         self._all += len(some)
         if self._line > limits.LINE:
             raise Refused(
-                "a forecast run of the file needs a line of more than 16,777,216 bytes, which a feed doesn't take; "
-                "fewer variables (--parameter), fewer times (--times), a smaller --box, a larger --regrid or a larger --scale would help"
+                f"{about}: with it the line of a forecast run has more than 16,777,216 bytes, which a feed doesn't take; "
+                f"fewer variables (--parameter), fewer times (--times), a smaller --box, a larger --regrid or a larger --scale would help"
             )
         self._put(some)
 

@@ -102,8 +102,9 @@ def _check_nodes(first: Layout, taking) -> None:
     times = max(len(run.times) for run in first.timing.runs)
     nodes = taking.nodes * times * first.levels.count
     if nodes > limits.NODES:
+        upright = f"{first.levels.count} levels, " if first.levels.heights else ""
         raise Refused(
-            f"{first.field.name}: it has {nodes:,} values for a forecast run ({times} times, {first.levels.count} levels, "
+            f"{first.field.name}: it has {nodes:,} values for a forecast run ({times} times, {upright}"
             f"{len(taking.y):,} rows, {len(taking.x):,} columns), and a feed takes {limits.NODES:,} at most; "
             f"fewer times (--times), a smaller --box or a larger --regrid would help"
         )
