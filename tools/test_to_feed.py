@@ -12,7 +12,7 @@ import sys
 import tempfile
 from pathlib import Path
 
-from test_parts import bad_inputs, compared, programs
+from test_parts import bad_inputs, compared, programs, unpacking
 
 TOP = Path(__file__).resolve().parent.parent
 
@@ -37,7 +37,8 @@ def main() -> int:
         return 0
     edr = _program(words.edr)
     with tempfile.TemporaryDirectory() as folder:
-        tried = [(name, _tried(name, trial)) for name, trial in (*compared.trials(Path(folder), edr), *bad_inputs.trials(Path(folder)))]
+        trials = [*compared.trials(Path(folder), edr), ("unpacking", unpacking.trial), *bad_inputs.trials(Path(folder))]
+        tried = [(name, _tried(name, trial)) for name, trial in trials]
     faults = [line for _, lines in tried for line in lines]
     print("\n".join(faults) or "all agree")
     print(f"{len(tried)} tried with {' '.join(edr.words)}, {len(faults)} at fault")

@@ -30,6 +30,7 @@ FILES = (
     Bad(grib_files.rotated, DEGREES, ("t2m: its grid has rotated poles", "cdo remapnn")),
     Bad(grib_files.reduced, DEGREES, ("its grid is of the kind `reduced_gg`", "cdo remapnn")),
     Bad(grib_files.cut, DEGREES, ("can't be read as GRIB",)),
+    Bad(grib_files.cut_behind, DEGREES, ("is damaged", "get it anew")),
     Bad(netcdf_files.calendar, DEGREES, ("time: its calendar is `360_day`", "convert_calendar")),
     Bad(netcdf_files.large, (*DEGREES, "--scale", "flux=0.00001"), ("flux: its value 1e+12 J is more than 53 bits", "--scale flux=0.001 would fit")),
     Bad(netcdf_files.infinite, DEGREES, ("flux: one of its values is infinite", "_FillValue")),
@@ -116,6 +117,8 @@ def _taken(folder: Path) -> str:
         (netcdf_files.unnamed_system, (*METRES, "--file-crs", 25_833)),
         (netcdf_files.long, (*METRES, "--times", "../2024-01-02T00:00:00Z", "--no-collection")),
         (netcdf_files.large, (*DEGREES, "--scale", "flux=0.001")),
+        (grib_files.stereographic, ("--crs", 25_832, "--regrid", 10_000)),
+        (grib_files.equal_area, ("--crs", 25_832, "--regrid", 10_000)),
     ):
         make(str(path))
         ended = to_feed(path, *words)
@@ -123,4 +126,4 @@ def _taken(folder: Path) -> str:
         path.unlink()
     ended = run([sys.executable, TO_FEED, "--help"])
     assert ended.status == 0 and b"exit status" in ended.output, ended.errors
-    return "9 files are taken"
+    return "11 files are taken"

@@ -82,3 +82,30 @@ def cut(path: str) -> None:
     degrees(path)
     with open(path, "r+b") as file:
         file.truncate(300)
+
+
+def stereographic(path: str) -> None:
+    keys = {
+        "gridType": "polar_stereographic", "Nx": 20, "Ny": 15, "DxInMetres": 10_000, "DyInMetres": 10_000,
+        "latitudeOfFirstGridPointInDegrees": 60.0, "longitudeOfFirstGridPointInDegrees": 5.0,
+        "LaDInDegrees": 60.0, "orientationOfTheGridInDegrees": 10.0, "jScansPositively": 1, **_when(0, 3), "shortName": "2t",
+    }
+    with open(path, "wb") as file:
+        _message(file, "regular_ll_sfc_grib2", keys, numpy.full((15, 20), 280.0))
+
+
+def equal_area(path: str) -> None:
+    keys = {
+        "gridType": "lambert_azimuthal_equal_area", "Nx": 20, "Ny": 15, "DxInMetres": 10_000, "DyInMetres": 10_000,
+        "latitudeOfFirstGridPointInDegrees": 50.0, "longitudeOfFirstGridPointInDegrees": 5.0,
+        "standardParallelInDegrees": 52.0, "centralLongitudeInDegrees": 10.0, "jScansPositively": 1, **_when(0, 3), "shortName": "2t",
+    }
+    with open(path, "wb") as file:
+        _message(file, "regular_ll_sfc_grib2", keys, numpy.full((15, 20), 280.0))
+
+
+def cut_behind(path: str) -> None:
+    """Whole messages, and one without its end."""
+    degrees(path)
+    with open(path, "r+b") as file:
+        file.truncate(file.seek(0, 2) - 100)

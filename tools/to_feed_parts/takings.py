@@ -123,13 +123,18 @@ def _ordered(values: numpy.ndarray, low: int, high: int) -> numpy.ndarray:
 
 
 def _not_in_rows(name: str, grid: FileGrid, feed_system) -> str:
-    is_in = f"its grid is in `{grid.system.name}`" if not grid.in_degrees else "its grid is in longitudes and latitudes"
+    is_in = f"its grid is in `{_told(grid.system)}`" if not grid.in_degrees else "its grid is in longitudes and latitudes"
     step = _step(grid, feed_system)
     about = f"; nodes lie about {step:,} m apart, so --regrid {step}" if step else "; --regrid METRES"
     return (
         f"{name}: {is_in}, and its nodes don't stand in rows and columns of `{feed_system.name}`{about} "
         f"would take the nearest of them for each node of a new grid"
     )
+
+
+def _told(system) -> str:
+    """The name of a projected system, or else that of its projection."""
+    return system.name if system.name not in ("unknown", "undefined") else system.coordinate_operation.method_name
 
 
 def _step(grid: FileGrid, feed_system) -> int | None:
