@@ -36,7 +36,9 @@ def degrees(path: str) -> None:
         _packed_temperature(file, chance)
         rain = file.createVariable("tp", "f4", ("time", "latitude", "longitude"), fill_value=-999.0)
         rain.setncatts({"long_name": "Precipitation", "units": "mm", "cell_methods": "time: sum"})
-        rain[:] = chance.uniform(0, 20, rain.shape)
+        values = chance.uniform(0, 20, rain.shape)
+        values[chance.random(values.shape) < 0.05] = -999.0
+        rain[:] = values
         land = file.createVariable("land", "i1", ("latitude", "longitude"))
         land[:] = 1
 

@@ -103,7 +103,9 @@ def _write_range(taking: Taking, layout: Layout, run: Run, instance: str, spool:
         teller.progress(f"{instance}: {layout.field.id}, {100 * done // count} %")
         planes = _read(taking, layout, run, times, heights)
         whole, missing = layout.scaler.whole(taking.of(planes), taking.outside)
-        spool.write(("," if done else "") + lines.values_text(whole, missing), layout.field.name)
+        spool.write("," if done else "")
+        for text in lines.value_texts(whole, missing):
+            spool.write(text, layout.field.name)
         done += len(planes)
     spool.write("]}")
 

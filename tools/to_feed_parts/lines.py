@@ -10,6 +10,7 @@ from . import limits
 from .faults import WRITE, Fault, Refused
 from .instants import written
 
+VALUES_AT_ONCE = 200_000  # that are turned to text
 CRS = "http://www.opengis.net/def/crs/EPSG/0/"
 
 
@@ -124,9 +125,11 @@ def range_head(names: list[str], shape: list[int]) -> str:
     return head[:-1] + ',"values":['
 
 
-def values_text(whole: numpy.ndarray, missing: numpy.ndarray) -> str:
-    """The values of some planes, with commas between them."""
-    values = whole.ravel().tolist()
-    for place in numpy.flatnonzero(missing.ravel()).tolist():
-        values[place] = "null"
-    return ",".join(map(str, values))
+def value_texts(whole: numpy.ndarray, missing: numpy.ndarray):
+    """The values of some planes, with commas between them, in pieces that each but the first begin with a comma."""
+    whole, missing = whole.ravel(), missing.ravel()
+    for start in range(0, len(whole), VALUES_AT_ONCE):
+        values = whole[start:start + VALUES_AT_ONCE].tolist()
+        for place in numpy.flatnonzero(missing[start:start + VALUES_AT_ONCE]).tolist():
+            values[place] = "null"
+        yield ("," if start else "") + ",".join(map(str, values))
