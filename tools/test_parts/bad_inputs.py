@@ -32,7 +32,9 @@ FILES = (
     Bad(grib_files.cut, DEGREES, ("can't be read as GRIB",)),
     Bad(grib_files.cut_behind, DEGREES, ("is damaged", "get it anew")),
     Bad(netcdf_files.calendar, DEGREES, ("time: its calendar is `360_day`", "convert_calendar")),
-    Bad(netcdf_files.large, (*DEGREES, "--scale", "flux=0.00001"), ("flux: its value 1e+12 J is more than 53 bits", "--scale flux=0.001 would fit")),
+    Bad(netcdf_files.large, (*DEGREES, "--scale", "flux=0.00001"), ("flux: its value 1e+12 J in steps of 0.00001 J is a number of more than 53 bits", "--scale flux=0.001 would fit")),
+    Bad(netcdf_files.beyond, DEGREES, ("count: its value 9.0072e+15 in steps of 1 is a number of more than 53 bits", "--scale count=10 would fit")),
+    Bad(netcdf_files.empty, DEGREES, ("temp: it has no values along `time`",)),
     Bad(netcdf_files.infinite, DEGREES, ("flux: one of its values is infinite", "_FillValue")),
     Bad(netcdf_files.decimals, DEGREES, ("temp: its value 271.35 K is no whole number", "--scale temp=0.01 would")),
     Bad(netcdf_files.whole, ("--crs", 25_832), ("snow: its grid is in longitudes and latitudes", "so --regrid ")),
@@ -76,6 +78,7 @@ def trials(folder: Path):
     for number, bad in enumerate(FILES):
         yield f"refusal {number + 1}", lambda bad=bad, number=number: _refused(bad, folder, to_file=number % 2 == 1)
     yield "a full disc", lambda: _full_disc(folder)
+    yield "no folder", lambda: _no_folder(folder)
     yield "taken files", lambda: _taken(folder)
 
 
@@ -102,6 +105,15 @@ def _full_disc(folder: Path) -> str:
     path.unlink()
     assert ended.returncode == 4, f"status {ended.returncode}: {ended.stderr}"
     return ended.stderr.decode().strip().splitlines()[-1]
+
+
+def _no_folder(folder: Path) -> str:
+    path = folder / "good.nc"
+    netcdf_files.whole(str(path))
+    ended = to_feed(path, *DEGREES, "--output", folder / "none" / "feed.jsonl")
+    path.unlink()
+    assert ended.status == 4, f"status {ended.status}: {ended.errors}"
+    return ended.errors.strip().splitlines()[-1]
 
 
 def _taken(folder: Path) -> str:

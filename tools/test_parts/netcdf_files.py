@@ -127,6 +127,20 @@ def without_time(path: str) -> None:
     _plain(path, lambda file: _variable(file, "height_of_land", GRID, 3, "i2", units="m"))
 
 
+def empty(path: str) -> None:
+    """A time axis without times."""
+    with netCDF4.Dataset(path, "w") as file:
+        _degrees(file, [60, 59, 58], [10, 11, 12, 13])
+        file.createDimension("time", None)
+        file.createVariable("time", "f8", ("time",)).units = "hours since 2024-01-01"
+        file.createVariable("temp", "i4", CUBE)
+
+
+def beyond(path: str) -> None:
+    """A whole number of 54 bits."""
+    _plain(path, lambda file: _variable(file, "count", CUBE, 2**53, "i8", units="1"))
+
+
 def large(path: str) -> None:
     _plain(path, lambda file: _variable(file, "flux", CUBE, 1e12, units="J"))
 

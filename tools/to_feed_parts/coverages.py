@@ -153,6 +153,8 @@ def _read(taking: Taking, layout: Layout, run: Run, times, levels) -> numpy.ndar
             order.insert(0, dimension)
     try:
         planes = variable.isel(wanted).transpose(*order).values
-    except (OSError, EOFError, RuntimeError) as error:
+    except MemoryError:
+        raise
+    except Exception as error:  # whatever the libraries say of a damaged file
         raise Fault(READ, f"{layout.field.name}: reading it failed: {error}") from None
     return planes.reshape(-1, *planes.shape[-2:])

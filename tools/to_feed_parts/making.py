@@ -37,7 +37,7 @@ def _write(datasets: list, asked, teller: Teller) -> None:
     finally:
         spool.close()
     for layout in plan.layouts:
-        for text in layout.scaler.losses.note(layout.field.id, layout.scaler.step, text_of(layout.field.attributes, "units")):
+        for text in layout.scaler.losses.notes(layout.field.id, layout.scaler.step, text_of(layout.field.attributes, "units")):
             teller.note(text)
 
 
@@ -76,6 +76,9 @@ def _layout(field, grid, asked, teller: Teller, may_pass: bool) -> Layout | None
     if may_pass and asked.time is None and not timing.has_time(field):
         teller.note(f"{field.name}: it has no time axis, and is passed over")
         return None
+    for dimension, size in field.variable.sizes.items():
+        if size == 0:
+            raise Refused(f"{field.name}: it has no values along `{dimension}`; a file that has some would help, or another --parameter")
     held = timing.timing_of(field, asked.time, asked.times)
     known = {grid.x_dimension, grid.y_dimension, held.run_dimension, held.time_dimension}
     heights = levels.levels_of(field, known, teller)

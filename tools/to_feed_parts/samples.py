@@ -107,13 +107,15 @@ class Losses:
     rounded: int = 0
     most: float = 0.0  # in steps
 
-    def note(self, name: str, step: Decimal, unit: str) -> list[str]:
+    def notes(self, name: str, step: Decimal, unit: str) -> list[str]:
+        """What is said of the losses."""
+        unit = "" if unit in ("", "1") else f" {unit}"
         notes = []
         if self.missing:
             notes.append(f"{name}: {self.missing:,} of {self.values:,} values are missing")
         if self.rounded:
-            lost = f"{self.most * float(step):.3g} {unit}".strip()
-            notes.append(f"{name}: {self.rounded:,} of {self.values:,} values were rounded to steps of {plain(step)} {unit}".rstrip() + f", by at most {lost}")
+            most = f"{self.most * float(step):.3g}{unit}"
+            notes.append(f"{name}: {self.rounded:,} of {self.values:,} values were rounded to steps of {plain(step)}{unit}, by at most {most}")
         return notes
 
 
@@ -171,11 +173,14 @@ class Scaler:
         helpful = self.step
         while most * float(self.step / helpful) > limits.SAMPLE:
             helpful *= 10
-        value = numbers[large].ravel()[0]
+        value = self._with_unit(format(numbers[large].ravel()[0], "g"))
         raise Refused(
-            f"{self._name}: its value {value:g} {self._unit} is more than 53 bits of steps of {plain(self.step)} {self._unit}; "
-            f"--scale {self._name}={plain(helpful)} would fit"
+            f"{self._name}: its value {value} in steps of {self._with_unit(plain(self.step))} is a number of more than 53 bits, "
+            f"which a feed doesn't hold; --scale {self._name}={plain(helpful)} would fit"
         )
+
+    def _with_unit(self, number: str) -> str:
+        return number if self._unit in ("", "1") else f"{number} {self._unit}"
 
     def _count(self, numbers, steps, whole, missing, outside) -> None:
         change = numpy.abs(steps - whole) if steps.dtype.kind == "f" else numpy.zeros(1)
@@ -189,9 +194,10 @@ class Scaler:
 
     def _not_whole(self, numbers: numpy.ndarray) -> str:
         step = self._fitting(numbers)
+        value = self._with_unit(format(numbers[0], "g"))
         return (
-            f"{self._name}: its value {numbers[0]:g} {self._unit} is no whole number, and a feed has whole numbers; "
-            f"--scale {self._name}={step} would count in steps of {step} {self._unit}".rstrip()
+            f"{self._name}: its value {value} is no whole number, and a feed has whole numbers; "
+            f"--scale {self._name}={step} would count in steps of {self._with_unit(step)}"
         )
 
     def _fitting(self, numbers: numpy.ndarray) -> str:
