@@ -1,16 +1,16 @@
-// The legend of a scale: a strip of its colours with numbers and the unit, and how a missing value looks.
+// The legend of a scale: a strip of its colours with numbers and the unit, and what other marks mean.
 
 import { make } from "./dom.js";
 import { GRADIENT } from "./scale.js";
 import { number, unit } from "./text.js";
 import { numberTicks } from "./ticks.js";
 
-/** Fills an element with the legend of a parameter; without a scale it says so. */
-export function showLegend(host, parameter, scale, hasMissing) {
+/** Fills an element with the legend of a parameter; without a scale it says so. `marks` are pairs of a mark's class and its meaning. */
+export function showLegend(host, parameter, scale, marks) {
   const symbol = unit(parameter.unit);
   const title = make("span", { class: "legend-title" }, symbol ? `${parameter.label}, ${symbol}` : parameter.label);
   const children = scale ? [title, strip(scale)] : [title, make("span", { class: "muted" }, "no values")];
-  if (hasMissing) children.push(make("span", { class: "legend-missing" }, make("i", { class: "hatch" }), "missing"));
+  for (const [name, meaning] of marks) children.push(make("span", { class: "legend-mark" }, make("i", { class: name }), meaning));
   host.replaceChildren(...children);
 }
 

@@ -93,7 +93,7 @@ export class MapPanel {
     this.scale = low <= high ? new Scale(low, high) : null;
     const window = picture.kind === "grid" ? MapView.gridWindow(picture) : MapView.windowRound(box);
     this.map.show(picture, window, this.scale ?? new Scale(0, 1));
-    showLegend(byId("legend"), parameter, this.scale, hasMissing(picture));
+    showLegend(byId("legend"), parameter, this.scale, marksOf(picture));
     byId("map-note").hidden = !picture.note;
     byId("map-note").replaceChildren(picture.note ?? "");
     byId("map-asked").replaceChildren(...askedLink([picture.target]));
@@ -147,8 +147,11 @@ export class MapPanel {
   }
 }
 
-/** Whether a picture shows that something is missing. */
-function hasMissing({ kind, values, inside, points }) {
-  if (kind === "station") return points.some(({ sample }) => sample === null);
-  return values.some((sample, place) => Number.isNaN(sample) && (!inside || inside[place]));
+/** How a picture shows values that are missing, and stations without one at its time. */
+function marksOf({ kind, values, inside, points }) {
+  if (kind === "grid") return values.some((sample, place) => Number.isNaN(sample) && (!inside || inside[place])) ? [["hatch", "missing"]] : [];
+  const marks = [];
+  if (points.some(({ sample }) => sample === null)) marks.push(["crossed", "missing"]);
+  if (points.some(({ sample }) => sample === undefined)) marks.push(["hollow", "no value at this time"]);
+  return marks;
 }

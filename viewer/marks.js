@@ -2,7 +2,8 @@
 
 import { cellBorders, greatestGap } from "./nearest.js";
 
-const STATION = 7;
+const SIZES = [[60, 7], [400, 5], [Infinity, 3]]; // up to how many stations a point of which radius, in pixels
+const CHOSEN = 7; // the radius of the one that is chosen or pointed at
 const LABELS = 40; // stations up to which all have their labels, where there is room
 const CROWD = 200; // stations up to which labels keep off all of them
 
@@ -124,32 +125,34 @@ const sides = (borders, place) => [borders[place], borders[place + 1]];
 function stations(context, map, colours) {
   const { points } = map.picture;
   const hovered = map.marks.pointer ? map.stationUnder(map.marks.pointer) : null;
-  for (const station of points) drawStation(context, map, station, colours);
   const isMeant = (station) => station === hovered || station.id === map.marks.station;
+  const radius = SIZES.find(([many]) => points.length <= many)[1];
+  for (const station of points) if (!isMeant(station)) drawStation(context, map, station, radius, colours);
+  for (const station of points) if (isMeant(station)) drawStation(context, map, station, CHOSEN, colours);
   const named = points.filter((station) => points.length <= LABELS || isMeant(station));
   named.sort((one, other) => isMeant(other) - isMeant(one));
   context.font = `12px ${fontFamily()}`;
-  const taken = points.length <= CROWD ? points.map(({ place }) => boxRound(map.pixelOf(place), STATION)) : [];
+  const taken = points.length <= CROWD ? points.map(({ place }) => boxRound(map.pixelOf(place), radius)) : [];
   for (const station of named) label(context, map, station, taken, colours);
 }
 
 const boxRound = ([x, y], reach) => [x - reach, y - reach, x + reach, y + reach];
 const overlap = (one, other) => one[0] < other[2] && other[0] < one[2] && one[1] < other[3] && other[1] < one[3];
 
-function drawStation(context, map, station, colours) {
+function drawStation(context, map, station, radius, colours) {
   const [x, y] = map.pixelOf(station.place);
   const isChosen = station.id === map.marks.station;
-  if (isChosen) disc(context, x, y, STATION + 4, colours.accent, colours);
+  if (isChosen) disc(context, x, y, radius + 4, colours.accent, colours);
   const hasSample = station.sample !== undefined && station.sample !== null;
-  disc(context, x, y, STATION, hasSample ? map.scale.colour(station.sample) : colours.panel, colours);
+  disc(context, x, y, radius, hasSample ? map.scale.colour(station.sample) : colours.panel, colours);
   context.beginPath();
-  context.arc(x, y, STATION, 0, 2 * Math.PI);
+  context.arc(x, y, radius, 0, 2 * Math.PI);
   context.strokeStyle = station.sample === undefined ? colours.muted : colours.text;
-  context.lineWidth = 1.5;
-  context.setLineDash(station.sample === undefined ? [3, 3] : []);
+  context.lineWidth = radius > 4 ? 1.5 : 1;
+  context.setLineDash(station.sample === undefined && radius > 4 ? [3, 3] : []);
   context.stroke();
   context.setLineDash([]);
-  if (station.sample === null) strike(context, x, y, STATION * 0.5);
+  if (station.sample === null) strike(context, x, y, radius * 0.5);
 }
 
 /** A cross in a station whose sample is missing. */
@@ -166,7 +169,7 @@ function strike(context, x, y, reach) {
 function label(context, map, station, taken, colours) {
   const [x, y] = map.pixelOf(station.place);
   const wide = context.measureText(station.label).width;
-  const away = STATION + 6;
+  const away = CHOSEN + 6;
   const starts = [[x + away, y], [x - away - wide, y], [x - wide / 2, y - away - 6], [x - wide / 2, y + away + 6]];
   const { left, top, width, height } = map.plot.area;
   const isFree = ([fromX, fromY]) => {

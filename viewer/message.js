@@ -33,9 +33,9 @@ export class Message {
   fault(error, again) {
     clearTimeout(this.later);
     const parts = [make("p", { class: "message-title" }, error.message)];
-    if (error.told) parts.push(make("p", {}, "The service says: ", make("code", {}, error.told)));
+    if (error.told) parts.push(make("p", {}, error.code ? "The service says: " : "Got: ", make("code", {}, error.told)));
     if (error.target) parts.push(make("p", {}, "Asked: ", make("code", {}, readable(error.target))));
-    if (again) parts.push(againButton(again));
+    if (again && !error.code) parts.push(againButton(again)); // a refusal would come again
     this.#fill(error.code === "NoSamples" ? "empty" : "fault", parts);
   }
 

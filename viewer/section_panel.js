@@ -114,7 +114,7 @@ export class SectionPanel {
     this.scale = low <= high ? new Scale(low, high) : null;
     byId("section-raster").hidden = false;
     const hasMissing = values.some((sample, place) => Number.isNaN(sample) && inside[place]);
-    showLegend(byId("section-legend"), this.parameter, this.scale, hasMissing);
+    showLegend(byId("section-legend"), this.parameter, this.scale, hasMissing ? [["hatch", "missing"]] : []);
     this.repaint();
   }
 

@@ -12,7 +12,7 @@ import sys
 import tempfile
 
 from trial.browser import Browser
-from trial.feeds import LEVELS, weather_feed
+from trial.feeds import LEVELS, large_feed, weather_feed
 from trial.hands import check_choices_by_keys, check_map_keys, check_tabs, check_time_keys
 from trial.looks import check_looks
 from trial.servers import TOP, Served, made_feed
@@ -66,6 +66,9 @@ def try_forecast(trial: Trial):
     check_section(tally, view, "forecast", [{"at": place, "told": shown_time(time), "time": time} for place, time in enumerate(FORECAST_TIMES)])
     check_link(trial, view, "forecast")
     check_looks(tally, view, "forecast", trial.pictures)
+    view.freehand("line", [(0, 0), (60, 90), (120, 20), (200, 100)])
+    tally.check("forecast: a line that is drawn with the button held", len(view.line()) > 2, view.line())
+    tally.check("forecast: its section", "From A to B" in page.text("section-place"), page.text("section-place"))
     view.draw("area", [(0, 0), (200, 0), (0, 100)])
     tally.equal("forecast: inside the area", view.hovered(0, 100), "25 °C")
     tally.equal("forecast: outside the area", view.hovered(200, 100), "outside the area")
@@ -175,6 +178,29 @@ def try_weather(trial: Trial):
     page.close()
 
 
+def try_large(trial: Trial):
+    """More nodes and more stations than a reply may have."""
+    tally, page = trial.tally, trial.page()
+    feed = f"{trial.folder}/large.jsonl"
+    large_feed(feed)
+    view = View(page, trial.serve("large", feed), "collection=fine")
+    tally.check("large: it says that this is the middle", "its middle" in page.text("map-note"), page.text("map-note"))
+    check_nodes(tally, view, "large", [(0.1, 0.9)])
+    page.js("document.getElementById('box-field').open = true")
+    page.press("#pan-right")
+    view.settled()
+    check_nodes(tally, view, "large, moved", [(0.1, 0.9)])
+    page.open("about:blank")
+    view.open("collection=fine&box=0,0,1000,1000&line=0,0,74000,69000")
+    tally.check("large: a section in pieces", " and " in page.text("section-asked"), page.text("section-asked"))
+    view.open("collection=many")
+    tally.check("large: too many stations", "TooLarge (26), status 413" in page.text("map-note"), page.text("map-note"))
+    check_station(tally, view, "large", "N2550", (50000, 25000))
+    check_looks(tally, view, "many", trial.pictures)
+    tally.quiet("large", page, but="status of 413")
+    page.close()
+
+
 def try_faults(trial: Trial):
     """What the page says when the service refuses, has nothing, is slow, or is gone; and when a new edition comes."""
     tally, page = trial.tally, trial.page()
@@ -228,8 +254,8 @@ def try_editions(trial: Trial):
 
 
 PARTS = {
-    "forecast": try_forecast, "keys": try_keys, "gauges": try_gauges, "made": try_made, "weather": try_weather, "faults": try_faults,
-    "editions": try_editions,
+    "forecast": try_forecast, "keys": try_keys, "gauges": try_gauges, "made": try_made, "weather": try_weather, "large": try_large,
+    "faults": try_faults, "editions": try_editions,
 }
 
 

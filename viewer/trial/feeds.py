@@ -60,3 +60,30 @@ def weather_feed(path: str):
     with open(path, "w", encoding="utf-8") as file:
         for line in weather_lines():
             file.write(json.dumps(line, separators=(",", ":")) + "\n")
+
+
+def large_feed(path: str):
+    """A grid of 2,100,000 nodes at one time, which is more than a reply may have, and 5,001 stations, which are too."""
+    wide, high = 1500, 1400
+    row = ",".join(str(x % 10) for x in range(wide + 10))
+    values = ",".join(row[2 * (3 * y % 10):][: 2 * wide - 1] for y in range(high))
+    referencing = json.dumps(REFERENCING[::2])
+    with open(path, "w", encoding="utf-8") as file:
+        file.write(json.dumps({"collection": {"id": "fine", "kind": "grid", "title": "Fine grid", "crs": CRS}}) + "\n")
+        axes = f'"x":{{"start":0,"stop":{50 * (wide - 1)},"num":{wide}}},"y":{{"start":0,"stop":{50 * (high - 1)},"num":{high}}},"t":{{"values":["{TIMES[0]}"]}}'
+        domain = f'{{"type":"Domain","domainType":"Grid","axes":{{{axes}}},"referencing":{referencing}}}'
+        array = f'{{"type":"NdArray","dataType":"integer","axisNames":["t","y","x"],"shape":[1,{high},{wide}],"values":[{values}]}}'
+        coverage = f'{{"type":"Coverage","domain":{domain},"parameters":{json.dumps({"temp": PARAMETERS["temp"]})},"ranges":{{"temp":{array}}}}}'
+        file.write(f'{{"grid":{{"collection":"fine","instance":"1","coverage":{coverage}}}}}\n')
+        file.write(json.dumps({"collection": {"id": "many", "kind": "station", "title": "Many stations", "crs": CRS}}) + "\n")
+        for number in range(5001):
+            file.write(json.dumps(_small_station(number)) + "\n")
+        file.write('{"publish":{}}\n')
+
+
+def _small_station(number: int) -> dict:
+    axes = {"x": {"values": [number % 100 * 1000]}, "y": {"values": [number // 100 * 1000]}, "t": {"values": TIMES[:2]}}
+    domain = {"type": "Domain", "domainType": "PointSeries", "axes": axes, "referencing": REFERENCING[::2]}
+    array = {"type": "NdArray", "dataType": "integer", "axisNames": ["t"], "shape": [2], "values": [number, -number]}
+    coverage = {"type": "Coverage", "domain": domain, "parameters": {"temp": PARAMETERS["temp"]}, "ranges": {"temp": array}}
+    return {"station": {"collection": "many", "id": f"N{number}", "label": f"Station {number}", "coverage": coverage}}

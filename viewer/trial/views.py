@@ -41,8 +41,8 @@ class View:
         """Waits until nothing loads."""
         self.page.wait(
             "document.getElementById('map').getAttribute('aria-busy') === 'false' && !document.querySelector('[data-kind=loading]')"
-            " && new Promise((done) => setTimeout(() => done(true), 350))", "the map")
-        self.page.wait("!document.querySelector('[data-kind=loading]')", "the panels")
+            " && new Promise((done) => setTimeout(() => done(true), 350))", "the map", 120)
+        self.page.wait("!document.querySelector('[data-kind=loading]')", "the panels", 120)
 
     @property
     def link(self) -> str:
@@ -98,7 +98,9 @@ class View:
         at_x, at_y = self.pixel(x, y)
         colour, (box_x, box_y) = self.page.js(f"""(() => {{ const canvas = document.getElementById("map-base");
             const box = canvas.getBoundingClientRect(); const at = [Math.floor({at_x} - box.left), Math.floor({at_y} - box.top)];
-            return [[...canvas.getContext("2d").getImageData(...at, 1, 1).data].slice(0, 3), [at[0] + 0.5 + box.left, at[1] + 0.5 + box.top]]; }})()""")
+            const pixel = new OffscreenCanvas(1, 1).getContext("2d", {{ willReadFrequently: true }});
+            pixel.drawImage(canvas, -at[0], -at[1]);
+            return [[...pixel.getImageData(0, 0, 1, 1).data].slice(0, 3), [at[0] + 0.5 + box.left, at[1] + 0.5 + box.top]]; }})()""")
         return colour, (round(west + (box_x - left) / width * (east - west)), round(north - (box_y - top) / height * (north - south)))
 
     def colour_of(self, sample: int) -> list[int]:
@@ -140,6 +142,14 @@ class View:
             for pixel in pixels[:-1]:
                 self.page.click(*pixel)
             self.page.click(*pixels[-1], clicks=2)
+        self.settled()
+
+    def freehand(self, tool: str, points: list[tuple[float, float]]):
+        """Draws with the button held, from point to point of the plane in many steps."""
+        self.tool(tool)
+        pixels = [self.pixel(*point) for point in points]
+        steps = [(a, b, step / 20) for a, b in zip(pixels, pixels[1:]) for step in range(20)]
+        self.page.drag([*((a[0] + (b[0] - a[0]) * share, a[1] + (b[1] - a[1]) * share) for a, b, share in steps), pixels[-1]])
         self.settled()
 
     def message(self, of: str = "map") -> str:
