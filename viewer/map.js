@@ -10,6 +10,7 @@ import { numberTicks } from "./ticks.js";
 
 const MARGINS = { left: 58, right: 12, top: 8, bottom: 30 };
 const LEAST_HEIGHT = 180;
+const ROOM = 36; // pixels round a box of stations
 const STATION_REACH = 16; // pixels from a station within which it is meant
 
 export class MapView {
@@ -23,8 +24,10 @@ export class MapView {
     this.marks = {};
   }
 
-  show(picture, window, scale) {
-    Object.assign(this, { picture, window, scale });
+  /** Shows a picture; `box` is what it shows of stations. */
+  show(picture, box, scale) {
+    Object.assign(this, { picture, scale, box: picture.kind === "station" ? box : null });
+    if (picture.kind === "grid") this.window = MapView.gridWindow(picture);
     this.repaint();
   }
 
@@ -35,9 +38,10 @@ export class MapView {
     return [across[0], up[0], across.at(-1), up.at(-1)];
   }
 
-  /** The window round a box, a little larger. */
-  static windowRound([left, bottom, right, top]) {
-    const room = Math.max((right - left) * 0.06, (top - bottom) * 0.06, 10);
+  /** The window round a box, with room for points and letters at its border. */
+  windowRound([left, bottom, right, top]) {
+    const share = ROOM / Math.max(1, this.host.clientWidth - MARGINS.left - MARGINS.right - 2 * ROOM);
+    const room = Math.max((right - left) * share, (top - bottom) * share, 10);
     return [left - room, bottom - room, right + room, top + room];
   }
 
@@ -53,6 +57,7 @@ export class MapView {
       return;
     }
     const width = this.host.clientWidth;
+    if (this.box) this.window = this.windowRound(this.box);
     const height = this.#height(width);
     const context = sizeCanvas(this.base, width, height);
     const colours = themeColours();

@@ -91,8 +91,7 @@ export class MapPanel {
     this.#parts(false);
     const [low, high] = range ?? [picture.low, picture.high];
     this.scale = low <= high ? new Scale(low, high) : null;
-    const window = picture.kind === "grid" ? MapView.gridWindow(picture) : MapView.windowRound(box);
-    this.map.show(picture, window, this.scale ?? new Scale(0, 1));
+    this.map.show(picture, box, this.scale ?? new Scale(0, 1));
     showLegend(byId("legend"), parameter, this.scale, marksOf(picture));
     byId("map-note").hidden = !picture.note;
     byId("map-note").replaceChildren(picture.note ?? "");
@@ -137,7 +136,7 @@ export class MapPanel {
   #station(point) {
     const station = this.map.stationUnder(point);
     if (!station) return { where: this.#where(point), sample: "" };
-    const sample = station.sample === undefined ? "no value at this time" : value(station.sample, this.parameter.unit);
+    const sample = station.sample === undefined ? whyNone(this.map.picture.note) : value(station.sample, this.parameter.unit);
     return { where: `${station.label}, ${this.#where(station.place)}`, sample };
   }
 
@@ -147,11 +146,14 @@ export class MapPanel {
   }
 }
 
+/** Why a station has no value: its series wasn't loaded, of which a note tells, or has none at the time. */
+const whyNone = (note) => (note ? "value not loaded" : "no value at this time");
+
 /** How a picture shows values that are missing, and stations without one at its time. */
-function marksOf({ kind, values, inside, points }) {
+function marksOf({ kind, values, inside, points, note }) {
   if (kind === "grid") return values.some((sample, place) => Number.isNaN(sample) && (!inside || inside[place])) ? [["hatch", "missing"]] : [];
   const marks = [];
   if (points.some(({ sample }) => sample === null)) marks.push(["crossed", "missing"]);
-  if (points.some(({ sample }) => sample === undefined)) marks.push(["hollow", "no value at this time"]);
+  if (points.some(({ sample }) => sample === undefined)) marks.push(["hollow", whyNone(note)]);
   return marks;
 }

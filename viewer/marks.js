@@ -4,6 +4,7 @@ import { cellBorders, greatestGap } from "./nearest.js";
 
 const SIZES = [[60, 7], [400, 5], [Infinity, 3]]; // up to how many stations a point of which radius, in pixels
 const CHOSEN = 7; // the radius of the one that is chosen or pointed at
+const LETTER = 9; // the radius of the letters' discs
 const LABELS = 40; // stations up to which all have their labels, where there is room
 const CROWD = 200; // stations up to which labels keep off all of them
 
@@ -62,28 +63,27 @@ function border(context, wide, colours) {
   context.globalCompositeOperation = "source-over";
 }
 
-/** Letters at both ends, which stand at the section too; beside stations they stand outward. */
+/** Letters at both ends, which stand at the section too; where there are stations they stand beside the ends, in the plot. */
 function ends(context, map, line, colours) {
   context.font = `600 13px ${fontFamily()}`;
   context.textAlign = "center";
   context.textBaseline = "middle";
   const out = map.picture.kind === "station" ? 18 : 0;
   for (const [point, from, letter] of [[line[0], line[1], "A"], [line.at(-1), line.at(-2), "B"]]) {
-    const [x, y] = inPlot(map, outward(map.pixelOf(from), map.pixelOf(point), out), 11);
-    disc(context, x, y, 9, colours.accent, colours);
+    const [x, y] = beside(map, map.pixelOf(from), map.pixelOf(point), out);
+    disc(context, x, y, LETTER, colours.accent, colours);
     context.fillStyle = colours.panel;
     context.fillText(letter, x, y + 0.5);
   }
 }
 
-function outward([fromX, fromY], [toX, toY], far) {
+/** A place so far from the end of a line: outward, or else to one of its sides, where that lies in the plot. */
+function beside(map, [fromX, fromY], [toX, toY], far) {
   const long = Math.hypot(toX - fromX, toY - fromY) || 1;
-  return [toX + ((toX - fromX) / long) * far, toY + ((toY - fromY) / long) * far];
-}
-
-function inPlot(map, [x, y], room) {
-  const { left, top, width, height } = map.plot.area;
-  return [Math.min(left + width - room, Math.max(left + room, x)), Math.min(top + height - room, Math.max(top + room, y))];
+  const [right, down] = [((toX - fromX) / long) * far, ((toY - fromY) / long) * far];
+  const places = [[toX + right, toY + down], [toX + down, toY - right], [toX - down, toY + right]];
+  const isIn = ([x, y]) => map.plot.holds(x - LETTER, y - LETTER) && map.plot.holds(x + LETTER, y + LETTER);
+  return places.find(isIn) ?? [toX, toY];
 }
 
 const fontFamily = () => getComputedStyle(document.body).fontFamily;
