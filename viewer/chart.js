@@ -59,6 +59,7 @@ export class Chart {
   #measure(width) {
     const { points } = this.content;
     const samples = points.map(({ sample }) => sample).filter((sample) => !Number.isNaN(sample));
+    this.isEmpty = !samples.length;
     const [least, most] = samples.length ? [samples.reduce((a, b) => Math.min(a, b)), samples.reduce((a, b) => Math.max(a, b))] : [0, 1];
     const room = Math.max((most - least) * 0.08, most === least ? 1 : 0);
     [this.low, this.high] = [least - room, most + room];
@@ -74,7 +75,7 @@ export class Chart {
   #axes() {
     const { ticks, xTitle, yTitle } = this.content;
     const parts = [];
-    for (const { at, text } of numberTicks(this.low, this.high, 6, 1)) {
+    for (const { at, text } of this.isEmpty ? [] : numberTicks(this.low, this.high, 6, 1)) {
       parts.push(lineOf("chart-grid", MARGINS.left, this.toY(at), this.right, this.toY(at)));
       parts.push(textOf(MARGINS.left - 8, this.toY(at) + 4, "end", text));
     }
