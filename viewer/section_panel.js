@@ -9,7 +9,7 @@ import { Plot } from "./plot.js";
 import { paint } from "./raster.js";
 import { Scale } from "./scale.js";
 import { length, lengthUnit, number, seconds, time, unit, value } from "./text.js";
-import { numberTicks, timeTicks } from "./ticks.js";
+import { clockText, numberTicks, timeTicks } from "./ticks.js";
 
 const MARGINS = { left: 58, right: 14, top: 10, bottom: 32 };
 const HEIGHT = 240;
@@ -174,7 +174,7 @@ export class SectionPanel {
       const y = this.plot.toY(at);
       if (last - y < 13) return { at, text: "" };
       last = y;
-      return { at, text: isTime ? timeTicks(at, at, 1)[0].text : number(at) };
+      return { at, text: isTime ? clockText(at) : number(at) };
     });
   }
 

@@ -40,8 +40,8 @@ function stepTicks(low, high, step) {
   return ticks;
 }
 
-/** The clock, or the day at midnight. */
-function clockText(at, step) {
+/** The clock, with seconds where a step is less than a minute, or the day at midnight. */
+export function clockText(at, step = MINUTE) {
   const date = new Date(at * 1000);
   if (at % DAY === 0) return `${date.getUTCDate()} ${MONTHS[date.getUTCMonth()]}`;
   return date.toISOString().slice(11, step < MINUTE ? 19 : 16);
