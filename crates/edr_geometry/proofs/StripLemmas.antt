@@ -31,7 +31,6 @@ in_three length scalar start end line square =
     (int_le scalar (pos 0) && int_le (pos 4 *ℤ start) square)
     || (((int_lt (pos 0) scalar && int_lt scalar length) && int_le (pos 4 *ℤ line) (square *ℤ length)) || (int_le length scalar && int_le (pos 4 *ℤ end) square))
 
-
 pick : (point before behind some within : Bool) (p q r s t start end line : Bool) → point ≡ p → before ≡ q → behind ≡ r → some ≡ s → within ≡ t
     → (if p || q then start else if r then end else line) ≡ ((q && start) || (((s && t) && line) || (r && end)))
     → (if point || before then start else if behind then end else line) ≡ ((before && start) || (((some && within) && line) || (behind && end)))
