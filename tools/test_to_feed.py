@@ -3,7 +3,7 @@
 
 Makes two NetCDF and two GRIB files, makes a feed of each, checks it with `edr check`, and compares 1,000 values by chance of
 each feed, and 25 answers of `edr ask`, with the nearest selection of xarray. Then each bad input is tried. PROGRAM is
-crates/edr/out/edr where it is built, else plain/edr.py; one that ends with .py is run by Python. With --make the four files are
+release/edr where it can be run, else plain/edr.py; one that ends with .py is run by Python. With --make the four files are
 made in FOLDER, and nothing is tried.
 """
 
@@ -25,7 +25,7 @@ def _words() -> argparse.Namespace:
 
 
 def _program(named: str | None) -> programs.Edr:
-    built = TOP / "crates/edr/out/edr"
+    built = TOP / "release/edr"
     path = named or str(built if built.exists() else TOP / "plain/edr.py")
     return programs.Edr([sys.executable, path] if path.endswith(".py") else [path])
 
