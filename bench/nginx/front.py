@@ -2,6 +2,7 @@
 import importlib.util
 import os
 import re
+import shlex
 import shutil
 import socket
 import subprocess
@@ -16,6 +17,10 @@ daemon = importlib.util.module_from_spec(SPEC)
 SPEC.loader.exec_module(daemon)
 EXAMPLES = os.path.join(TOP, "examples")
 NGINX = shutil.which("nginx", path=os.environ["PATH"] + ":/usr/sbin")
+# what an nginx of any user has in a folder of its own
+OWN = [("/var/log/nginx/edr.log", "access.log"), ("http {", "http {\nclient_body_temp_path bodies;\nproxy_temp_path replies;")]
+if os.getuid() != 0:
+    OWN.append(("user www-data;", ""))
 WORKERS = 64
 PATIENCE = 90
 
@@ -65,7 +70,7 @@ class Front:
         os.makedirs(self.folder)
         self.port = daemon.free_port()
         text = open(os.path.join(EXAMPLES, "nginx.conf")).read()
-        for old, new in [("127.0.0.1:8080", f"127.0.0.1:{self.port}"), *edits]:
+        for old, new in [("127.0.0.1:8080", f"127.0.0.1:{self.port}"), *OWN, *edits]:
             if old not in text:
                 sys.exit(f"examples/nginx.conf has no {old!r}")
             text = text.replace(old, new)
@@ -74,13 +79,13 @@ class Front:
             file.write(text)
         with open(self.file, "w") as file:
             file.writelines(f"server 127.0.0.1:{port} max_fails=0;\n" for port in ports)
-        self.words = [NGINX, "-p", self.folder, "-e", "error.log", "-c", self.conf]
+        self.words = [NGINX, "-p", self.folder, "-e", "error.log", "-c", self.conf, "-g", "pid edr-nginx.pid;"]
         subprocess.run([*self.words, "-t", "-q"], check=True)
         subprocess.run(self.words, check=True)
 
     def behind(self, what, port):
         """Lets a daemon in, or takes it out, by the script of the examples."""
-        reload = " ".join([*self.words, "-s", "reload"])
+        reload = shlex.join([*self.words, "-s", "reload"])
         script = os.path.join(EXAMPLES, "behind_nginx.py")
         subprocess.run([script, what, str(port), "--file", self.file, "--reload", reload], check=True)
 
