@@ -124,7 +124,6 @@ def at_once(front, count, after):
 
 def too_many(folder, daemon):
     front = Front(os.path.join(folder, "many"), [daemon.port])
-    ask(front)
     held = hold(daemon)
     got = at_once(front, 200, lambda: release(held))
     counts = {status: [took for it, took in got if it == status] for status, _ in got}
@@ -153,9 +152,10 @@ def behind_another(folder, daemons):
     time.sleep(1.5)
     rows = [row.split(" ") for row in front.log("access.log")]
     front.stop()
-    ports = {row[row.index("daemon") + 1] for row in rows[:-1]}
-    tell("40 clients behind another server that is named", f"{len({row[0] for row in rows[:-1]})} addresses at {len(ports)} daemons", len(ports) == 2 and rows[0][0] == "203.0.113.0")
-    tell("X-Forwarded-For of one that isn't named", f"counts as {rows[-1][0]}", rows[-1][0] == "127.0.0.8")
+    named = {row[0]: row[row.index("daemon") + 1] for row in rows if row[0].startswith("203.0.113.")}
+    tell("40 clients behind another server that is named", f"{len(named)} addresses at {len(set(named.values()))} daemons", len(named) == 40 and len(set(named.values())) == 2)
+    others = [row[0] for row in rows if row[0] not in named]
+    tell("X-Forwarded-For of one that isn't named", f"counts as {', '.join(others)}", others == ["127.0.0.8"])
 
 
 def gone(folder, feed):

@@ -19,8 +19,8 @@ import time
 import feeds
 from front import Client, Cut, Daemon, Front, needs
 
-PAUSE = 0.03
-LARGE_PAUSE = 0.5
+PAUSE = 0.1
+LARGE_PAUSE = 1.0
 GZIP = "Accept-Encoding: gzip\r\n"
 
 
