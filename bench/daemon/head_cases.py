@@ -4,7 +4,7 @@ The request under trial asks for TRIAL. What may be taken for a request by mista
 be told apart. Behind each stands a request for NEXT."""
 from dataclasses import dataclass
 
-TRIAL, INNER, NEXT = "/conformance", "/collections/inner", "/"
+TRIAL, INNER, NEXT = "/conformance", "/collections/inner", "/collections"
 HOST = "Host: a"
 LINE = f"GET {TRIAL} HTTP/1.1"
 SECRET = f"GET {INNER} HTTP/1.1\r\n{HOST}\r\n\r\n".encode()

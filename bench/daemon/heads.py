@@ -25,7 +25,7 @@ GRID = os.path.join(TOP, "examples", "grid.json")
 QUIET = 0.3
 TRIES = 30
 # what the bodies of replies say of the request that they answer
-MARKS = [(b'"conformsTo"', ""), (b'"UnknownCollection"', "INNER "), (b'"title":"EDR"', "next ")]
+MARKS = [(b'"conformsTo"', ""), (b'"UnknownCollection"', "INNER "), (b'{"collections":[', "next ")]
 
 
 class Relay:
@@ -56,11 +56,14 @@ class Relay:
             pass
 
     def counts(self):
-        """How many requests were handed on and how many replies came back, since the last time."""
-        found = bytes(self.asked).count(b"\r\n\r\n"), len(re.findall(rb"HTTP/1\.1 \d{3} ", bytes(self.answered)))
+        """How many requests were handed on and how many replies came back, since the last time. A request is a target and Host."""
+        asked, answered = bytes(self.asked), len(re.findall(rb"HTTP/1\.1 \d{3} ", bytes(self.answered)))
+        found = re.findall(rb"(?:GET|HEAD) [^ \r\n]+ HTTP/1\.1\r\nHost: [^\r\n]*\r\n\r\n", asked)
+        if b"".join(found) != asked:
+            sys.exit(f"nginx handed on other bytes: {asked!r}")
         self.asked.clear()
         self.answered.clear()
-        return found
+        return len(found), answered
 
 
 def exchange(port, data):
@@ -125,7 +128,7 @@ def faults_of(case, found):
         yield "a body is answered as a request"
     if len(final) > case.requests + 1:
         yield "more replies than requests"
-    if sum(it.startswith("next") for it in final) > (2 if "http://a HTTP" in case.data.decode("latin-1") else 1):
+    if sum(it.startswith("next") for it in final) > 1:
         yield "the next request is answered twice"
 
 
@@ -167,13 +170,14 @@ def table(direct, front, relay):
 
 
 def by_socket(port, size):
-    """A client that sends all, and then reads."""
+    """A client that sends as much as it can, and then reads."""
     with socket.create_connection(("127.0.0.1", port), timeout=20) as it:
+        left = ""
         try:
             it.sendall(f"POST /collections HTTP/1.1\r\nHost: a\r\nContent-Length: {size}\r\n\r\n".encode() + b"x" * size)
         except OSError:
-            return "can't send all"
-        return it.recv(1000).split(b" ")[1].decode()
+            left = ", not all sent"
+        return it.recv(1000).split(b" ")[1].decode() + left
 
 
 def by_library(port, size):
@@ -199,7 +203,7 @@ def outcome(send, port, size):
 def bodies(direct, front):
     """What clients see that send large bodies."""
     print(f"\n### Large bodies\n\n| POST, {TRIES} times | bytes | directly | behind nginx |\n|---|---|---|---|")
-    for name, send in (("all is sent, then read", by_socket), ("http.client of python3", by_library), ("curl", by_curl)):
+    for name, send in (("a socket that sends, and then reads", by_socket), ("http.client of python3", by_library), ("curl", by_curl)):
         for size in (1_000, 100_000, 1_000_000):
             cells = []
             for port in (direct, front):
