@@ -51,7 +51,8 @@ def wait_for_edition(port, others):
             sys.exit("the daemon that systemd started has ended")
         if told != (here, wanted):
             told = (here, wanted)
-            print(f"waiting: port {port} has edition {here or 'none'}, the others {wanted}", file=sys.stderr)
+            state = "doesn't answer yet" if here is None else f"has edition {here}, the others {wanted}"
+            print(f"waiting: the daemon at port {port} {state}", file=sys.stderr)
         time.sleep(0.2)
 
 
@@ -123,10 +124,13 @@ def main():
     parser.add_argument("what", choices=["in", "out"])
     parser.add_argument("port", type=int)
     parser.add_argument("--anew", action="store_true", help="let it in whatever its edition")
-    parser.add_argument("--file", default="/etc/nginx/daemons.conf")
-    parser.add_argument("--reload", default="systemctl reload nginx", metavar="COMMAND")
+    parser.add_argument("--file", default="/etc/nginx/daemons.conf", help="the file that nginx.conf includes (%(default)s)")
+    parser.add_argument("--reload", default="systemctl reload nginx", metavar="COMMAND", help="has nginx read it (%(default)s)")
     words = parser.parse_args()
-    (let_in if words.what == "in" else take_out)(words)
+    try:
+        (let_in if words.what == "in" else take_out)(words)
+    except OSError as error:
+        sys.exit(f"{error.filename}: {error.strerror}")
 
 
 if __name__ == "__main__":
