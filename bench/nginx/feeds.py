@@ -24,9 +24,10 @@ def grid(name, it):
     return {"grid": {"collection": name, "instance": "1", "coverage": it}}
 
 
-def write(path, editions):
+def write(path, editions, has_field=True):
     """A feed of so many editions: a field of 500,000 nodes, which stays, and the grid that tells the number."""
-    lines = [collection("field"), grid("field", coverage(1000, 500, [place % 10 for place in range(500_000)])), collection("now")]
+    field = [collection("field"), grid("field", coverage(1000, 500, [place % 10 for place in range(500_000)]))]
+    lines = [*(field if has_field else []), collection("now")]
     for number in range(1, editions + 1):
         lines += [grid("now", coverage(2, 2, [number] * 4)), {"publish": {}}]
     with open(path, "w") as file:

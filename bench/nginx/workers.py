@@ -84,7 +84,7 @@ def main():
     seconds = int(sys.argv[1]) if len(sys.argv) > 1 else 10
     with tempfile.TemporaryDirectory() as folder:
         os.chmod(folder, 0o755)
-        feed = feeds.write(os.path.join(folder, "feed"), 1)
+        feed = feeds.write(os.path.join(folder, "feed"), 1, has_field=False)
         print("| clients at once | workers | each request its connection | connections kept | behind nginx, each its own | behind nginx, kept |")
         print("|---|---|---|---|---|---|")
         for clients in CLIENTS:
