@@ -175,15 +175,22 @@ def apart(folder, name, edits):
     return load.faults() if name == "hash" else 0
 
 
-def flood(port, connections, seconds=10):
+def statuses(front, seen):
+    """How often nginx answered each status, by the rows of its log behind those that were seen."""
+    time.sleep(1.5)
+    rows = front.log("access.log")[seen:]
+    found = [re.search(r'" (\d{3}) ', row)[1] for row in rows]
+    return ", ".join(f"{found.count(it):,} of {it}" for it in sorted(set(found)))
+
+
+def flood(front, connections, seconds=10):
     """As many requests as `wrk` makes over so many connections of one client."""
-    url = f"http://127.0.0.1:{port}{feeds.NOW}"
+    url, seen = f"http://127.0.0.1:{front.port}{feeds.NOW}", len(front.log("access.log"))
     told = subprocess.run(["wrk", "--latency", "-t", "1", "-c", str(connections), "-d", f"{seconds}s", "--timeout", "20s", url], capture_output=True, text=True).stdout
     others = re.search(r"Non-2xx or 3xx responses: (\d+)", told)
     errors = re.search(r"Socket errors: (.*)", told)
     slowest = re.search(r"Latency\s+\S+\s+\S+\s+(\S+)", told)[1]
-    replies = re.search(r"(\d+) requests in", told)[1]
-    print(f"| {connections} | {replies} | {others[1] if others else 0} | {errors[1] if errors else 'none'} | {slowest} |")
+    print(f"| {connections} | {statuses(front, seen)} | {errors[1] if errors else 'none'} | {slowest} |", flush=True)
     return int(others[1]) if others else 0
 
 
@@ -194,9 +201,9 @@ def floods(folder):
     feed = feeds.write(os.path.join(own, "feed"), 1)
     daemons = [Daemon(feed).wait(), Daemon(feed).wait()]
     front = Front(own, [it.port for it in daemons])
-    print("\n| connections of wrk | replies | other than 200 | faults of connections | slowest |\n|---|---|---|---|---|")
-    faults = sum([flood(front.port, connections) for connections in (32, 64, 100)])
-    flood(front.port, 300)
+    print("\n| connections of wrk | replies, by nginx's log | faults of connections | slowest |\n|---|---|---|---|")
+    faults = sum([flood(front, connections) for connections in (32, 64, 100)])
+    flood(front, 300)
     for it in (front, *daemons):
         it.stop()
     return faults
