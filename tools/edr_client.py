@@ -28,14 +28,14 @@ id
 s00   s00     0    0
 s01   s01  1000  500
 >>> sites = server.radius("sites", "POINT(0 0)", within=3, within_units="km", datetime="2024-01-01T10:00:00Z/2024-01-01T11:00:00Z")
->>> sites
-  location                         t     y     x  level
-0      s00 2024-01-01 10:00:00+00:00     0     0    7.0
-1      s00 2024-01-01 11:00:00+00:00     0     0    8.0
-2      s01 2024-01-01 10:00:00+00:00   500  1000    8.0
-3      s01 2024-01-01 11:00:00+00:00   500  1000    9.0
-4      s02 2024-01-01 10:00:00+00:00  1000  2000    9.0
-5      s02 2024-01-01 11:00:00+00:00  1000  2000    0.0
+>>> sites.assign(t=sites.t.dt.hour)
+  location   t     y     x  level
+0      s00  10     0     0    7.0
+1      s00  11     0     0    8.0
+2      s01  10   500  1000    8.0
+3      s01  11   500  1000    9.0
+4      s02  10  1000  2000    9.0
+5      s02  11  1000  2000    0.0
 
 A trajectory is a table in the order of its line, and so are the points of a MULTIPOINT; what the server refuses is an EdrError.
 

@@ -29,7 +29,7 @@ def degrees(path: str) -> None:
         _degrees(file, numpy.arange(60, 54.9, -0.25), numpy.arange(350, 359.9, 0.25))
         file.createDimension("time", 5)
         file.createDimension("two", 2)
-        _time(file, "time", [6, 12, 18, 24, 30], "hours since 2024-01-01 00:00:00", bounds="time_bnds")
+        _time(file, "time", [6, 12, 18, 24, 30], "hours since 2024-01-01T00:00:00", bounds="time_bnds")
         file.createVariable("time_bnds", "f8", ("time", "two"))[:] = [[0, 6], [6, 12], [12, 18], [18, 24], [24, 30]]
         run = _time(file, "run", 6, "hours since 2023-12-31 18:00:00", None)
         run.standard_name = "forecast_reference_time"
@@ -80,7 +80,7 @@ def metres(path: str) -> None:
         _zone_33(file)
         for name, count in (("run", 2), ("lead", 3), ("height", 3)):
             file.createDimension(name, count)
-        run = _time(file, "run", [0, 6], "hours since 2024-03-01", "run")
+        run = _time(file, "run", [0, 6], "hours since 2024-03-01T00:00:00", "run")
         run.standard_name = "forecast_reference_time"
         lead = file.createVariable("lead", "i4", ("lead",))
         lead.setncatts({"standard_name": "forecast_period", "units": "minutes"})
@@ -100,7 +100,7 @@ def _plain(path: str, build) -> None:
     with netCDF4.Dataset(path, "w") as file:
         _degrees(file, [60, 59, 58], [10, 11, 12, 13])
         file.createDimension("time", 3)
-        _time(file, "time", [0, 6, 12], "hours since 2024-01-01")
+        _time(file, "time", [0, 6, 12], "hours since 2024-01-01T00:00:00")
         build(file)
 
 
@@ -132,7 +132,7 @@ def empty(path: str) -> None:
     with netCDF4.Dataset(path, "w") as file:
         _degrees(file, [60, 59, 58], [10, 11, 12, 13])
         file.createDimension("time", None)
-        file.createVariable("time", "f8", ("time",)).units = "hours since 2024-01-01"
+        file.createVariable("time", "f8", ("time",)).units = "hours since 2024-01-01T00:00:00"
         file.createVariable("temp", "i4", CUBE)
 
 
@@ -181,7 +181,7 @@ def calendar(path: str) -> None:
 
 def months(path: str) -> None:
     def build(file):
-        file.variables["time"].units = "months since 2024-01-01"
+        file.variables["time"].units = "months since 2024-01-01T00:00:00"
         _variable(file, "temp", CUBE, 1, "i4", units="K")
 
     _plain(path, build)
@@ -244,7 +244,7 @@ def unnamed_system(path: str) -> None:
     with netCDF4.Dataset(path, "w") as file:
         _zone_33(file, 0)
         file.createDimension("time", 1)
-        _time(file, "time", [0], "hours since 2024-01-01")
+        _time(file, "time", [0], "hours since 2024-01-01T00:00:00")
         _variable(file, "wave", ("time", "y", "x"), 2, "i4", units="m")
 
 
@@ -265,7 +265,7 @@ def long(path: str) -> None:
     with netCDF4.Dataset(path, "w") as file:
         _zone_33(file, 0)
         file.createDimension("time", 4_000)
-        _time(file, "time", numpy.arange(4_000), "hours since 2024-01-01")
+        _time(file, "time", numpy.arange(4_000), "hours since 2024-01-01T00:00:00")
         _variable(file, "wave", ("time", "y", "x"), 1_234_567, "i4", units="m", grid_mapping="zone")
 
 
@@ -274,7 +274,7 @@ def many(path: str) -> None:
     with netCDF4.Dataset(path, "w") as file:
         _zone_33(file, 0)
         file.createDimension("time", 7_000)
-        _time(file, "time", numpy.arange(7_000), "hours since 2024-01-01")
+        _time(file, "time", numpy.arange(7_000), "hours since 2024-01-01T00:00:00")
         variable = file.createVariable("wave", "i1", ("time", "y", "x"), zlib=True, fill_value=0)
         variable.setncatts({"units": "m", "grid_mapping": "zone"})
 
@@ -285,6 +285,6 @@ def around(path: str) -> None:
         latitudes, longitudes = numpy.arange(-90, 90.1, 5), numpy.arange(0, 360, 5)
         _degrees(file, latitudes, longitudes)
         file.createDimension("time", 1)
-        _time(file, "time", [0], "seconds since 1970-01-01")
+        _time(file, "time", [0], "seconds since 1970-01-01T00:00:00")
         values = numpy.arange(len(latitudes) * len(longitudes)).reshape(1, len(latitudes), len(longitudes))
         _variable(file, "node", CUBE, values, "i4", units="1")

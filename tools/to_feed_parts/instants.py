@@ -28,7 +28,7 @@ _PLAIN_CALENDARS = ("standard", "gregorian", "proleptic_gregorian")
 
 
 def is_since(units: str) -> bool:
-    """Whether units are those of instants, such as `hours since 2024-01-01`."""
+    """Whether units are those of instants, such as `hours since 2024-06-01`."""
     return bool(_SINCE.match(units))
 
 
@@ -60,7 +60,7 @@ def duration(units: str) -> Fraction | None:
 
 
 class Clock:
-    """The instants of a coordinate with units such as `hours since 2024-01-01`."""
+    """The instants of a coordinate with units such as `hours since 2024-06-01`."""
 
     def __init__(self, name: str, units: str, calendar: str):
         self._name = name
@@ -92,7 +92,7 @@ class Clock:
         if start is None:
             raise Refused(
                 f"{self._name}: its units are `{units}`, and `{since}` is no date that can be read; "
-                f"write it as 2024-01-01 00:00:00 first"
+                f"write it as 2024-06-01 00:00:00 first"
             )
         return start
 

@@ -71,7 +71,7 @@ def _run(field: Field, run_dimension, time_dimension, place, given: int | None) 
 def _given(field: Field, given: int | None) -> list[int]:
     if given is None:
         raise Refused(
-            f"{field.name}: it has no time axis (a coordinate with units such as `hours since 2024-01-01`); "
+            f"{field.name}: it has no time axis (a coordinate with units such as `hours since 2024-06-01`); "
             f"--time 2024-01-01T00:00:00Z would give it one time"
         )
     return [given]

@@ -8,7 +8,7 @@ VERTICAL = "http://www.opengis.net/def/crs/EPSG/0/5714"
 X = list(range(280000, 460001, 2500)) + [464000, 470000, 478000, 488000]
 Y = list(range(5240000, 5350001, 2500))
 LEVELS = [10, 250, 500, 1000, 1500, 2500]
-TIMES = [f"2024-03-0{1 + hour // 24}T{hour % 24:02}:00:00Z" for hour in range(0, 48, 6)]
+TIMES = [f"2024-06-0{1 + hour // 24}T{hour % 24:02}:00:00Z" for hour in range(0, 48, 6)]
 PARAMETERS = {
     "temp": {"type": "Parameter", "unit": {"symbol": "Cel"}, "observedProperty": {"label": {"en": "Air temperature"}}},
     "wind": {"type": "Parameter", "unit": {"symbol": "m/s"}, "observedProperty": {"label": {"en": "Wind speed"}}},
@@ -47,7 +47,7 @@ def _coverage(kind: str, axes: dict, late: int) -> dict:
 def weather_lines() -> list[dict]:
     """The lines of the feed: a collection of grids with two instances, and one of masts."""
     lines = [{"collection": {"id": "weather", "kind": "grid", "title": "Weather, western hills", "crs": CRS, "vertical": VERTICAL}}]
-    for late, instance in enumerate(("2024-03-01T00", "2024-03-01T06")):
+    for late, instance in enumerate(("2024-06-01T00", "2024-06-01T06")):
         lines.append({"grid": {"collection": "weather", "instance": instance, "coverage": _coverage("Grid", {"z": LEVELS, "y": Y, "x": X}, late)}})
     lines.append({"collection": {"id": "masts", "kind": "station", "title": "Masts", "crs": CRS, "vertical": VERTICAL}})
     for number, (x, y) in enumerate([(300000, 5250000), (352500, 5320000), (390000, 5300000), (455000, 5270000), (481000, 5345000)]):
