@@ -1,7 +1,7 @@
 #!/usr/bin/python3
 """Makes a feed of a NetCDF or GRIB file: python3 tools/to_feed.py FILE --crs CODE [options] > feed.jsonl
 
-`--help` tells the options. docs/TOOLS.md has an example.
+`--help` tells the options. tools/README.md has an example.
 """
 
 import sys
