@@ -10,7 +10,7 @@ use Rattle.edr_feed.specs.Feeds.{FeedStandsIn}
 use Rattle.edr_make.specs.Made.{made}
 use Rattle.edr_feed.specs.Summaries.{summary_line}
 use Rattle.edr_feed.specs.declared.refusals.FeedRefusal.{FeedRefusal}
-use Rattle.edr_serve.specs.Answers.{IsAnswerTo}
+use Rattle.edr_describe.specs.Answers.{IsAnswerTo}
 use Rattle.edr_work.specs.Working.{IsWork, IsMadeNoFeed, IsWorkRefused}
 use Rattle.edr.specs.Replays.{IsReplayOf, IsReplayBegun}
 use Rattle.edr.specs.Documents.{IsTableIn, IsNoDocumentIn, IsTableHeard, IsTableBegun, IsNoReplyHeard}

@@ -3,7 +3,7 @@ ghost use Rattle.std.specs.Prelude.{◌+◌, ◌<◌, length, Ok, false};
 ghost use Rattle.std.specs.Io.KnownBytes.{IsAtEnd};
 ghost use Rattle.edr_base.specs.Calls.{SourceLent, SinkLent, ReadsAtMost, buffer_size};
 ghost use Rattle.edr_base.specs.Limits.{feed_limit};
-ghost use Rattle.edr_serve.specs.Answers.{IsAnswerTo};
+ghost use Rattle.edr_describe.specs.Answers.{IsAnswerTo};
 ghost use Rattle.edr_edition.specs.Shelves.{EndsWith};
 ghost use Rattle.edr.specs.Outputs.{IsAnswerFrom};
 ghost use Rattle.edr.specs.Ends.{OutputEnds, IsReadByEnd};

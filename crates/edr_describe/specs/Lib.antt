@@ -2,3 +2,4 @@ pub mod Extents
 pub mod Reaches
 pub mod Descriptions
 pub mod Describing
+pub mod Answers

@@ -18,7 +18,8 @@ use Rattle.edr_query.specs.declared.pages.Page.TheVariants.{Landing, Conformance
 use Rattle.edr_select.specs.Refusals.{Applies, applies_if_found, applies_in, is_of_grids, refused, IsFirstRefusal, RefusalIsLeast}
 use Rattle.edr_select.specs.Documents.{document}
 use Rattle.edr_describe.specs.Descriptions.{landing_page, conformance_page, collections_page, collection_page, instances_page, instance_page, locations_page, page_of_instance}
-use Rattle.edr_serve.specs.Answers.{page_text, IsAnswer, PageHasAnswer}
+use Rattle.edr_describe.specs.Answers.{page_text, IsAnswer}
+use Rattle.edr_serve.specs.Answers.{PageHasAnswer}
 
 -- there is one
 abbrev Is : {V : Type 0} → Option V → Type 0

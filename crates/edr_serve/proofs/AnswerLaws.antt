@@ -8,7 +8,8 @@ use Rattle.edr_query.specs.declared.pages.Page.{Page}
 use Rattle.edr_base.specs.RefusalLaws.{least_once}
 use Rattle.edr_query.specs.Targets.{IsTarget, Refuses, TargetIsOne}
 use Rattle.edr_select.specs.Refusals.{Applies}
-use Rattle.edr_serve.specs.Answers.{IsAnswer, AnswerIsOne, AppliesTo, IsTheFirst, RefusalIsTheFirst}
+use Rattle.edr_describe.specs.Answers.{IsAnswer}
+use Rattle.edr_serve.specs.Answers.{AnswerIsOne, AppliesTo, IsTheFirst, RefusalIsTheFirst}
 
 some_same : {V : Type 0} (a b : V) (o : Option V) → o ≡ Some a → o ≡ Some b → a ≡ b
 some_same a b o e f = cc

@@ -16,7 +16,8 @@ use Rattle.edr_select.specs.Plans.{PlanValue, StandsFor}
 use Rattle.edr_select.specs.Planning.{IsPlanFor}
 use Rattle.edr_serve.specs.declared.answering.AnswerFault.{AnswerFault}
 use Rattle.edr_serve.specs.declared.answering.AnswerFault.TheVariants.{Refused, WriteFault, OutOfMemory}
-use Rattle.edr_serve.specs.Answers.{IsTextOf, Answers}
+use Rattle.edr_describe.specs.Answers.{IsTextOf}
+use Rattle.edr_serve.specs.Answers.{Answers}
 use Rattle.edr_serve.specs.Faults.{of_sending}
 
 -- ---- queries

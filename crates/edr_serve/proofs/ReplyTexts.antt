@@ -23,7 +23,7 @@ use Rattle.edr_describe.specs.Descriptions.{description}
 use Rattle.edr_describe.specs.Describing.{IsDescription, IsDescribed}
 use Rattle.edr_http.specs.Chunks.{chunked}
 use Rattle.edr_http.specs.Replies.{Body, reply_head, reply_text, refusal_body}
-use Rattle.edr_serve.specs.Answers.{data_text, page_text}
+use Rattle.edr_describe.specs.Answers.{data_text, page_text}
 use Rattle.edr_serve.specs.Replies.{is_description, body_unless, body_from, chunks_needed, chunks_unless, chunks_from}
 
 -- ---- a head, and then the body

@@ -10,7 +10,7 @@ use Rattle.edr_query.specs.declared.pages.Page.TheVariants.{Ask}
 use Rattle.edr_select.specs.Refusals.{refused}
 use Rattle.edr_select.specs.Selections.{needed}
 use Rattle.edr_http.specs.Replies.{Body, refusal_body, reply_text}
-use Rattle.edr_serve.specs.Answers.{page_text}
+use Rattle.edr_describe.specs.Answers.{page_text}
 use Rattle.edr_serve.specs.Requests.{Request}
 
 -- ---- what an edition answers to a page

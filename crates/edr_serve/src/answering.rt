@@ -5,7 +5,8 @@ ghost use Rattle.edr_base.specs.Calls.{SinkLent};
 ghost use Rattle.edr_query.specs.declared.pages.Page.TheVariants.{Ask};
 ghost use Rattle.edr_select.specs.Planning.{IsPlanFor};
 ghost use Rattle.edr_describe.specs.Describing.{IsDescription};
-ghost use Rattle.edr_serve.specs.Answers.{IsAnswer, IsAnswerTo, Answers};
+ghost use Rattle.edr_describe.specs.Answers.{IsAnswer, IsAnswerTo};
+ghost use Rattle.edr_serve.specs.Answers.{Answers};
 ghost use Rattle.edr_serve.specs.Faults.{of_target, of_plan, of_description, of_sending};
 
 use edr_base::{Refusal, SendFault, Sink};

@@ -7,7 +7,7 @@ ghost use Rattle.edr_select.specs.Planning.{IsPlanFor};
 ghost use Rattle.edr_describe.specs.Describing.{IsDescription};
 ghost use Rattle.edr_http.specs.Chunks.{chunked};
 ghost use Rattle.edr_http.specs.Replies.{reply_text, refusal_body};
-ghost use Rattle.edr_serve.specs.Answers.{data_text};
+ghost use Rattle.edr_describe.specs.Answers.{data_text};
 ghost use Rattle.edr_serve.specs.Replies.{body_from, chunks_needed, chunks_from};
 
 use crate::answering::instance_named;

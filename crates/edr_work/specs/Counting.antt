@@ -15,7 +15,7 @@ use Rattle.edr_select.specs.Documents.{document}
 use Rattle.edr_select.specs.Selections.{needed}
 use Rattle.edr_station.specs.declared.tallies.Tally.{Tally}
 use Rattle.edr_station.specs.Tallies.{tally_of}
-use Rattle.edr_serve.specs.Answers.{IsAnswerTo}
+use Rattle.edr_describe.specs.Answers.{IsAnswerTo}
 use Rattle.edr_work.specs.declared.faults.WorkFault.{WorkFault}
 use Rattle.edr_work.specs.declared.lines.Count.{Count}
 use Rattle.edr_work.specs.declared.faults.WorkFault.TheVariants.{NotFeed, Refused, OutOfMemory}

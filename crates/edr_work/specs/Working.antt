@@ -7,7 +7,7 @@ use Rattle.edr_feed.specs.Feeds.{FeedStands}
 use Rattle.edr_make.specs.Made.{made}
 use Rattle.edr_feed.specs.Summaries.{summary_line}
 use Rattle.edr_feed.specs.declared.refusals.FeedRefusal.{FeedRefusal}
-use Rattle.edr_serve.specs.Answers.{IsAnswerTo}
+use Rattle.edr_describe.specs.Answers.{IsAnswerTo}
 use Rattle.edr_work.specs.declared.faults.WorkFault.{WorkFault}
 use Rattle.edr_work.specs.declared.faults.WorkFault.TheVariants.{NotFeed, Refused, OutOfMemory}
 use Rattle.edr_work.specs.Lines.{cube_target, position_target, location_target, corridor_target, IsLine}
