@@ -1,11 +1,11 @@
 -- The entries of a cache are turned as the pairs that they show.
-use Rattle.std.proofs.Common.{◌≡◌, ℕ, ◌<◌, ◌≤◌, ◌-◌, Bool, true, false, cond, bytes_eq, List, [], ◌∷◌, map, length, take, Vec, Global, Option, Some, None, option_map, refl, sym, ap, ◌∙◌, subst}
+use Rattle.std.proofs.Common.{◌≡◌, ℕ, ◌<◌, ◌≤◌, ◌-◌, Bool, true, false, cond, bytes_eq, List, [], ◌∷◌, length, take, Vec, Global, Option, Some, None, option_map, refl, sym, ap, ◌∙◌, subst}
 use Rattle.std.proofs.lemmas.List.{take-map}
 use Rattle.std.specs.Map.{lookup, lookup_entry, remove_entry}
 use Rattle.std.specs.Option.{option_map_or}
-use Rattle.lru.specs.LruCache.{LruCache, lru_cache, promoted, put_entries}
+use Rattle.lru.specs.LruCache.{lru_cache, promoted, put_entries}
 use Rattle.edr_cache.specs.Limits.{capacity_limit, kept_limit}
-use Rattle.edr_cache.specs.Pairs.{Pair, held, body_of, to_front, with_body, IsWithin}
+use Rattle.edr_cache.specs.Pairs.{held, body_of, to_front, with_body, IsWithin}
 use Rattle.edr_cache.specs.Entries.{Entry, pair_of, pairs_of, Cache, held_by, IsKept}
 use Rattle.edr_cache.proofs.PairLemmas.{promoted_is, put_is, within_none, within_front, within_body}
 
@@ -68,7 +68,7 @@ module _ (cache : Cache) (kept : IsKept cache) where
   pub promoted_kept : (target : List ℕ) → IsKept (lru_cache (promoted (is_key target) cache.entries) cache.cap)
   promoted_kept target = record {
     within = subst IsWithin (sym (promoted_held target)) (within_front target (pairs_of cache.entries) cache.cap kept.within);
-    roomy = kept.roomy
+    roomy = kept.roomy;
   }
 
   pub put_held : (key : Vec ℕ Global) (body : List ℕ)
@@ -80,5 +80,5 @@ module _ (cache : Cache) (kept : IsKept cache) where
       → IsKept (lru_cache (put_entries (λ x y. bytes_eq x.items y.items) cache key body) cache.cap)
   put_kept key body short = record {
     within = subst IsWithin (sym (put_held key body)) (within_body key.items (pairs_of cache.entries) cache.cap body short kept.within);
-    roomy = kept.roomy
+    roomy = kept.roomy;
   }

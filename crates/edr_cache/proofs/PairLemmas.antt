@@ -1,5 +1,5 @@
 -- The pairs of a store as a cache turns them, and that they stay within its limits.
-use Rattle.std.proofs.Common.{◌≡◌, ℕ, zero, suc, ◌-◌, ◌<◌, ◌≤◌, Bool, true, false, not, bytes_eq, List, [], ◌∷◌, length, take, filter, All, Option, Some, None, option_map, inl, inr, refl, sym, ap, ◌∙◌, subst, arith, take_all, length-take, le_refl}
+use Rattle.std.proofs.Common.{◌≡◌, ℕ, zero, suc, ◌-◌, ◌<◌, ◌≤◌, false, not, bytes_eq, List, [], ◌∷◌, length, take, Option, Some, None, option_map, inl, inr, refl, sym, ap, ◌∙◌, arith, take_all, length-take, le_refl}
 use Rattle.std.proofs.lemmas.Bool.{cases_Bool}
 use Rattle.std.proofs.lemmas.List.Elements.{All-nil}
 use Rattle.std.proofs.lemmas.Map.{NonePasses, none_passes_from_lookup}
@@ -20,14 +20,14 @@ use Rattle.edr_cache.specs.PairLaws.{All-to_front, All-with_body}
 
 -- ---- the first of a list
 
-take_first : {X : Type 0} (n : ℕ) (x : X) (xs : List X) → 0 < n → take n (x ∷ xs) ≡ x ∷ take (n - 1) xs
+pub take_first : {X : Type 0} (n : ℕ) (x : X) (xs : List X) → 0 < n → take n (x ∷ xs) ≡ x ∷ take (n - 1) xs
 take_first zero x xs h = absurd (omega (arith, h))
 take_first (suc n) x xs h = let less : suc n - 1 ≡ n = omega arith in rw less refl
 
 -- ---- the pairs but that of a target
 
 module _ (target : List ℕ) where
-  without_none : (pairs : List Pair) → NonePasses (bytes_eq target) pairs → without target pairs ≡ pairs
+  pub without_none : (pairs : List Pair) → NonePasses (bytes_eq target) pairs → without target pairs ≡ pairs
   without_none [] none = refl
   without_none (pair ∷ pairs) none = rw none.0 (ap (λ list. pair ∷ list) (without_none pairs none.1))
 
@@ -48,7 +48,7 @@ module _ (target : List ℕ) where
       ]
 
   -- they are fewer where there is one
-  shorter : (pairs : List Pair) (body : List ℕ) → body_of target pairs ≡ Some body → length (without target pairs) < length pairs
+  pub shorter : (pairs : List Pair) (body : List ℕ) → body_of target pairs ≡ Some body → length (without target pairs) < length pairs
   shorter [] body is = cc
   shorter (pair ∷ pairs) body is =
       elim (cases_Bool (bytes_eq target pair.0)) [
@@ -67,9 +67,10 @@ module _ (target : List ℕ) where
   -- ---- as a cache turns them
 
   entry_is : (pairs : List Pair) (pair : Pair) → lookup_entry (bytes_eq target) pairs ≡ Some pair → (pair.0 ≡ target) × (body_of target pairs ≡ Some pair.1)
-  entry_is pairs pair is =
-      (sym ((bytes_eq-Decides target pair.0).0 (Contains-lookup_entry (bytes_eq target) pairs pair is).1),
-      sym (lookup-lookup_entry (bytes_eq target) pairs) ∙ ap (option_map (λ (found : Pair). found.1)) is)
+  entry_is pairs pair is = (
+    sym ((bytes_eq-Decides target pair.0).0 (Contains-lookup_entry (bytes_eq target) pairs pair is).1),
+    sym (lookup-lookup_entry (bytes_eq target) pairs) ∙ ap (option_map (λ (found : Pair). found.1)) is,
+  )
 
   no_entry : (pairs : List Pair) → lookup_entry (bytes_eq target) pairs ≡ None → body_of target pairs ≡ None
   no_entry pairs is = sym (lookup-lookup_entry (bytes_eq target) pairs) ∙ ap (option_map (λ (found : Pair). found.1)) is
@@ -142,7 +143,7 @@ module _ (target : List ℕ) where
     few = omega (arith, length_fronted pairs (body_of target pairs) refl, within.few);
     at_most = within.at_most;
     short = All-to_front (λ pair. length pair.1 ≤ kept_limit) target pairs within.short;
-    apart = apart_fronted pairs (body_of target pairs) within.apart
+    apart = apart_fronted pairs (body_of target pairs) within.apart;
   }
 
   pub within_body : (pairs : List Pair) (capacity : ℕ) (body : List ℕ) → length body ≤ kept_limit → IsWithin (held pairs capacity)
@@ -151,5 +152,5 @@ module _ (target : List ℕ) where
     few = omega (arith, length-take capacity (with_first target body pairs));
     at_most = within.at_most;
     short = All-with_body (λ pair. length pair.1 ≤ kept_limit) target capacity body pairs short within.short;
-    apart = apart_taken capacity (with_first target body pairs) (apart_first body pairs within.apart)
+    apart = apart_taken capacity (with_first target body pairs) (apart_first body pairs within.apart);
   }

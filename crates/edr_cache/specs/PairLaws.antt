@@ -1,5 +1,5 @@
 -- Laws of the pairs of a store, for the proofs of callers.
-use Rattle.std.proofs.Common.{◌≡◌, ℕ, Bool, true, false, not, bytes_eq, List, [], ◌∷◌, filter, All, IfSome, Option, Some, None, inl, inr, refl, sym, subst}
+use Rattle.std.proofs.Common.{◌≡◌, ℕ, true, not, bytes_eq, List, [], ◌∷◌, All, IfSome, Option, Some, None, inl, inr, refl, sym, subst}
 use Rattle.std.proofs.lemmas.Bool.{cases_Bool}
 use Rattle.std.proofs.lemmas.List.Elements.{All-cons, All-head, All-tail, All-take, All-filter}
 use Rattle.std.proofs.lemmas.Slice.Eq.{bytes_eq-Decides}
@@ -36,7 +36,7 @@ module _ (P : Pair → Type 0) (target : List ℕ) where
 
 -- ---- the body of a target
 
-bytes_eq_itself : (target : List ℕ) → bytes_eq target target ≡ true
+pub bytes_eq_itself : (target : List ℕ) → bytes_eq target target ≡ true
 bytes_eq_itself target = (bytes_eq-Decides target target).1 refl
 
 fronted_body : (target : List ℕ) (pairs : List Pair) (found : Option (List ℕ)) → body_of target pairs ≡ found

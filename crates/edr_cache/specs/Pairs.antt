@@ -1,5 +1,5 @@
 -- The pairs of targets and bodies that a store keeps, the most recently used first.
-use Rattle.std.specs.Prelude.{ℕ, ◌≤◌, Bool, not, bytes_eq, List, [], ◌∷◌, length, take, filter, All}
+use Rattle.std.specs.Prelude.{◌≡◌, ℕ, ◌+◌, ◌<◌, ◌≤◌, not, bytes_eq, List, [], ◌∷◌, ◌++◌, length, take, filter, All, None, Some}
 use Rattle.std.specs.declared.option.Option.{Option}
 use Rattle.std.specs.List.{IsDistinct}
 use Rattle.std.specs.Map.{keys_of, lookup}
@@ -44,3 +44,14 @@ pub record IsWithin (store : Held) : Type 0 where
   pub at_most : store.capacity ≤ capacity_limit
   pub short : All (λ (pair : Pair). length pair.1 ≤ kept_limit) store.pairs
   pub apart : IsDistinct bytes_eq (keys_of store.pairs)
+
+-- pairs are told by their targets: a use changes their order alone, and of a full store the least recently used falls out
+pub record AreByUse : Type 0 where
+  pub used : (target other : List ℕ) (pairs : List Pair) → body_of other (to_front target pairs) ≡ body_of other pairs
+  pub kept : (capacity : ℕ) (target body : List ℕ) (pairs : List Pair) → 0 < capacity → body_of target (with_body capacity target body pairs) ≡ Some body
+  pub replaced : (capacity : ℕ) (target old body : List ℕ) (pairs : List Pair) → body_of target pairs ≡ Some old → length pairs ≤ capacity
+      → with_body capacity target body pairs ≡ with_first target body pairs
+  pub added : (capacity : ℕ) (target body : List ℕ) (pairs : List Pair) → body_of target pairs ≡ None → length pairs < capacity
+      → with_body capacity target body pairs ≡ (target, body) ∷ pairs
+  pub falls_out : (capacity : ℕ) (target body : List ℕ) (pairs : List Pair) (last : Pair) → body_of target (pairs ++ last ∷ []) ≡ None → length pairs + 1 ≡ capacity
+      → with_body capacity target body (pairs ++ last ∷ []) ≡ (target, body) ∷ pairs
