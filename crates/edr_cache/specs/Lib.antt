@@ -1,0 +1,5 @@
+pub mod Limits
+pub mod Pairs
+pub mod PairLaws
+pub mod Entries
+pub mod Lending
