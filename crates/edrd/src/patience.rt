@@ -3,6 +3,7 @@
 //! All reads since the last reply was flushed share one time: so many seconds until the first byte of a head, and `PATIENCE` from there
 //! on. A reply may wait for its peer `PATIENCE` seconds; each `LEAST_SPEED` bytes that the peer takes give back one of them. A peer
 //! whose time is up is a fault of the read or the write.
+ghost use Rattle.std.specs.Prelude.{◌≤◌, length, IfOk, IfSome};
 
 use std::alloc::Global;
 use std::io;
@@ -19,9 +20,18 @@ const PATIENCE: u64 = 30;
 // How many bytes of a reply a peer has to take in a second.
 const LEAST_SPEED: u64 = 16_384;
 
+// How long a stream waits at once in a write, in seconds. What the system takes for the peer while its buffer grows is counted
+// after each of them, while most of the peer's time is left.
+const WAIT: u64 = 1;
+
 // That time.
 fn patience() -> Duration {
     Duration::from_secs(PATIENCE)
+}
+
+// How long a stream waits at once.
+fn one_wait() -> Duration {
+    Duration::from_secs(WAIT)
 }
 
 // What is left of a time, where some is.
@@ -94,37 +104,48 @@ pub struct PatientWriter {
     flushed: Arc<AtomicBool, Global>,
     // how long the reply may still wait for its peer
     left: Duration,
-    // how long the stream waits in a write
-    timeout: Duration,
 }
 
 impl PatientWriter {
-    // Has the stream wait in a write as long as is left.
-    fn wait(&mut self) -> io::Result<()> {
-        let left = some_left(self.left, Duration::ZERO)?;
-        if left != self.timeout {
-            self.stream.set_write_timeout(Some(left))?;
-            self.timeout = left;
-        }
-        Ok(())
-    }
-
     // Counts how long the peer was waited for, and the bytes that it took then.
     fn count(&mut self, waited: Duration, taken: usize) {
         let earned = Duration::from_millis((taken as u64).saturating_mul(1000) / LEAST_SPEED);
         let left = self.left.saturating_sub(waited).saturating_add(earned);
         self.left = left.min(patience());
     }
+
+    // How many bytes the peer takes in one wait, or None where it takes none.
+    fn write_once(&mut self, buf: &[u8]) -> io::Result<Option<usize>>
+        ensures { IfOk result (λ taken. IfSome taken (λ count. count ≤ length buf.now)) }
+    {
+        some_left(self.left, Duration::ZERO)?;
+        let begun = Instant::now(&self.rt)?;
+        let outcome = self.stream.write(buf);
+        let waited = begun.elapsed(&self.rt).unwrap_or(one_wait());
+        match outcome {
+            Ok(count) => {
+                self.count(waited, count);
+                Ok(Some(count))
+            }
+            Err(error) => match error.kind() {
+                ErrorKind::WouldBlock => {
+                    self.count(waited, 0);
+                    Ok(None)
+                }
+                _ => Err(error),
+            },
+        }
+    }
 }
 
 impl Write for PatientWriter {
     fn write(&mut self, buf: &[u8]) -> io::Result<usize> {
-        self.wait()?;
-        let begun = Instant::now(&self.rt)?;
-        let count = self.stream.write(buf)?;
-        let waited = begun.elapsed(&self.rt).unwrap_or(self.timeout);
-        self.count(waited, count);
-        Ok(count)
+        for _ in 0..=PATIENCE {
+            if let Some(count) = self.write_once(buf)? {
+                return Ok(count);
+            }
+        }
+        Err(io::Error::from(ErrorKind::TimedOut))
     }
 
     fn flush(&mut self) -> io::Result<()> {
@@ -144,7 +165,7 @@ pub fn patient_ends(
     let idle = Duration::from_secs(u64::from(idle));
     stream.set_nodelay(true)?;
     stream.set_read_timeout(Some(idle))?;
-    stream.set_write_timeout(Some(patience()))?;
+    stream.set_write_timeout(Some(one_wait()))?;
     let flushed = Arc::new(alloc, AtomicBool::new(false))?;
     let reader = PatientReader {
         rt,
@@ -160,7 +181,6 @@ pub fn patient_ends(
         stream,
         flushed,
         left: patience(),
-        timeout: patience(),
     };
     Ok((reader, writer))
 }
