@@ -21,7 +21,8 @@ def program(name: str) -> str:
 def served(feed: Path, edrd: str | None = None) -> Iterator[str]:
     """The address of a daemon that serves the editions of a feed, which are all published at once."""
     port = _free_port()
-    daemon = subprocess.Popen([edrd or program("edrd"), str(feed), "--port", str(port), "--every", "0"])
+    words = [edrd or program("edrd"), str(feed), "--port", str(port), "--every", "0"]
+    daemon = subprocess.Popen(words, stdout=subprocess.DEVNULL)
     try:
         _await(daemon, port)
         yield f"http://127.0.0.1:{port}"

@@ -45,7 +45,7 @@ class Server:
 
     def __init__(self, words_of):
         self.port = free_port()
-        self.process = subprocess.Popen(words_of(self.port), stdin=subprocess.DEVNULL)
+        self.process = subprocess.Popen(words_of(self.port), stdin=subprocess.DEVNULL, stdout=subprocess.DEVNULL)
         while True:
             try:
                 socket.create_connection(("127.0.0.1", self.port)).close()

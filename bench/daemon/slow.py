@@ -105,7 +105,8 @@ def main():
         with socket.socket() as free:
             free.bind(("127.0.0.1", 0))
             port = free.getsockname()[1]
-        daemon = subprocess.Popen([program, feed, "--port", str(port), "--workers", str(len(PEERS)), "--idle", str(IDLE)])
+        words = [program, feed, "--port", str(port), "--workers", str(len(PEERS)), "--idle", str(IDLE)]
+        daemon = subprocess.Popen(words, stdout=subprocess.DEVNULL)
         while True:
             try:
                 connected(port).close()

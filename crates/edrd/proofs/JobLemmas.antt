@@ -51,7 +51,7 @@ none_behind : {T : Type 0} (x : T) (xs : List T) (k : ℕ) → x ∷ xs ≡ drop
 none_behind x xs zero h = cc
 none_behind x xs (suc k) h = cc
 
-split_at : {T : Type 0} (all rest : List T) (k : ℕ) (e : T) → e ∷ rest ≡ drop k all → (k < length all) × (take (suc k) all ≡ take k all ++ e ∷ []) × (drop (suc k) all ≡ rest)
+pub split_at : {T : Type 0} (all rest : List T) (k : ℕ) (e : T) → e ∷ rest ≡ drop k all → (k < length all) × (take (suc k) all ≡ take k all ++ e ∷ []) × (drop (suc k) all ≡ rest)
 split_at [] rest k e left = absurd (none_behind e rest k left)
 split_at (x ∷ all) rest zero e left = let head : e ≡ x = cc in let tail : rest ≡ all = cc in (omega arith, rw head refl, sym tail)
 split_at (x ∷ all) rest (suc k) e left =

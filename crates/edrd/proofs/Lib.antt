@@ -2,3 +2,4 @@ pub mod WordLemmas
 pub mod JobLemmas
 pub mod RunLemmas
 pub mod EndLemmas
+pub mod SayLemmas

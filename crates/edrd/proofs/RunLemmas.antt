@@ -1,7 +1,8 @@
 -- What a run rests on: the feed in its file, and doors that are closed one by one.
-use Rattle.std.proofs.Common.{◌≡◌, ◌+◌, ◌<◌, ◌⊎◌, ℕ, Bool, true, false, inl, inr, List, ◌∷◌, length, Err, None, Some, IfSome, refl, subst, arith}
-use Rattle.std.specs.Prelude.{All, IsSomeAnd, Result, slice_index_or}
+use Rattle.std.proofs.Common.{◌≡◌, ◌+◌, ◌<◌, ◌⊎◌, ◌∙◌, ℕ, Bool, true, false, inl, inr, List, [], ◌∷◌, length, Err, None, Some, IfSome, refl, ap, subst, arith}
+use Rattle.std.specs.Prelude.{All, IsSomeAnd, Result, slice_index_or, sum_by}
 use Rattle.std.specs.declared.option.Option.{Option}
+use Rattle.std.proofs.lemmas.List.Sums.{sum_by-cons}
 use Rattle.std.proofs.lemmas.List.Elements.{All-head, All-tail}
 use Rattle.edr_base.specs.Limits.{feed_limit}
 use Rattle.edr_base.specs.Calls.{ReadsAtMost, buffer_size}
@@ -62,6 +63,23 @@ door_first P old new door all is = All-head P door new (subst (All P) is all)
 
 pub door_others : {A : Type 0} (P : A → Type 0) (old new : List A) (door : A) → All P old → old ≡ door ∷ new → All P new
 door_others P old new door all is = All-tail P door new (subst (All P) is all)
+
+-- what the first of a list adds to a sum
+pub door_sum : {A : Type 0} (f : A → ℕ) (old new : List A) (door : A) → old ≡ door ∷ new → sum_by f old ≡ f door + sum_by f new
+door_sum f old new door is = ap (sum_by f) is ∙ sum_by-cons f door new
+
+-- nothing came through new doors
+none_of : {A : Type 0} (f : A → ℕ) (doors : List A) → All (λ door. f door ≡ 0) doors → sum_by f doors ≡ 0
+none_of f [] all = refl
+none_of f (door ∷ doors) all =
+    let one : f door ≡ 0 = All-head (λ d. f d ≡ 0) door doors all in
+    let rest = none_of f doors (All-tail (λ d. f d ≡ 0) door doors all) in
+    omega (arith, one, rest, sum_by-cons f door doors)
+
+-- what was counted since
+pub sum_given : {A : Type 0} (f : A → ℕ) (old new : List A) (total : ℕ) → All (λ door. f door ≡ 0) old → sum_by f new ≡ sum_by f old + total
+    → sum_by f new ≡ total
+sum_given f old new total all is = let none = none_of f old all in omega (arith, none, is)
 
 -- ---- doors that were opened, and served to their ends
 

@@ -1,6 +1,6 @@
--- How a run ends: its status, what it says, and what became of the feed's files, of the doors, of the shelf's places and of the
+-- How a run ends: its status, what it says on the errors and on the standard output, and what became of the feed's files, of the doors, of the shelf's places and of the
 -- gate. Each table goes by the ending; a last row of any `ending` is that of all which have none of their own.
-use Rattle.std.specs.Prelude.{◌≡◌, ◌⊎◌, ℕ, ◌+◌, ◌-◌, min, Bool, true, false, ◌++◌, ⊤, codes, List, [], ◌∷◌, length, Ok, Err, IsSome, IsSomeAnd, None, Some, option_map}
+use Rattle.std.specs.Prelude.{◌≡◌, ◌⊎◌, ℕ, ◌+◌, ◌-◌, min, Bool, true, false, ◌++◌, ⊤, codes, List, [], ◌∷◌, length, take, Ok, Err, IsSome, IsSomeAnd, None, Some, option_map}
 use Rattle.std.specs.declared.option.Option.{Option}
 use Rattle.edr_base.specs.Outside.{Aside, Rose}
 use Rattle.edr_base.specs.Limits.{count_limit}
@@ -8,6 +8,7 @@ use Rattle.edr_edition.specs.Values.{EditionValue}
 use Rattle.edr_feed.specs.Feeds.{FeedStandsIn}
 use Rattle.edr_program.specs.FileReads.{IsFileRead}
 use Rattle.edr_program.specs.Lines.{feed_said, Tells}
+use Rattle.edrd.specs.Saying.{OutputState, SaysAll, serving_lines, count_line}
 use Rattle.edrd.specs.declared.doors.DoorsAsked.{DoorsAsked}
 use Rattle.edrd.specs.declared.words.Settings.{Settings}
 use Rattle.edrd.specs.declared.endings.Ending.{Ending}
@@ -48,6 +49,9 @@ pub record DoorsState : Type 0 where
   pub opens : ℕ
   pub closed : ℕ
   pub faults : ℕ
+  pub port : ℕ  -- that the last open with Ok bound
+  pub served : ℕ  -- how many connections came through the doors that were closed since
+  pub faulted : ℕ  -- how many of them ended with a fault of their session
 
 -- what is told of a gate
 pub record GateState : Type 0 where
@@ -67,33 +71,52 @@ doors_asked settings = record { port = settings.port; count = settings.workers; 
 
 -- ---- by what is asked for
 
--- the feed's file is a feed of these editions; all of them were published but those behind the last that the gate let pass, the
--- doors that were asked for were opened once and are closed, as many as there were workers
-pub record IsServed (settings : Settings) (before after : Moment) (gate ended : GateState) : Type 0 where
+-- editions were served: so many of them were published, the first, and one at each turn of the gate; the doors that were asked
+-- for were opened once and are closed, as many as there were workers; and `lines` say so, and how many connections came
+pub record AreServed (editions : List EditionValue) (settings : Settings) (before after : DoorsState) (gate ended : GateState)
+    (lines : List (List ℕ)) : Type 0 where
+  pub opened : after.last ≡ Some (doors_asked settings)
+  pub once : after.opens ≡ min (before.opens + 1) count_limit
+  pub closed : after.closed ≡ settings.workers
+  pub every : ended.seconds ≡ settings.every
+  pub published : ℕ
+  pub granted : ended.granted + 1 ≡ gate.granted + published
+  pub whole : (published ≡ length editions) ⊎ (ended.shut ≡ true)
+  pub said : lines ≡ serving_lines after.port (take published editions) ++ count_line after.served after.faulted ∷ []
+
+-- the feed's file is a feed of these editions, and they were served
+pub record IsServed (settings : Settings) (before after : Moment) (gate ended : GateState) (lines : List (List ℕ)) : Type 0 where
   pub editions : List EditionValue
   pub feed : FeedStandsIn (before.files.content settings.feed) (Ok editions)
-  pub opened : after.doors.last ≡ Some (doors_asked settings)
-  pub once : after.doors.opens ≡ min (before.doors.opens + 1) count_limit
-  pub closed : after.doors.closed ≡ settings.workers
-  pub every : ended.seconds ≡ settings.every
-  pub published : (ended.granted + 1 ≡ gate.granted + length editions) ⊎ (ended.shut ≡ true)
+  pub served : AreServed editions settings before.doors after.doors gate ended lines
 
--- the cause of an ending
-abbrev pub HasCause : Ending → Settings → Moment → Moment → GateState → Option GateState → Type 0
-HasCause Done settings before after gate ended = IsSomeAnd ended (λ ended. IsServed settings before after gate ended)
-HasCause Usage settings before after gate ended = ⊥
-HasCause (NotFeed refusal) settings before after gate ended = FeedStandsIn (before.files.content settings.feed) (Err refusal)
-HasCause ReadFault settings before after gate ended = Rose before.file_faults after.file_faults × (after.files.idle ≡ false)
-HasCause OutOfMemory settings before after gate ended = ⊤
-HasCause OpenFault settings before after gate ended = Rose before.file_faults after.file_faults × (after.files.idle ≡ true)
-HasCause BindFault settings before after gate ended =
+-- where memory was wanting: nothing is said, or the port and some of the first editions of the feed
+pub record IsServing (settings : Settings) (before after : Moment) (lines : List (List ℕ)) : Type 0 where
+  pub editions : List EditionValue
+  pub feed : FeedStandsIn (before.files.content settings.feed) (Ok editions)
+  pub published : ℕ
+  pub said : lines ≡ serving_lines after.doors.port (take published editions)
+
+-- the cause of an ending, where `lines` are said on the standard output
+abbrev pub HasCause : Ending → Settings → Moment → Moment → GateState → Option GateState → List (List ℕ) → Type 0
+HasCause Done settings before after gate ended lines = IsSomeAnd ended (λ ended. IsServed settings before after gate ended lines)
+HasCause Usage settings before after gate ended lines = ⊥
+HasCause (NotFeed refusal) settings before after gate ended lines =
+    FeedStandsIn (before.files.content settings.feed) (Err refusal) × (lines ≡ [])
+HasCause ReadFault settings before after gate ended lines =
+    Rose before.file_faults after.file_faults × (after.files.idle ≡ false) × (lines ≡ [])
+HasCause OutOfMemory settings before after gate ended lines = (lines ≡ []) ⊎ IsServing settings before after lines
+HasCause OpenFault settings before after gate ended lines =
+    Rose before.file_faults after.file_faults × (after.files.idle ≡ true) × (lines ≡ [])
+HasCause BindFault settings before after gate ended lines =
     Rose before.doors.faults after.doors.faults × (after.doors.tried ≡ Some (doors_asked settings, false)) × (after.doors.opens ≡ before.doors.opens)
-HasCause ShelfFault settings before after gate ended = Rose before.places after.places
+    × (lines ≡ [])
+HasCause ShelfFault settings before after gate ended lines = Rose before.places after.places × (lines ≡ [])
 
 -- the same of words, which may ask for nothing: then the run ends with the usage line, but for want of memory
-abbrev pub EndsBy : Ending → Option Settings → Moment → Moment → GateState → Option GateState → Type 0
-EndsBy ending None before after gate ended = (ending ≡ Usage) ⊎ (ending ≡ OutOfMemory)
-EndsBy ending (Some settings) before after gate ended = HasCause ending settings before after gate ended
+abbrev pub EndsBy : Ending → Option Settings → Moment → Moment → GateState → Option GateState → List (List ℕ) → Type 0
+EndsBy ending None before after gate ended lines = ((ending ≡ Usage) ⊎ (ending ≡ OutOfMemory)) × (lines ≡ [])
+EndsBy ending (Some settings) before after gate ended lines = HasCause ending settings before after gate ended lines
 
 -- ---- what is left as it was
 
@@ -131,8 +154,10 @@ ReadsFeed aside left (Some settings) status old new =
 -- ---- a whole run
 
 pub record Ends (ending : Ending) (asked : Option Settings) (status : ℕ) (before after : Moment) (gate : GateState) (ended : Option GateState)
-    (told told' : Option (List ℕ)) (faults faults' : ℕ) : Type 0 where
+    (told told' : Option (List ℕ)) (faults faults' : ℕ) (output output' : OutputState) : Type 0 where
   pub number : status ≡ status_of ending
-  pub cause : EndsBy ending asked before after gate ended
+  pub lines : List (List ℕ)
+  pub said : SaysAll lines output output'
+  pub cause : EndsBy ending asked before after gate ended lines
   pub back : GateComesBack ending asked gate ended
   pub line : Tells (line_of ending) told told' faults faults'

@@ -37,6 +37,15 @@ pub trait Doors: Faults {
     /// How many doors were handed back since the last `open` with `Ok`.
     ghost closed: { Self → ℕ };
 
+    /// The port that the last `open` with `Ok` bound.
+    ghost port: { Self → ℕ };
+
+    /// How many connections those doors handed out that were handed back since.
+    ghost served: { Self → ℕ };
+
+    /// How many of these connections ended with a fault of their session.
+    ghost faulted: { Self → ℕ };
+
     /// Opens the doors that are asked for.
     ///
     /// `Failed` is a fault that was counted.
@@ -44,18 +53,26 @@ pub trait Doors: Faults {
         ensures doors { IfOk result (λ doors. (vec_len doors ≡ asked.count)
             × All (IsNew Self.Door.over Self.Door.given Self.Door.finished Self.Door.faulted Self.Door.faults) doors.items) }
         ensures tried { tried self.new ≡ Some (asked, is_ok result) }
+        ensures port { IfOk result (λ _. 0 < asked.port → port self.new ≡ asked.port) }
+        ensures counts { IfOk result (λ _. (served self.new ≡ 0) × (faulted self.new ≡ 0)) }
         ensures last { MatchResult result
             (λ _. (last self.new ≡ Some asked)
             × (opens self.new ≡ min (opens self.old + 1) count_limit) × (closed self.new ≡ 0))
             (λ _. (last self.new ≡ last self.old) × (opens self.new ≡ opens self.old) × (closed self.new ≡ closed self.old)) }
         ensures cause { Cause result (Self.faults self.old) (Self.faults self.new) };
 
+    /// The port that the last `open` with `Ok` bound.
+    fn port(&self) -> u16
+        ensures { result ≡ port self.now };
+
     /// Takes a door back that is served to its end.
     fn close(&mut self, door: Self::Door)
         requires room { IsSomeAnd (last self.old) (λ asked. closed self.old < asked.count) }
         requires ended { (Self.Door.over door ≡ true) ⊎ (0 < Self.Door.faults door) }
         requires served { Self.Door.finished door ≡ Self.Door.given door }
+        requires few { (served self.old + Self.Door.given door ≤ count_limit) × (faulted self.old + Self.Door.faulted door ≤ count_limit) }
         ensures closed { closed self.new ≡ closed self.old + 1 }
+        ensures counts { (served self.new ≡ served self.old + Self.Door.given door) × (faulted self.new ≡ faulted self.old + Self.Door.faulted door) }
         ensures kept { (last self.new ≡ last self.old) × (tried self.new ≡ tried self.old) × (opens self.new ≡ opens self.old)
-            × (Self.faults self.new ≡ Self.faults self.old) };
+            × (port self.new ≡ port self.old) × (Self.faults self.new ≡ Self.faults self.old) };
 }

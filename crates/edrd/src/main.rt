@@ -14,6 +14,7 @@ mod real_door;
 mod real_doors;
 mod real_gate;
 mod running;
+mod saying;
 mod serving;
 mod words;
 mod working;
@@ -25,6 +26,7 @@ use endings::{Ending, tell};
 use real_doors::RealDoors;
 use real_gate::RealGate;
 use running::edrd_run;
+use std::io::BufWriter;
 use std::process::ExitCode;
 
 fn main(rt: HostRuntime) -> ExitCode {
@@ -34,6 +36,12 @@ fn main(rt: HostRuntime) -> ExitCode {
         tell(Ending::OutOfMemory, &mut errors);
         return ExitCode::from(Ending::OutOfMemory.status());
     };
+    // a line is gathered until it is flushed
+    let Ok(buffered) = BufWriter::new(alloc, rt.stdout()) else {
+        tell(Ending::OutOfMemory, &mut errors);
+        return ExitCode::from(Ending::OutOfMemory.status());
+    };
+    let mut output = RealSink::of(buffered);
     let mut files = RealFiles::new(rt);
     let mut doors = RealDoors::new(rt);
     let mut places = Places::new();
@@ -45,6 +53,7 @@ fn main(rt: HostRuntime) -> ExitCode {
         &mut doors,
         &mut places,
         RealGate::new(rt),
+        &mut output,
         &mut errors,
     );
     ExitCode::from(status)

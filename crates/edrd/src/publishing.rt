@@ -1,9 +1,13 @@
 //! The job that publishes.
-ghost use Rattle.std.specs.Prelude.{◌≡◌, ◌⊎◌, ◌+◌, ◌++◌, length, take, true, false};
+ghost use Rattle.std.specs.Prelude.{◌≡◌, ◌⊎◌, ◌+◌, ◌++◌, length, map, take, true, false};
 ghost use Rattle.std.specs.Vec.Iter.{into_iter_items, into_iter_len};
+ghost use Rattle.edr_base.specs.Calls.{SinkLent};
 ghost use Rattle.edr_edition.specs.Shelves.{AreNumberedFrom};
+ghost use Rattle.edrd.specs.Saying.{edition_line, output_state, SaysAll};
 
 use crate::gate::Gate;
+use crate::saying::say_number;
+use edr_base::Sink;
 use edr_edition::Edition;
 use edr_share::Publisher;
 use std::alloc::Global;
@@ -22,8 +26,13 @@ pub struct Publishing<G> {
 }
 
 /// Publishes the editions, in their order, one at each turn of the gate, until none is left, the gate is shut, or memory is
-/// wanting.
-pub fn publish_all<R: Wait, G: Gate>(rt: &R, alloc: Global, job: &mut Publishing<G>)
+/// wanting. Each that is published is said.
+pub fn publish_all<R: Wait, G: Gate, O: Sink>(
+    rt: &R,
+    alloc: Global,
+    job: &mut Publishing<G>,
+    output: &mut O,
+)
     requires open_ { G.shut job.old.gate ≡ false }
     requires counted { into_iter_len job.old.rest ≡ length (into_iter_items job.old.rest) }
     requires numbers { AreNumberedFrom (length job.old.publisher.log + 1) (into_iter_items job.old.rest) }
@@ -31,6 +40,8 @@ pub fn publish_all<R: Wait, G: Gate>(rt: &R, alloc: Global, job: &mut Publishing
     ensures granted { job.new.wanting ≡ false → G.granted job.new.gate ≡ G.granted job.old.gate + job.new.published }
     ensures ends { (job.new.published ≡ length (into_iter_items job.old.rest)) ⊎ (G.shut job.new.gate ≡ true) ⊎ (job.new.wanting ≡ true) }
     ensures seconds { G.seconds job.new.gate ≡ G.seconds job.old.gate }
+    ensures said { SaysAll (map edition_line (take job.new.published (into_iter_items job.old.rest))) (output_state O.written O.flushed O.faults output.old) (output_state O.written O.flushed O.faults output.new) }
+    ensures output { SinkLent (O.beside output.old) (O.beside output.new) (O.faults output.old) (O.faults output.new) }
 {
     let mut published: u64 = 0;
     let mut wanting = false;
@@ -39,10 +50,12 @@ pub fn publish_all<R: Wait, G: Gate>(rt: &R, alloc: Global, job: &mut Publishing
         if !job.gate.turn() {
             break;
         }
+        let number = edition.number();
         if job.publisher.publish(rt, alloc, edition).is_err() {
             wanting = true;
             break;
         }
+        say_number(output, b"edition ", number);
         published += 1;
         next = job.rest.next();
     }

@@ -110,6 +110,20 @@ impl RealDoor {
         }
     }
 
+    /// How many connections it handed out.
+    pub fn given(&self) -> u64
+        ensures { result ≡ ⟦<RealDoor as Accept>⟧.given self.now }
+    {
+        self.given
+    }
+
+    /// How many of them ended with a fault of their session.
+    pub fn faulted(&self) -> u64
+        ensures { result ≡ ⟦<RealDoor as Accept>⟧.faulted self.now }
+    {
+        self.faulted
+    }
+
     // The two ends of the next connection. A connection that its peer gave up meanwhile is passed over, and so is one that
     // can't be set up; where the system has nothing left it waits a moment.
     fn next(&self) -> Result<(Input, Output), Failed> {

@@ -23,6 +23,9 @@ pub struct RealDoors {
     tried: Option<(DoorsAsked, bool)>,
     opens: u64,
     closed: usize,
+    port: u16,
+    served: u64,
+    faulted: u64,
     faults: u64,
     ghost fits: { faults ≤ count_limit },
 }
@@ -38,16 +41,30 @@ impl RealDoors {
             tried: None,
             opens: 0,
             closed: 0,
+            port: 0,
+            served: 0,
+            faulted: 0,
             faults: 0,
         }
     }
 }
 
+// The port that a listener was bound to: the one that was asked for, and for 0 the one that the system chose.
+fn port_of(listener: &TcpListener, asked: u16) -> io::Result<u16>
+    ensures { IfOk result (λ port. 0 < asked → port ≡ asked) }
+{
+    if asked > 0 {
+        return Ok(asked);
+    }
+    Ok(listener.local_addr()?.port())
+}
+
 // Doors at a port, which the system chooses where it is 0.
-fn doors_at(rt: HostRuntime, alloc: Global, asked: DoorsAsked) -> io::Result<Vec<RealDoor>>
-    ensures { IfOk result (λ doors. (vec_len doors ≡ asked.count)
+fn doors_at(rt: HostRuntime, alloc: Global, asked: DoorsAsked) -> io::Result<(u16, Vec<RealDoor>)>
+    ensures port { IfOk result (λ opened. 0 < asked.port → opened.0 ≡ asked.port) }
+    ensures doors { IfOk result (λ opened. (vec_len opened.1 ≡ asked.count)
         × All (IsNew ⟦<RealDoor as Accept>⟧.over ⟦<RealDoor as Accept>⟧.given ⟦<RealDoor as Accept>⟧.finished
-        ⟦<RealDoor as Accept>⟧.faulted ⟦<RealDoor as Faults>⟧.faults) doors.items) }
+        ⟦<RealDoor as Accept>⟧.faulted ⟦<RealDoor as Faults>⟧.faults) opened.1.items) }
 {
     let most = if asked.connections == ENDLESS || asked.connections > ACCEPT_LIMIT {
         ACCEPT_LIMIT
@@ -55,11 +72,12 @@ fn doors_at(rt: HostRuntime, alloc: Global, asked: DoorsAsked) -> io::Result<Vec
         asked.connections
     };
     let listener = TcpListener::bind(&rt, ("127.0.0.1", asked.port))?;
+    let port = port_of(&listener, asked.port)?;
     let mut doors = Vec::new(alloc);
     for _ in 0..asked.count {
         doors.push(RealDoor::of(rt, alloc, listener.try_clone()?, most, asked.idle))?;
     }
-    Ok(doors)
+    Ok((port, doors))
 }
 
 impl Faults for RealDoors {
@@ -79,13 +97,22 @@ impl Doors for RealDoors {
 
     ghost closed = { λ s. s.closed };
 
+    ghost port = { λ s. s.port };
+
+    ghost served = { λ s. s.served };
+
+    ghost faulted = { λ s. s.faulted };
+
     fn open(&mut self, alloc: Global, asked: DoorsAsked) -> Result<Vec<RealDoor>, Stop> {
         match doors_at(self.rt, alloc, asked) {
-            Ok(doors) => {
+            Ok((port, doors)) => {
                 self.last = Some(asked);
                 self.tried = Some((asked, true));
                 self.opens = self.opens.saturating_add(1);
                 self.closed = 0;
+                self.port = port;
+                self.served = 0;
+                self.faulted = 0;
                 Ok(doors)
             }
             Err(error) => {
@@ -99,8 +126,13 @@ impl Doors for RealDoors {
         }
     }
 
+    fn port(&self) -> u16 {
+        self.port
+    }
+
     fn close(&mut self, door: RealDoor) {
-        let _ = door;
+        self.served += door.given();
+        self.faulted += door.faulted();
         match self.last {
             Some(asked) if self.closed < asked.count => self.closed += 1,
             _ => unreachable!(),

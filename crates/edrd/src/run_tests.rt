@@ -17,32 +17,36 @@ use std::thread::Threads;
 const POSITION: &[u8] =
     b"GET /collections/grid/position?coords=POINT(50%200)&datetime=2024-01-01T00:00:00.000Z&parameter-name=temp&crs=http://www.opengis.net/def/crs/EPSG/0/32633&f=CoverageJSON HTTP/1.1\r\nHost: localhost:8080\r\nUser-Agent: curl/8.5.0\r\nAccept: */*\r\n\r\n";
 
-// A line for each row of words, between bars, behind what goes wrong: the status, the pause of the gate, how many doors were
-// closed, how many connections were answered, and the errors, whose last line feed is left out. `bind` are doors that refuse to
-// open, `told` is the first write of the errors, and a number that call of the files. Two connections come through the first
-// door, and one through the second.
+// A line for each row of words, between bars, behind what is wrong or special: the status, the pause of the gate, how many doors
+// were closed, how many connections were answered, the errors, and the standard output, whose line feeds are `;`. `bind` are
+// doors that refuse to open, `told` is the first write of the errors, `said` that of the standard output, `peer` a connection
+// whose reply can't be sent, `turns` a gate that lets all editions pass and doors through which nothing comes, and a number that
+// call of the files. Else two connections come through the first door, and one through the second, and the gate lets none pass.
 const RUNS: &str = "\
-nothing => 1 0 0 0 usage: edrd FEED --port P [--workers W] [--every S] [--connections C] [--idle I]
-nothing feed => 1 0 0 0 usage: edrd FEED --port P [--workers W] [--every S] [--connections C] [--idle I]
-nothing feed|--port|0|--workers|65 => 1 0 0 0 usage: edrd FEED --port P [--workers W] [--every S] [--connections C] [--idle I]
-nothing ?|--port|0 => 1 0 0 0 usage: edrd FEED --port P [--workers W] [--every S] [--connections C] [--idle I]
-told feed => 1 0 0 0 no
-nothing feed|--port|0|--workers|1 => 0 60 1 2 no
-nothing feed|--port|0|--every|5 => 0 5 2 3 no
-nothing three|--port|0|--every|0 => 0 0 2 3 no
-nothing feed|--port|0|--workers|3|--connections|1 => 0 60 3 2 no
-nothing feed|--port|0|--workers|3|--connections|0 => 0 60 3 3 no
-nothing feed|--port|0|--workers|64|--connections|1 => 0 60 64 2 no
-nothing feed|--port|0|--workers|64|--connections|1000000 => 0 60 64 3 no
-nothing other|--port|0 => 9 0 0 0 open fault
-1 feed|--port|0 => 9 0 0 0 open fault
-2 feed|--port|0 => 3 0 0 0 read fault
-3 feed|--port|0 => 3 0 0 0 read fault
-4 feed|--port|0 => 0 60 2 3 no
-nothing broken|--port|0 => 2 0 0 0 feed: NotJson line 2
-nothing empty|--port|0 => 2 0 0 0 feed: NothingPublished
-bind feed|--port|0|--every|5 => 10 5 0 0 bind fault
-bind broken|--port|0 => 2 0 0 0 feed: NotJson line 2
+nothing => 1 0 0 0 usage: edrd FEED --port P [--workers W] [--every S] [--connections C] [--idle I];
+nothing feed => 1 0 0 0 usage: edrd FEED --port P [--workers W] [--every S] [--connections C] [--idle I];
+nothing feed|--port|0|--workers|65 => 1 0 0 0 usage: edrd FEED --port P [--workers W] [--every S] [--connections C] [--idle I];
+nothing ?|--port|0 => 1 0 0 0 usage: edrd FEED --port P [--workers W] [--every S] [--connections C] [--idle I];
+told feed => 1 0 0 0 
+nothing feed|--port|0|--workers|1 => 0 60 1 2 listening on 127.0.0.1:50000;edition 1;connections 2, faults 0;
+nothing feed|--port|8080|--every|5 => 0 5 2 3 listening on 127.0.0.1:8080;edition 1;connections 3, faults 0;
+nothing three|--port|0|--every|0 => 0 0 2 3 listening on 127.0.0.1:50000;edition 1;connections 3, faults 0;
+turns three|--port|0 => 0 60 2 0 listening on 127.0.0.1:50000;edition 1;edition 2;edition 3;connections 0, faults 0;
+peer feed|--port|0 => 0 60 2 2 listening on 127.0.0.1:50000;edition 1;connections 3, faults 1;
+said feed|--port|0 => 0 60 2 3 edition 1;connections 3, faults 0;
+nothing feed|--port|0|--workers|3|--connections|1 => 0 60 3 2 listening on 127.0.0.1:50000;edition 1;connections 2, faults 0;
+nothing feed|--port|0|--workers|3|--connections|0 => 0 60 3 3 listening on 127.0.0.1:50000;edition 1;connections 3, faults 0;
+nothing feed|--port|0|--workers|64|--connections|1 => 0 60 64 2 listening on 127.0.0.1:50000;edition 1;connections 2, faults 0;
+nothing feed|--port|0|--workers|64|--connections|1000000 => 0 60 64 3 listening on 127.0.0.1:50000;edition 1;connections 3, faults 0;
+nothing other|--port|0 => 9 0 0 0 open fault;
+1 feed|--port|0 => 9 0 0 0 open fault;
+2 feed|--port|0 => 3 0 0 0 read fault;
+3 feed|--port|0 => 3 0 0 0 read fault;
+4 feed|--port|0 => 0 60 2 3 listening on 127.0.0.1:50000;edition 1;connections 3, faults 0;
+nothing broken|--port|0 => 2 0 0 0 feed: NotJson line 2;
+nothing empty|--port|0 => 2 0 0 0 feed: NothingPublished;
+bind feed|--port|0|--every|5 => 10 5 0 0 bind fault;
+bind broken|--port|0 => 2 0 0 0 feed: NotJson line 2;
 ";
 
 // A file of a name.
@@ -74,13 +78,23 @@ fn failing(alloc: Global, call: Option<u64>) -> Result<Vec<u64>, OutOfMemory> {
     Ok(calls)
 }
 
-// What was told on errors, without its last line feed; `no` where it is nothing.
-fn told(errors: &MemorySink) -> &str {
-    let text = str::from_utf8(errors.written()).unwrap_or("");
-    if text.is_empty() {
-        return "no";
+// What was written, with `;` for each line feed.
+fn lines_in(alloc: Global, sink: &MemorySink) -> Result<String, OutOfMemory> {
+    let mut lines = String::new(alloc);
+    for line in str::from_utf8(sink.written()).unwrap_or("").lines() {
+        lines.push_str(line)?;
+        lines.push_str(";")?;
     }
-    text.strip_suffix('\n').unwrap_or("")
+    Ok(lines)
+}
+
+// What comes through the doors of a row.
+fn coming_of(wrong: &str) -> &str {
+    match wrong {
+        "turns" => "",
+        "peer" => "1c c",
+        _ => "cc c",
+    }
 }
 
 // What a run comes to, as a line.
@@ -91,13 +105,15 @@ fn run_as<R: Threads + Wait + Sync>(
     row: &str,
 ) -> Result<String, OutOfMemory> {
     let words = words_of(alloc, row)?;
-    let coming = doors_of(alloc, POSITION, "cc c")?;
+    let coming = doors_of(alloc, POSITION, coming_of(wrong))?;
     let mut doors = MemoryDoors::of(alloc, coming, wrong == "bind");
     let calls = failing(alloc, wrong.parse().ok())?;
     let mut files = MemoryFiles::of(alloc, files(alloc)?, 4096, calls);
     let mut places = Places::new();
     let writes = failing(alloc, (wrong == "told").then_some(1))?;
     let mut errors = MemorySink::of(alloc, 4096, writes);
+    let writes = failing(alloc, (wrong == "said").then_some(1))?;
+    let mut output = MemorySink::of(alloc, 4096, writes);
     let (status, gate) = edrd_run(
         rt,
         alloc,
@@ -105,7 +121,8 @@ fn run_as<R: Threads + Wait + Sync>(
         &mut files,
         &mut doors,
         &mut places,
-        TurnsGate::of(0),
+        TurnsGate::of(if wrong == "turns" { 9 } else { 0 }),
+        &mut output,
         &mut errors,
     );
     let Some(gate) = gate else {
@@ -114,8 +131,9 @@ fn run_as<R: Threads + Wait + Sync>(
     let seconds = gate.seconds();
     let closed = doors.back().len();
     let answered = replies(doors.back(), Wanted::Value);
-    let told = told(&errors);
-    Ok(format!(in alloc; "{status} {seconds} {closed} {answered} {told}")?)
+    let told = lines_in(alloc, &errors)?;
+    let said = lines_in(alloc, &output)?;
+    Ok(format!(in alloc; "{status} {seconds} {closed} {answered} {told}{said}")?)
 }
 
 // Whether a run comes to this.

@@ -1,18 +1,21 @@
 //! The daemon over its objects.
-ghost use Rattle.std.specs.Prelude.{◌≡◌, ◌⊎◌, ◌≤◌, ◌+◌, ◌-◌, ℕ, false, length, vec_len, All, IsSomeAnd, None, option_map};
+ghost use Rattle.std.specs.Prelude.{◌≡◌, ◌⊎◌, ◌≤◌, ◌+◌, ◌++◌, ℕ, List, false, length, sum_by, vec_len, All, IsSomeAnd, None, option_map};
 ghost use Rattle.edr_base.specs.Calls.{SinkLent};
+ghost use Rattle.edr_base.specs.Limits.{count_limit};
 ghost use Rattle.edr_edition.specs.Shelves.{IsLog, AreNumberedFrom};
 ghost use Rattle.edrd.specs.Limits.{worker_limit};
 ghost use Rattle.edrd.specs.Words as spelled;
 ghost use Rattle.edrd.specs.Closing.{MayClose};
 ghost use Rattle.edrd.specs.Ends.{Ends, EndsBy, GateComesBack, LeavesDoors, LeavesPlaces, AsksFeed, ReadsFeed, status_of};
-ghost use Rattle.edrd.specs.Shelving.{ServeCause};
+ghost use Rattle.edrd.specs.Saying.{count_line, output_state, Says, SaysAll};
+ghost use Rattle.edrd.specs.Shelving.{IsFirst, ServeCause};
 
 use crate::accept::Accept;
 use crate::doors::{Doors, DoorsAsked};
 use crate::endings::{Ending, tell};
 use crate::feeding::editions_in;
 use crate::gate::Gate;
+use crate::saying::{say_counts, say_number};
 use crate::serving::{ServeReport, serve_connections};
 use crate::words::{Settings, asked_by};
 use edr_base::{Faults, Files, OutOfMemory, Sink, Stop, Text};
@@ -26,9 +29,13 @@ use std::thread::Threads;
 fn close_all<B: Doors>(doors: &mut B, all: Vec<B::Door>)
     requires room { IsSomeAnd (B.last doors.old) (λ asked. B.closed doors.old + vec_len all ≡ asked.count) }
     requires ended { All (MayClose B.Door.given B.Door.finished B.Door.faults B.Door.over) all.items }
+    requires few { (B.served doors.old + sum_by B.Door.given all.items ≤ count_limit)
+        × (B.faulted doors.old + sum_by B.Door.faulted all.items ≤ count_limit) }
     ensures closed { B.closed doors.new ≡ B.closed doors.old + vec_len all }
+    ensures counts { (B.served doors.new ≡ B.served doors.old + sum_by B.Door.given all.items)
+        × (B.faulted doors.new ≡ B.faulted doors.old + sum_by B.Door.faulted all.items) }
     ensures kept { (B.last doors.new ≡ B.last doors.old) × (B.tried doors.new ≡ B.tried doors.old) × (B.opens doors.new ≡ B.opens doors.old)
-        × (B.faults doors.new ≡ B.faults doors.old) }
+        × (B.port doors.new ≡ B.port doors.old) × (B.faults doors.new ≡ B.faults doors.old) }
 {
     let mut rest = all.into_iter();
     'doors: while let Some(door) = rest.next() {
@@ -36,29 +43,65 @@ fn close_all<B: Doors>(doors: &mut B, all: Vec<B::Door>)
     }
 }
 
+// Ends the publisher, closes the doors, and says how many connections came through them.
+fn finish<R: Threads + Wait + Sync, B: Doors, G: Gate + Send + Drop, O: Sink>(
+    rt: &R,
+    report: ServeReport<B::Door, G>,
+    doors: &mut B,
+    output: &mut O,
+) -> G
+    requires room { IsSomeAnd (B.last doors.old) (λ asked. B.closed doors.old + vec_len report.acceptors ≡ asked.count) }
+    requires ended { All (MayClose B.Door.given B.Door.finished B.Door.faults B.Door.over) report.acceptors.items }
+    requires counts { (B.served doors.old + sum_by B.Door.given report.acceptors.items ≡ report.sessions)
+        × (B.faulted doors.old + sum_by B.Door.faulted report.acceptors.items ≡ report.session_faults) }
+    ensures gate { result ≡ report.gate }
+    ensures closed { B.closed doors.new ≡ B.closed doors.old + vec_len report.acceptors }
+    ensures kept { (B.last doors.new ≡ B.last doors.old) × (B.opens doors.new ≡ B.opens doors.old) × (B.port doors.new ≡ B.port doors.old) }
+    ensures line { Says (count_line (B.served doors.new) (B.faulted doors.new)) (output_state O.written O.flushed O.faults output.old) (output_state O.written O.flushed O.faults output.new) }
+    ensures output { SinkLent (O.beside output.old) (O.beside output.new) (O.faults output.old) (O.faults output.new) }
+{
+    let ServeReport {
+        sessions,
+        session_faults,
+        accept_faults: _,
+        published: _,
+        acceptors,
+        gate,
+        publisher,
+    } = report;
+    publisher.end(rt);
+    close_all(doors, acceptors);
+    say_counts(output, sessions, session_faults);
+    gate
+}
+
 // Serves through the doors that are asked for, from a shelf that is open.
-fn serve_through<R: Threads + Wait + Sync, B: Doors, G: Gate + Send + Drop>(
+fn serve_through<R: Threads + Wait + Sync, B: Doors, G: Gate + Send + Drop, O: Sink + Send>(
     rt: &R,
     alloc: Global,
     settings: &Settings,
     publisher: Publisher,
+    first: u64,
     rest: Vec<Edition>,
     shelves: Vec<SharedShelf>,
     doors: &mut B,
     gate: G,
+    output: &mut O,
 ) -> (Ending, Option<G>)
     requires few { (1 ≤ settings.now.workers) × (settings.now.workers ≤ worker_limit) }
     requires shelves { vec_len shelves ≡ settings.now.workers }
     requires own { All (λ shelf. shelf.origin ≡ publisher.origin) shelves.items }
+    requires log { IsFirst first publisher.log }
     requires numbers { AreNumberedFrom (length publisher.log + 1) rest.items }
     requires gate { (G.shut gate ≡ false) × (G.seconds gate ≡ settings.now.every) }
-    ensures cause { (places : ℕ) → ServeCause result.0 settings.now
-        (record { last = B.last doors.old; tried = B.tried doors.old; opens = B.opens doors.old; closed = B.closed doors.old; faults = B.faults doors.old })
-        (record { last = B.last doors.new; tried = B.tried doors.new; opens = B.opens doors.new; closed = B.closed doors.new; faults = B.faults doors.new })
-        places places (vec_len rest)
+    ensures cause { (places : ℕ) → (lines : List (List ℕ)) × SaysAll lines (output_state O.written O.flushed O.faults output.old) (output_state O.written O.flushed O.faults output.new) × ServeCause result.0 settings.now
+        (record { last = B.last doors.old; tried = B.tried doors.old; opens = B.opens doors.old; closed = B.closed doors.old; faults = B.faults doors.old; port = B.port doors.old; served = B.served doors.old; faulted = B.faulted doors.old })
+        (record { last = B.last doors.new; tried = B.tried doors.new; opens = B.opens doors.new; closed = B.closed doors.new; faults = B.faults doors.new; port = B.port doors.new; served = B.served doors.new; faulted = B.faulted doors.new })
+        places places (publisher.log ++ rest.items)
         (record { seconds = G.seconds gate; granted = G.granted gate; shut = G.shut gate })
-        (option_map (λ (g : G). record { seconds = G.seconds g; granted = G.granted g; shut = G.shut g }) result.1) }
+        (option_map (λ (g : G). record { seconds = G.seconds g; granted = G.granted g; shut = G.shut g }) result.1) lines }
     ensures came { (result.0 ≡ Ending.Done) ⊎ (result.0 ≡ Ending.BindFault) ⊎ (result.0 ≡ Ending.OutOfMemory) }
+    ensures output { SinkLent (O.beside output.old) (O.beside output.new) (O.faults output.old) (O.faults output.new) }
 {
     let asked = DoorsAsked {
         port: settings.port,
@@ -77,27 +120,16 @@ fn serve_through<R: Threads + Wait + Sync, B: Doors, G: Gate + Send + Drop>(
             return (Ending::OutOfMemory, None);
         }
     };
-    match serve_connections(rt, alloc, publisher, rest, shelves, acceptors, gate) {
-        Ok(report) => {
-            let ServeReport {
-                sessions: _,
-                session_faults: _,
-                accept_faults: _,
-                published: _,
-                acceptors,
-                gate,
-                publisher,
-            } = report;
-            publisher.end(rt);
-            close_all(doors, acceptors);
-            (Ending::Done, Some(gate))
-        }
+    say_number(output, b"listening on 127.0.0.1:", u64::from(doors.port()));
+    say_number(output, b"edition ", first);
+    match serve_connections(rt, alloc, publisher, rest, shelves, acceptors, gate, output) {
+        Ok(report) => (Ending::Done, Some(finish(rt, report, doors, output))),
         Err(OutOfMemory) => (Ending::OutOfMemory, None),
     }
 }
 
 // Opens a shelf of the editions, and serves from it.
-fn serve<R: Threads + Wait + Sync, B: Doors, G: Gate + Send + Drop>(
+fn serve<R: Threads + Wait + Sync, B: Doors, G: Gate + Send + Drop, O: Sink + Send>(
     rt: &R,
     alloc: Global,
     settings: &Settings,
@@ -105,22 +137,25 @@ fn serve<R: Threads + Wait + Sync, B: Doors, G: Gate + Send + Drop>(
     doors: &mut B,
     places: &mut Places,
     gate: G,
+    output: &mut O,
 ) -> (Ending, Option<G>)
     requires few { (1 ≤ settings.now.workers) × (settings.now.workers ≤ worker_limit) }
     requires log { IsLog editions.items }
     requires gate { G.shut gate ≡ false }
-    ensures cause { ServeCause result.0 settings.now
-        (record { last = B.last doors.old; tried = B.tried doors.old; opens = B.opens doors.old; closed = B.closed doors.old; faults = B.faults doors.old })
-        (record { last = B.last doors.new; tried = B.tried doors.new; opens = B.opens doors.new; closed = B.closed doors.new; faults = B.faults doors.new })
-        (⟦<Places as Faults>⟧.faults places.old) (⟦<Places as Faults>⟧.faults places.new) (vec_len editions - 1)
+    ensures cause { (lines : List (List ℕ)) × SaysAll lines (output_state O.written O.flushed O.faults output.old) (output_state O.written O.flushed O.faults output.new) × ServeCause result.0 settings.now
+        (record { last = B.last doors.old; tried = B.tried doors.old; opens = B.opens doors.old; closed = B.closed doors.old; faults = B.faults doors.old; port = B.port doors.old; served = B.served doors.old; faulted = B.faulted doors.old })
+        (record { last = B.last doors.new; tried = B.tried doors.new; opens = B.opens doors.new; closed = B.closed doors.new; faults = B.faults doors.new; port = B.port doors.new; served = B.served doors.new; faulted = B.faulted doors.new })
+        (⟦<Places as Faults>⟧.faults places.old) (⟦<Places as Faults>⟧.faults places.new) editions.items
         (record { seconds = G.seconds gate; granted = G.granted gate; shut = G.shut gate })
-        (option_map (λ (g : G). record { seconds = G.seconds g; granted = G.granted g; shut = G.shut g }) result.1) }
+        (option_map (λ (g : G). record { seconds = G.seconds g; granted = G.granted g; shut = G.shut g }) result.1) lines }
     ensures doors { LeavesDoors (status_of result.0) → doors.new ≡ doors.old }
     ensures places { ¬ (LeavesPlaces (status_of result.0)) }
+    ensures output { SinkLent (O.beside output.old) (O.beside output.new) (O.faults output.old) (O.faults output.new) }
 {
     let mut editions = editions;
-    let first = editions.remove(0);
-    let (publisher, shelves) = match open_shelf(rt, alloc, first, settings.workers, places) {
+    let edition = editions.remove(0);
+    let first = edition.number();
+    let (publisher, shelves) = match open_shelf(rt, alloc, edition, settings.workers, places) {
         Ok(opened) => opened,
         Err(Stop::Failed) => return (Ending::ShelfFault, Some(gate)),
         Err(Stop::OutOfMemory) => return (Ending::OutOfMemory, None),
@@ -128,12 +163,12 @@ fn serve<R: Threads + Wait + Sync, B: Doors, G: Gate + Send + Drop>(
     let mut gate = gate;
     gate.every(settings.every);
     serve_through(
-        rt, alloc, settings, publisher, editions, shelves, doors, gate,
+        rt, alloc, settings, publisher, first, editions, shelves, doors, gate, output,
     )
 }
 
 // Does what the words ask for.
-fn carry_out<R: Threads + Wait + Sync, F: Files, B: Doors, G: Gate + Send + Drop>(
+fn carry_out<R: Threads + Wait + Sync, F: Files, B: Doors, G: Gate + Send + Drop, O: Sink + Send>(
     rt: &R,
     alloc: Global,
     words: &[Text],
@@ -141,23 +176,24 @@ fn carry_out<R: Threads + Wait + Sync, F: Files, B: Doors, G: Gate + Send + Drop
     doors: &mut B,
     places: &mut Places,
     gate: G,
+    output: &mut O,
 ) -> (Ending, Option<G>)
     requires gate { G.shut gate ≡ false }
-    ensures cause { EndsBy result.0 (spelled.asked_by words.now)
+    ensures cause { (lines : List (List ℕ)) × SaysAll lines (output_state O.written O.flushed O.faults output.old) (output_state O.written O.flushed O.faults output.new) × EndsBy result.0 (spelled.asked_by words.now)
         (record {
           files = F.aside files.old;
           file_faults = F.faults files.old;
           places = ⟦<Places as Faults>⟧.faults places.old;
-          doors = record { last = B.last doors.old; tried = B.tried doors.old; opens = B.opens doors.old; closed = B.closed doors.old; faults = B.faults doors.old };
+          doors = record { last = B.last doors.old; tried = B.tried doors.old; opens = B.opens doors.old; closed = B.closed doors.old; faults = B.faults doors.old; port = B.port doors.old; served = B.served doors.old; faulted = B.faulted doors.old };
         })
         (record {
           files = F.aside files.new;
           file_faults = F.faults files.new;
           places = ⟦<Places as Faults>⟧.faults places.new;
-          doors = record { last = B.last doors.new; tried = B.tried doors.new; opens = B.opens doors.new; closed = B.closed doors.new; faults = B.faults doors.new };
+          doors = record { last = B.last doors.new; tried = B.tried doors.new; opens = B.opens doors.new; closed = B.closed doors.new; faults = B.faults doors.new; port = B.port doors.new; served = B.served doors.new; faulted = B.faulted doors.new };
         })
         (record { seconds = G.seconds gate; granted = G.granted gate; shut = G.shut gate })
-        (option_map (λ (g : G). record { seconds = G.seconds g; granted = G.granted g; shut = G.shut g }) result.1) }
+        (option_map (λ (g : G). record { seconds = G.seconds g; granted = G.granted g; shut = G.shut g }) result.1) lines }
     ensures back { GateComesBack result.0 (spelled.asked_by words.now)
         (record { seconds = G.seconds gate; granted = G.granted gate; shut = G.shut gate })
         (option_map (λ (g : G). record { seconds = G.seconds g; granted = G.granted g; shut = G.shut g }) result.1) }
@@ -166,6 +202,7 @@ fn carry_out<R: Threads + Wait + Sync, F: Files, B: Doors, G: Gate + Send + Drop
     ensures doors { LeavesDoors (status_of result.0) → doors.new ≡ doors.old }
     ensures places { LeavesPlaces (status_of result.0) → places.new ≡ places.old }
     ensures none { result.1 ≡ None → result.0 ≡ Ending.OutOfMemory }
+    ensures output { SinkLent (O.beside output.old) (O.beside output.new) (O.faults output.old) (O.faults output.new) }
 {
     let settings = match asked_by(alloc, words) {
         Ok(Some(settings)) => settings,
@@ -173,7 +210,7 @@ fn carry_out<R: Threads + Wait + Sync, F: Files, B: Doors, G: Gate + Send + Drop
         Err(OutOfMemory) => return (Ending::OutOfMemory, None),
     };
     match editions_in(alloc, settings.feed.bytes(), files) {
-        Ok(editions) => serve(rt, alloc, &settings, editions, doors, places, gate),
+        Ok(editions) => serve(rt, alloc, &settings, editions, doors, places, gate, output),
         Err(ending) => (ending, Some(gate)),
     }
 }
@@ -184,8 +221,17 @@ fn carry_out<R: Threads + Wait + Sync, F: Files, B: Doors, G: Gate + Send + Drop
 /// words ask for, and serves all connections that come through them, each from the newest edition that is published when its
 /// requests come; beside that it publishes the other editions, one at each turn of the gate. It ends when no more connections
 /// come, with all doors closed. The answer is the status of the program, and the gate, which is given up only with want of
-/// memory; with each status but 0 one line says why on `errors`. Of the feed's file no more is read than a feed has, and 16,384 bytes.
-pub fn edrd_run<R: Threads + Wait + Sync, F: Files, B: Doors, G: Gate + Send + Drop, D: Sink>(
+/// memory; with each status but 0 one line says why on `errors`. On `output` are said the port, each edition when it is
+/// published, and at the end how many connections were served, and how many of them ended by a fault; a line that can't be
+/// written changes nothing else. Of the feed's file no more is read than a feed has, and 16,384 bytes.
+pub fn edrd_run<
+    R: Threads + Wait + Sync,
+    F: Files,
+    B: Doors,
+    G: Gate + Send + Drop,
+    O: Sink + Send,
+    D: Sink,
+>(
     rt: &R,
     alloc: Global,
     words: &[Text],
@@ -193,6 +239,7 @@ pub fn edrd_run<R: Threads + Wait + Sync, F: Files, B: Doors, G: Gate + Send + D
     doors: &mut B,
     places: &mut Places,
     gate: G,
+    output: &mut O,
     errors: &mut D,
 ) -> (u8, Option<G>)
     requires gate { G.shut gate ≡ false }
@@ -201,25 +248,27 @@ pub fn edrd_run<R: Threads + Wait + Sync, F: Files, B: Doors, G: Gate + Send + D
           files = F.aside files.old;
           file_faults = F.faults files.old;
           places = ⟦<Places as Faults>⟧.faults places.old;
-          doors = record { last = B.last doors.old; tried = B.tried doors.old; opens = B.opens doors.old; closed = B.closed doors.old; faults = B.faults doors.old };
+          doors = record { last = B.last doors.old; tried = B.tried doors.old; opens = B.opens doors.old; closed = B.closed doors.old; faults = B.faults doors.old; port = B.port doors.old; served = B.served doors.old; faulted = B.faulted doors.old };
         })
         (record {
           files = F.aside files.new;
           file_faults = F.faults files.new;
           places = ⟦<Places as Faults>⟧.faults places.new;
-          doors = record { last = B.last doors.new; tried = B.tried doors.new; opens = B.opens doors.new; closed = B.closed doors.new; faults = B.faults doors.new };
+          doors = record { last = B.last doors.new; tried = B.tried doors.new; opens = B.opens doors.new; closed = B.closed doors.new; faults = B.faults doors.new; port = B.port doors.new; served = B.served doors.new; faulted = B.faulted doors.new };
         })
         (record { seconds = G.seconds gate; granted = G.granted gate; shut = G.shut gate })
         (option_map (λ (g : G). record { seconds = G.seconds g; granted = G.granted g; shut = G.shut g }) result.1)
-        (D.written errors.old) (D.written errors.new) (D.faults errors.old) (D.faults errors.new) }
+        (D.written errors.old) (D.written errors.new) (D.faults errors.old) (D.faults errors.new)
+        (output_state O.written O.flushed O.faults output.old) (output_state O.written O.flushed O.faults output.new) }
     ensures files { AsksFeed F.aside (spelled.asked_by words.now) result.0 files.old files.new }
     ensures file { ReadsFeed F.aside F.left (spelled.asked_by words.now) result.0 files.old files.new }
     ensures doors { LeavesDoors result.0 → doors.new ≡ doors.old }
     ensures places { LeavesPlaces result.0 → places.new ≡ places.old }
     ensures none { result.1 ≡ None → result.0 ≡ 5 }
+    ensures output { SinkLent (O.beside output.old) (O.beside output.new) (O.faults output.old) (O.faults output.new) }
     ensures errors { SinkLent (D.beside errors.old) (D.beside errors.new) (D.faults errors.old) (D.faults errors.new) }
 {
-    let (ending, gate) = carry_out(rt, alloc, words, files, doors, places, gate);
+    let (ending, gate) = carry_out(rt, alloc, words, files, doors, places, gate, output);
     tell(ending, errors);
     (ending.status(), gate)
 }

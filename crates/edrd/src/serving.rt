@@ -1,8 +1,10 @@
 //! All connections of some acceptors, beside the publishing of some editions.
-ghost use Rattle.std.specs.Prelude.{◌≡◌, ◌⊎◌, ◌≤◌, ◌<◌, ◌+◌, ◌*◌, ◌++◌, ℕ, map, sum_by, count_by, take, length, vec_len, slice_index_or, true, false, All, IfOk};
+ghost use Rattle.std.specs.Prelude.{◌≡◌, ◌⊎◌, ◌≤◌, ◌<◌, ◌+◌, ◌*◌, ◌++◌, ℕ, map, sum_by, count_by, take, length, vec_len, slice_index_or, true, false, All, IfOk, MatchResult};
 ghost use Rattle.std.specs.Vec.Iter.{into_iter_items, into_iter_len};
+ghost use Rattle.edr_base.specs.Calls.{SinkLent};
 ghost use Rattle.edr_edition.specs.Shelves.{AreNumberedFrom};
 ghost use Rattle.edrd.specs.Limits.{worker_limit, accept_limit};
+ghost use Rattle.edrd.specs.Saying.{edition_line, output_state, SaysAll};
 ghost use Rattle.edrd.specs.Serving.{HasEnded, is_left};
 ghost use Rattle.edrd.specs.Jobs.{HasServed, acceptor_of, sessions_of, faults_of, has_failed};
 ghost use Rattle.edrd.specs.declared.working.Serving.{Serving};
@@ -11,7 +13,7 @@ use crate::accept::Accept;
 use crate::gate::Gate;
 use crate::publishing::{Publishing, publish_all};
 use crate::working::{Serving, work_all};
-use edr_base::OutOfMemory;
+use edr_base::{OutOfMemory, Sink};
 use edr_edition::{Edition, editions_cross_threads};
 use edr_share::{Publisher, SharedShelf, shelves_cross_threads};
 use std::alloc::Global;
@@ -106,11 +108,12 @@ fn gather<A: Accept + Drop>(
 }
 
 // Publishes beside the workers.
-fn run_beside<R: Threads + Wait + Sync, A: Accept + Send, G: Gate + Send>(
+fn run_beside<R: Threads + Wait + Sync, A: Accept + Send, G: Gate + Send, O: Sink + Send>(
     rt: &R,
     alloc: Global,
     publishing: &mut Publishing<G>,
     jobs: &mut [Serving<A>],
+    output: &mut O,
 )
     requires open_ { G.shut publishing.old.gate ≡ false }
     requires counted { into_iter_len publishing.old.rest ≡ length (into_iter_items publishing.old.rest) }
@@ -120,6 +123,8 @@ fn run_beside<R: Threads + Wait + Sync, A: Accept + Send, G: Gate + Send>(
     ensures ends { (publishing.new.published ≡ length (into_iter_items publishing.old.rest)) ⊎ (G.shut publishing.new.gate ≡ true)
         ⊎ (publishing.new.wanting ≡ true) }
     ensures seconds { G.seconds publishing.new.gate ≡ G.seconds publishing.old.gate }
+    ensures said { SaysAll (map edition_line (take publishing.new.published (into_iter_items publishing.old.rest))) (output_state O.written O.flushed O.faults output.old) (output_state O.written O.flushed O.faults output.new) }
+    ensures output { SinkLent (O.beside output.old) (O.beside output.new) (O.faults output.old) (O.faults output.new) }
     ensures served { (i : ℕ) (d : Serving A) → i < length jobs.old
         → HasServed A.given A.finished A.faulted A.faults A.over (slice_index_or jobs.old i d) (slice_index_or jobs.new i d) }
 {
@@ -127,7 +132,7 @@ fn run_beside<R: Threads + Wait + Sync, A: Accept + Send, G: Gate + Send>(
     shelves_cross_threads();
     thread::join_mut(
         rt,
-        &mut || publish_all(rt, alloc, publishing),
+        &mut || publish_all(rt, alloc, publishing, output),
         &mut ||
             ensures { (i : ℕ) (d : Serving A) → i < length jobs.entry.now
                 → HasServed A.given A.finished A.faulted A.faults A.over (slice_index_or jobs.entry.now i d) (slice_index_or jobs.exit.now i d) }
@@ -136,11 +141,12 @@ fn run_beside<R: Threads + Wait + Sync, A: Accept + Send, G: Gate + Send>(
 }
 
 // The jobs after they have run beside the publishing.
-fn served<R: Threads + Wait + Sync, A: Accept + Send + Drop, G: Gate + Send>(
+fn served<R: Threads + Wait + Sync, A: Accept + Send + Drop, G: Gate + Send, O: Sink + Send>(
     rt: &R,
     alloc: Global,
     publishing: &mut Publishing<G>,
     jobs: Vec<Serving<A>>,
+    output: &mut O,
 ) -> Vec<Serving<A>>
     requires open_ { G.shut publishing.old.gate ≡ false }
     requires counted { into_iter_len publishing.old.rest ≡ length (into_iter_items publishing.old.rest) }
@@ -150,23 +156,31 @@ fn served<R: Threads + Wait + Sync, A: Accept + Send + Drop, G: Gate + Send>(
     ensures ends { (publishing.new.published ≡ length (into_iter_items publishing.old.rest)) ⊎ (G.shut publishing.new.gate ≡ true)
         ⊎ (publishing.new.wanting ≡ true) }
     ensures seconds { G.seconds publishing.new.gate ≡ G.seconds publishing.old.gate }
+    ensures said { SaysAll (map edition_line (take publishing.new.published (into_iter_items publishing.old.rest))) (output_state O.written O.flushed O.faults output.old) (output_state O.written O.flushed O.faults output.new) }
+    ensures output { SinkLent (O.beside output.old) (O.beside output.new) (O.faults output.old) (O.faults output.new) }
     ensures count { (vec_len result ≡ vec_len jobs) × (length result.items ≡ length jobs.items) }
     ensures served { (i : ℕ) (d : Serving A) → i < length jobs.items
         → HasServed A.given A.finished A.faulted A.faults A.over (slice_index_or jobs.items i d) (slice_index_or result.items i d) }
 {
     let mut jobs = jobs;
-    run_beside(rt, alloc, publishing, &mut jobs);
+    run_beside(rt, alloc, publishing, &mut jobs, output);
     jobs
 }
 
 /// Serves all connections of the acceptors, each acceptor in a thread of its own from a shelf of its own, and publishes the
 /// editions beside that, one at each turn of the gate. Each connection that is handed out is served by one session and
-/// handed back, whatever its session comes to; an acceptor ends where no more come or an accept fails. It waits as long as
+/// handed back, whatever its session comes to; each edition that is published is said on the output, whose faults change nothing
+/// else; an acceptor ends where no more come or an accept fails. It waits as long as
 /// connections may come.
 ///
 /// With `Ok` all editions are published, or the gate is shut. Memory is its only error: then the publisher is ended, and all
 /// else is given up.
-pub fn serve_connections<R: Threads + Wait + Sync, A: Accept + Send + Drop, G: Gate + Send + Drop>(
+pub fn serve_connections<
+    R: Threads + Wait + Sync,
+    A: Accept + Send + Drop,
+    G: Gate + Send + Drop,
+    O: Sink + Send,
+>(
     rt: &R,
     alloc: Global,
     publisher: Publisher,
@@ -174,6 +188,7 @@ pub fn serve_connections<R: Threads + Wait + Sync, A: Accept + Send + Drop, G: G
     shelves: Vec<SharedShelf>,
     acceptors: Vec<A>,
     gate: G,
+    output: &mut O,
 ) -> Result<ServeReport<A, G>, OutOfMemory>
     requires few { (1 ≤ vec_len acceptors) × (vec_len acceptors ≤ worker_limit) }
     requires shelves { vec_len shelves ≡ vec_len acceptors }
@@ -191,6 +206,10 @@ pub fn serve_connections<R: Threads + Wait + Sync, A: Accept + Send + Drop, G: G
     ensures published { IfOk result (λ report. G.granted report.gate ≡ G.granted gate + report.published) }
     ensures ends { IfOk result (λ report. (report.published ≡ length rest.items) ⊎ (G.shut report.gate ≡ true)) }
     ensures seconds { IfOk result (λ report. G.seconds report.gate ≡ G.seconds gate) }
+    ensures said { MatchResult result
+        (λ report. SaysAll (map edition_line (take report.published rest.items)) (output_state O.written O.flushed O.faults output.old) (output_state O.written O.flushed O.faults output.new))
+        (λ _. (published : ℕ) × SaysAll (map edition_line (take published rest.items)) (output_state O.written O.flushed O.faults output.old) (output_state O.written O.flushed O.faults output.new)) }
+    ensures output { SinkLent (O.beside output.old) (O.beside output.new) (O.faults output.old) (O.faults output.new) }
 {
     let Ok(jobs) = jobs_of(alloc, acceptors, shelves) else {
         publisher.end(rt);
@@ -203,7 +222,7 @@ pub fn serve_connections<R: Threads + Wait + Sync, A: Accept + Send + Drop, G: G
         published: 0,
         wanting: false,
     };
-    let jobs = served(rt, alloc, &mut publishing, jobs);
+    let jobs = served(rt, alloc, &mut publishing, jobs, output);
     let Publishing {
         publisher,
         rest: _,

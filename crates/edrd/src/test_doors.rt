@@ -22,6 +22,9 @@ pub(crate) type Coming = Connection<MemorySource, HoldingSink>;
 /// The same once it was served.
 pub(crate) type Back = Served<MemorySource, HoldingSink>;
 
+// The port that is bound where none is asked for.
+const CHOSEN: u16 = 50_000;
+
 // How many connections a door hands out where no end was asked for.
 const MOST: u64 = 1000;
 
@@ -130,6 +133,9 @@ pub(crate) struct MemoryDoors {
     tried: Option<(DoorsAsked, bool)>,
     opens: u64,
     closed: usize,
+    port: u16,
+    served: u64,
+    faulted: u64,
     faults: u64,
     back: Vec<MemoryDoor>,
     ghost fits: { faults ≤ count_limit },
@@ -150,6 +156,9 @@ impl MemoryDoors {
             tried: None,
             opens: 0,
             closed: 0,
+            port: 0,
+            served: 0,
+            faulted: 0,
             faults: 0,
             back: Vec::new(alloc),
         }
@@ -206,6 +215,12 @@ impl Doors for MemoryDoors {
 
     ghost closed = { λ s. s.closed };
 
+    ghost port = { λ s. s.port };
+
+    ghost served = { λ s. s.served };
+
+    ghost faulted = { λ s. s.faulted };
+
     fn open(&mut self, alloc: Global, asked: DoorsAsked) -> Result<Vec<MemoryDoor>, Stop> {
         self.tried = Some((asked, false));
         if self.refuses {
@@ -219,17 +234,27 @@ impl Doors for MemoryDoors {
         };
         match doors_with(alloc, &mut self.coming, asked.count, most) {
             Ok(doors) => {
+                let port = if asked.port == 0 { CHOSEN } else { asked.port };
                 self.last = Some(asked);
                 self.tried = Some((asked, true));
                 self.opens = self.opens.saturating_add(1);
                 self.closed = 0;
+                self.port = port;
+                self.served = 0;
+                self.faulted = 0;
                 Ok(doors)
             }
             Err(OutOfMemory) => Err(Stop::OutOfMemory),
         }
     }
 
+    fn port(&self) -> u16 {
+        self.port
+    }
+
     fn close(&mut self, door: MemoryDoor) {
+        self.served += door.given;
+        self.faulted += door.faulted;
         let _ = self.back.push(door);
         match self.last {
             Some(asked) if self.closed < asked.count => self.closed += 1,

@@ -6,7 +6,7 @@ ghost use Rattle.edrd.specs.Limits.{worker_limit};
 use crate::accept::Accept;
 use crate::gate::Gate;
 use crate::serving::{ServeReport, serve_connections};
-use edr_base::{MemorySource, OutOfMemory};
+use edr_base::{MemorySink, MemorySource, OutOfMemory};
 use edr_edition::Edition;
 use edr_feed::read_feed;
 use edr_share::{Places, open_shelf};
@@ -54,6 +54,7 @@ pub(crate) fn serve_feed<R: Threads + Wait + Sync, A: Accept + Send + Drop, G: G
     let Ok((publisher, shelves)) = open_shelf(rt, alloc, first, acceptors.len(), &mut places) else {
         return Err(OutOfMemory);
     };
+    let mut output = MemorySink::of(alloc, 4096, Vec::new(alloc));
     let ServeReport {
         sessions,
         session_faults,
@@ -62,7 +63,16 @@ pub(crate) fn serve_feed<R: Threads + Wait + Sync, A: Accept + Send + Drop, G: G
         acceptors,
         gate: _,
         mut publisher,
-    } = serve_connections(rt, alloc, publisher, editions, shelves, acceptors, gate)?;
+    } = serve_connections(
+        rt,
+        alloc,
+        publisher,
+        editions,
+        shelves,
+        acceptors,
+        gate,
+        &mut output,
+    )?;
     let last = publisher.tell().count();
     publisher.end(rt);
     Ok(Outcome {

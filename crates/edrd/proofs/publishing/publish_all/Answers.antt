@@ -1,6 +1,7 @@
 use Rattle.std.proofs.Common.{◌≡◌, ◌++◌, ◌∷◌, [], ◌∙◌, rules, refl, arith, sym, append-nil}
 use Rattle.std.specs.Vec.Iter.{into_iter_items}
 use Rattle.edrd.proofs.JobLemmas.{counted_on, ended_none, next_number, published_on}
+use Rattle.edrd.proofs.SayLemmas.{said_on}
 use Rattle.edrd.proofs.publishing.publish_all.Goals as goal
 
 pub editions-init : goal.editions-init
@@ -16,6 +17,8 @@ editions-init g c =
       open_ = c.requires.open_;
       seconds = refl;
       going = refl;
+      said = refl;
+      lent = record { same = refl; later = omega arith };
     }
 
 pub publish-requires : goal.publish-requires
@@ -42,4 +45,9 @@ editions-preserved g c =
       open_ = c.if-not-turn.ensures.shut;
       seconds = c.turn.ensures.kept ∙ before.seconds;
       going = before.going;
+      said = said_on (into_iter_items c.args.job.now.rest) _ c.editions.published _ c.in-Some.edition _ _ _ left (search rules) before.said c.say_number.ensures.line;
+      lent = record {
+        same = c.say_number.ensures.lent.same ∙ before.lent.same;
+        later = omega (arith, c.say_number.ensures.lent.later, before.lent.later);
+      };
     }

@@ -1,6 +1,8 @@
-use Rattle.std.proofs.Common.{◌≡◌, ◌≤◌, ◌+◌, ◌++◌, [], None, false, length, take, drop}
+use Rattle.std.proofs.Common.{◌≡◌, ◌≤◌, ◌+◌, ◌++◌, [], None, false, length, take, drop, map}
 use Rattle.std.specs.Prelude.{option_to_list}
 use Rattle.std.specs.Vec.Iter.{into_iter_items, into_iter_len}
+use Rattle.edr_base.specs.Calls.{SinkLent}
+use Rattle.edrd.specs.Saying.{edition_line, output_state, SaysAll}
 use Rattle.edrd.proofs.publishing.publish_all.Given as goal
 
 abbrev pub invariant-editions : goal.invariant-editions
@@ -15,6 +17,10 @@ invariant-editions g l =
       open_ : g.G.Gate.shut l.job.gate ≡ false;
       seconds : g.G.Gate.seconds l.job.gate ≡ g.G.Gate.seconds l.fn.job.gate;
       going : l.wanting ≡ false;
+      said : SaysAll (map edition_line (take l.published (into_iter_items l.fn.job.rest)))
+          (output_state g.O.Sink.written g.O.Sink.flushed g.O.Faults.faults l.fn.output)
+          (output_state g.O.Sink.written g.O.Sink.flushed g.O.Faults.faults l.output);
+      lent : SinkLent (g.O.Sink.beside l.fn.output) (g.O.Sink.beside l.output) (g.O.Faults.faults l.fn.output) (g.O.Faults.faults l.output);
     }
 
 abbrev pub decreases-editions : goal.decreases-editions
