@@ -1,0 +1,5 @@
+pub mod GatherLemmas
+pub mod RecordLemmas
+pub mod TurnLemmas
+pub mod DomainLemmas
+pub mod TableLemmas
