@@ -3,3 +3,5 @@ pub mod RecordLemmas
 pub mod TurnLemmas
 pub mod DomainLemmas
 pub mod TableLemmas
+pub mod FormLemmas
+pub mod ReadLemmas
