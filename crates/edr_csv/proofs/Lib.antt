@@ -5,3 +5,6 @@ pub mod DomainLemmas
 pub mod TableLemmas
 pub mod FormLemmas
 pub mod ReadLemmas
+pub mod NoteLemmas
+pub mod OwnLemmas
+pub mod FaultLemmas

@@ -8,7 +8,7 @@ use Rattle.edr_csv.specs.declared.observations.Observation.{Observation}
 use Rattle.edr_csv.specs.declared.observations.Column.{Column}
 use Rattle.edr_csv.specs.declared.observations.Column.TheVariants as column
 use Rattle.edr_csv.specs.declared.observations.TableFault.{TableFault}
-use Rattle.edr_csv.specs.declared.observations.TableFault.TheVariants.{NotHeader, BadRecord, BadField, OutOfMemory}
+use Rattle.edr_csv.specs.declared.observations.TableFault.TheVariants.{NotHeader, BadRecord, BadField, PlaceDiffers, SameSample, NoRecords, OutOfMemory}
 use Rattle.edr_csv.specs.Observations.{Applies, AreBehind, HasBadField, HasBadFields, HasForm, IsBadRecord, IsBehindHeader, IsHeaded, IsObservation, IsSeven, field_of, label_limit, place_of, rank}
 use Rattle.edr_csv.specs.Forms.{AreSevens, IsFieldFault, IsFirstFieldFault}
 use Rattle.edr_csv.proofs.FormLemmas.{below_or_at}
@@ -90,6 +90,9 @@ module _ (rows : List (List (List ℕ))) where
   before_header NotHeader before = absurd (omega (arith, before))
   before_header (BadRecord n) before = absurd (omega (arith, before))
   before_header (BadField n c) before = absurd (omega (arith, before))
+  before_header (PlaceDiffers n) before = absurd (omega (arith, before))
+  before_header (SameSample n) before = absurd (omega (arith, before))
+  before_header NoRecords before = absurd (omega (arith, before))
   before_header OutOfMemory before = absurd (omega (arith, before))
 
   pub not_header : ¬ (IsHeaded rows) → IsLeast rank (Applies rows) NotHeader
@@ -99,6 +102,9 @@ module _ (rows : List (List (List ℕ))) where
   before_records headed NotHeader before bad = bad headed
   before_records headed (BadRecord n) before bad = absurd (omega (arith, before))
   before_records headed (BadField n c) before bad = absurd (omega (arith, before))
+  before_records headed (PlaceDiffers n) before bad = absurd (omega (arith, before))
+  before_records headed (SameSample n) before bad = absurd (omega (arith, before))
+  before_records headed NoRecords before bad = absurd (omega (arith, before))
   before_records headed OutOfMemory before bad = absurd (omega (arith, before))
 
   pub bad_record : IsHeaded rows → (place : ℕ) → IsFirstPlace (IsBadRecord rows) place → IsLeast rank (Applies rows) (BadRecord (place + 1))
@@ -108,6 +114,9 @@ module _ (rows : List (List (List ℕ))) where
   before_fields headed none NotHeader before bad = bad headed
   before_fields headed none (BadRecord n) before bad = bad.1.applies.1 (none bad.0 bad.1.applies.0)
   before_fields headed none (BadField n c) before bad = absurd (omega (arith, before))
+  before_fields headed none (PlaceDiffers n) before bad = absurd (omega (arith, before))
+  before_fields headed none (SameSample n) before bad = absurd (omega (arith, before))
+  before_fields headed none NoRecords before bad = absurd (omega (arith, before))
   before_fields headed none OutOfMemory before bad = absurd (omega (arith, before))
 
   pub bad_field : IsHeaded rows → AreSevens rows → (fault : TableFault) → IsFirstFieldFault rows fault → (fault ≡ OutOfMemory) ⊎ IsLeast rank (Applies rows) fault

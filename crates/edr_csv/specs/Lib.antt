@@ -4,3 +4,4 @@ pub mod Observations
 pub mod Gathering
 pub mod Turns
 pub mod Forms
+pub mod Notes

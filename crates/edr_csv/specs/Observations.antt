@@ -1,16 +1,17 @@
 -- Tables of observations: a header, and one record for each value of a parameter at a station and a time.
-use Rattle.std.specs.Prelude.{◌≡◌, ◌⊎◌, ℕ, ◌+◌, ◌<◌, ◌≤◌, ℤ, List, [], ◌∷◌, codes, length, get_or, All, IsUtf8, Option, None, Some, Result, Err, MatchResult}
+use Rattle.std.specs.Prelude.{◌≡◌, ◌⊎◌, ℕ, ◌+◌, ◌<◌, ◌≤◌, ℤ, List, [], ◌∷◌, codes, length, get_or, take, All, IsUtf8, Option, None, Some, Result, Err, MatchResult}
 use Rattle.edr_base.specs.Limits.{IsCoordinate, IsSample}
 use Rattle.edr_base.specs.Names.{IsName}
 use Rattle.edr_base.specs.Numbers.{IsWhole}
 use Rattle.edr_base.specs.FirstThatApplies.{IsLeast, IsFirstPlace}
 use Rattle.edr_axes.specs.InstantGrammar.{IsInstant}
+use Rattle.edr_ids.specs.Ids.{item_of}
 use Rattle.edr_csv.specs.Tables.{IsTable}
 use Rattle.edr_csv.specs.declared.observations.Observation.{Observation}
 use Rattle.edr_csv.specs.declared.observations.Column.{Column}
 use Rattle.edr_csv.specs.declared.observations.Column.TheVariants as column
 use Rattle.edr_csv.specs.declared.observations.TableFault.{TableFault}
-use Rattle.edr_csv.specs.declared.observations.TableFault.TheVariants.{NotHeader, BadRecord, BadField, OutOfMemory}
+use Rattle.edr_csv.specs.declared.observations.TableFault.TheVariants.{NotHeader, BadRecord, BadField, PlaceDiffers, SameSample, NoRecords, OutOfMemory}
 
 -- the header
 abbrev pub columns : List (List ℕ)
@@ -96,11 +97,45 @@ HasBadField records place column = IsBehindHeader records place × ¬ (HasForm c
 abbrev pub HasBadFields : List (List (List ℕ)) → ℕ → Type 0
 HasBadFields records place = (column : Column) × HasBadField records place column
 
+-- they have the label, the x and the y of a station
+abbrev pub IsSamePlace : Observation → Observation → Type 0
+IsSamePlace a b = (a.label ≡ b.label) × (a.x ≡ b.x) × (a.y ≡ b.y)
+
+abbrev pub station_of : Observation → List ℕ
+station_of observation = observation.station
+
+-- the observation at a place, from 0, isn't where the first one of its station is
+pub record DiffersAt (observations : List Observation) (place : ℕ) : Type 0 where
+  pub within : place < length observations
+  pub first : Observation
+  pub first_is : item_of station_of (station_of (get_or observations place first)) (take place observations) ≡ Some first
+  pub differs : ¬ (IsSamePlace first (get_or observations place first))
+
+-- they are of one station, time and parameter
+abbrev pub IsSameSample : Observation → Observation → Type 0
+IsSameSample a b = (a.station ≡ b.station) × (a.t ≡ b.t) × (a.parameter ≡ b.parameter)
+
+-- the observation at a place is of the station, the time and the parameter of an earlier one
+pub record RepeatsAt (observations : List Observation) (place : ℕ) : Type 0 where
+  pub within : place < length observations
+  pub earlier : ℕ
+  pub before : earlier < place
+  pub same : (d : Observation) → IsSameSample (get_or observations earlier d) (get_or observations place d)
+
+-- there are some, each where the first one of its station is, and none of them repeats another
+pub record AreOwn (observations : List Observation) : Type 0 where
+  pub some : 0 < length observations
+  pub placed : (place : ℕ) → ¬ (DiffersAt observations place)
+  pub single : (place : ℕ) → ¬ (RepeatsAt observations place)
+
 -- which faults apply; a record is named by its number, which is 1 for the header
 abbrev pub Applies : List (List (List ℕ)) → TableFault → Type 0
 Applies records NotHeader = ¬ (IsHeaded records)
 Applies records (BadRecord number) = (place : ℕ) × IsFirstPlace (IsBadRecord records) place × (number ≡ place + 1)
 Applies records (BadField number column) = (place : ℕ) × IsFirstPlace (HasBadFields records) place × IsLeast place_of (HasBadField records place) column × (number ≡ place + 1)
+Applies records (PlaceDiffers number) = (observations : List Observation) × AreObservations records observations × (place : ℕ) × IsFirstPlace (DiffersAt observations) place × (number ≡ place + 2)
+Applies records (SameSample number) = (observations : List Observation) × AreObservations records observations × (place : ℕ) × IsFirstPlace (RepeatsAt observations) place × (number ≡ place + 2)
+Applies records NoRecords = AreObservations records []
 Applies records OutOfMemory = ⊥
 
 -- their order
@@ -108,11 +143,14 @@ abbrev pub rank : TableFault → ℕ
 rank NotHeader = 1
 rank (BadRecord number) = 2
 rank (BadField number column) = 3
+rank (PlaceDiffers number) = 4
+rank (SameSample number) = 5
+rank NoRecords = 6
 rank OutOfMemory = 9
 
 -- what records are read as: their observations, or the first fault that applies, or that memory was wanting
 abbrev pub IsReadAs : List (List (List ℕ)) → Result (List Observation) TableFault → Type 0
-IsReadAs records answer = MatchResult answer (AreObservations records) (λ fault. (fault ≡ OutOfMemory) ⊎ IsLeast rank (Applies records) fault)
+IsReadAs records answer = MatchResult answer (λ observations. AreObservations records observations × AreOwn observations) (λ fault. (fault ≡ OutOfMemory) ⊎ IsLeast rank (Applies records) fault)
 
 -- what some bytes are read as: what their records are
 abbrev pub IsTableReadAs : List ℕ → Result (List Observation) TableFault → Type 0

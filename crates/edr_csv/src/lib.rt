@@ -3,10 +3,12 @@
 
 mod fields;
 mod forms;
+mod keys;
 mod observations;
 mod reading;
 mod records;
 mod rows;
+mod sites;
 mod tables;
 mod turns;
 mod writing;

@@ -52,6 +52,12 @@ pub enum TableFault {
     BadRecord(usize),
     /// The first record with a field that isn't of its form, and the first such column.
     BadField(usize, Column),
+    /// The first record whose label, x or y isn't that of its station's first record.
+    PlaceDiffers(usize),
+    /// The first record whose station, time and parameter are those of an earlier one.
+    SameSample(usize),
+    /// There is no record behind the header.
+    NoRecords,
     /// Memory was wanting.
     OutOfMemory,
 }

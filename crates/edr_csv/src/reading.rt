@@ -1,15 +1,19 @@
 //! Tables read as observations.
-ghost use Rattle.std.specs.Prelude.{◌<◌, ◌↔◌, length, map, IfOk, IsTrue, MatchOption, MatchResult};
+ghost use Rattle.std.specs.Prelude.{All, ◌<◌, ◌↔◌, length, map, IfOk, IsTrue, MatchOption, MatchResult};
 ghost use Rattle.edr_base.specs.FirstThatApplies.{IsFirstPlace};
 ghost use Rattle.csv.specs.Records.{fields_of};
 ghost use Rattle.edr_csv.specs.Tables.{IsTable};
-ghost use Rattle.edr_csv.specs.Observations.{AreBehind, IsBadRecord, IsHeaded, IsObservation, IsReadAs, IsSeven, IsTableReadAs};
+ghost use Rattle.edr_csv.specs.Observations.{AreBehind, AreOwn, IsBadRecord, IsHeaded, IsObservation, IsReadAs, IsSeven, IsTableReadAs};
+ghost use Rattle.edr_csv.specs.Notes.{IsKeyed, IsOwnFault};
 ghost use Rattle.edr_csv.specs.Forms.{AreNumbers, AreSevens, IsFieldFault, IsFirstFieldFault};
 
 use crate::forms::{Numbers, field, is_header, is_seven, read_numbers};
+use crate::keys::repeated;
 use crate::observations::{Column, Observation, TableFault};
+use crate::sites::differing;
 use csv::{ByteRecord, ReaderBuilder};
-use edr_base::{Items, OutOfMemory, Text};
+use edr_axes::instants_are_unique;
+use edr_base::{Items, OutOfMemory, Text, numerals_tell_numbers};
 use std::alloc::Global;
 
 // The records of a table.
@@ -102,6 +106,23 @@ fn is_headed(records: &[ByteRecord]) -> bool
     !records.is_empty() && is_header(&records[0])
 }
 
+// What is wrong with observations that stand in a table, the first fault in the order of `TableFault`'s variants.
+fn check_observations(alloc: Global, observations: &[Observation]) -> Result<(), TableFault>
+    requires { All IsKeyed observations.now }
+    ensures { MatchResult result (λ _. AreOwn observations.now) (IsOwnFault observations.now) }
+{
+    if let Some(place) = differing(alloc, observations)? {
+        return Err(TableFault::PlaceDiffers(place + 2));
+    }
+    if let Some(place) = repeated(alloc, observations)? {
+        return Err(TableFault::SameSample(place + 2));
+    }
+    if observations.is_empty() {
+        return Err(TableFault::NoRecords);
+    }
+    Ok(())
+}
+
 // The observations of a table that has these records.
 fn read_all(alloc: Global, records: &[ByteRecord]) -> Result<Items<Observation>, TableFault>
     ensures { IsReadAs (map fields_of records.now) result }
@@ -113,6 +134,9 @@ fn read_all(alloc: Global, records: &[ByteRecord]) -> Result<Items<Observation>,
         return Err(TableFault::BadRecord(place + 1));
     }
     let observations = read_observations(alloc, records)?;
+    numerals_tell_numbers();
+    instants_are_unique();
+    check_observations(alloc, &observations)?;
     Ok(Items::of(observations))
 }
 
@@ -122,7 +146,8 @@ fn read_all(alloc: Global, records: &[ByteRecord]) -> Result<Items<Observation>,
 /// The first record is the header `station,label,x,y,t,parameter,value`. Each other one is an observation: station and
 /// parameter are names, label is at most 128 bytes, x and y are whole numbers of metres within `COORDINATE_LIMIT`, t is an
 /// instant (`edr_axes::read_instant`), and value is a whole number within `SAMPLE_LIMIT`, or empty where it is missing. All is
-/// UTF-8. A byte order mark at the front and empty lines are no records.
+/// UTF-8. A byte order mark at the front and empty lines are no records. Each station has one label, x and y, and no record
+/// is of the station, the time and the parameter of another.
 pub fn read_table(alloc: Global, bytes: &[u8]) -> Result<Items<Observation>, TableFault>
     ensures { IsTableReadAs bytes.now result }
 {
