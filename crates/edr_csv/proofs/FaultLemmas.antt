@@ -1,13 +1,13 @@
 -- The faults of observations, in the order of all faults of their table.
-use Rattle.std.proofs.Common.{◌≡◌, ◌⊎◌, inl, inr, ℕ, suc, ◌+◌, ◌-◌, ◌<◌, ◌≤◌, ℤ, List, [], ◌∷◌, ◌++◌, length, replicate, get_or, Option, Some, None, All, refl, sym, ap, subst, ◌∙◌, arith}
-use Rattle.std.proofs.lemmas.List.{ext_get_or, length-append, length-replicate}
+use Rattle.std.proofs.Common.{◌≡◌, ◌⊎◌, inl, inr, ℕ, ◌+◌, ◌-◌, ◌<◌, ℤ, List, [], ◌∷◌, ◌++◌, length, replicate, get_or, Option, Some, None, All, refl, sym, ap, subst, ◌∙◌, arith}
+use Rattle.std.proofs.lemmas.List.{ext_get_or, length-append}
 use Rattle.edr_base.specs.FirstThatApplies.{IsLeast, IsFirstPlace}
 use Rattle.edr_base.specs.Numbers.{IsWhole, sign_text}
-use Rattle.edr_axes.specs.InstantGrammar.{IsInstant, InstantsAreUnique}
+use Rattle.edr_axes.specs.InstantGrammar.{InstantsAreUnique}
 use Rattle.edr_csv.specs.declared.observations.Observation.{Observation}
 use Rattle.edr_csv.specs.declared.observations.TableFault.{TableFault}
 use Rattle.edr_csv.specs.declared.observations.TableFault.TheVariants.{NotHeader, BadRecord, BadField, PlaceDiffers, SameSample, NoRecords, OutOfMemory}
-use Rattle.edr_csv.specs.Observations.{Applies, AreBehind, AreObservations, DiffersAt, IsBehindHeader, IsHeaded, IsObservation, IsValueText, RepeatsAt, rank}
+use Rattle.edr_csv.specs.Observations.{Applies, AreBehind, DiffersAt, IsBehindHeader, IsHeaded, IsObservation, IsValueText, RepeatsAt, rank}
 use Rattle.edr_csv.specs.Forms.{AreSevens}
 use Rattle.edr_csv.specs.Notes.{IsKeyed, IsOwnFault}
 use Rattle.edr_csv.proofs.ReadLemmas.{all_right}

@@ -1,12 +1,12 @@
 -- Observations that differ from earlier ones, or repeat them.
-use Rattle.std.proofs.Common.{◌≡◌, ◌≢◌, ◌⊎◌, inl, inr, ℕ, zero, suc, ◌+◌, ◌<◌, ◌≤◌, Bool, true, false, ℤ, List, [], ◌∷◌, ◌++◌, length, take, get_or, Option, Some, None, All, IsTrue, ◌↔◌, MatchOption, refl, sym, ap, ap₂, subst, ◌∙◌, arith}
+use Rattle.std.proofs.Common.{◌≡◌, inl, inr, ℕ, ◌+◌, ◌<◌, Bool, true, false, ℤ, List, [], ◌∷◌, ◌++◌, length, take, get_or, Option, Some, None, All, IsTrue, ◌↔◌, MatchOption, refl, sym, ap, ap₂, subst, ◌∙◌, arith}
 use Rattle.std.specs.List.{Contains}
 use Rattle.std.proofs.lemmas.Bool.{false≢true}
 use Rattle.std.proofs.lemmas.List.{take_more, get_or-take, get_or_default, length-take-le}
 use Rattle.edr_base.specs.Names.{IsName}
 use Rattle.edr_base.specs.CutLaws.{cut_unique}
 use Rattle.edr_base.specs.FirstThatApplies.{IsFirstPlace}
-use Rattle.edr_axes.specs.Instants.{IsTime, TextsTellTimes, instant_text, civil_text, civil_at}
+use Rattle.edr_axes.specs.Instants.{TextsTellTimes, instant_text}
 use Rattle.edr_ids.specs.Ids.{AreById, item_of, with_item}
 use Rattle.edr_ids.specs.ListLaws.{item_found}
 use Rattle.edr_csv.specs.declared.observations.Observation.{Observation}

@@ -1,5 +1,5 @@
 -- The records of a table, one after the other.
-use Rattle.std.proofs.Common.{◌≡◌, ◌⊎◌, inl, inr, ℕ, zero, suc, ◌+◌, ◌<◌, ◌≤◌, List, [], ◌∷◌, ◌++◌, length, map, get_or, refl, sym, ap, subst, ◌∙◌, arith}
+use Rattle.std.proofs.Common.{◌≡◌, ◌⊎◌, inl, inr, ℕ, ◌+◌, ◌<◌, ◌≤◌, List, [], ◌∷◌, ◌++◌, length, map, get_or, refl, sym, ap, subst, ◌∙◌, arith}
 use Rattle.std.proofs.lemmas.List.{length-append, length-map, get_or-map, get_or_append_left, get_or_push}
 use Rattle.csv.specs.Records.{Row, fields_of}
 use Rattle.edr_base.specs.Names.{IsName}
@@ -9,7 +9,7 @@ use Rattle.edr_csv.specs.declared.observations.Column.{Column}
 use Rattle.edr_csv.specs.declared.observations.Column.TheVariants as column
 use Rattle.edr_csv.specs.declared.observations.TableFault.{TableFault}
 use Rattle.edr_csv.specs.declared.observations.TableFault.TheVariants.{NotHeader, BadRecord, BadField, PlaceDiffers, SameSample, NoRecords, OutOfMemory}
-use Rattle.edr_csv.specs.Observations.{Applies, AreBehind, HasBadField, HasBadFields, HasForm, IsBadRecord, IsBehindHeader, IsHeaded, IsObservation, IsSeven, field_of, label_limit, place_of, rank}
+use Rattle.edr_csv.specs.Observations.{Applies, AreBehind, HasBadFields, HasForm, IsBadRecord, IsBehindHeader, IsHeaded, IsObservation, IsSeven, field_of, label_limit, rank}
 use Rattle.edr_csv.specs.Forms.{AreSevens, IsFieldFault, IsFirstFieldFault}
 use Rattle.edr_csv.proofs.FormLemmas.{below_or_at}
 

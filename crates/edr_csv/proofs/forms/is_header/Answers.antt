@@ -1,4 +1,3 @@
-use Rattle.std.proofs.Common.{◌↔◌}
 use Rattle.csv.specs.Records.{fields_of}
 use Rattle.edr_csv.proofs.FormLemmas.{columns_are}
 use Rattle.edr_csv.proofs.forms.is_header.Goals as goal

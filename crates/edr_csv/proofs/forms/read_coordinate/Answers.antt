@@ -1,4 +1,4 @@
-use Rattle.std.proofs.Common.{rules, refl}
+use Rattle.std.proofs.Common.{refl}
 use Rattle.edr_csv.proofs.FormLemmas.{too_large}
 use Rattle.edr_csv.proofs.forms.read_coordinate.Goals as goal
 

@@ -1,4 +1,4 @@
-use Rattle.std.proofs.Common.{rules, ◌≡◌, ◌<◌, ℕ, true, false, length, arith}
+use Rattle.std.proofs.Common.{rules, ◌≡◌, true, false, arith}
 use Rattle.edr_csv.specs.Observations.{RepeatsAt}
 use Rattle.edr_csv.specs.Notes.{key_id, key_of}
 use Rattle.edr_csv.proofs.NoteLemmas.{none_noted}

@@ -1,4 +1,4 @@
-use Rattle.std.proofs.Common.{rules, ◌≡◌, ◌≤◌, ℕ, [], List, length, map, get_or, subst, sym, arith}
+use Rattle.std.proofs.Common.{rules, ◌≤◌, length, map, subst, sym, arith}
 use Rattle.std.proofs.lemmas.List.{length-map}
 use Rattle.csv.specs.Records.{fields_of}
 use Rattle.edr_csv.specs.Observations.{IsSeven}

@@ -1,7 +1,6 @@
-use Rattle.std.proofs.Common.{rules, ◌≡◌, Err, map, subst, sym}
+use Rattle.std.proofs.Common.{rules, ◌≡◌, Err, map, subst}
 use Rattle.csv.specs.Records.{fields_of}
-use Rattle.edr_csv.specs.Observations.{IsObservation, IsSeven}
-use Rattle.edr_csv.specs.Forms.{IsFieldFault}
+use Rattle.edr_csv.specs.Observations.{IsSeven}
 use Rattle.edr_csv.proofs.ReadLemmas.{behind_on, is_behind, right_on, row_is, wrong_here}
 use Rattle.edr_csv.proofs.reading.read_observations.Goals as goal
 
