@@ -1,0 +1,10 @@
+pub mod GatherLemmas
+pub mod RecordLemmas
+pub mod TurnLemmas
+pub mod DomainLemmas
+pub mod TableLemmas
+pub mod FormLemmas
+pub mod ReadLemmas
+pub mod NoteLemmas
+pub mod OwnLemmas
+pub mod FaultLemmas

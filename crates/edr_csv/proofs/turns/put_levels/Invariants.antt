@@ -1,0 +1,16 @@
+use Rattle.std.proofs.Common.{◌≡◌, ◌++◌, take, drop, length}
+use Rattle.std.specs.List.{flat_map}
+use Rattle.edr_base.specs.Calls.{SinkLent, Gathered}
+use Rattle.covjson_value.specs.declared.domains.CoordinateName.TheVariants.{Z}
+use Rattle.covjson_value.specs.Domains.{axis_of}
+use Rattle.covjson_value.specs.Samples.{values_or_absent}
+use Rattle.edr_csv.specs.Turns.{records_along, turn_nodes}
+use Rattle.edr_csv.proofs.turns.put_levels.Given as goal
+
+abbrev pub invariant-loop-place : goal.invariant-loop-place
+invariant-loop-place g l = record {
+  left : l.left ≡ drop (length (flat_map (turn_nodes l.domain l.t) (take l.place (values_or_absent (axis_of l.domain Z))))) l.values;
+  gathered : Gathered (g.K.Sink.written l.fn.sink) (g.K.Sink.written l.sink) l.records.gathered.items (l.fn.records.gathered.items ++ records_along l.id l.parameter (flat_map (turn_nodes l.domain l.t) (take l.place (values_or_absent (axis_of l.domain Z)))) l.values);
+  flushed : g.K.Sink.flushed l.sink ≡ g.K.Sink.flushed l.fn.sink;
+  lent : SinkLent (g.K.Sink.beside l.fn.sink) (g.K.Sink.beside l.sink) (g.K.Faults.faults l.fn.sink) (g.K.Faults.faults l.sink);
+}
