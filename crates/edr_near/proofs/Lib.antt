@@ -1,0 +1,10 @@
+pub mod Left
+pub mod LookLists
+pub mod Measures
+pub mod Nearest
+pub mod Puts
+pub mod Searching
+pub mod SharedItems
+pub mod TakenOut
+pub mod Unread
+pub mod Within

@@ -1,0 +1,15 @@
+//! What is nearest to a place, found by cells of the plane.
+#![tactic(auto)]
+
+mod candidates;
+mod cells;
+mod collections;
+mod laws;
+mod looks;
+mod placed;
+mod squares;
+
+pub use collections::Cells;
+pub use laws::nearest_is_one;
+pub use looks::Looks;
+pub use placed::Placed;
