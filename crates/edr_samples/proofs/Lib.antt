@@ -1,0 +1,4 @@
+mod Digits
+mod Lists
+mod Turns
+mod Looks

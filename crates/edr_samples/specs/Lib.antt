@@ -1,0 +1,4 @@
+pub mod Trees
+pub mod Tokens
+pub mod Codes
+pub mod Turns
