@@ -21,7 +21,7 @@ side = 65_536
 abbrev pub edge : ℕ
 edge = 134_217_728
 
--- how far a coordinate is from where column or row 0 begins
+-- how far a coordinate is from where the first column or row begins
 abbrev pub behind_edge : ℤ → ℕ
 behind_edge value = unsigned_abs (value +ℤ pos edge)
 

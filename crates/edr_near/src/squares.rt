@@ -9,7 +9,7 @@ use edr_base::Spot;
 // The side of a square, in metres.
 const SIDE: u64 = 65_536;
 
-// How far below the coordinate 0 column and row 0 begin, in metres.
+// How far below the coordinate 0 the first column and the first row begin, in metres.
 const EDGE: i64 = 134_217_728;
 
 /// A square of the plane, by its column and its row.
@@ -40,7 +40,7 @@ pub fn squared_distance(a: &Spot, b: &Spot) -> u64
     across * across + along * along
 }
 
-// How far a coordinate is from where column or row 0 begins.
+// How far a coordinate is from where the first column or row begins.
 fn behind_edge(value: i64) -> u64
     requires { IsCoordinate value }
     ensures is { result ≡ plane.behind_edge value }
