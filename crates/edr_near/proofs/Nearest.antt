@@ -1,5 +1,5 @@
 -- The nearest of some items, and of some more.
-use Rattle.std.proofs.Common.{◌≡◌, ◌⊎◌, ℕ, Bool, true, false, List, [], ◌∷◌, ◌++◌, Contains, inl, inr, Option, Some, None, Ordering, Less, Equal, Greater, option_to_list, MatchOption, refl, sym, ap, ◌∙◌, subst, arith, ◌+◌, ◌<◌, length, get_or, take, append_assoc}
+use Rattle.std.proofs.Common.{◌≡◌, ◌⊎◌, ℕ, Bool, true, false, List, [], ◌∷◌, ◌++◌, Contains, inl, inr, Option, Some, None, Ordering, Less, Equal, Greater, option_to_list, refl, sym, ap, ◌∙◌, subst, arith, ◌+◌, ◌<◌, length, get_or, take, append_assoc}
 use Rattle.std.proofs.lemmas.List.{take_more}
 use Rattle.std.proofs.lemmas.Bool.{false≢true}
 use Rattle.std.proofs.lemmas.Cmp.{nat_cmp_total, nat_list_cmp_total, on_total, then_total, tied_itself, upto}

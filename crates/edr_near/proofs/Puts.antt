@@ -1,16 +1,14 @@
 -- One more item in its cell.
-use Rattle.std.proofs.Common.{◌≡◌, ◌≢◌, ◌⊎◌, ℕ, ◌+◌, ◌*◌, ◌/◌, ◌%◌, ◌<◌, true, false, inl, inr, List, [], ◌∷◌, ◌++◌, length, All, Contains, Option, Some, None, bytes_eq, MatchOption, Result, Ok, Err, IfOk, OnOk, OnErr, refl, sym, ap, ap₂, ◌∙◌, subst, arith}
+use Rattle.std.proofs.Common.{◌≡◌, ◌≢◌, ◌⊎◌, ℕ, ◌/◌, ◌%◌, ◌<◌, inl, inr, List, [], ◌∷◌, ◌++◌, All, Contains, Option, Some, None, bytes_eq, MatchOption, Result, Ok, Err, IfOk, OnOk, OnErr, refl, sym, ap, ◌∙◌, subst, arith}
 use Rattle.std.specs.Prelude.{◌↔◌, ⊤}
-use Rattle.std.specs.Option.{option_to_list}
 use Rattle.std.specs.List.{filter}
 use Rattle.std.proofs.lemmas.Bool.{cases_Bool, false≢true}
 use Rattle.std.proofs.lemmas.Slice.Eq.{bytes_eq-Decides}
-use Rattle.std.proofs.lemmas.List.{length-append}
 use Rattle.std.proofs.lemmas.List.Elements.{All-nil, All-cons, All-append, All-push, All-filter, All-contains, Contains-append_left, Contains-push, Contains-push_cases}
 use Rattle.edr_base.specs.declared.places.Spot.{Spot}
 use Rattle.edr_ids.specs.Ids.{AscendBy, AreById, item_of, with_item, is_below, is_above}
 use Rattle.edr_ids.specs.ListLaws.{AscendBy-with_item, item_found}
-use Rattle.edr_near.specs.Squares.{strip_of, strips}
+use Rattle.edr_near.specs.Squares.{strips}
 use Rattle.edr_near.specs.Cells.{CellValue, key_of, cell_key, IsIn, IsCell, AreCells, Has}
 use Rattle.edr_near.specs.Kept.{IsWith}
 use Rattle.edr_near.proofs.Nearest.{only_one}

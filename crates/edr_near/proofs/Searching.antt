@@ -1,17 +1,16 @@
 -- A search through cells: one more that is read, and its end.
-use Rattle.std.proofs.Common.{◌≡◌, ◌⊎◌, ℕ, ◌+◌, ◌*◌, ◌^◌, ◌<◌, ◌≤◌, ◌&&◌, nat_lt, nat_le, eqb, Bool, true, false, inl, inr, List, [], ◌∷◌, ◌++◌, length, map, get_or, All, Contains, Option, Some, None, option_map, option_to_list, MatchOption, IfSome, IsSomeAnd, if◌then◌else◌, refl, sym, ap, ap₂, ◌∙◌, subst, arith}
-use Rattle.std.specs.List.{count_by}
-use Rattle.std.proofs.lemmas.Bool.{false≢true, cases_Bool, leb-true, leb-false, le-leb, lt-ltb, le-ltb, ltb-true, eq-eqb, eqb-true, eqb-false}
-use Rattle.std.proofs.lemmas.List.{get_or-map, length-map, get_or_default}
+use Rattle.std.proofs.Common.{◌≡◌, ◌⊎◌, ℕ, ◌+◌, ◌*◌, ◌^◌, ◌<◌, ◌≤◌, ◌&&◌, nat_lt, nat_le, eqb, true, false, inl, inr, List, [], ◌∷◌, ◌++◌, length, get_or, Contains, Option, Some, None, option_map, option_to_list, IfSome, IsSomeAnd, if◌then◌else◌, refl, sym, ap, ap₂, ◌∙◌, subst, arith}
+use Rattle.std.proofs.lemmas.Bool.{false≢true, cases_Bool, leb-true, leb-false, le-leb, lt-ltb, ltb-true, eq-eqb, eqb-true, eqb-false}
+use Rattle.std.proofs.lemmas.List.{get_or-map}
 use Rattle.std.proofs.lemmas.List.Elements.{All-get_or, All-contains, Contains-append_cases, Contains-get_or}
 use Rattle.std.proofs.lemmas.List.Sums.{sum_by-append, sum_by-cons}
 use Rattle.edr_base.specs.declared.places.Spot.{Spot}
 use Rattle.edr_near.specs.declared.candidates.Candidate.{Candidate}
 use Rattle.edr_near.specs.Squares.{IsSpot, square_distance}
-use Rattle.edr_near.specs.Near.{IsNearest, Nearest, distance_of, is_nearer}
+use Rattle.edr_near.specs.Near.{Nearest, distance_of}
 use Rattle.edr_near.specs.Cells.{CellValue, IsIn, IsCell, AreCells, Has, distances, distance_at}
-use Rattle.edr_near.specs.Looks.{is_within, times_in}
-use Rattle.edr_near.specs.Search.{rank, rank_of, rank_at, is_read, IsUnread, IsFirst, items_at, IsFound, Searched, NextCell, IsSearched}
+use Rattle.edr_near.specs.Looks.{times_in}
+use Rattle.edr_near.specs.Search.{rank, rank_of, rank_at, is_read, IsFirst, items_at, IsFound, Searched, NextCell, IsSearched}
 use Rattle.edr_near.proofs.Nearest.{nearest_more, only_one, farther}
 use Rattle.edr_near.proofs.Within.{square_within, distances_long}
 

@@ -1,5 +1,5 @@
 //! Cells in the order in which a search reads them.
-ghost use Rattle.std.specs.Prelude.{◌≡◌, ◌^◌, ◌<◌};
+ghost use Rattle.std.specs.Prelude.{◌≡◌, ◌<◌};
 ghost use Rattle.edr_near.specs.Search as search;
 
 /// The number of a cell, and how far its square is from a place, squared.

@@ -1,5 +1,5 @@
 //! One cell: a square and what stands in it.
-ghost use Rattle.std.specs.Prelude.{◌≡◌, false, ◌<◌, ◌↔◌, ◌⊎◌, ◌++◌, ◌∷◌, [], All, Contains, IfOk, OnOk, option_map, option_to_list, ℕ};
+ghost use Rattle.std.specs.Prelude.{◌≡◌, false, ◌<◌, ◌↔◌, ◌++◌, ◌∷◌, [], Contains, IfOk, OnOk, option_map, option_to_list};
 ghost use Rattle.std.specs.Arc.{arc_value};
 ghost use Rattle.edr_near.specs.Squares.{IsSpot, strips, square_distance};
 ghost use Rattle.edr_near.specs.Near.{Nearest, is_it};

@@ -1,5 +1,5 @@
 //! What stands at a place.
-ghost use Rattle.std.specs.Prelude.{◌≡◌, ◌&&◌, bytes_eq, List, option_map, option_to_list, ◌++◌, ◌∷◌, [], Contains};
+ghost use Rattle.std.specs.Prelude.{◌≡◌, ◌&&◌, bytes_eq, option_map, option_to_list, ◌++◌, ◌∷◌, [], Contains};
 ghost use Rattle.edr_base.specs.declared.places.Spot.{Spot};
 ghost use Rattle.edr_near.specs.Squares.{IsSpot};
 ghost use Rattle.std.specs.Ordering.{is_lt, int_eq};

@@ -1,4 +1,4 @@
-use Rattle.std.proofs.Common.{◌≡◌, ◌++◌, ◌∷◌, [], List, sym, ap, ◌∙◌, take, append_assoc}
+use Rattle.std.proofs.Common.{◌≡◌, ◌++◌, ◌∷◌, [], sym, ap, ◌∙◌, take, append_assoc}
 use Rattle.std.specs.Arc.{arc_value}
 use Rattle.edr_near.specs.Kept.{values_of}
 use Rattle.edr_near.proofs.SharedItems.{taken_more, pushed}

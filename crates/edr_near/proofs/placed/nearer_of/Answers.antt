@@ -1,5 +1,4 @@
-use Rattle.std.proofs.Common.{◌++◌, ◌∷◌, [], Contains, List, option_map, option_to_list, sym, ap, ◌∙◌, subst}
-use Rattle.edr_near.specs.Near.{IsNearest}
+use Rattle.std.proofs.Common.{sym, ◌∙◌}
 use Rattle.edr_near.proofs.Nearest.{alone, second_nearer, first_nearer}
 use Rattle.edr_near.proofs.placed.nearer_of.Goals as goal
 

@@ -1,4 +1,4 @@
-use Rattle.std.proofs.Common.{◌≡◌, ◌++◌, Contains, List, take, get_or, length, option_map, option_to_list, sym, ap, ◌∙◌, subst, arith}
+use Rattle.std.proofs.Common.{◌≡◌, ◌++◌, Contains, take, get_or, option_map, option_to_list, sym, ap, ◌∙◌, subst, arith}
 use Rattle.std.proofs.lemmas.List.{take_all, length-map}
 use Rattle.std.specs.Arc.{arc_value}
 use Rattle.edr_near.specs.Near.{Nearest}

@@ -1,4 +1,4 @@
-use Rattle.std.proofs.Common.{◌≡◌, ◌+◌, true, false, not, length, sym, ap, ◌∙◌, subst, arith}
+use Rattle.std.proofs.Common.{◌≡◌, ◌+◌, length, sym, ap, ◌∙◌, subst, arith}
 use Rattle.edr_near.proofs.Within.{distances_long}
 use Rattle.edr_near.specs.Cells.{distances}
 use Rattle.edr_near.specs.Search.{FirstUnread}

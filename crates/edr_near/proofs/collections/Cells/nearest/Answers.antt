@@ -1,4 +1,3 @@
-use Rattle.std.proofs.Common.{subst}
 use Rattle.edr_near.proofs.LookLists.{looked}
 use Rattle.edr_near.proofs.collections.Cells.nearest.Goals as goal
 

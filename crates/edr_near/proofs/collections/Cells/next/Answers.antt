@@ -1,4 +1,4 @@
-use Rattle.std.proofs.Common.{◌≡◌, ◌<◌, ◌≤◌, ◌^◌, ℕ, IsSomeAnd, option_map, sym, subst, arith}
+use Rattle.std.proofs.Common.{◌<◌, ◌≤◌, ℕ, IsSomeAnd, option_map, sym, subst, arith}
 use Rattle.edr_near.specs.Near.{distance_of}
 use Rattle.edr_near.specs.Cells.{distances, distance_at}
 use Rattle.edr_near.proofs.Within.{distances_long}

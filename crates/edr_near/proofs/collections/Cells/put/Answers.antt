@@ -1,9 +1,9 @@
-use Rattle.std.proofs.Common.{◌≡◌, ◌⊎◌, List, sym, ap, ◌∙◌, subst}
+use Rattle.std.proofs.Common.{◌≡◌, ◌⊎◌, sym, ap, ◌∙◌, subst}
 use Rattle.std.specs.Prelude.{◌↔◌}
 use Rattle.std.specs.Arc.{arc_value}
 use Rattle.edr_ids.specs.Ids.{with_item}
-use Rattle.edr_near.specs.Squares.{IsSpot, strip_of}
-use Rattle.edr_near.specs.Cells.{CellValue, cell_key, IsIn, AreCells, Has}
+use Rattle.edr_near.specs.Squares.{strip_of}
+use Rattle.edr_near.specs.Cells.{cell_key, IsIn, AreCells, Has}
 use Rattle.edr_near.proofs.Puts.{on_ok, either_way, put_has, are_cells}
 use Rattle.edr_near.proofs.collections.Cells.put.Goals as goal
 

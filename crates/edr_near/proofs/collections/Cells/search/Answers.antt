@@ -1,9 +1,8 @@
-use Rattle.std.proofs.Common.{◌≡◌, ◌<◌, ◌≤◌, ◌++◌, [], Contains, List, ℕ, None, Some, Option, IfSome, option_map, option_to_list, refl, sym, ap, ◌∙◌, subst, length, arith}
+use Rattle.std.proofs.Common.{◌≡◌, ◌<◌, ◌≤◌, ◌++◌, Contains, List, ℕ, None, Some, Option, IfSome, option_map, option_to_list, refl, sym, ap, ◌∙◌, subst, length, arith}
 use Rattle.std.specs.Borrow.{Bor}
-use Rattle.edr_near.specs.declared.candidates.Candidate.{Candidate}
 use Rattle.edr_near.specs.Near.{Nearest, distance_of}
-use Rattle.edr_near.specs.Cells.{CellValue, distances}
-use Rattle.edr_near.specs.Search.{Searched, NextCell, items_at}
+use Rattle.edr_near.specs.Cells.{distances}
+use Rattle.edr_near.specs.Search.{Searched, NextCell}
 use Rattle.edr_near.proofs.Within.{distances_long}
 use Rattle.edr_near.proofs.Searching.{begun, step, ends, items_are}
 use Rattle.edr_near.proofs.collections.Cells.search.Goals as goal

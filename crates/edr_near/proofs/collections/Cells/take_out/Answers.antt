@@ -1,12 +1,12 @@
-use Rattle.std.proofs.Common.{◌≡◌, false, None, Some, List, option_map, sym, ap, ap₂, ◌∙◌, subst}
+use Rattle.std.proofs.Common.{◌≡◌, false, Some, option_map, sym, ap, ap₂, ◌∙◌, subst}
 use Rattle.std.specs.Prelude.{◌↔◌}
 use Rattle.edr_ids.specs.Ids.{item_of, with_item, without_id}
 use Rattle.edr_near.specs.Squares.{strip_of}
 use Rattle.edr_near.specs.Near.{is_it}
-use Rattle.edr_near.specs.Cells.{CellValue, key_of, cell_key, AreCells, Has}
+use Rattle.edr_near.specs.Cells.{key_of, cell_key, AreCells, Has}
 use Rattle.edr_near.specs.Kept.{IsWithout}
 use Rattle.edr_near.proofs.Puts.{on_ok, either_way}
-use Rattle.edr_near.proofs.TakenOut.{none_to_take, without_has, without_cells, changed_has, changed_cells}
+use Rattle.edr_near.proofs.TakenOut.{without_has, without_cells, changed_has, changed_cells}
 use Rattle.edr_near.proofs.collections.Cells.take_out.Goals as goal
 
 pub invariant_of-self : goal.invariant_of-self
