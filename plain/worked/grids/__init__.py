@@ -1,0 +1,1 @@
+"""Rows of `ask` over grids, by what they are about; each module gives its rows."""

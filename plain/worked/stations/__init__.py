@@ -1,0 +1,1 @@
+"""Rows about stations, by what they are about; each module gives its rows."""
