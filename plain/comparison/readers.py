@@ -8,7 +8,8 @@ from plain.profile.feeds.lines import FeedFault, read_feed
 from plain.profile.levels import At, Between, Levels, Listed, Series, read_levels
 from plain.profile.limits import COORDINATE
 from plain.profile.refusals import NUMBERS, Refused
-from plain.profile.targets.read import Area, Corridor, Cube, Description, Location, Position, Query, Radius, Shape, Trajectory, read_target
+from plain.profile.targets.pages import Area, Corridor, Cube, Description, Location, Position, Query, Radius, Shape, Trajectory
+from plain.profile.targets.read import read_target
 from plain.profile.times import Times, read_instant, read_times, write_instant
 from plain.profile.well_known_text import WktFault, read_wkt, write_wkt
 from plain.profile.whole_numbers import NotWhole, TooLarge, whole_number

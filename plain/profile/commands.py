@@ -1,5 +1,4 @@
-"""The commands of the program: python3 plain/edr.py ask TARGET < input, check [--summary], replay FEED [--advance], make NUMBER,
-work NUMBER, show, or fetch URL"""
+"""The commands of the program, and how each run ends: its status, its output, and its line on standard error."""
 
 import os
 import re
@@ -165,7 +164,3 @@ def main() -> int:
     sys.stdout.buffer.write(ending.output)
     sys.stderr.buffer.write(ending.errors)
     return ending.status
-
-
-if __name__ == "__main__":
-    sys.exit(main())

@@ -1,6 +1,6 @@
 """Validates what the program answers to random targets, by the standard alone.
 
-    python3 plain/validate_replies.py --edr crates/edr/out/edr --seed 1 --count 5000
+    python3 plain/validate_replies.py --edr release/edr --seed 1 --count 5000
 
 The targets and their feeds are those of `compare.py`, half of the kind `ask` and half of the kind `line`, until so many were answered
 with data. Each reply that isn't valid is printed with the target and the feed; the last line is `N valid, M aren't`.
@@ -12,11 +12,12 @@ from collections import Counter
 from itertools import count
 from typing import Iterator
 
-from plain.comparison.command import ASKS, Place
 from plain.comparison.inputs.asks import Ask
+from plain.comparison.kinds import ASKS, Place
 from plain.comparison.programs import endings
 from plain.profile.refusals import Refused
-from plain.profile.targets.read import Query, read_target
+from plain.profile.targets.pages import Query
+from plain.profile.targets.read import read_target
 from plain.valid.document import faults_of
 
 _KINDS = ("ask", "line")
@@ -57,8 +58,15 @@ def main() -> int:
     parser.add_argument("--seed", required=True)
     parser.add_argument("--count", type=int, default=5000, help="how many replies of data")
     words = parser.parse_args()
+    bad = print_invalid(words.edr, words.seed, words.count)
+    print(f"{words.count - bad} valid, {bad} aren't")
+    return 1 if bad else 0
+
+
+def print_invalid(program: str, seed: str, count_: int) -> int:
+    """Prints which of so many replies of data aren't valid, and of what types all are; how many aren't valid."""
     feeds, types, bad = set(), Counter(), 0
-    for number, (found, reply) in zip(range(words.count), replies(words.edr, words.seed)):
+    for number, (found, reply) in zip(range(count_), replies(program, seed)):
         feeds.add(found.input)
         types[reply[reply.rindex(b'"type":"') + 8 : -2].decode()] += 1
         types.update(name for name in _domain_types(reply))
@@ -66,14 +74,9 @@ def main() -> int:
             bad += 1
             print(f"reply {number} to {found.words[1]!r} of {found.input!r}:", *faults, sep="\n  ")
     print(f"{len(feeds)} feeds; " + ", ".join(f"{number} {name}" for name, number in types.most_common()))
-    print(f"{words.count - bad} valid, {bad} aren't")
-    return 1 if bad else 0
+    return bad
 
 
 def _domain_types(reply: bytes) -> set[str]:
     """The domain types of a reply, each once."""
     return {piece[: piece.index(b'"')].decode() for piece in reply.split(b'"domainType":"')[1:]}
-
-
-if __name__ == "__main__":
-    sys.exit(main())

@@ -1,20 +1,15 @@
-"""Runs worked rows of URLs and of replies on the plain readers, and on a program too.
+"""Rows of URLs and of replies: those that the plain readers read, and those that are fetched from a peer.
 
-    python3 plain/fetch_rows.py [--edr PROGRAM]
-
-The requests and the answers are written here, and not by the plain program. `--edr` fetches each reply from a peer, and each URL that leads
-to that peer; a file that ends with `.py` is run by Python. The last line is `N agree, M differ`.
+The place of a fault, the edition and the code show in the plain readers alone, since `fetch` doesn't write them.
 """
 
-import argparse
-import subprocess
-import sys
-from pathlib import Path
 from typing import Iterator
 
+from plain.comparison.inputs.asks import Ask
 from plain.comparison.inputs.replies import Script
 from plain.comparison.peers import Peer
-from plain.profile.commands import USAGE, Ending
+from plain.comparison.programs import endings
+from plain.profile.commands import USAGE, Ending, held_files, run
 from plain.profile.coverage_json.read import CoverageFault
 from plain.profile.fetching.replies import BadReply, NotData, read_reply
 from plain.profile.fetching.urls import read_url
@@ -240,6 +235,26 @@ def request(target: str, host: str) -> bytes:
     return f"GET {target} HTTP/1.1\r\nHost: {host}\r\nConnection: close\r\n\r\n".encode()
 
 
+def fetched_rows(peer: Peer, program: str | None) -> Iterator[tuple]:
+    """Of each row how a program ends, or the plain one, and what it asks; and what is wanted."""
+
+    def fetched(url: str, given: bytes) -> tuple[Ending, list[bytes]]:
+        ask = Ask((b"fetch", peer.filled(url.encode())), b"")
+        return peer.during(Script((given,)), lambda: _ending(program, ask))
+
+    for given, wanted in REPLIES:
+        yield given[:100], fetched(f"http://{OWN}", given), (reply_ending(wanted), [peer.filled(request("/", OWN))])
+    for url, parts in URLS:
+        if peer.is_near(peer.filled(url.encode())) and ".invalid" not in url:
+            yield url, fetched(url, OK + b"\r\n" + DOCUMENT), (Ending(0, TABLE), [peer.filled(request(*parts))])
+    for url in NO_URLS:
+        yield url, fetched(url, b""), (Ending(1, errors=USAGE.encode() + b"\n"), [])
+
+
+def _ending(program: str | None, ask: Ask) -> Ending:
+    return endings(program, [ask])[0] if program else run(list(ask.words), lambda: ask.input, held_files({}))
+
+
 def read_rows(peer: Peer) -> Iterator[tuple]:
     """Of each row what the plain readers answer, and what is wanted."""
     for given, wanted in REPLIES:
@@ -251,40 +266,11 @@ def read_rows(peer: Peer) -> Iterator[tuple]:
     yield "the longest URL", [read_url(longest) is None, read_url(longest + b"b") is None], [False, True]
 
 
-def run_rows(peer: Peer, command: list[bytes]) -> Iterator[tuple]:
-    """Of each row how a program ends and what it asks, and what is wanted."""
-
-    def fetched(url: str, given: bytes) -> tuple[Ending, list[bytes]]:
-        words = [*command, b"fetch", peer.filled(url.encode())]
-        done, asked = peer.during(Script((given,)), lambda: subprocess.run(words, stdin=subprocess.DEVNULL, capture_output=True))
-        return Ending(done.returncode, done.stdout, done.stderr), asked
-
-    for given, wanted in REPLIES:
-        yield given[:100], fetched(f"http://{OWN}", given), (reply_ending(wanted), [peer.filled(request("/", OWN))])
-    for url, parts in URLS:
-        if peer.is_near(peer.filled(url.encode())) and ".invalid" not in url:
-            yield url, fetched(url, OK + b"\r\n" + DOCUMENT), (Ending(0, TABLE), [peer.filled(request(*parts))])
-    for url in NO_URLS:
-        yield url, fetched(url, b""), (Ending(1, errors=USAGE.encode() + b"\n"), [])
-
-
-def main() -> int:
-    parser = argparse.ArgumentParser(description=__doc__, formatter_class=argparse.RawDescriptionHelpFormatter)
-    parser.add_argument("--edr", help="a program, a built one or a file of Python")
-    given = parser.parse_args()
+def differences(program: str | None) -> tuple[int, list[str]]:
+    """How many rows were run, and what is told of each that ends otherwise. The readers are the plain program's."""
     peer = Peer()
-    rows = list(read_rows(peer))
-    if given.edr is not None:
-        path = str(Path(given.edr).resolve())
-        rows += run_rows(peer, [part.encode() for part in ([sys.executable, path] if path.endswith(".py") else [path])])
-    peer.close()
-    for about, found, wanted in rows:
-        if found != wanted:
-            print(f"differs: {about!r}\n  is   {found!r}\n  want {wanted!r}")
-    differ = sum(found != wanted for _, found, wanted in rows)
-    print(f"{len(rows) - differ} agree, {differ} differ")
-    return 1 if differ else 0
-
-
-if __name__ == "__main__":
-    sys.exit(main())
+    try:
+        rows = [*fetched_rows(peer, program), *(read_rows(peer) if program is None else [])]
+    finally:
+        peer.close()
+    return len(rows), [f"differs: {about!r}\n  is    {found!r}\n  want  {wanted!r}" for about, found, wanted in rows if found != wanted]

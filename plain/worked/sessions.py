@@ -1,14 +1,8 @@
-"""Prints worked rows of `replay`, in the form that rows.py runs.
+"""Rows of `replay`: heads at their limits, each check of a head, each end, both editions, and chunks at their limits."""
 
-    python3 plain/session_rows.py | python3 plain/rows.py /dev/stdin
-
-The replies are written here as texts, and not by the plain program.
-"""
-
-import json
 from pathlib import Path
 
-SPAN = (1, 2)  # from the product as it is to that with the query of the nearest station, as in the other rows
+from plain.worked.runs import Row
 
 VALUES = "[10,11,12,13,null,15,20,21,22,23,24,25]"
 RISEN_VALUES = "[110,111,112,113,null,115,120,121,122,123,124,125]"
@@ -150,13 +144,13 @@ def page_of(title: str) -> str:
     return f'{{"crs":["local"],"data_queries":{{{links}}},{rest}}}'
 
 
-def row(said: str, replies: str, feed: str = GRID, advances: bool = False) -> dict:
-    """A row, as rows.py reads it."""
-    words = ["replay", "feed"] + ["--advance"] * advances
-    return {"words": words, "input": said, "files": {"feed": feed}, "answers": [[*SPAN, 0, replies, ""]]}
+def row(said: str, replies: str, feed: str = GRID, advances: bool = False) -> Row:
+    """What a connection says, and what it is replied from a feed."""
+    words = ("replay", "feed", "--advance") if advances else ("replay", "feed")
+    return Row(words, said, 0, replies, files=(("feed", feed),))
 
 
-def chunk_row(length: int, sizes: list[int]) -> dict:
+def chunk_row(length: int, sizes: list[int]) -> Row:
     """A row about a page of so many bytes, in chunks of some sizes."""
     title = "t" * (length - len(page_of("")))
     feed = f'{{"collection":{{"id":"even","kind":"grid","title":"{title}","crs":"local"}}}}\n{{"publish":{{}}}}\n'
@@ -167,7 +161,7 @@ def chunk_row(length: int, sizes: list[int]) -> dict:
     return row(get("/collections/even"), reply(chunks + lines("0", "")), feed)
 
 
-def rows() -> list[dict]:
+def rows() -> list[Row]:
     """All rows."""
     asked = get(f"{POSITION}(50%200){AT_FIRST_TIME}")
     of_two = [
@@ -178,8 +172,3 @@ def rows() -> list[dict]:
     of_one = [row(said, replies, advances=advances) for said, replies in SESSIONS for advances in (False, True)]
     chunks = [chunk_row(4095, [4095]), chunk_row(4096, [4096]), chunk_row(4097, [4096, 1]), chunk_row(8192, [4096, 4096])]
     return of_one + of_two + chunks
-
-
-if __name__ == "__main__":
-    for each in rows():
-        print(json.dumps(each))

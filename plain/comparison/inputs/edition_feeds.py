@@ -5,7 +5,6 @@ import math
 from plain.comparison.inputs.draws import Draw
 from plain.comparison.inputs.texts import instant
 from plain.comparison.inputs.trees import spelled_tree
-from plain.profile import built
 from plain.profile.json_text import write_json
 from plain.profile.times import write_instant
 
@@ -54,7 +53,7 @@ class EditionMaker:
     def collection(self, id_: str) -> None:
         """A collection with its instances or stations."""
         draw = self.draw
-        kind = draw.pick("grid", "grid", "station") if built.STATIONS_ARE_READ else "grid"
+        kind = draw.pick("grid", "grid", "station")
         crs = draw.choice(_CRS)
         parameters = {key: self.parameter() for key in draw.sample(_PARAMETERS, draw.pick(1, 1, 1, 2, 3))}
         if kind == "grid" and id_ == "grid" and draw.chance(0.3):

@@ -4,7 +4,6 @@ from plain.comparison.inputs.documents import coverage
 from plain.comparison.inputs.draws import Draw
 from plain.comparison.inputs.edition_feeds import EditionMaker
 from plain.comparison.inputs.trees import any_tree, damaged_text, damaged_tree, spelled_tree
-from plain.profile import built
 
 _COLLECTIONS = ("grid", "a", "b", "é")
 _INSTANCES = ("1", "2", "10", "z")
@@ -48,7 +47,7 @@ class _FeedMaker:
         forms = [self.collection, self.bare]
         if self.made or self.is_fault():
             forms += [self.grid] * 5 + [self.drop, self.publish]
-        if built.STATIONS_ARE_READ and self.ids_of("station"):
+        if self.ids_of("station"):
             forms += [self.station] * 5 + [self.drop_station]
         tree = self.draw.choice(forms)()
         if self.is_fault():
@@ -68,9 +67,8 @@ class _FeedMaker:
         id_ = self.draw.choice(_COLLECTIONS if any_id else missing)
         crs = self.draw.choice(_CRS)
         self.made.setdefault(id_, crs)
-        inner = {"id": id_, "kind": "grid", "title": self.draw.pick("Grid", "", "é\n"), "crs": crs}
-        if built.STATIONS_ARE_READ:
-            inner["kind"] = self.draw.pick("grid", "station")
+        title, kind = self.draw.pick("Grid", "", "é\n"), self.draw.pick("grid", "station")
+        inner = {"id": id_, "kind": kind, "title": title, "crs": crs}
         self.kinds.setdefault(id_, inner["kind"])
         if self.draw.chance(0.3):
             inner["vertical"] = self.draw.pick("height", "")

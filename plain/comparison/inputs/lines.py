@@ -5,7 +5,7 @@ from functools import lru_cache
 from plain.comparison.inputs.asks import Ask
 from plain.comparison.inputs.draws import Draw
 from plain.comparison.inputs.edition_feeds import EditionMaker
-from plain.comparison.inputs.queries import Maker
+from plain.comparison.inputs.query_maker import Maker
 from plain.profile.feeds.lines import read_feed
 
 

@@ -1,15 +1,12 @@
 """The refusals that an edition decides, in the order of their numbers."""
 
-from plain.profile import built
 from plain.profile import limits
+from plain.profile.answers.offered import is_offered
 from plain.profile.answers.selection import asked_levels
 from plain.profile.answers.shapes import Reply, reply
 from plain.profile.feeds.collections import Collection, Collections
 from plain.profile.refusals import Refused
-from plain.profile.targets.read import Corridor, Description, Location, Query, Trajectory
-
-_OFFERED_BY_GRIDS = ("position", "radius", "area", "cube", "trajectory", "corridor")
-_OFFERED_BY_STATIONS = ("radius", "area", "cube", "corridor", "location")
+from plain.profile.targets.pages import Corridor, Description, Location, Query, Trajectory
 
 # The kinds of collections that have a page; all have the page of a collection.
 _KIND_OF_PAGE = {"Instances": "grid", "Instance": "grid", "Locations": "station"}
@@ -37,7 +34,7 @@ def checked_reply(query: Query, edition: Collections) -> Reply:
     collection = edition[query.collection]
     _refuse(_is_unknown_instance(query, collection), "UnknownInstance")
     _refuse(_is_unknown_location(query, collection), "UnknownLocation")
-    _refuse(not _is_offered(query, collection), "QueryNotOffered")
+    _refuse(not is_offered(query, collection.kind), "QueryNotOffered")
     known = {parameter.id for parameter in collection.parameters()}
     _refuse(query.parameters is not None and not known.issuperset(query.parameters), "UnknownParameterName")
     _refuse(query.crs is not None and query.crs != collection.crs, "BadCrs")
@@ -60,18 +57,6 @@ def _is_unknown_instance(query: Query, collection: Collection) -> bool:
 def _is_unknown_location(query: Query, collection: Collection) -> bool:
     is_location = collection.kind == "station" and isinstance(query.shape, Location)
     return is_location and query.shape.id not in collection.stations
-
-
-def _is_offered(query: Query, collection: Collection) -> bool:
-    """Whether the collection's kind offers the query, and it is built."""
-    name = type(query.shape).__name__.lower()
-    if collection.kind == "grid":
-        return name in _OFFERED_BY_GRIDS and name in built.QUERIES_BUILT
-    if query.instance is not None:
-        return False
-    if name == "position":
-        return query.shape.geometry.tag == "POINT" and "nearest" in built.QUERIES_BUILT
-    return name in _OFFERED_BY_STATIONS and name in built.QUERIES_BUILT and built.STATIONS_ARE_READ
 
 
 def _asks_for_levels(query: Query) -> bool:

@@ -8,7 +8,8 @@ from plain.profile.answers.shapes import Source, asked_parameters, axis_places, 
 from plain.profile.coverage_json.coverages import Domain
 from plain.profile.feeds.collections import Collection, Collections
 from plain.profile.refusals import Refused
-from plain.profile.targets.read import Description, Query, read_target
+from plain.profile.targets.pages import Description, Query
+from plain.profile.targets.read import read_target
 
 TILE = 64  # rows and columns of a tile of a grid
 BLOCK = 256  # values of a block of a station

@@ -1,10 +1,10 @@
 """The pages that tell of what there is."""
 
-from plain.profile import built
+from plain.profile.answers.offered import nearest_is_offered
 from plain.profile.coverage_json.written import parameter_tree
 from plain.profile.feeds.collections import Collection, Collections, Station
 from plain.profile.json_text import write_json
-from plain.profile.targets.read import Description
+from plain.profile.targets.pages import Description
 from plain.profile.times import write_instant
 
 _PLAIN = b"ABCDEFGHIJKLMNOPQRSTUVWXYZabcdefghijklmnopqrstuvwxyz0123456789-._~"
@@ -48,7 +48,7 @@ def _collection_tree(collection: Collection) -> dict:
         names = (*_QUERIES_OF_GRIDS, "instances")
         coverages = [collection.newest()] if collection.instances else []
     else:
-        names = _QUERIES_OF_STATIONS + (("position",) if "nearest" in built.QUERIES_BUILT else ())
+        names = _QUERIES_OF_STATIONS + (("position",) if nearest_is_offered() else ())
         coverages = collection.coverages()
     return _data_tree(collection, collection.id, path, names, coverages)
 

@@ -9,7 +9,7 @@ from typing import Callable
 from plain.profile.answers.planar import Spot, in_box, in_disc, in_polygons, near_segment
 from plain.profile.coverage_json.coverages import Domain
 from plain.profile.levels import At, Between
-from plain.profile.targets.read import Area, Corridor, Cube, Location, Position, Query, Radius, Trajectory
+from plain.profile.targets.pages import Area, Corridor, Cube, Location, Position, Query, Radius, Trajectory
 from plain.profile.well_known_text import Geometry
 
 Place = tuple[int, int | None, int, int]

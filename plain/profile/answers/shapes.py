@@ -8,7 +8,7 @@ from plain.profile.answers.planar import squared_distance
 from plain.profile.answers.selection import Place, asked_levels, levels_of, picked, route
 from plain.profile.coverage_json.coverages import COMPOSITE, Coverage, Document, Domain, Referencing
 from plain.profile.feeds.collections import Collection
-from plain.profile.targets.read import Location, Position, Query, Trajectory
+from plain.profile.targets.pages import Location, Position, Query, Trajectory
 
 
 @dataclass(frozen=True)

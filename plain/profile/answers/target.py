@@ -7,7 +7,8 @@ from plain.profile.answers.descriptions import description
 from plain.profile.coverage_json.written import write_document
 from plain.profile.feeds.collections import Collections
 from plain.profile.refusals import STATUSES, Refused
-from plain.profile.targets.read import Description, Query, read_target
+from plain.profile.targets.pages import Description, Query
+from plain.profile.targets.read import read_target
 
 
 @dataclass(frozen=True)

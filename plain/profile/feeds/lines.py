@@ -2,7 +2,6 @@
 
 from functools import lru_cache
 
-from plain.profile import built
 from plain.profile import limits
 from plain.profile.coverage_json.read import CoverageFault, read_coverage
 from plain.profile.feeds.collections import (
@@ -117,8 +116,7 @@ def _text(tree) -> str:
 
 def _collection(inner: dict) -> AddCollection:
     _has_members(inner, "id kind title crs", "vertical")
-    kinds = ("grid", "station") if built.STATIONS_ARE_READ else ("grid",)
-    if inner["kind"] not in kinds:
+    if inner["kind"] not in ("grid", "station"):
         raise NotFeedLine
     vertical = _text(inner["vertical"]) if "vertical" in inner else None
     id_, title, crs = _name(inner["id"]), _text(inner["title"]), _text(inner["crs"])
@@ -132,15 +130,13 @@ def _grid(inner: dict) -> SetGrid:
 
 
 def _station(inner: dict) -> SetStation:
-    if not built.STATIONS_ARE_READ:
-        raise NotFeedLine
     _has_members(inner, "collection id label coverage")
     collection, id_, label = _name(inner["collection"]), _name(inner["id"]), _text(inner["label"])
     return SetStation(collection, id_, label, read_coverage(inner["coverage"]))
 
 
 def _drop(inner: dict) -> DropCollection | DropInstance | DropStation:
-    if "station" in inner and built.STATIONS_ARE_READ:
+    if "station" in inner:
         _has_members(inner, "collection station")
         return DropStation(_name(inner["collection"]), _name(inner["station"]))
     _has_members(inner, "collection", "instance")

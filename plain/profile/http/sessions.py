@@ -8,7 +8,8 @@ from plain.profile.answers.target import Answer, page_answer, refusal_answer
 from plain.profile.feeds.collections import Collections
 from plain.profile.http.heads import Head, first_head
 from plain.profile.refusals import NUMBERS, Refused
-from plain.profile.targets.read import Query, read_target
+from plain.profile.targets.pages import Query
+from plain.profile.targets.read import read_target
 
 _PHRASES = {
     200: "OK",

@@ -1,23 +1,12 @@
 """Targets: the page that a path and a query text ask for, or the first refusal that applies."""
 
-import re
-from dataclasses import dataclass
-
-from plain.profile import limits
 from plain.profile.levels import At, Levels, read_levels
 from plain.profile.refusals import Refused
+from plain.profile.targets.pages import Area, Corridor, Cube, Description, Location, Page, Position, Query, Radius, Shape, Trajectory
+from plain.profile.targets.paths import AskedQuery, page_of_path
+from plain.profile.targets.values import names_once, pairs_of, read_box, read_distance, read_geometry
 from plain.profile.times import Times, read_times
-from plain.profile.well_known_text import Geometry, WktFault, read_wkt
-from plain.profile.whole_numbers import NotWhole, TooLarge, signed, whole_number
-
-_ESCAPE = re.compile(rb"%([0-9A-Fa-f]{2})")
-_DISTANCE = re.compile(rb"([0-9]+)(?:\.([0-9]*))?")
-GREATEST_DISTANCE = 400_000_000  # metres
-
-# How many digits behind the point each unit has room for in whole metres.
-_UNITS = {b"m": 0, b"km": 3}
-
-_QUERIES = ("position", "radius", "area", "cube", "trajectory", "corridor")
+from plain.profile.well_known_text import Geometry
 
 _DESCRIPTION_FORMATS = (b"json", b"application/json")
 _QUERY_FORMATS = (b"coveragejson", b"json", b"application/prs.coverage+json")
@@ -48,218 +37,18 @@ GEOMETRIES = {
 }
 
 
-# What a target asks for
-
-
-@dataclass(frozen=True)
-class Description:
-    """A page that tells of what there is: its name, and the ids in its path."""
-
-    name: str
-    ids: tuple[str, ...] = ()
-
-
-@dataclass(frozen=True)
-class Position:
-    """At a point or at some points."""
-
-    geometry: Geometry
-
-
-@dataclass(frozen=True)
-class Radius:
-    """So many metres round a point."""
-
-    geometry: Geometry
-    within: int
-
-
-@dataclass(frozen=True)
-class Area:
-    """In polygons."""
-
-    geometry: Geometry
-
-
-@dataclass(frozen=True)
-class Cube:
-    """In a box: the least and the greatest x and y, and perhaps the least and the greatest level."""
-
-    least: tuple[int, int]
-    greatest: tuple[int, int]
-    levels: tuple[int, int] | None
-
-
-@dataclass(frozen=True)
-class Trajectory:
-    """Along a line."""
-
-    geometry: Geometry
-
-
-@dataclass(frozen=True)
-class Corridor:
-    """Near a line: how wide, and perhaps how high, in metres."""
-
-    geometry: Geometry
-    width: int
-    height: int | None
-
-
-@dataclass(frozen=True)
-class Location:
-    """At a station."""
-
-    id: str
-
-
-Shape = Position | Radius | Area | Cube | Trajectory | Corridor | Location
-
-
-@dataclass(frozen=True)
-class Query:
-    """A query. Times, levels and parameters are None where all are asked."""
-
-    collection: str
-    instance: str | None
-    shape: Shape
-    times: Times | None
-    levels: Levels | None
-    parameters: tuple[str, ...] | None
-    crs: str | None
-
-
-Page = Description | Query
-
-
-# The path
-
-
-@dataclass(frozen=True)
-class _Asked:
-    """The query that a path names, and the ids in it."""
-
-    query: str
-    collection: str
-    instance: str | None = None
-    location: str | None = None
-
-
-def _decoded(text: bytes) -> bytes:
-    """The text with each `%` and two hexadecimal digits as the byte that they stand for."""
-    return _ESCAPE.sub(lambda found: bytes([int(found[1], 16)]), text)
-
-
-def _path_parts(path: bytes) -> list[str] | None:
-    """The decoded parts of a path; None where it doesn't begin with `/`, or a part is empty or no UTF-8."""
-    front, *parts = path.split(b"/")
-    if front or not parts:
-        return None
-    if not parts[-1]:
-        parts.pop()
-    if not all(parts):
-        return None
-    try:
-        return [_decoded(part).decode("utf-8") for part in parts]
-    except UnicodeDecodeError:
-        return None
-
-
-def _page_of_path(path: bytes) -> Description | _Asked | None:
-    """What a path names, where it names a page."""
-    match _path_parts(path):
-        case []:
-            return Description("Landing")
-        case ["conformance"]:
-            return Description("Conformance")
-        case ["collections"]:
-            return Description("Collections")
-        case ["collections", collection]:
-            return Description("Collection", (collection,))
-        case ["collections", collection, "instances"]:
-            return Description("Instances", (collection,))
-        case ["collections", collection, "instances", instance]:
-            return Description("Instance", (collection, instance))
-        case ["collections", collection, "locations"]:
-            return Description("Locations", (collection,))
-        case ["collections", collection, "locations", location]:
-            return _Asked("location", collection, location=location)
-        case ["collections", collection, query] if query in _QUERIES:
-            return _Asked(query, collection)
-        case ["collections", collection, "instances", instance, query] if query in _QUERIES:
-            return _Asked(query, collection, instance)
-    return None
-
-
-# The query text
-
-
-def _form_decoded(text: bytes) -> str:
-    return _decoded(text.replace(b"+", b" ")).decode("utf-8", "replace")
-
-
-def _pairs(text: bytes) -> list[tuple[str, str]]:
-    """The names and values of a query text."""
-    pieces = [piece.partition(b"=") for piece in text.split(b"&") if piece]
-    return [(_form_decoded(name), _form_decoded(value)) for name, _, value in pieces]
-
-
-# Values
-
-
-def _read_geometry(text: bytes) -> Geometry | None:
-    try:
-        return read_wkt(text)
-    except WktFault:
-        return None
-
-
-def _read_box(text: bytes) -> Cube | None:
-    """The box that a text of four or six numbers is."""
-    try:
-        numbers = [whole_number(part, limits.COORDINATE) for part in text.split(b",")]
-    except (NotWhole, TooLarge):
-        return None
-    if len(numbers) not in (4, 6):
-        return None
-    half = len(numbers) // 2
-    least, greatest = numbers[:half], numbers[half:]
-    if any(low > high for low, high in zip(least, greatest)):
-        return None
-    levels = (least[2], greatest[2]) if half == 3 else None
-    return Cube((least[0], least[1]), (greatest[0], greatest[1]), levels)
-
-
-def _read_distance(number: bytes, unit: bytes) -> int | None:
-    """The whole metres that a number and its unit are."""
-    found = _DISTANCE.fullmatch(number)
-    room = _UNITS.get(unit.lower())
-    if found is None or room is None:
-        return None
-    fraction = (found[2] or b"").ljust(room, b"0")
-    if fraction[room:].strip(b"0"):
-        return None
-    metres = signed(False, found[1] + fraction[:room])
-    return metres if metres <= GREATEST_DISTANCE else None
-
-
-def _names_once(text: str) -> tuple[str, ...]:
-    """The names of a list with commas, each once, at its first place."""
-    return tuple(dict.fromkeys(text.split(",")))
-
-
 class _Target:
     """A target: what its path names and its pairs. A value is None where it is absent or can't be read."""
 
     def __init__(self, target: bytes):
         path, _, query_text = target.partition(b"?")
-        self.page = _page_of_path(path)
-        self.pairs = _pairs(query_text)
+        self.page = page_of_path(path)
+        self.pairs = pairs_of(query_text)
         self.values = dict(self.pairs)
 
     def query(self) -> str | None:
         """The query, where the page is one."""
-        return self.page.query if isinstance(self.page, _Asked) else None
+        return self.page.query if isinstance(self.page, AskedQuery) else None
 
     def has(self, name: str) -> bool:
         """Whether a parameter is there."""
@@ -285,10 +74,10 @@ class _Target:
         return read_value(self.values[name].encode("utf-8")) if self.has(name) else None
 
     def geometry(self) -> Geometry | None:
-        return self.read("coords", _read_geometry)
+        return self.read("coords", read_geometry)
 
     def box(self) -> Cube | None:
-        return self.read("bbox", _read_box)
+        return self.read("bbox", read_box)
 
     def times(self) -> Times | None:
         return self.read("datetime", read_times)
@@ -300,7 +89,7 @@ class _Target:
         """A number with its unit, in metres."""
         if not self.has(number) or not self.has(unit):
             return None
-        return _read_distance(self.values[number].encode("utf-8"), self.values[unit].encode("utf-8"))
+        return read_distance(self.values[number].encode("utf-8"), self.values[unit].encode("utf-8"))
 
     def is_line_with_z(self) -> bool:
         """Whether the geometry is a line that has z."""
@@ -418,7 +207,7 @@ def _query(target: _Target) -> Query:
     """The query of a target that no refusal applies to."""
     page = target.page
     names = target.values.get("parameter-name")
-    parameters = None if names is None else _names_once(names)
+    parameters = None if names is None else names_once(names)
     shape = _shape(target)
     return Query(page.collection, page.instance, shape, target.times(), target.levels(), parameters, target.values.get("crs"))
 

@@ -3,8 +3,8 @@
 from dataclasses import replace
 
 from plain.worked.grids.fields import FIELD, FIELD_ROWS, FIELD_SPELLINGS, FIVE, LIMIT, disc, field, square
-from plain.worked.grids.grids import answered, refused
-from plain.worked.grids.texts import AREA, CUBE, RADIUS, Row, steps, values
+from plain.worked.grids.texts import AREA, CUBE, RADIUS, AskRow, steps, values
+from plain.worked.grids.usual import answered, refused
 
 THREE = steps(10, 30, 3)  # the columns or rows 2 to 4 of the field
 WHOLE = field(FIVE, FIVE, FIELD_ROWS)
@@ -17,7 +17,7 @@ ROW, COLUMN = field(FIVE, values(20), "31 32 33 34 35"), field(values(20), FIVE,
 LEAST, GREATEST = field(values(0), values(0), "11"), field(values(40), values(40), "55")
 
 
-def disc_rows() -> list[Row]:
+def disc_rows() -> list[AskRow]:
     """Discs around a node, between nodes and outside; each reaches what is exactly so far off, and not what is a metre further."""
     near, low, right = values(0, 10), steps(0, 20, 3), values(20, 30)
     four, most = steps(0, 30, 4), LIMIT - 40
@@ -63,7 +63,7 @@ def disc_rows() -> list[Row]:
     return found + refused(25, *none, feed=FIELD)
 
 
-def distance_rows() -> list[Row]:
+def distance_rows() -> list[AskRow]:
     """Distances in metres and in kilometres, and texts that are none; forms of the point."""
     ten = ["10&within-units=M", "0010.000&within-units=m", "10.&within-units=m", "0.01&within-units=km", "00.0100000000000000000000&within-units=KM"]
     ten += ["0.014&within-units=Km", "1%30&within-units=%6D"]
@@ -85,7 +85,7 @@ def distance_rows() -> list[Row]:
     return [replace(row, feed=FIELD) for row in found]
 
 
-def polygon_rows() -> list[Row]:
+def polygon_rows() -> list[AskRow]:
     """Polygons of one ring: nodes on edges and vertices, vertices beside nodes, edges that cross, and rings without area."""
     upper = steps(20, 40, 3)
     blocks = ["(10 10,30 10,30 30,10 30,10 10)", "(10 10,10 30,30 30,30 10,10 10)", "(30 20,30 30,10 30,10 10,30 10,30 20)", square(9, 31)]
@@ -138,7 +138,7 @@ def polygon_rows() -> list[Row]:
     bad += [f"((0 0,{LIMIT + 1} 0,0 40,0 0))", "((0 0,40 0,0 40,0 0),(1 1,2 1,1 2,1 3))"]
     others = ["POLYGON Z((0 0 0,40 0 0,0 40 0,0 0 0))", "POLYGON M((0 0 0,40 0 0,0 40 0,0 0 0))", "POINT(20 20)", "LINESTRING(0 0,40 40,0 0)"]
     return [
-        *[Row(FIELD, f"{AREA}POLYGON({ring})", some) for ring, some in shapes],
+        *[AskRow(FIELD, f"{AREA}POLYGON({ring})", some) for ring, some in shapes],
         *refused(25, *[f"{AREA}POLYGON({each})" for each in none], feed=FIELD),
         *refused(11, *[f"{AREA}POLYGON{each}" for each in bad], feed=FIELD) + refused(12, *[AREA + each for each in others], feed=FIELD),
     ]
@@ -148,7 +148,7 @@ def polygon_rows() -> list[Row]:
 OUTER, GAP, INNER, BORDER, TIP = square(0, 40), square(5, 35), square(9, 31), square(10, 30), square(15, 25)
 
 
-def ring_rows() -> list[Row]:
+def ring_rows() -> list[AskRow]:
     """Several rings: holes and their borders, what lies in them, and what touches or covers something else."""
     holed = field(FIVE, FIVE, FIELD_ROWS.replace("33", "."))
     outermost = field(FIVE, FIVE, "11 12 13 14 15 / 21 . . . 25 / 31 . . . 35 / 41 . . . 45 / 51 52 53 54 55")
@@ -184,7 +184,7 @@ def ring_rows() -> list[Row]:
     return [replace(row, feed=FIELD) for row in found]
 
 
-def several_polygon_rows() -> list[Row]:
+def several_polygon_rows() -> list[AskRow]:
     """MULTIPOLYGON: what one of the polygons takes is taken, also where others have a hole, or take it too."""
     holed = field(FIVE, FIVE, FIELD_ROWS.replace("33", "."))
     island = field(FIVE, FIVE, "11 12 13 14 15 / 21 . . . 25 / 31 . 33 . 35 / 41 . . . 45 / 51 52 53 54 55")
@@ -206,7 +206,7 @@ def several_polygon_rows() -> list[Row]:
     return [replace(row, feed=FIELD) for row in found]
 
 
-def box_rows() -> list[Row]:
+def box_rows() -> list[AskRow]:
     """Boxes, whose sides all belong to them."""
     right = values(20, 30)
     boxes = [
@@ -236,7 +236,7 @@ def box_rows() -> list[Row]:
     return [replace(row, feed=FIELD) for row in found]
 
 
-def spelled_rows() -> list[Row]:
+def spelled_rows() -> list[AskRow]:
     """The same grid, otherwise written, is answered as it is."""
     asked = [
         (CROSS, disc(20, 20, 10)),
@@ -257,7 +257,7 @@ def spelled_rows() -> list[Row]:
     return found
 
 
-def rows() -> list[Row]:
+def rows() -> list[AskRow]:
     """All of them."""
     found = disc_rows() + distance_rows() + polygon_rows() + ring_rows() + several_polygon_rows()
     return found + box_rows() + spelled_rows()

@@ -1,11 +1,11 @@
 """Feeds of several editions, and feeds at fault."""
 
-from plain.worked.grids.grids import GRID, alone, answered, refused
 from plain.worked.grids.pages import EMPTY_COLLECTIONS, EMPTY_INSTANCES, page
-from plain.worked.grids.texts import A, B, PUBLISH, Row, T0, TYX, collection, feed, grid, instance, values
+from plain.worked.grids.texts import A, B, PUBLISH, AskRow, T0, TYX, collection, feed, grid, instance, values
+from plain.worked.grids.usual import GRID, alone, answered, refused
 
 
-def edition_rows() -> list[Row]:
+def edition_rows() -> list[AskRow]:
     """Feeds of several editions, of which the last is asked."""
 
     def sample(number: int) -> str:
@@ -48,7 +48,7 @@ def edition_rows() -> list[Row]:
     ]
 
 
-def fault_rows() -> list[Row]:
+def fault_rows() -> list[AskRow]:
     """Feeds at fault, which is told before anything of the target."""
     other = grid(f'"x":{values(0)},"y":{values(0)},"t":{values(T0)}', TYX, "1,1,1", {"b": "1"}, B)
     faults = {
@@ -62,9 +62,9 @@ def fault_rows() -> list[Row]:
         "Change line 6": [GRID + feed("", '{"drop":{"collection":"bare","instance":"1"}}')],
     }
     targets = ["/", "x", "/collections/g/position?coords=POINT(0 0)", "/collections/g/position?colour=red"]
-    return [Row(each, target, fault=fault) for fault, some in faults.items() for each in some for target in targets]
+    return [AskRow(each, target, fault=fault) for fault, some in faults.items() for each in some for target in targets]
 
 
-def rows() -> list[Row]:
+def rows() -> list[AskRow]:
     """All of them."""
     return edition_rows() + fault_rows()

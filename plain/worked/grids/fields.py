@@ -4,7 +4,6 @@ Samples are written as they lie: in a row from the lowest x on, a row behind a `
 time. `-` is a missing sample, `.` a node of a frame that isn't taken; both are null.
 """
 
-from plain.worked.grids.grids import TWO_TIMES
 from plain.worked.grids.texts import (
     A,
     B,
@@ -25,6 +24,7 @@ from plain.worked.grids.texts import (
     steps,
     values,
 )
+from plain.worked.grids.usual import TWO_TIMES
 
 
 def samples(some: str) -> str:

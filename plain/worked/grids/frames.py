@@ -18,13 +18,13 @@ from plain.worked.grids.fields import (
     tiled,
     tiled_feed,
 )
-from plain.worked.grids.grids import DEEP_FEED, EAST, NORTH, TWO_TIMES, answered, refused
-from plain.worked.grids.texts import A, AREA, AT_T0, CUBE, PUBLISH, RADIUS, Row, T0, T1, TYX, collection, feed, grid, instance, steps, values
+from plain.worked.grids.texts import A, AREA, AT_T0, CUBE, PUBLISH, RADIUS, AskRow, T0, T1, TYX, collection, feed, grid, instance, steps, values
+from plain.worked.grids.usual import DEEP_FEED, EAST, NORTH, TWO_TIMES, answered, refused
 
 EITHER = (T0, T1)
 
 
-def several_rows() -> list[Row]:
+def several_rows() -> list[AskRow]:
     """Several times and parameters, and the refusals that the data decide."""
     near = values(0, 100)
     corner = {"a": "10 11 / 13 . ; 20 21 / 23 .", "b": "110 111 / 113 . ; 120 121 / 123 ."}
@@ -53,7 +53,7 @@ def several_rows() -> list[Row]:
     return found + refused(24, *[f"{RADIUS}POINT Z({at})&within=9&within-units=m" for at in ("0 0 0", "50 50 0")])
 
 
-def instance_rows() -> list[Row]:
+def instance_rows() -> list[AskRow]:
     """The newest instance, which need not be the last one that was set, and one by its name; each has axes of its own."""
     older = grid(f'"x":{values(0, 5)},"y":{values(0)},"t":{values(T0)}', TYX, "1,1,2", {"a": "1,2"}, A)
     newer = grid(f'"x":{values(0, 3, 9)},"y":{values(0)},"t":{values(T0)}', TYX, "1,1,3", {"a": "3,4,5"}, A)
@@ -67,7 +67,7 @@ def instance_rows() -> list[Row]:
     ]
 
 
-def level_rows() -> list[Row]:
+def level_rows() -> list[AskRow]:
     """Levels: by `z`, by the Z of a point, and between those of a box."""
     x, y, low = steps(0, 20, 3), values(0, 10), values(0, 10)
     around = frame(x, y, {"a": "131 132 133 / . 135 . ; 231 232 233 / . 235 ."}, EITHER, values(5))
@@ -108,7 +108,7 @@ def level_rows() -> list[Row]:
     return [*[replace(row, feed=STACK) for row in found], *answered(missing, *[each + "&z=10" for each in deep], *above, feed=DEEP_FEED)]
 
 
-def axis_rows() -> list[Row]:
+def axis_rows() -> list[AskRow]:
     """Axes of unequal steps and of one node, and nodes of which none has a sample."""
     columns, rows = values(-9, -4, 1, 6, 8, 9), values(-3, -1, 0)
     uneven = [
@@ -136,7 +136,7 @@ def axis_rows() -> list[Row]:
     ]
 
 
-def limit_rows() -> list[Row]:
+def limit_rows() -> list[AskRow]:
     """Nodes at the limits of coordinates: what is decided by one metre, or by less, of 200,000,000."""
     far, both, low = 2 * LIMIT, values(-LIMIT, LIMIT), values(-LIMIT, 1 - LIMIT)
     ends, corner = values(-LIMIT, 1 - LIMIT, LIMIT), (-LIMIT, -LIMIT)
@@ -162,7 +162,7 @@ def limit_rows() -> list[Row]:
     ]
 
 
-def tiled_rows() -> list[Row]:
+def tiled_rows() -> list[AskRow]:
     """Frames over several tiles, and in the last of them alone."""
     every, over, four = dict.fromkeys(range(66), (0, 129)), dict.fromkeys(range(62, 66), (60, 70)), dict.fromkeys((63, 64), (63, 64))
     around = {61: (63, 64), 62: (62, 65), 63: (61, 66), 64: (61, 66), 65: (62, 65)}
@@ -190,6 +190,6 @@ def tiled_rows() -> list[Row]:
     return [replace(row, feed=tiles) for row in found]
 
 
-def rows() -> list[Row]:
+def rows() -> list[AskRow]:
     """All of them."""
     return several_rows() + instance_rows() + level_rows() + axis_rows() + limit_rows() + tiled_rows()

@@ -2,7 +2,6 @@
 
 from dataclasses import replace
 
-from plain.worked.grids.grids import WIDE_COUNT, WIDE_FEED, answered, deep, refused, row_of_points
 from plain.worked.grids.lines import composite_axes, corridor, path, trajectory
 from plain.worked.grids.texts import (
     A,
@@ -15,7 +14,7 @@ from plain.worked.grids.texts import (
     POSITION,
     PUBLISH,
     RADIUS,
-    Row,
+    AskRow,
     T0,
     T1,
     TIME,
@@ -34,6 +33,7 @@ from plain.worked.grids.texts import (
     tuples,
     values,
 )
+from plain.worked.grids.usual import WIDE_COUNT, WIDE_FEED, answered, deep, refused, row_of_points
 
 
 def many_times(count: int) -> list[str]:
@@ -66,13 +66,12 @@ def disc(x: int, within: int) -> str:
     return f"{RADIUS}POINT({x} 0)&within={within}&within-units=m"
 
 
-def rows() -> list[Row]:
+def rows() -> list[AskRow]:
     """Replies of 2,000,000 values and of 5,000 coverages, and of one more."""
-    found = many_parameter_rows() + many_node_rows() + many_level_rows() + many_coverage_rows() + long_frame_rows()
-    return [replace(row, large=True) for row in found]
+    return many_parameter_rows() + many_node_rows() + many_level_rows() + many_coverage_rows() + long_frame_rows()
 
 
-def many_parameter_rows() -> list[Row]:
+def many_parameter_rows() -> list[AskRow]:
     """1,000 parameters over 2,001 times, at one node and at two."""
     times, ids, all_parameters = many_times(2001), [f"{number:04}" for number in range(1000)], many_parameters(1000)
     one_node = f'"x":{values(0)},"y":{values(0)},"t":{values(*times)}'
@@ -100,7 +99,7 @@ def many_parameter_rows() -> list[Row]:
     ]
 
 
-def many_node_rows() -> list[Row]:
+def many_node_rows() -> list[AskRow]:
     """1,000 parameters at 2,001 nodes, over one time; nodes of a frame that aren't taken count too."""
     samples = dict.fromkeys([f"{number:04}" for number in range(1000)], ",".join("7" * 2001))
     wide = grid(f'"x":{steps(0, 2000, 2001)},"y":{values(0)},"t":{values(T0)}', TYX, "1,1,2001", samples, many_parameters(1000))
@@ -125,7 +124,7 @@ def many_node_rows() -> list[Row]:
     ]
 
 
-def long_frame_rows() -> list[Row]:
+def long_frame_rows() -> list[AskRow]:
     """2,000,001 nodes of one parameter, beside each other."""
     count = 2_000_001
     some = f"6,{'7,' * (count - 2)}8"
@@ -144,7 +143,7 @@ def long_frame_rows() -> list[Row]:
     ]
 
 
-def many_level_rows() -> list[Row]:
+def many_level_rows() -> list[AskRow]:
     """Three times of 666,667 levels, which are 2,000,001 values."""
     count, times = 666_667, many_times(3)
     axes = f'"x":{values(0)},"y":{values(0)},"z":{steps(0, count - 1, count)},"t":{values(*times)}'
@@ -165,7 +164,7 @@ def many_level_rows() -> list[Row]:
     ]
 
 
-def many_coverage_rows() -> list[Row]:
+def many_coverage_rows() -> list[AskRow]:
     """5,000 coverages of the wide grid, and one more; many nodes over one time are one coverage."""
     at = "/collections/wide/position?coords="
 

@@ -2,7 +2,6 @@
 
 from dataclasses import replace
 
-from plain.worked.grids.grids import DEEP_FEED, USUAL, answered, deep, point, refused
 from plain.worked.grids.texts import (
     A,
     AT_T0,
@@ -10,7 +9,7 @@ from plain.worked.grids.texts import (
     LEVEL,
     POSITION,
     PUBLISH,
-    Row,
+    AskRow,
     T0,
     T1,
     TIME,
@@ -26,9 +25,10 @@ from plain.worked.grids.texts import (
     steps,
     values,
 )
+from plain.worked.grids.usual import DEEP_FEED, USUAL, answered, deep, point, refused
 
 
-def level_rows() -> list[Row]:
+def level_rows() -> list[AskRow]:
     """Levels, single and several, of one time and of several."""
     at, every = f"{POSITION}POINT(0 0){AT_T0}&z=", f"{POSITION}POINT(0 0)&z="
     first, both, all_levels = values(T0), values(T0, T1), steps(0, 20, 3)
@@ -70,7 +70,7 @@ def level_rows() -> list[Row]:
     return found
 
 
-def vertical_rows() -> list[Row]:
+def vertical_rows() -> list[AskRow]:
     """Data of one level, and the vertical text."""
     one_level = f'"x":{values(0)},"y":{values(0)},"z":{values(7)},"t":{values(T0)}'
     other = DEEP.replace("depth", "height")
@@ -99,7 +99,7 @@ def vertical_rows() -> list[Row]:
     ]
 
 
-def uneven_level_rows() -> list[Row]:
+def uneven_level_rows() -> list[AskRow]:
     """Levels of unequal steps, given from the greatest down; what is selected of them may have equal steps."""
     axes = f'"x":{values(0)},"y":{values(0)},"z":{values(9, 5, 1, 0, -7)},"t":{values(T0)}'
     of_uneven = feed(collection("g", vertical="depth"), instance("g", "1", grid(axes, TZYX, "1,5,1,1", {"a": "5,4,null,2,1"}, A, DEEP)), PUBLISH)
@@ -119,6 +119,6 @@ def uneven_level_rows() -> list[Row]:
     ]
 
 
-def rows() -> list[Row]:
+def rows() -> list[AskRow]:
     """All of them."""
     return level_rows() + vertical_rows() + uneven_level_rows()

@@ -1,8 +1,8 @@
 """Corridors and trajectories on grids: which nodes they take, at which times and levels, and in which order."""
 
 from plain.worked.grids.fields import FIELD, FIELD_SPELLINGS, FIVE, field, frame
-from plain.worked.grids.grids import DEEP_FEED, answered, refused
-from plain.worked.grids.texts import A, AT_T0, B, COMPOSITE, DEEP, FLAT, Row, T0, T1, bare_range, collected, covered, listed, range_along, steps, values
+from plain.worked.grids.texts import A, AT_T0, B, COMPOSITE, DEEP, FLAT, AskRow, T0, T1, bare_range, collected, covered, listed, range_along, steps, values
+from plain.worked.grids.usual import DEEP_FEED, answered, refused
 
 M0, M1 = 1_704_067_200, 1_704_070_800  # the two times as m
 ONLY_A = "&parameter-name=a"
@@ -41,7 +41,7 @@ def path(steps_: list[tuple], names: str = "txy", z: str = "", **samples: str) -
     return covered("Trajectory", axes, ranges, parameters, DEEP if z or "z" in names else FLAT)
 
 
-def corridor_place_rows() -> list[Row]:
+def corridor_place_rows() -> list[AskRow]:
     """Segments of no length, on axes, across them and outside, whose ends and sides reach a node exactly, and not a metre less."""
     centre, only_missing = field(values(20), values(20), "33"), field(values(20), values(30), "-")
     cross, block = field(THREE, THREE, ". 23 . / 32 33 34 / . - ."), field(THREE, THREE, "22 23 24 / 32 33 34 / 42 - 44")
@@ -75,7 +75,7 @@ def corridor_place_rows() -> list[Row]:
     return found
 
 
-def corridor_time_rows() -> list[Row]:
+def corridor_time_rows() -> list[AskRow]:
     """Times of each segment's own: between its m, both included; and the times that are asked."""
     early, both = frame(EAST, values(0), {"a": "10 11 12"}), frame(EAST, values(0), {"a": "10 11 12;20 21 22"}, (T0, T1))
     apart = frame(EAST, values(0), {"a": "10 11 12;. 21 22"}, (T0, T1))
@@ -91,7 +91,7 @@ def corridor_time_rows() -> list[Row]:
     return found
 
 
-def corridor_level_rows() -> list[Row]:
+def corridor_level_rows() -> list[AskRow]:
     """Levels that are asked, about a single level, and of each segment's own, with heights of 0 and odd ones."""
     whole = frame(values(0, 100), values(0), {"a": "1 2;3 -;5 6"}, z=steps(0, 20, 3))
     ten = frame(values(0, 100), values(0), {"a": "3 -"}, z=values(10))
@@ -118,7 +118,7 @@ def corridor_level_rows() -> list[Row]:
     return found
 
 
-def trajectory_place_rows() -> list[Row]:
+def trajectory_place_rows() -> list[AskRow]:
     """Vertices on nodes, between them and outside; of neighbours at one node one stays, and a node that comes again stands again."""
     cases: list[tuple[list[tuple[int, int]], str, list[str]]] = [
         ([(0, 0), (40, 40)], "11,55", ["0 0,40 40", "-1 0,0 0,41 0,0 41,40 -1,40 40", "0 0,4 4,40 40,-3 9"]),
@@ -135,7 +135,7 @@ def trajectory_place_rows() -> list[Row]:
     return found + refused(25, trajectory("-1 0,0 -1"), trajectory("41 0,0 41"), trajectory("900 900,-900 -900"), feed=FIELD)
 
 
-def trajectory_turn_rows() -> list[Row]:
+def trajectory_turn_rows() -> list[AskRow]:
     """A list for each time that is asked, and times of the vertices' own."""
     lists = [path([(t, 0, 0), (t, 200, 100)], a=some) for t, some in ((T0, "10,15"), (T1, "20,25"))]
     found = answered(lists[0], trajectory("0 0,200 100", ONLY_A + AT_T0), trajectory("0 0,200 100", f"{ONLY_A}&datetime=../2024-01-01T00:59:59Z"))
@@ -153,7 +153,7 @@ def trajectory_turn_rows() -> list[Row]:
     return found + refused(25, *outside, trajectory("0 0,0 0", "&datetime=2024-01-01T00:00:01Z"))
 
 
-def trajectory_level_rows() -> list[Row]:
+def trajectory_level_rows() -> list[AskRow]:
     """A list for each level that is asked, and levels of the vertices' own."""
     listed = {
         (t, z): path([(t, 0, 0), (t, 100, 0)], z=values(z), a=some)
@@ -178,7 +178,7 @@ def trajectory_level_rows() -> list[Row]:
     return found + refused(25, *none, feed=DEEP_FEED)
 
 
-def rows() -> list[Row]:
+def rows() -> list[AskRow]:
     """All of them."""
     found = corridor_place_rows() + corridor_time_rows() + corridor_level_rows()
     return found + trajectory_place_rows() + trajectory_turn_rows() + trajectory_level_rows()

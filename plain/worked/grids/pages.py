@@ -1,8 +1,8 @@
 """Pages that describe, and ids that need escapes."""
 
-from plain.worked.grids.grids import DEEP_FEED, DEEP_GRID, POLYGON, USUAL, alone, answered, refused
 from plain.worked.grids.places import TURNED_ALL
-from plain.worked.grids.texts import A, B, PUBLISH, Row, T0, T1, TYX, collection, feed, grid, instance, values
+from plain.worked.grids.texts import A, B, PUBLISH, AskRow, T0, T1, TYX, collection, feed, grid, instance, values
+from plain.worked.grids.usual import DEEP_FEED, DEEP_GRID, POLYGON, USUAL, alone, answered, refused
 
 LANDING = '{"links":[{"href":"/collections","rel":"data"},{"href":"/conformance","rel":"conformance"}],"title":"EDR"}'
 NEWEST = grid(f'"x":{values(-5)},"y":{values(5, 10)},"t":{values(T1)}', TYX, "1,2,1", {"a": "7,8"}, A)
@@ -46,7 +46,7 @@ def page(path: str, id_: str, title: str = '"Title"', extent: str = "", paramete
     return f'{{"crs":[{crs}],"data_queries":{{{links}}},' + (f"{extent}," if extent else "") + f"{rest}}}"
 
 
-def description_rows() -> list[Row]:
+def description_rows() -> list[AskRow]:
     """The pages of one feed, of an empty collection, and of no collection."""
     bare = feed(collection("bare"), PUBLISH)
     bare_page = page("/collections/bare", '"bare"')
@@ -107,7 +107,7 @@ IDS = {
 IDS_IN_ORDER = [" ", "!'()*", "%41", "..", "50%", "A09z", "a b", "a+b", "a/b", "n" * 128, 'q"t', "q\\t", "x?y#z", "~-._", "å", "\u2028", "😀"]
 
 
-def id_rows() -> list[Row]:
+def id_rows() -> list[AskRow]:
     """Ids of collections and instances that need escapes."""
     three = grid(f'"x":{values(0)},"y":{values(0)},"t":{values(T0)}', TYX, "1,1,1", {"a": "3"}, A)
     extent = '"extent":{"spatial":{"bbox":[[0,0,0,0]],"crs":"local"},"temporal":{"interval":[["2024-01-01T00:00:00Z","2024-01-01T00:00:00Z"]]}}'
@@ -134,6 +134,6 @@ def id_rows() -> list[Row]:
     return found + answered(told, "/collections/g", feed=title)
 
 
-def rows() -> list[Row]:
+def rows() -> list[AskRow]:
     """All of them."""
     return description_rows() + id_rows()

@@ -1,6 +1,5 @@
 """Parameters and reference systems."""
 
-from plain.worked.grids.grids import alone, answered, point, refused
 from plain.worked.grids.texts import (
     A,
     AT_T0,
@@ -9,7 +8,7 @@ from plain.worked.grids.texts import (
     FLAT,
     POSITION,
     PUBLISH,
-    Row,
+    AskRow,
     T0,
     T1,
     TIME,
@@ -25,9 +24,10 @@ from plain.worked.grids.texts import (
     tuples,
     values,
 )
+from plain.worked.grids.usual import alone, answered, point, refused
 
 
-def parameter_rows() -> list[Row]:
+def parameter_rows() -> list[AskRow]:
     """Parameters by their names, in any order, and ids that need escapes."""
     asked = f"{POSITION}POINT(0 0){AT_T0}&parameter-name="
     axes = axes_of(0, 0, values(T0))
@@ -63,7 +63,7 @@ def parameter_rows() -> list[Row]:
     ]
 
 
-def reference_rows() -> list[Row]:
+def reference_rows() -> list[AskRow]:
     """`crs`, which is compared byte by byte; one that is empty, and one with a quote."""
     one_node = f'"x":{values(0)},"y":{values(0)},"t":{values(T0)}'
     at = f"{POSITION}POINT(0 0)&crs="
@@ -86,6 +86,6 @@ def reference_rows() -> list[Row]:
     ]
 
 
-def rows() -> list[Row]:
+def rows() -> list[AskRow]:
     """All of them."""
     return parameter_rows() + reference_rows()

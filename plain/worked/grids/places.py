@@ -1,7 +1,6 @@
 """Points: on borders, outside, at equal distances, on tiles, and where samples are missing."""
 
 from plain.worked.grids.fields import BOTH, digits, tiled_feed
-from plain.worked.grids.grids import EAST, NORTH, TWO_TIMES, USUAL, alone, answered, point, refused, series
 from plain.worked.grids.texts import (
     A,
     AT_T0,
@@ -9,7 +8,7 @@ from plain.worked.grids.texts import (
     DEEP,
     POSITION,
     PUBLISH,
-    Row,
+    AskRow,
     T0,
     T1,
     TIME,
@@ -27,6 +26,7 @@ from plain.worked.grids.texts import (
     tuples,
     values,
 )
+from plain.worked.grids.usual import EAST, NORTH, TWO_TIMES, USUAL, alone, answered, point, refused, series
 
 # the same grid, otherwise written
 TURNED_Y = grid(
@@ -52,13 +52,13 @@ OUTSIDE = [(-1, 0), (201, 0), (0, -1), (0, 101), (-1, -1), (201, 101), (-1, 101)
 SPELLINGS = [USUAL, TURNED_Y, TURNED_ALL, OTHER_ORDER]
 
 
-def place_rows() -> list[Row]:
+def place_rows() -> list[AskRow]:
     """Points on borders, one metre outside, and at equal distances, over one grid in several spellings."""
     found = []
     for each in SPELLINGS:
         of_each = feed(collection("g", "Grid"), instance("g", "1", each), PUBLISH)
-        found += [Row(of_each, f"{POSITION}POINT({x} {y}){AT_T0}", point(*node)) for (x, y), node in PLACES.items()]
-        found += [Row(of_each, f"{POSITION}POINT({x} {y})", series(*node)) for (x, y), node in PLACES.items() if (x, y) == node]
+        found += [AskRow(of_each, f"{POSITION}POINT({x} {y}){AT_T0}", point(*node)) for (x, y), node in PLACES.items()]
+        found += [AskRow(of_each, f"{POSITION}POINT({x} {y})", series(*node)) for (x, y), node in PLACES.items() if (x, y) == node]
         found += refused(25, *[f"{POSITION}POINT({x} {y})" for x, y in OUTSIDE], feed=of_each)
     return found
 
@@ -68,7 +68,7 @@ def one_time_feed(x: str, y: str, shape: str, some: str) -> str:
     return feed(collection("g"), instance("g", "1", grid(f'"x":{x},"y":{y},"t":{values(T0)}', TYX, f"1,{shape}", {"a": some}, A)), PUBLISH)
 
 
-def axis_rows() -> list[Row]:
+def axis_rows() -> list[AskRow]:
     """Axes of one node, of unequal steps, below 0, and at the limits."""
     one = one_time_feed(values(5), values(7), "1,1", "3")
     uneven = one_time_feed(values(-10, -4, 0, 1, 3, 10), values(-3, -1), "2,6", "0,1,2,3,4,5,6,7,8,9,10,11")
@@ -81,7 +81,7 @@ def axis_rows() -> list[Row]:
     return [
         *answered(alone(5, 7, "3"), POSITION + "POINT(5 7)", feed=one),
         *refused(25, *[f"{POSITION}POINT({x} {y})" for x, y in ((4, 7), (6, 7), (5, 6), (5, 8))], feed=one),
-        *[Row(uneven, f"{POSITION}POINT({x} {y})", alone(*node)) for (x, y), node in taken.items()],
+        *[AskRow(uneven, f"{POSITION}POINT({x} {y})", alone(*node)) for (x, y), node in taken.items()],
         *refused(25, *[f"{POSITION}POINT({x} {y})" for x, y in ((-11, -3), (11, -1), (0, -4), (0, 0))], feed=uneven),
         *answered(alone(least, least, "1"), POSITION + "POINT(0 0)", POSITION + f"POINT({least} {least})", feed=greatest),
         *answered(alone(-least, least, "2"), POSITION + "POINT(1 0)", feed=greatest),
@@ -89,7 +89,7 @@ def axis_rows() -> list[Row]:
     ]
 
 
-def tiled_rows() -> list[Row]:
+def tiled_rows() -> list[AskRow]:
     """A grid of 130 by 66 nodes, two parameters, times and levels, of which each sample says in digits where it stands."""
     of_tiles = tiled_feed()
     nodes = [(0, 0), (63, 0), (64, 0), (127, 0), (128, 0), (129, 0), (0, 63), (63, 63), (64, 63), (0, 64), (64, 64), (128, 64), (129, 65)]
@@ -104,7 +104,7 @@ def tiled_rows() -> list[Row]:
     points = ",".join(f"{10 * x} {10 * y}" for x, y in reversed(nodes))
     document = covered("MultiPoint", several, f'"a":{some[0]},"b":{some[1]}', referencing=DEEP)
     return [
-        *[Row(of_tiles, f"{POSITION}POINT({10 * x} {10 * y})", reply(x, y)) for x, y in nodes],
+        *[AskRow(of_tiles, f"{POSITION}POINT({10 * x} {10 * y})", reply(x, y)) for x, y in nodes],
         *answered(reply(63, 63), POSITION + "POINT(635 635)", POSITION + "POINT(626 629)", feed=of_tiles),
         *answered(reply(64, 64), POSITION + "POINT(636 636)", POSITION + "POINT(645 644)", feed=of_tiles),
         *answered(document, f"{POSITION}MULTIPOINT({points})&z=0&datetime={T1}", feed=of_tiles),
@@ -113,7 +113,7 @@ def tiled_rows() -> list[Row]:
     ]
 
 
-def missing_rows() -> list[Row]:
+def missing_rows() -> list[AskRow]:
     """Missing samples are selected like any other."""
     empty = feed(collection("g"), instance("g", "1", grid(f"{EAST},{NORTH},{TWO_TIMES}", TYX, "2,2,3", {"a": ",".join(["null"] * 12)}, A)), PUBLISH)
     nulls = f'"a":{range_along(TIME, "2", "null,null")}'
@@ -131,6 +131,6 @@ def missing_rows() -> list[Row]:
     ]
 
 
-def rows() -> list[Row]:
+def rows() -> list[AskRow]:
     """All of them."""
     return place_rows() + axis_rows() + tiled_rows() + missing_rows()

@@ -6,8 +6,8 @@ leaves a part out. Two causes of different numbers that have no part in common a
 
 import itertools
 
-from plain.worked.grids.grids import DEEP_FEED, GRID, POLYGON, WIDE_COUNT, WIDE_FEED, refused, row_of_points
-from plain.worked.grids.texts import AT_T0, POSITION, Row, T0
+from plain.worked.grids.texts import AT_T0, POSITION, AskRow, T0
+from plain.worked.grids.usual import DEEP_FEED, GRID, POLYGON, WIDE_COUNT, WIDE_FEED, refused, row_of_points
 
 PATH_PARTS = ("collection", "instance", "query")
 Parts = dict[str, str | None]
@@ -141,7 +141,7 @@ def meet(one: tuple[int, Parts], other: tuple[int, Parts]) -> bool:
     return one[0] != other[0] and not one[1].keys() & other[1].keys()
 
 
-def query_refusals() -> list[Row]:
+def query_refusals() -> list[AskRow]:
     """Each refusal of each query, and each two of them that can be met at once."""
     found = []
     for base, always, causes in QUERIES:
@@ -153,11 +153,11 @@ def query_refusals() -> list[Row]:
                 parts.update(change)
             number = min([number for number, _ in some] + always)
             of_wide = any(number == 26 for number, _ in some)
-            found.append(Row(WIDE_FEED if of_wide else GRID, target_of(parts, len(some) == 2), refusal=number))
+            found.append(AskRow(WIDE_FEED if of_wide else GRID, target_of(parts, len(some) == 2), refusal=number))
     return found
 
 
-def shared_refusals() -> list[Row]:
+def shared_refusals() -> list[AskRow]:
     """Two refusals of one and the same part."""
     return [
         *refused(7, "/collections/g/position?colour=red&colour=red", "/collections/g/position?colour=red", "/collections/g/position?=x"),
@@ -174,7 +174,7 @@ def shared_refusals() -> list[Row]:
     ]
 
 
-def page_refusals() -> list[Row]:
+def page_refusals() -> list[AskRow]:
     """Refusals of the pages that describe."""
     pages = ["/", "/conformance", "/collections", "/collections/g", "/collections/g/instances", "/collections/g/instances/1"]
     pages += ["/collections/g/locations", "/collections/none", "/collections/none/instances", "/collections/none/locations"]
@@ -191,6 +191,6 @@ def page_refusals() -> list[Row]:
     return found
 
 
-def rows() -> list[Row]:
+def rows() -> list[AskRow]:
     """All of them."""
     return query_refusals() + shared_refusals() + page_refusals()

@@ -2,7 +2,6 @@
 
 from dataclasses import replace
 
-from plain.worked.grids.grids import DEEP_FEED, NODES, answered, deep, refused, series, several_of_one, several_points
 from plain.worked.grids.texts import (
     A,
     AT_T0,
@@ -10,7 +9,7 @@ from plain.worked.grids.texts import (
     DEEP,
     LEVEL,
     POSITION,
-    Row,
+    AskRow,
     T0,
     T1,
     TIME,
@@ -23,9 +22,10 @@ from plain.worked.grids.texts import (
     tuples,
     values,
 )
+from plain.worked.grids.usual import DEEP_FEED, NODES, answered, deep, refused, series, several_of_one, several_points
 
 
-def multipoint_rows() -> list[Row]:
+def multipoint_rows() -> list[AskRow]:
     """MULTIPOINT over one time and over several, with and without levels."""
     at = AT_T0
     corners = several_points("[0,0],[200,100]", "10,15", "110,115", 2)
@@ -48,7 +48,7 @@ def multipoint_rows() -> list[Row]:
     ]
 
 
-def deep_multipoint_rows() -> list[Row]:
+def deep_multipoint_rows() -> list[AskRow]:
     """The same over the grid with levels."""
     both_nodes = "MULTIPOINT((100 0),(0 0),(100 0),(101 0))"
     first, both, all_levels = values(T0), values(T0, T1), steps(0, 20, 3)
@@ -76,6 +76,6 @@ def deep_multipoint_rows() -> list[Row]:
     return [replace(row, feed=DEEP_FEED) for row in found]
 
 
-def rows() -> list[Row]:
+def rows() -> list[AskRow]:
     """All of them."""
     return multipoint_rows() + deep_multipoint_rows()

@@ -1,10 +1,10 @@
 """Spellings of paths, of formats, and of points."""
 
-from plain.worked.grids.grids import POLYGON, answered, point, refused, several_of_one
-from plain.worked.grids.texts import AT_T0, POSITION, Row
+from plain.worked.grids.texts import AT_T0, POSITION, AskRow
+from plain.worked.grids.usual import POLYGON, answered, point, refused, several_of_one
 
 
-def path_rows() -> list[Row]:
+def path_rows() -> list[AskRow]:
     """Paths that are no page, and other spellings of pages."""
     at = f"?coords=POINT(0 0){AT_T0}"
     none = ["", "collections", "?", "//", "/x", "/Collections", "/collections//", "/collections//position", "/collections/g/position//", "/."]
@@ -25,7 +25,7 @@ def path_rows() -> list[Row]:
     ]
 
 
-def format_rows() -> list[Row]:
+def format_rows() -> list[AskRow]:
     """What `f` may be in a query."""
     asked = f"{POSITION}POINT(0 0){AT_T0}&f="
     good = ["json", "JSON", "CoverageJSON", "coveragejson", "application/prs.coverage%2Bjson", "APPLICATION/prs.coverage%2bJSON"]
@@ -33,7 +33,7 @@ def format_rows() -> list[Row]:
     return answered(point(0, 0), *[asked + each for each in good]) + refused(9, *[asked + each for each in bad])
 
 
-def geometry_rows() -> list[Row]:
+def geometry_rows() -> list[AskRow]:
     """Spellings of a point, and what is none."""
     good = ["point(0 0)", "POINT%20(0%200)", "+PoInT%09(+0%0A%0D+0+)+", "POINT(-0 .0)", "POINT(0.00 000)", "POINT(%2B0 0.)", "POINT(+0 0)"]
     bad = ["", "POINT", "POINT EMPTY", "POINT()", "POINT(0)", "POINT(0 0 0)", "POINT(0,0)", "POINT((0 0))", "POINT(0 0))", "POINT(0 0", "POINT(1e3 0)"]
@@ -51,6 +51,6 @@ def geometry_rows() -> list[Row]:
     ]
 
 
-def rows() -> list[Row]:
+def rows() -> list[AskRow]:
     """All of them."""
     return path_rows() + format_rows() + geometry_rows()

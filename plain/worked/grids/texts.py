@@ -3,7 +3,8 @@
 import json
 from dataclasses import dataclass
 
-FIRST, LAST = 1, 2  # from the product as it is to that with the query of the nearest station
+from plain.worked.runs import Row
+
 NAMES = {
     6: "NoSuchPage", 7: "UnknownParameter", 8: "RepeatedParameter", 9: "BadFormat", 10: "MissingParameter", 11: "BadCoords",
     12: "WrongGeometry", 13: "BadBbox", 14: "BadDatetime", 15: "BadLevel", 16: "BadDistance", 17: "Conflict", 18: "UnknownCollection",
@@ -13,7 +14,7 @@ NAMES = {
 
 
 @dataclass(frozen=True)
-class Row:
+class AskRow:
     """A feed, a target, and how `ask` ends: with an output, with a refusal's number, or with the feed's fault."""
 
     feed: str
@@ -21,13 +22,16 @@ class Row:
     output: str = ""
     refusal: int = 0
     fault: str = ""
-    large: bool = False
 
     def ending(self) -> tuple[int, str, str]:
         """The status, the output, and the line on standard error."""
         if self.refusal:
             return 6, "", f'{{"code":"{NAMES[self.refusal]}","number":{self.refusal}}}\n'
         return (2, "", f"feed: {self.fault}\n") if self.fault else (0, self.output, "")
+
+    def row(self) -> Row:
+        """The row of `ask`."""
+        return Row(("ask", self.target), self.feed, *self.ending())
 
 
 T0, T1 = "2024-01-01T00:00:00Z", "2024-01-01T01:00:00Z"

@@ -1,11 +1,10 @@
 """Times."""
 
-from plain.worked.grids.grids import answered, refused
 from plain.worked.grids.texts import (
     A,
     POSITION,
     PUBLISH,
-    Row,
+    AskRow,
     T0,
     T1,
     TIME,
@@ -20,6 +19,7 @@ from plain.worked.grids.texts import (
     range_along,
     values,
 )
+from plain.worked.grids.usual import answered, refused
 
 MOMENTS = [T0, T1, "2024-01-01T12:30:15Z", "2024-02-29T23:59:59Z"]
 MOMENT_SAMPLES = ["1", "2", "3", "null"]
@@ -34,7 +34,7 @@ def timed(*places: int) -> str:
     return covered("PointSeries", axes, f'"a":{range_along(TIME, str(len(places)), some)}', A)
 
 
-def time_rows() -> list[Row]:
+def time_rows() -> list[AskRow]:
     """Instants and intervals."""
     moments = grid(f'"x":{values(0)},"y":{values(0)},"t":{values(*MOMENTS)}', TYX, "4,1,1", {"a": ",".join(MOMENT_SAMPLES)}, A)
     of_moments = feed(collection("g"), instance("g", "1", moments), PUBLISH)
@@ -65,14 +65,14 @@ def time_rows() -> list[Row]:
     bad += ["2024-01-01T00:00:00+0100", "2024-01-01T00:00:00+01", "2024-01-01T00:00:00%E2%88%9201:00", f"{T0},{T1}", f"{T0}/...", f" {T0}", f"{T0} ", "P1D"]
     bad += [f"{T0}/x", f"./{T0}", f"{T0}/P1D", "2024-01-01T0:00Z", "24-01-01T00:00Z", "2024-1-01T00:00Z"]
     return [
-        *[Row(of_moments, at + each, timed(*places)) for places, some in taken.items() for each in some],
+        *[AskRow(of_moments, at + each, timed(*places)) for places, some in taken.items() for each in some],
         *answered(timed(0, 1, 2, 3), POSITION + "POINT(0 0)", feed=of_moments),
         *refused(25, *[at + each for each in none], feed=of_moments),
         *refused(14, *[at + each for each in bad], feed=of_moments),
     ]
 
 
-def limit_time_rows() -> list[Row]:
+def limit_time_rows() -> list[AskRow]:
     """Data at the first and the last time that there is."""
     first, last = "0000-01-01T00:00:00Z", "9999-12-31T23:59:59Z"
     both = grid(f'"x":{values(0)},"y":{values(0)},"t":{values(first, last)}', TYX, "2,1,1", {"a": "-9007199254740991,0"}, A)
@@ -88,6 +88,6 @@ def limit_time_rows() -> list[Row]:
     ]
 
 
-def rows() -> list[Row]:
+def rows() -> list[AskRow]:
     """All of them."""
     return time_rows() + limit_time_rows()

@@ -1,7 +1,8 @@
 """Stations of several blocks of 256 values, asked whole and on each side of a block's border; and replies of many stations."""
 
 from plain.worked.grids.texts import PUBLISH, collected, feed
-from plain.worked.stations.texts import Site, StationRow, all_of, answered, area, at, by_id, cube, location, refused, sites_line, within
+from plain.worked.runs import Row
+from plain.worked.stations.texts import Site, all_of, answered, area, at, by_id, cube, location, refused, sites_line, within
 
 MOST = 5000  # coverages of a reply
 
@@ -27,7 +28,7 @@ DEEP = by_id(
 DEEP_SITES = feed(sites_line(vertical="depth"), *[site.line() for site in DEEP.values()], PUBLISH)
 
 
-def long_rows() -> list[StationRow]:
+def long_rows() -> list[Row]:
     """Stations without levels."""
     found = answered(all_of(LONG, dict.fromkeys(LONG)), cube("0,0,7,0"), within(7), feed=LONG_SITES)
     found += answered(all_of(LONG, dict.fromkeys(LONG), "b"), cube("0,0,7,0") + "&parameter-name=b", feed=LONG_SITES)
@@ -49,7 +50,7 @@ def long_rows() -> list[StationRow]:
     return found + refused(25, f"{within(7)}&{at(513)}", feed=LONG_SITES)
 
 
-def deep_rows() -> list[StationRow]:
+def deep_rows() -> list[Row]:
     """Stations with levels, whose blocks begin and end within a time."""
     cases: dict[str, list[tuple[str, list[int], tuple[int, ...]]]] = {
         "w0": [
@@ -111,7 +112,7 @@ def deep_rows() -> list[StationRow]:
     return found
 
 
-def many_rows() -> list[StationRow]:
+def many_rows() -> list[Row]:
     """Replies of 5,000 coverages and of one more."""
     sites = [Site(f"n{number}", number, 0, [0] if number else [0, 1], {"a": [number] if number else [7, 8]}) for number in range(MOST + 1)]
     of_many = feed(sites_line(), *[site.line() for site in sites], PUBLISH)
@@ -128,7 +129,7 @@ def many_rows() -> list[StationRow]:
     return found + answered(sites[-1].reply(), location(sites[-1].id), feed=of_many)
 
 
-def large_rows() -> list[StationRow]:
+def large_rows() -> list[Row]:
     """Replies of 2,000,000 values and of one more."""
     count = 2_000_000
     wide, small = Site("A", 0, 0, [0], {"a": [0] * count}, tuple(range(count))), Site("B", 1, 0, [0], {"a": [7]}, (5,))
@@ -139,6 +140,6 @@ def large_rows() -> list[StationRow]:
     return found + answered(collected(wide.reply(levels=(5,)), small.reply()), cube("0,0,1,0") + "&z=5", feed=of_both)
 
 
-def rows() -> list[StationRow]:
+def rows() -> list[Row]:
     """All of them."""
     return long_rows() + deep_rows() + many_rows()

@@ -3,26 +3,27 @@
 import itertools
 from dataclasses import dataclass, replace
 
-from plain.worked.grids.grids import USUAL
 from plain.worked.grids.texts import A, B, FLAT, PUBLISH, T0, collection, feed, instance, text
+from plain.worked.grids.usual import USUAL
+from plain.worked.runs import Row
 from plain.worked.stations.levels import MAST_SITES
 from plain.worked.stations.places import USUAL_SITES
-from plain.worked.stations.texts import Site, StationRow, drop_line, location, row_of, sites_line
+from plain.worked.stations.texts import Site, drop_line, location, sites_line
 
 DROP = '{"drop":{"collection":"sites"}}'
 
 
-def at_fault(name: str, line: int, inner: str, of_line: str) -> list[StationRow]:
+def at_fault(name: str, line: int, inner: str, of_line: str) -> list[Row]:
     """Rows of a feed at fault: what `check` says, and which fault of a coverage or a change it is."""
     told = f"{name}({line})" + (f" {inner}" if inner else "")
-    return [row_of(("check",), of_line, 2, "", f"feed: {name} line {line}\n"), row_of(("feed",), of_line, 0, told)]
+    return [Row(("check",), of_line, 2, "", f"feed: {name} line {line}\n"), Row(("feed",), of_line, 0, told)]
 
 
-def checked(editions: int, *summary: str, feed: str) -> list[StationRow]:
+def checked(editions: int, *summary: str, feed: str) -> list[Row]:
     """Rows of a feed without fault: how many editions it has, and the line of each."""
     lines = "".join(f"edition {number}: {line}\n" for number, line in enumerate(summary, 1))
-    found = [row_of(("check",), feed, 0, f"ok: {editions} editions\n")]
-    return found + ([row_of(("check", "--summary"), feed, 0, lines)] if summary else [])
+    found = [Row(("check",), feed, 0, f"ok: {editions} editions\n")]
+    return found + ([Row(("check", "--summary"), feed, 0, lines)] if summary else [])
 
 
 # A line that sets a station, by its parts
@@ -81,7 +82,7 @@ FLAT_START = feed(sites_line(), collection("g"), Parts(id='"A"').line())
 DEEP_START = FLAT_START.replace(Parts(id='"A"').line(), Parts(id='"A"', z="0,7").line())
 
 
-def pair_rows() -> list[StationRow]:
+def pair_rows() -> list[Row]:
     """Each fault of a line that sets a station, and each two; beside a station without levels, and beside one with some."""
     found = []
     for start, base, causes in ((FLAT_START, Parts(), CAUSES), (DEEP_START, Parts(z="5"), DEEP_CAUSES)):
@@ -99,7 +100,7 @@ def pair_rows() -> list[StationRow]:
 # Forms
 
 
-def form_rows() -> list[StationRow]:
+def form_rows() -> list[Row]:
     """Lines about stations that have none of the forms."""
     usual, site = Parts().line(), Site("A", 0, 0, [0], {"a": [1]})
     lines = [
@@ -132,7 +133,7 @@ def form_rows() -> list[StationRow]:
 # Changes
 
 
-def change_rows() -> list[StationRow]:
+def change_rows() -> list[Row]:
     """Changes that are refused, by what stands before them, and which of them is told."""
     a, b = Site("A", 0, 0, [0], {"a": [1]}), Site("B", 0, 0, [0], {"a": [1]})
     both, deep, deeper = replace(b, samples={"a": [1], "b": [2]}), replace(b, levels=(5,)), replace(b, samples={"a": [1, 2]}, levels=(5, 6))
@@ -193,10 +194,10 @@ def change_rows() -> list[StationRow]:
             found += at_fault("Change", len(lines) + 1, inner, feed(PUBLISH, *lines, "{"))
     of_first = feed(*with_a, drop_line("B"), deep.line(), "{")
     found += at_fault("Change", 3, "UnknownStation", of_first) + at_fault("Change", 3, "LevelsDiffer", feed(*with_a, deep.line(), drop_line("B")))
-    return found + [row_of(("ask", target), of_first, 2, "", "feed: Change line 3\n") for target in (location("A"), location("A", "z=x"), "/x", "")]
+    return found + [Row(("ask", target), of_first, 2, "", "feed: Change line 3\n") for target in (location("A"), location("A", "z=x"), "/x", "")]
 
 
-def taken_rows() -> list[StationRow]:
+def taken_rows() -> list[Row]:
     """Changes that aren't refused, and what is told of the editions."""
     a, b = Site("A", 0, 0, [0, 1], {"a": [1, None]}), Site("B", 0, 0, [0], {"a": [5]})
     other, deep = Site("A", 9, 9, [0], {"b": [7]}), Site("A", 0, 0, [0, 1], {"a": [1, 2, 3, None]}, (5, 6))
@@ -230,7 +231,7 @@ def taken_rows() -> list[StationRow]:
     ]
 
 
-def large_rows() -> list[StationRow]:
+def large_rows() -> list[Row]:
     """A station of 4,000,000 values, and of two more, which is told before what its parameters and levels are."""
     site = Site("B", 0, 0, [0, 1], {"a": [0] * 4}, (0, 1))
 
@@ -252,6 +253,6 @@ def large_rows() -> list[StationRow]:
     return found + at_fault("LineTooLong", 2, "", feed(sites_line(), replace(flat, label="l" * (length + 1)).line(), PUBLISH))
 
 
-def rows() -> list[StationRow]:
+def rows() -> list[Row]:
     """All of them."""
     return pair_rows() + form_rows() + change_rows() + taken_rows()

@@ -1,7 +1,8 @@
 """Stations with levels: the shape that each of them has in a reply, by how many of its times and levels are taken."""
 
 from plain.worked.grids.texts import PUBLISH, Z, collected, feed
-from plain.worked.stations.texts import Site, StationRow, answered, area, at, by_id, cube, location, refused, sites_line, within
+from plain.worked.runs import Row
+from plain.worked.stations.texts import Site, answered, area, at, by_id, cube, location, refused, sites_line, within
 
 # m1 has three levels at two times, m2 one at one time, m3 one at two times, and m4 three even ones at one time
 MASTS = by_id(
@@ -39,7 +40,7 @@ def reply(taken: Taken, names: str = "") -> str:
     return collected(*[MASTS[id_].reply(times, names, levels) for id_, (times, levels) in taken.items()])
 
 
-def taken_rows(taken: Taken, *targets: str) -> list[StationRow]:
+def taken_rows(taken: Taken, *targets: str) -> list[Row]:
     """Rows of what is taken, or of NoSamples."""
     return answered(reply(taken), *targets, feed=MAST_SITES) if taken else refused(25, *targets, feed=MAST_SITES)
 
@@ -49,7 +50,7 @@ def disc(metres: int, point: str, tag: str = "POINT Z") -> str:
     return within(metres, point).replace("POINT", tag)
 
 
-def level_rows() -> list[StationRow]:
+def level_rows() -> list[Row]:
     """Each shape, by `z`, by the z of a point, and by a box of six numbers."""
     everywhere = [cube("0,0,30,0"), within(30), area("POLYGON((0 0,30 0,15 9,0 0))")]
     found = []
@@ -79,7 +80,7 @@ def level_rows() -> list[StationRow]:
     return found
 
 
-def reference_rows() -> list[StationRow]:
+def reference_rows() -> list[Row]:
     """The references are the collection's: its CRS, and its vertical system, of which it needs none."""
     mast = MASTS["m1"]
     other = mast.coverage().replace('"depth"', '"height"').replace('"id":"local",', "")
@@ -101,7 +102,7 @@ def reference_rows() -> list[StationRow]:
     return found + answered(nameless, location("s"), location("s", "crs="), feed=of_nameless)
 
 
-def form_rows() -> list[StationRow]:
+def form_rows() -> list[Row]:
     """A Grid without levels, axes that descend, ranges with their axes in another order, and one level of a Grid."""
     flat = Site("s", 5, 6, [0, 1, 2], {"a": [1, None, 3]})
     turned = Site("s", 5, 6, [2, 1, 0], {"a": [3, None, 1]}).coverage("Grid")
@@ -120,6 +121,6 @@ def form_rows() -> list[StationRow]:
     return found
 
 
-def rows() -> list[StationRow]:
+def rows() -> list[Row]:
     """All of them."""
     return level_rows() + reference_rows() + form_rows()

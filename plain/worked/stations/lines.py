@@ -1,8 +1,9 @@
 """Stations along corridors: by place, time and level of one and the same segment, and with gaps where these aren't taken together."""
 
 from plain.worked.grids.texts import DEEP, axes_of, collected, values
+from plain.worked.runs import Row
 from plain.worked.stations.levels import LOW, MASTS, MAST_SITES, TWENTY, WHOLE, Taken, taken_rows
-from plain.worked.stations.texts import StationRow, answered, axis, covered_site, moment
+from plain.worked.stations.texts import answered, axis, covered_site, moment
 
 M0, M1 = 1_704_067_200, 1_704_070_800  # the first two hours as m
 NEAR_50: Taken = {**WHOLE, "m4": ([0], (10,))}
@@ -25,7 +26,7 @@ def with_gaps(id_: str, times: list[int], levels: tuple[int, ...], samples: dict
     return covered_site(id_, axes, len(times), len(levels), samples, DEEP)
 
 
-def rows() -> list[StationRow]:
+def rows() -> list[Row]:
     """All of them."""
     all_, some = "0 0,30 0", {"m1": WHOLE["m1"], "m2": WHOLE["m2"]}
     found = taken_rows(WHOLE, corridor(all_, 0), corridor("30 0,0 0", 0, height(5)), corridor("15 9,15 9", 36), corridor(f"0 0 {M0},30 0 {M1}", 0, "", "M"))

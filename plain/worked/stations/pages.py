@@ -2,14 +2,15 @@
 
 from dataclasses import replace
 
-from plain.worked.grids.grids import USUAL
 from plain.worked.grids.pages import IDS, IDS_IN_ORDER
 from plain.worked.grids.pages import page as grid_page
 from plain.worked.grids.texts import A, B, PUBLISH, collected, collection, feed, instance
+from plain.worked.grids.usual import USUAL
+from plain.worked.runs import Row
 from plain.worked.stations.feeds import DROP
 from plain.worked.stations.levels import MAST_SITES
 from plain.worked.stations.places import USUAL_SITES
-from plain.worked.stations.texts import NEAREST, Site, StationRow, answered, at, changed, cube, drop_line, location, moment, refused, sites_line, within
+from plain.worked.stations.texts import Site, answered, at, by_nearest, cube, drop_line, location, moment, refused, sites_line, within
 
 LOCATIONS = "/collections/sites/locations"
 NO_FEATURES = '{"features":[],"type":"FeatureCollection"}'
@@ -29,10 +30,10 @@ def page(path: str, id_: str, told: str = "", parameters: str = "", title: str =
     return f'{{"crs":[{crs}],"data_queries":{{{links}}},' + (f"{told}," if told else "") + f"{rest}}}"
 
 
-def paged(id_: str, more: list[str], *targets: str, feed: str) -> list[StationRow]:
+def paged(id_: str, more: list[str], *targets: str, feed: str) -> list[Row]:
     """Rows of the page of a collection, which lists the query of the nearest station later."""
     pages = [page(f"/collections/{id_}", f'"{id_}"', *more, is_near=is_near) for is_near in (False, True)]
-    return changed(NEAREST, *[answered(each, *targets, feed=feed) for each in pages])
+    return by_nearest(*[answered(each, *targets, feed=feed) for each in pages])
 
 
 def feature(x: int, y: int, id_: str, label: str) -> str:
@@ -45,7 +46,7 @@ def features(*some: str) -> str:
     return f'{{"features":[{",".join(some)}],"type":"FeatureCollection"}}'
 
 
-def description_rows() -> list[StationRow]:
+def description_rows() -> list[Row]:
     """Collections of stations, with levels and without, beside a grid; and their stations."""
     usual, deep = extent("-300,0,100,400", 0, 3), extent("0,0,30,0", 0, 1, "0,50")
     both = f"{A},{B}"
@@ -63,7 +64,7 @@ def description_rows() -> list[StationRow]:
         bare = page("/collections/bare", '"bare"', is_near=is_near)
         sites = page("/collections/sites", '"sites"', usual, both, is_near=is_near)
         all_pages.append(f'{{"collections":[{bare},{grid},{sites}],"links":[]}}')
-    found += changed(NEAREST, *[answered(each, "/collections", feed=USUAL_SITES) for each in all_pages])
+    found += by_nearest(*[answered(each, "/collections", feed=USUAL_SITES) for each in all_pages])
     titled = feed(sites_line(title='The "sites"\\\n', crs='a"b', vertical="x"), PUBLISH)
     found += paged("sites", ["", "", '"The \\"sites\\"\\\\\\n"', '"a\\"b"'], "/collections/sites", feed=titled)
     wide = [Site("p", 100_000_000, -100_000_000, [5], {"a": [1]}), Site("q", -100_000_000, 0, [2, 7], {"a": [1, 2]})]
@@ -93,7 +94,7 @@ LABELS = {
 }
 
 
-def label_rows() -> list[StationRow]:
+def label_rows() -> list[Row]:
     """Labels of any text, which stand as they are or behind escapes in a feed, and ids beside them."""
     some = [Site(chr(ord("a") + place), place, -place, [0], {"a": [1]}, label=label) for place, label in enumerate(LABELS)]
     lines = [site.line() for site in some]
@@ -111,7 +112,7 @@ def _escaped(line: str) -> str:
     return "".join(chr(each) if each < 0x80 else f"\\u{each:04X}" for each in numbers)
 
 
-def id_rows() -> list[StationRow]:
+def id_rows() -> list[Row]:
     """Ids of stations and collections that need escapes, or that begin one another."""
     some = {id_: Site(id_, place, 0, [0], {"a": [place]}, label=id_) for place, id_ in enumerate(IDS)}
     all_ids = feed(sites_line(), *[site.line() for site in some.values()], PUBLISH)
@@ -126,7 +127,7 @@ def id_rows() -> list[StationRow]:
         found += answered(some[id_].reply(), f"/collections/{link}/locations/{link}", feed=of_id)
         box = f"{some[id_].x},0,{some[id_].x},0"
         pages = [page(f"/collections/{link}", as_json, extent(box, 0, 0), A, is_near=near) for near in (False, True)]
-        found += changed(NEAREST, *[answered(each, f"/collections/{link}", feed=of_id) for each in pages])
+        found += by_nearest(*[answered(each, f"/collections/{link}", feed=of_id) for each in pages])
     found += answered(some["a+b"].reply(), location("a+b"), feed=all_ids) + answered(some["a b"].reply(), location("a b"), feed=all_ids)
     found += answered(some["50%"].reply(), location("50%"), feed=all_ids) + refused(20, location("a%252Bb"), location("%41"), feed=all_ids)
     found += refused(6, location("a/b"), location("%F0%9F%98"), feed=all_ids)
@@ -141,7 +142,7 @@ def id_rows() -> list[StationRow]:
     return found + refused(20, *[location(id_) for id_ in ("abcd", "B", "0", "100", "%C3%A9%C3%A9", "e%CC%81", "a%C3%A8")], feed=of_prefixes)
 
 
-def edition_rows() -> list[StationRow]:
+def edition_rows() -> list[Row]:
     """Stations replaced and dropped, the last one too, and what isn't published."""
     one, two = Site("A", 0, 0, [0], {"a": [1]}, label="One"), Site("B", 5, 0, [1], {"a": [2]}, label="Two")
     moved = replace(one, x=3, times=[0, 1], samples={"a": [8, 9]}, label="Moved")
@@ -179,6 +180,6 @@ def edition_rows() -> list[StationRow]:
     return found + refused(21, location("A"), LOCATIONS, feed=turned)
 
 
-def rows() -> list[StationRow]:
+def rows() -> list[Row]:
     """All of them."""
     return description_rows() + label_rows() + id_rows() + edition_rows()

@@ -2,10 +2,11 @@
 
 import itertools
 
-from plain.worked.grids.grids import POLYGON, USUAL
 from plain.worked.grids.refusals import LINE, Parts, meet, target_of
 from plain.worked.grids.texts import PUBLISH, collection, feed, instance
-from plain.worked.stations.texts import NEAREST, Site, StationRow, all_of, answered, area, at, by_id, changed, cube, location, refused, sites_line, within
+from plain.worked.grids.usual import POLYGON, USUAL
+from plain.worked.runs import Row
+from plain.worked.stations.texts import Site, all_of, answered, area, at, by_id, by_nearest, cube, location, refused, sites_line, within
 
 # s9 and s10 are on one spot; s9 has a sample at each of the hours 0 to 2, s10 at two of them, s1 and far at one each
 SITES = by_id(
@@ -23,7 +24,7 @@ FOUR = {"far": None, **THREE}
 FAR, NEAR = {"far": None}, {"s1": None}
 
 
-def taken(cases: list[tuple[dict, list[str]]], names: str = "", more: str = "") -> list[StationRow]:
+def taken(cases: list[tuple[dict, list[str]]], names: str = "", more: str = "") -> list[Row]:
     """Rows by the stations and times that are taken, and the targets that take them; where they are none, NoSamples."""
     found = []
     for some, targets in cases:
@@ -32,7 +33,7 @@ def taken(cases: list[tuple[dict, list[str]]], names: str = "", more: str = "") 
     return found
 
 
-def place_rows() -> list[StationRow]:
+def place_rows() -> list[Row]:
     """Discs, polygons and boxes, with stations on their borders, at their corners, and a metre off."""
     square = "-200 -200,200 -200,200 200,-200 200,-200 -200"
     discs = [
@@ -81,7 +82,7 @@ def place_rows() -> list[StationRow]:
     return found + taken(discs) + taken(of_polygons) + taken([(some, [cube(each) for each in texts]) for some, texts in boxes])
 
 
-def time_rows() -> list[StationRow]:
+def time_rows() -> list[Row]:
     """Times: a station without a wanted sample is left out, and without any there is none."""
     whole = [within(500), cube("-300,0,100,400"), area("POLYGON((-300 0,-300 400,100 400,100 0,-300 0))")]
     times = {
@@ -116,7 +117,7 @@ def time_rows() -> list[StationRow]:
     return found + [row for more in same for row in taken([(FOUR, whole)], more=more)]
 
 
-def location_rows() -> list[StationRow]:
+def location_rows() -> list[Row]:
     """One station, its times, and ids that aren't there."""
     found = []
     for id_, site in SITES.items():
@@ -190,7 +191,7 @@ QUERIES: list[tuple[Parts, list[int], list[tuple[int, Parts]]]] = [  # a query, 
 ]
 
 
-def refusal_rows() -> list[StationRow]:
+def refusal_rows() -> list[Row]:
     """Each refusal of each query, and each two of them that can be met at once."""
     found = []
     for base, always, causes in QUERIES:
@@ -203,7 +204,7 @@ def refusal_rows() -> list[StationRow]:
     return found
 
 
-def other_query_rows() -> list[StationRow]:
+def other_query_rows() -> list[Row]:
     """Queries and pages that stations don't offer, or not from the first on; and those of stations asked of grids."""
     wide = "/collections/sites/corridor?coords=LINESTRING(0 0,100 0)&corridor-width="
     narrow, ending, disc = f"{wide}0&width-units=m", "/collections/sites/instances/1", within(0).split("?")[1]
@@ -222,7 +223,7 @@ def other_query_rows() -> list[StationRow]:
     ]
     found = [row for rows in corridors for row in rows]
     for rows in nearest:
-        found += changed(NEAREST, [row for each in rows for row in refused(21, each.words[1], feed=USUAL_SITES)], rows)
+        found += by_nearest([row for each in rows for row in refused(21, each.words[1], feed=USUAL_SITES)], rows)
     found += refused(21, f"{ending}/position?coords=POINT(0 0)", f"{ending}/trajectory?coords={LINE}", f"{ending}/radius?{disc}", feed=USUAL_SITES)
     found += refused(21, f"{ending}/cube?bbox=0,0,1,1&crs=x&z=0&parameter-name=c", f"{ending}/area?coords={POLYGON}", feed=USUAL_SITES)
     found += refused(21, f"{ending}/corridor?{narrow.split('?')[1]}", ending, f"{ending}/?f=json", feed=USUAL_SITES)
@@ -233,6 +234,6 @@ def other_query_rows() -> list[StationRow]:
     return found
 
 
-def rows() -> list[StationRow]:
+def rows() -> list[Row]:
     """All of them."""
     return place_rows() + time_rows() + location_rows() + refusal_rows() + other_query_rows()

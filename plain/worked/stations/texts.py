@@ -1,43 +1,27 @@
 """Stations: the lines of a feed about them, what is answered of them, and the form of a row."""
 
-from dataclasses import dataclass
+from dataclasses import dataclass, replace
 from datetime import datetime, timedelta
 
-from plain.worked.grids.texts import A, B, DEEP, FLAT, LEVEL, TIME, TZYX, Row, axes_of, bare_range, collected, range_along, steps, text, values
+from plain.worked.grids.texts import A, B, DEEP, FLAT, LEVEL, TIME, TZYX, AskRow, axes_of, bare_range, collected, range_along, steps, text, values
+from plain.worked.runs import Row
 
-FIRST, LAST = 1, 2  # from the product as it is to that with the query of the nearest station, unless rows say otherwise
-NEAREST = 2  # with that query
 PARAMETERS = {"a": A, "b": B}
 
 
-@dataclass(frozen=True)
-class StationRow:
-    """Words, a feed, and answers: from one stage to another a status, an output, and a line on standard error."""
-
-    words: tuple[str, ...]
-    feed: str
-    answers: tuple[tuple[int, int, int, str, str], ...]
-
-
-def row_of(words: tuple[str, ...], feed: str, status: int, output: str, errors: str = "") -> StationRow:
-    """A row of one answer."""
-    return StationRow(words, feed, ((FIRST, LAST, status, output, errors),))
-
-
-def answered(output: str, *targets: str, feed: str) -> list[StationRow]:
+def answered(output: str, *targets: str, feed: str) -> list[Row]:
     """Rows of one output."""
-    return [row_of(("ask", target), feed, 0, output) for target in targets]
+    return [Row(("ask", target), feed, 0, output) for target in targets]
 
 
-def refused(number: int, *targets: str, feed: str) -> list[StationRow]:
+def refused(number: int, *targets: str, feed: str) -> list[Row]:
     """Rows of one refusal."""
-    return [row_of(("ask", target), feed, *Row(feed, target, refusal=number).ending()) for target in targets]
+    return [AskRow(feed, target, refusal=number).row() for target in targets]
 
 
-def changed(stage: int, before: list[StationRow], after: list[StationRow]) -> list[StationRow]:
-    """Rows that are answered in another way from one stage on."""
-    pairs = [(one, one.answers[0], other.answers[0]) for one, other in zip(before, after)]
-    return [StationRow(row.words, row.feed, ((FIRST, stage - 1, *old[2:]), (stage, LAST, *new[2:]))) for row, old, new in pairs]
+def by_nearest(without: list[Row], offered: list[Row]) -> list[Row]:
+    """Rows that hold where position of stations isn't offered, and those where it is."""
+    return [replace(row, nearest=False) for row in without] + [replace(row, nearest=True) for row in offered]
 
 
 def moment(number: int) -> str:

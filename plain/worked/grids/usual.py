@@ -5,7 +5,7 @@ from plain.worked.grids.texts import (
     COMPOSITE,
     DEEP,
     PUBLISH,
-    Row,
+    AskRow,
     T0,
     T1,
     TIME,
@@ -72,14 +72,14 @@ def several_points(some: str, a: str, b: str, count: int) -> str:
     return covered("MultiPoint", tuples(values(T0), some), ranges)
 
 
-def refused(number: int, *targets: str, feed: str = GRID) -> list[Row]:
+def refused(number: int, *targets: str, feed: str = GRID) -> list[AskRow]:
     """Rows of one refusal."""
-    return [Row(feed, target, refusal=number) for target in targets]
+    return [AskRow(feed, target, refusal=number) for target in targets]
 
 
-def answered(output: str, *targets: str, feed: str = GRID) -> list[Row]:
+def answered(output: str, *targets: str, feed: str = GRID) -> list[AskRow]:
     """Rows of one output."""
-    return [Row(feed, target, output) for target in targets]
+    return [AskRow(feed, target, output) for target in targets]
 
 
 POLYGON = "POLYGON((0 0,200 0,0 100,0 0))"
