@@ -35,7 +35,7 @@ def differences(about: str, programs: runs.Programs, large: bool) -> tuple[int, 
     if about == "fetch":
         return fetches.differences(programs.edr) if programs.edr or not programs.answers else (0, [])
     if about == "validator":
-        return validator.differences()
+        return validator.differences() if programs == runs.Programs(None, None) else (0, [])
     rows = ROWS[about]() + (LARGE[about]() if large and about in LARGE else [])
     return runs.differences(rows, programs)
 

@@ -133,8 +133,8 @@ def form_rows() -> list[Row]:
 # Changes
 
 
-def change_rows() -> list[Row]:
-    """Changes that are refused, by what stands before them, and which of them is told."""
+def refused_changes() -> dict[str, list[list[str]]]:
+    """The lines up to a change that is refused, by its fault."""
     a, b = Site("A", 0, 0, [0], {"a": [1]}), Site("B", 0, 0, [0], {"a": [1]})
     both, deep, deeper = replace(b, samples={"a": [1], "b": [2]}), replace(b, levels=(5,)), replace(b, samples={"a": [1, 2]}, levels=(5, 6))
     single = b.coverage("Grid").replace("[1,1,1]", "[1]")
@@ -149,7 +149,7 @@ def change_rows() -> list[Row]:
     def unlike(some: str) -> str:
         return b.line().replace(A, some)
 
-    cases = {
+    return {
         "SameCollection": [
             [*sites, sites_line()], [collection("sites"), sites_line()], [*sites, collection("sites")], [*with_a, sites_line(title="x")],
         ],
@@ -187,8 +187,14 @@ def change_rows() -> list[Row]:
         ],
         "NoTimes": [[*sites, replace(Parts(), t="").line()], [*sites, replace(Parts(), t="", z="0,5").line()]],
     }  # fmt: skip
+
+
+def change_rows() -> list[Row]:
+    """Changes that are refused, by what stands before them, and which of them is told."""
+    a, deep = Site("A", 0, 0, [0], {"a": [1]}), Site("B", 0, 0, [0], {"a": [1]}, levels=(5,))
+    with_a = [sites_line(), a.line()]
     found = []
-    for inner, some in cases.items():
+    for inner, some in refused_changes().items():
         for lines in some:
             found += at_fault("Change", len(lines), inner, feed(*lines, PUBLISH))
             found += at_fault("Change", len(lines) + 1, inner, feed(PUBLISH, *lines, "{"))

@@ -33,41 +33,44 @@ def taken(cases: list[tuple[dict, list[str]]], names: str = "", more: str = "") 
     return found
 
 
+# the stations that are taken by discs, polygons and boxes
+SQUARE = "-200 -200,200 -200,200 200,-200 200,-200 -200"
+DISCS = [
+    (BOTH, [within(0), within(99), within("0.099", unit="km"), within(99, "-0 .0")]),
+    (THREE, [within(100), within(499), within("0.1", unit="KM"), within(100, "100 0"), within(50, "50 0"), within(62, "50 35")]),
+    (FOUR, [within(500), within("0.500", unit="km"), within(400_000_000), within(400_000_000, "100000000 -100000000")]),
+    (NEAR, [within(0, "100 0"), within(99, "100 0"), within(5, "103 4"), within(99, "199 0")]),
+    (FAR, [within(1, "-300 399"), within(5, "-303 404"), within(0, "-300 400"), within(499, "-300 400")]),
+    (NONE, [within(0, "-300 399"), within(4, "103 4"), within(49, "50 0"), within(61, "50 35"), within(4, "-303 404"), within(0, "1 0")]),
+    (NONE, [within(9, "100000000 0"), within(99_999_899, "100000000 0")]),
+    (NEAR, [within(99_999_900, "100000000 0"), within(99_999_999, "100000000 0")]),
+]
+POLYGONS = [
+    (BOTH, ["POLYGON((-10 0,10 0,10 10,-10 10,-10 0))", "POLYGON((0 0,50 0,50 50,0 50,0 0))", "POLYGON((0 0,-5 9,-5 -9,0 0))"]),
+    (BOTH, ["POLYGON((-1 -1,1 1,2 1,-1 -1))", "POLYGON((0 0,0 0,0 0,0 0))", "polygon ( ( -1 -1 , 1 -1 , 0 1 , -1 -1 ) )"]),
+    (THREE, ["POLYGON((0 0,100 0,0 0,0 0))", "POLYGON((0 -100,200 100,0 100,0 -100))", f"POLYGON(({SQUARE}))"]),
+    (THREE, [f"POLYGON(({SQUARE}),(0 0,100 0,100 100,0 100,0 0))", "POLYGON((0 0,50 -9,100 0,50 9,0 0))"]),
+    (NEAR, [f"POLYGON(({SQUARE}),(-1 -1,1 -1,1 1,-1 1,-1 -1))", "POLYGON((100 0,101 0,101 1,100 0))", "POLYGON((100 -5,100 5,190 5,100 -5))"]),
+    (NEAR, ["POLYGON((50 0,200 100,200 -100,50 0))", f"POLYGON(({SQUARE}),({SQUARE}),(99 -1,101 -1,100 1,99 -1))"]),
+    (FAR, ["POLYGON((-300 400,-301 400,-301 401,-300 400))", "POLYGON((-600 0,0 800,-900 800,-600 0))"]),
+    (FOUR, [f"MULTIPOLYGON((({SQUARE})),((-300 400,-300 400,-300 400,-300 400)))"]),
+    ({**FAR, **NEAR}, ["MULTIPOLYGON(((-400 300,-200 300,-200 500,-400 500,-400 300)),((99 -1,101 -1,100 1,99 -1)))"]),
+    (THREE, [f"MULTIPOLYGON((({SQUARE})),((-1 -1,1 -1,1 1,-1 1,-1 -1)))"]),
+    (NONE, ["POLYGON((1 1,99 1,99 99,1 99,1 1))", "POLYGON((1 0,99 0,50 50,1 0))", "POLYGON((-600 0,0 799,0 798,-600 0))"]),
+    (NONE, ["POLYGON((-50 0,-1 0,-1 1,-50 1,-50 0))", f"POLYGON(({SQUARE}),(-300 -300,300 -300,300 300,-300 300,-300 -300))"]),
+]
+BOXES = [
+    (BOTH, ["0,0,0,0", "-100,-100,0,0", "0,0,99,99", "-1,0,1,0", "-9,0,0,9", "0,-9,9,0", "+0, 0 ,0.0,-0"]),
+    (NEAR, ["100,0,200,100", "100,0,100,0", "1,0,100,0", "99,-1,101,1", "1,-7,100,0"]),
+    (THREE, ["0,0,100,0", "0,-100,100,0", "-299,-400,300,400", "-300,-400,300,399"]),
+    (FAR, ["-300,400,-300,400", "-100000000,1,100000000,100000000", "-100000000,-100000000,-1,100000000"]),
+    (FOUR, ["-300,0,100,400", "-100000000,-100000000,100000000,100000000"]),
+    (NONE, ["1,1,99,99", "1,0,99,0", "101,0,101,0", "-300,401,0,500", "-301,400,-301,400", "0,1,0,399"]),
+]
+
+
 def place_rows() -> list[Row]:
-    """Discs, polygons and boxes, with stations on their borders, at their corners, and a metre off."""
-    square = "-200 -200,200 -200,200 200,-200 200,-200 -200"
-    discs = [
-        (BOTH, [within(0), within(99), within("0.099", unit="km"), within(99, "-0 .0")]),
-        (THREE, [within(100), within(499), within("0.1", unit="KM"), within(100, "100 0"), within(50, "50 0"), within(62, "50 35")]),
-        (FOUR, [within(500), within("0.500", unit="km"), within(400_000_000), within(400_000_000, "100000000 -100000000")]),
-        (NEAR, [within(0, "100 0"), within(99, "100 0"), within(5, "103 4"), within(99, "199 0")]),
-        (FAR, [within(1, "-300 399"), within(5, "-303 404"), within(0, "-300 400"), within(499, "-300 400")]),
-        (NONE, [within(0, "-300 399"), within(4, "103 4"), within(49, "50 0"), within(61, "50 35"), within(4, "-303 404"), within(0, "1 0")]),
-        (NONE, [within(9, "100000000 0"), within(99_999_899, "100000000 0")]),
-        (NEAR, [within(99_999_900, "100000000 0"), within(99_999_999, "100000000 0")]),
-    ]
-    polygons = [
-        (BOTH, ["POLYGON((-10 0,10 0,10 10,-10 10,-10 0))", "POLYGON((0 0,50 0,50 50,0 50,0 0))", "POLYGON((0 0,-5 9,-5 -9,0 0))"]),
-        (BOTH, ["POLYGON((-1 -1,1 1,2 1,-1 -1))", "POLYGON((0 0,0 0,0 0,0 0))", "polygon ( ( -1 -1 , 1 -1 , 0 1 , -1 -1 ) )"]),
-        (THREE, ["POLYGON((0 0,100 0,0 0,0 0))", "POLYGON((0 -100,200 100,0 100,0 -100))", f"POLYGON(({square}))"]),
-        (THREE, [f"POLYGON(({square}),(0 0,100 0,100 100,0 100,0 0))", "POLYGON((0 0,50 -9,100 0,50 9,0 0))"]),
-        (NEAR, [f"POLYGON(({square}),(-1 -1,1 -1,1 1,-1 1,-1 -1))", "POLYGON((100 0,101 0,101 1,100 0))", "POLYGON((100 -5,100 5,190 5,100 -5))"]),
-        (NEAR, ["POLYGON((50 0,200 100,200 -100,50 0))", f"POLYGON(({square}),({square}),(99 -1,101 -1,100 1,99 -1))"]),
-        (FAR, ["POLYGON((-300 400,-301 400,-301 401,-300 400))", "POLYGON((-600 0,0 800,-900 800,-600 0))"]),
-        (FOUR, [f"MULTIPOLYGON((({square})),((-300 400,-300 400,-300 400,-300 400)))"]),
-        ({**FAR, **NEAR}, ["MULTIPOLYGON(((-400 300,-200 300,-200 500,-400 500,-400 300)),((99 -1,101 -1,100 1,99 -1)))"]),
-        (THREE, [f"MULTIPOLYGON((({square})),((-1 -1,1 -1,1 1,-1 1,-1 -1)))"]),
-        (NONE, ["POLYGON((1 1,99 1,99 99,1 99,1 1))", "POLYGON((1 0,99 0,50 50,1 0))", "POLYGON((-600 0,0 799,0 798,-600 0))"]),
-        (NONE, ["POLYGON((-50 0,-1 0,-1 1,-50 1,-50 0))", f"POLYGON(({square}),(-300 -300,300 -300,300 300,-300 300,-300 -300))"]),
-    ]
-    boxes = [
-        (BOTH, ["0,0,0,0", "-100,-100,0,0", "0,0,99,99", "-1,0,1,0", "-9,0,0,9", "0,-9,9,0", "+0, 0 ,0.0,-0"]),
-        (NEAR, ["100,0,200,100", "100,0,100,0", "1,0,100,0", "99,-1,101,1", "1,-7,100,0"]),
-        (THREE, ["0,0,100,0", "0,-100,100,0", "-299,-400,300,400", "-300,-400,300,399"]),
-        (FAR, ["-300,400,-300,400", "-100000000,1,100000000,100000000", "-100000000,-100000000,-1,100000000"]),
-        (FOUR, ["-300,0,100,400", "-100000000,-100000000,100000000,100000000"]),
-        (NONE, ["1,1,99,99", "1,0,99,0", "101,0,101,0", "-300,401,0,500", "-301,400,-301,400", "0,1,0,399"]),
-    ]
+    """Discs, POLYGONS and BOXES, with stations on their borders, at their corners, and a metre off."""
     found = []
     ends = by_id(Site("low", -100_000_000, -100_000_000, [0], {"a": [1]}), Site("top", 100_000_000, 100_000_000, [0], {"a": [2]}))
     of_ends = feed(sites_line(), *[site.line() for site in ends.values()], PUBLISH)
@@ -78,8 +81,8 @@ def place_rows() -> list[Row]:
     found += answered(all_of(ends, either), area(f"POLYGON(({corner},100000000 100000000,0 1,{corner}))"), feed=of_ends)
     found += answered(all_of(ends, low), within(282_842_712, corner), cube("-100000000,-100000000,99999999,100000000"), feed=of_ends)
     found += answered(all_of(ends, low), area(f"POLYGON(({corner},99999999 100000000,0 100000000,{corner}))"), feed=of_ends)
-    of_polygons = [(some, [area(each) for each in texts]) for some, texts in polygons]
-    return found + taken(discs) + taken(of_polygons) + taken([(some, [cube(each) for each in texts]) for some, texts in boxes])
+    of_polygons = [(some, [area(each) for each in texts]) for some, texts in POLYGONS]
+    return found + taken(DISCS) + taken(of_polygons) + taken([(some, [cube(each) for each in texts]) for some, texts in BOXES])
 
 
 def time_rows() -> list[Row]:
