@@ -21,8 +21,8 @@ import edr_client
 import sample_feed
 from daemons import TOP, served
 
-sys.path.append(str(TOP / "plain"))
-from making import made_feed  # noqa: E402
+sys.path.append(str(TOP))
+from plain.profile.feeds.made import made_feed  # noqa: E402
 
 CITY = "POINT(406000 5608000)"
 NOON = "2024-01-01T12:00:00Z"

@@ -6,10 +6,10 @@ import sys
 from http.server import SimpleHTTPRequestHandler, ThreadingHTTPServer
 
 TOP = os.path.dirname(os.path.dirname(os.path.abspath(__file__)))
-sys.path.insert(0, os.path.join(TOP, "plain"))
+sys.path.insert(0, TOP)
 
-from ask import answer  # noqa: E402
-from feeds import read_feed  # noqa: E402
+from plain.profile.answers.target import answer  # noqa: E402
+from plain.profile.feeds.lines import read_feed  # noqa: E402
 
 
 class Handler(SimpleHTTPRequestHandler):

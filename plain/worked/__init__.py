@@ -1,1 +1,1 @@
-"""Worked rows, by what they are about; each module gives its rows, and takes the texts of feeds and replies from `texts`, `grids` and `stations`."""
+"""Worked rows: what is asked, and the answer that was written out by hand."""

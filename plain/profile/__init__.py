@@ -1,0 +1,1 @@
+"""The program, by the chapters of docs/PROFILE.md."""

@@ -1,0 +1,1 @@
+"""The profile's chapters "URLs that are fetched" and "Replies as the client reads them"."""

@@ -1,0 +1,1 @@
+"""The profile's chapter "Targets"."""
