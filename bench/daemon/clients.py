@@ -86,7 +86,7 @@ def wget(case):
 
 def siege(case):
     with open(os.path.join(case.folder, "siegerc"), "w") as file:
-        file.write("verbose = false\nlimit = 255\nlogging = false\nconnection = close\n")
+        file.write("verbose = false\nlimit = 255\nlogging = false\nconnection = close\nprotocol = HTTP/1.1\n")
     out, seconds = case.run("siege", "-R", "siegerc", "-b", "-c", str(COUNT), "-r", "1", case.url)
     good = re.search(rb"(?:ransactions\W+)(\d+)", out)
     return cell(int(good[1]) if good else 0, COUNT, seconds)
@@ -105,7 +105,7 @@ def wrk(case):
     count = int(re.search(rb"(\d+) requests in", out)[1])
     others, errors = re.search(rb"Non-2xx or 3xx responses: (\d+)", out), re.search(rb"Socket errors: (.*)", out)
     good = count - (int(others[1]) if others else 0)
-    return f"{good:,} of 200, {count - good:,} of another status; faults of connections: {errors[1].decode() if errors else 'none'}"
+    return f"{count:,} replies, {count - good:,} not of status 200; faults of connections: {errors[1].decode() if errors else 'none'}"
 
 
 def python_with(module):

@@ -1,4 +1,5 @@
 """python3's requests: as many at once as there are to ask, each by `requests.get`; by a hint over one session with so many connections."""
+import os
 import sys
 from concurrent.futures import ThreadPoolExecutor
 
@@ -17,7 +18,7 @@ def one(_):
         told = "good" if ask(url).content == wanted else "another reply"
     except requests.RequestException as fault:
         told = type(fault).__name__
-    print(told, flush=True)
+    os.write(1, f"{told}\n".encode())
 
 
 print("begins", flush=True)
