@@ -35,12 +35,12 @@ def needs(*others):
 
 
 class Daemon:
-    """A daemon at a port, which a further one may take when this has stopped."""
+    """A daemon at a port, which a further one may take when this has stopped. What it says goes to a log, where there is one."""
 
-    def __init__(self, feed, workers=WORKERS, every=0, port=None):
+    def __init__(self, feed, workers=WORKERS, every=0, port=None, log=None):
         self.port = port or daemon.free_port()
         words = [daemon.EDRD, feed, "--port", str(self.port), "--workers", str(workers), "--every", str(every)]
-        self.process = subprocess.Popen(words, stdin=subprocess.DEVNULL)
+        self.process = subprocess.Popen(words, stdin=subprocess.DEVNULL, stdout=log, stderr=log)
 
     def wait(self):
         """Until it takes connections."""
@@ -179,11 +179,15 @@ class Client:
         length = re.search(rb"\r\nContent-Length: *(\d+)", head, re.IGNORECASE)
         return self.take(int(length[1])) if length else b""
 
-    def ask(self, target, fields="", method="GET", body=b""):
-        """One reply. It raises Cut where the connection ends before it has come whole."""
+    def connect(self):
+        """A connection, where there is none."""
         if self.socket is None:
             self.socket = socket.create_connection(("127.0.0.1", self.port), self.patience, (self.address, 0))
             self.socket.setsockopt(socket.IPPROTO_TCP, socket.TCP_NODELAY, 1)
+
+    def ask(self, target, fields="", method="GET", body=b""):
+        """One reply. It raises Cut where the connection ends before it has come whole."""
+        self.connect()
         self.begun = False
         try:
             self.socket.sendall(f"{method} {target} HTTP/1.1\r\nHost: localhost\r\n{fields}\r\n".encode() + body)
