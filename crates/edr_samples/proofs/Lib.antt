@@ -2,3 +2,6 @@ mod Digits
 mod Lists
 mod Turns
 mod Looks
+mod LexemeLemmas
+mod PlaceLemmas
+mod Steps

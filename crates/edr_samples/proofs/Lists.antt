@@ -72,6 +72,20 @@ sample_read depth (json.string s) x rest h = absurd h
 sample_read depth (json.boolean b) x rest h = absurd h
 sample_read depth json.bad x rest h = absurd h
 
+-- where a value is read, no bracket closes the list
+pub value_goes_on : (depth : ℕ) (ts : List json.Token) (x : Data × List json.Token) → converted of_json (value depth ts) ≡ Some x → after_end_array ts ≡ None
+value_goes_on depth [] x h = refl
+value_goes_on depth (json.begin_object ∷ ts) x h = refl
+value_goes_on depth (json.end_object ∷ ts) x h = refl
+value_goes_on depth (json.begin_array ∷ ts) x h = refl
+value_goes_on depth (json.end_array ∷ ts) x h = let none : converted of_json (value depth (json.end_array ∷ ts)) ≡ None = ap (converted of_json) (value_is depth _) in cc
+value_goes_on depth (json.key s ∷ ts) x h = refl
+value_goes_on depth (json.string s ∷ ts) x h = refl
+value_goes_on depth (json.number s ∷ ts) x h = refl
+value_goes_on depth (json.boolean b ∷ ts) x h = refl
+value_goes_on depth (json.null ∷ ts) x h = refl
+value_goes_on depth (json.bad ∷ ts) x h = refl
+
 -- ---- members
 
 abbrev Entry : Type 0

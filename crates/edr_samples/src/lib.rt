@@ -4,8 +4,11 @@
 
 mod codes;
 mod faults;
+mod lexemes;
 mod looking;
 mod numbers;
+mod plain;
+mod plain_reading;
 mod reading;
 mod samples;
 mod trees;

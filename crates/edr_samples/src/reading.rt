@@ -12,6 +12,7 @@ ghost use Rattle.edr_samples.specs.Turns as turns;
 
 use crate::faults::JsonFault;
 use crate::numbers::{code_in, number_of};
+use crate::plain_reading::plain_tree;
 use crate::samples::Samples;
 use crate::trees::{MAX_DEPTH, Tree};
 use crate::unpacking::unpacked;
@@ -26,7 +27,10 @@ pub fn read_tree(alloc: Global, text: &[u8]) -> Result<Tree, JsonFault>
     ensures none { IsErrOf result JsonFault.NotJson → IsUtf8 text.now → read_text text.now ≡ None }
 {
     match simdutf8::compat::from_utf8(text) {
-        Ok(text) => whole_text(alloc, text),
+        Ok(text) => match plain_tree(alloc, text.as_bytes()) {
+            Some(tree) => Ok(tree),
+            None => whole_text(alloc, text),
+        },
         Err(_) => Err(JsonFault::NotJson),
     }
 }

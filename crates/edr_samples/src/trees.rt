@@ -26,6 +26,7 @@ pub enum Tree {
 }
 
 /// A list, in one of the two forms that trees have.
+#[derive(Clone, Copy)]
 pub enum List<'a> {
     /// Whole numbers of 32 bits and nulls, packed.
     Samples(&'a Samples),
