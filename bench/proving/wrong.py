@@ -24,7 +24,7 @@ MEMORY_OF_A_CHECK = 3_000_000
 EDITS_OF_A_CHECK = 12
 REFUSED, THROUGH, USELESS = "refused", "let through", "of no use"
 FUNCTION = r"(?:pub(?:\([a-z]+\))? |unsafe |const |ghost )*fn (?P<function>\w+)"
-ITEM = re.compile(rf"^(?P<indent>[ ]*)(?:{FUNCTION}|impl\b(?P<impl>.*?)(?:\{{| where|$))", re.M)
+ITEM = re.compile(rf"^(?P<indent>[ ]*)(?:#\[[^\n]*\]\n[ ]*)*(?:{FUNCTION}|impl\b(?P<impl>.*?)(?:\{{| where|$))", re.M)
 VANISHED = re.compile(r"has no field|is not in scope|has no `|was not admitted|is no name")
 CONDITION = re.compile(r"(overflow|index|divisor|shift|cast)[\w-]*|.*-requires(-.*)?|requires(-.*)?")
 
@@ -123,12 +123,13 @@ class Crates:
         return os.path.abspath(f"crates/{crate}/out/rlib/{crate}.rlib")
 
     def lacking(self, crate):
-        """The crates, among this one and those below it, that the gate hasn't proved as they stand."""
+        """The crates, among this one and those below it, that the gate hasn't proved as they stand. A library that was kept has its
+        old time of writing, so the time at which it came to stand here is taken."""
         lacks = []
         for name in [*self.below(crate), crate]:
             built = f"crates/{name}/out/{name}" if self.is_program(name) else f"{self.library(name)}/format"
             files = [file for part in PARTS for file in glob.glob(f"crates/{name}/{part}/**", recursive=True)]
-            if not os.path.isfile(built) or max(map(os.path.getmtime, files)) > os.path.getmtime(built):
+            if not os.path.isfile(built) or max(map(os.path.getmtime, files)) > os.path.getctime(built):
                 lacks.append(name)
         return lacks
 
@@ -150,9 +151,9 @@ def goals_in(said, is_here):
     for line in said.split("\n"):
         answer = re.match(r"(?:\./)?(proofs/\S+?):(\d+):\d+: error: (?:`([^`]+)`: )?(.*)", line)
         left = re.match(r"note: (\S+?):(\d+):\d+: it is not proved .*?\(`([^`]+)`\)", line)
-        if answer and is_here(answer[1], int(answer[2])):
+        if answer and is_here(answer[1], int(answer[2]), answer[3] or ""):
             (vanished if VANISHED.search(answer[4]) else goals)[answer[3] or answer[4][:80]] = None
-        elif left and is_here(left[1], int(left[2])):
+        elif left and is_here(left[1], int(left[2]), left[3]):
             goals[left[3]] = None
     return list(goals), list(vanished)
 
@@ -176,8 +177,15 @@ def verdict_on(said, crate, places, texts):
         if line.startswith("could not tell"):
             return None
         proved.append(line == "proved")
-        folder = f"proofs/{path.replace('::', '/')}/"
-        here = goals_in(said, lambda file, number: file.startswith(folder) or place.has(file, number, texts))
+        # a cycle of calls has its proofs in one folder, and there the goals of a function begin with its name
+        module, _, function = path.replace("::", "/").rpartition("/")
+        folder, cycle = f"proofs/{module}/{function}/", f"proofs/{module}/+"
+
+        def is_here(file, number, goal):
+            in_cycle = file.startswith(cycle) and goal.startswith(f"{function}-")
+            return file.startswith(folder) or in_cycle or place.has(file, number, texts)
+
+        here = goals_in(said, is_here)
         goals, vanished = goals + here[0], vanished + here[1]
     return (THROUGH, "") if all(proved) else verdict_by(goals, vanished)
 
@@ -225,7 +233,7 @@ class Trying:
             return told
         said = self.check(texts, [it.module for it in places if it.module])
         if re.search(r"^fn \S+: (not proved|no proof)", said, re.M):
-            return verdict_by(*goals_in(said, lambda file, number: True))
+            return verdict_by(*goals_in(said, lambda file, number, goal: True))
         if re.search(r"^only=(\d+) proved=\1$|^logic=proved", said, re.M):
             return THROUGH, ""
         lines = [it for it in said.split("\n") if "error" in it] or said.rstrip().split("\n")
