@@ -8,6 +8,7 @@ mod endings;
 mod feeding;
 mod gate;
 mod limits;
+mod parting;
 mod patience;
 mod publishing;
 mod real_door;

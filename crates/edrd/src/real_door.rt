@@ -5,9 +5,10 @@ ghost use Rattle.edrd.specs.Limits.{accept_limit};
 ghost use Rattle.edr_base.specs.Limits.{count_limit};
 
 use crate::accept::Accept;
+use crate::parting::part;
 use crate::patience::{PatientReader, PatientWriter, patient_ends};
 use edr_base::{Failed, Faults, RealSink, RealSource};
-use edr_serve::{Connection, Served};
+use edr_serve::{Connection, End, Served, SessionFault, SessionReport};
 use std::alloc::Global;
 use std::io::{BufWriter, ErrorKind};
 use std::net::{TcpListener, TcpStream};
@@ -35,6 +36,8 @@ pub struct RealDoor {
     listener: TcpListener,
     most: u64,
     idle: u32,
+    // the stream of the connection that was handed out last
+    last: Option<TcpStream>,
     given: u64,
     finished: u64,
     faulted: u64,
@@ -70,6 +73,17 @@ fn step_after(error: &io::Error) -> Step {
     }
 }
 
+// Whether the peer of a session may still send, and not know that nobody reads it.
+fn may_send(outcome: &Result<SessionReport, SessionFault>) -> bool {
+    match outcome {
+        Ok(report) => match report.end {
+            End::ClosedByRefusal(_) | End::RequestLimit => true,
+            End::EndOfInput | End::ClosedByPeer => false,
+        },
+        Err(_) => false,
+    }
+}
+
 // Both ends of a stream.
 fn ends_of(
     rt: HostRuntime,
@@ -102,6 +116,7 @@ impl RealDoor {
             listener,
             most,
             idle,
+            last: None,
             given: 0,
             finished: 0,
             faulted: 0,
@@ -124,14 +139,15 @@ impl RealDoor {
         self.faulted
     }
 
-    // The two ends of the next connection. A connection that its peer gave up meanwhile is passed over, and so is one that
-    // can't be set up; where the system has nothing left it waits a moment.
-    fn next(&self) -> Result<(Input, Output), Failed> {
+    // The two ends of the next connection, and its stream. A connection that its peer gave up meanwhile is passed over, and so is
+    // one that can't be set up; where the system has nothing left it waits a moment.
+    fn next(&self) -> Result<(Input, Output, Option<TcpStream>), Failed> {
         for _ in 0..u64::MAX {
             match self.listener.accept() {
                 Ok((stream, _peer)) => {
-                    if let Ok(ends) = ends_of(self.rt, self.alloc, stream, self.idle) {
-                        return Ok(ends);
+                    let last = stream.try_clone().ok();
+                    if let Ok((input, output)) = ends_of(self.rt, self.alloc, stream, self.idle) {
+                        return Ok((input, output, last));
                     }
                 }
                 Err(error) => match step_after(&error) {
@@ -171,8 +187,9 @@ impl Accept for RealDoor {
         }
         self.over = false;
         match self.next() {
-            Ok((input, output)) => {
+            Ok((input, output, last)) => {
                 self.given += 1;
+                self.last = last;
                 Ok(Some(Connection::of(input, output)))
             }
             Err(Failed) => {
@@ -192,6 +209,12 @@ impl Accept for RealDoor {
         self.finished += 1;
         if is_fault {
             self.faulted += 1;
+        }
+        let last = self.last.take();
+        if let Some(stream) = last
+            && may_send(served.outcome())
+        {
+            let _ = part(self.rt, stream);
         }
     }
 
