@@ -1,7 +1,9 @@
 mod KnownRows
 pub mod Whole
-pub mod Edges
-pub mod FlagLemmas
+pub mod EdgeLemmas
+pub mod CutLemmas
+pub mod Filled
+pub mod LeftOf
 pub mod Placed
 pub mod Outside
 pub mod Products

@@ -1,5 +1,5 @@
 -- Products of whole numbers, and comparisons that go together.
-use Rattle.std.proofs.Common.{◌≡◌, ℕ, ◌+◌, ◌*◌, ◌<◌, ◌≤◌, arith, Bool, true, false, refl, ap, ap₂, sym, ◌∙◌, ℤ, pos, negsuc, ◌+ℤ◌, ◌-ℤ◌, ◌*ℤ◌, ◌<ℤ◌, ◌≤ℤ◌, int_le, int_lt}
+use Rattle.std.proofs.Common.{◌≡◌, ◌+◌, ◌*◌, arith, true, false, ap, ap₂, sym, ◌∙◌, ℤ, pos, ◌+ℤ◌, ◌-ℤ◌, ◌*ℤ◌, ◌<ℤ◌, ◌≤ℤ◌, int_le, int_lt}
 use Rattle.std.proofs.Math.IntN.{*ℤ_comm}
 use Rattle.std.proofs.lemmas.Int.{ints, by_lt_z}
 use Rattle.jiff_core.proofs.SignedLemmas.{signed_arith}

@@ -1,11 +1,11 @@
 -- Whole numbers from one to another: quotients, square roots, and the places of an axis.
-use Rattle.std.proofs.Common.{mul-le-mul, ◌≡◌, ℕ, suc, ◌+◌, ◌*◌, ◌<◌, ◌≤◌, arith, Bool, true, false, refl, ap, ap₂, sym, subst, ◌∙◌, inl, inr, cond, List, length, count_by, max, nat_lt, ℤ, pos, negsuc, ◌+ℤ◌, ◌-ℤ◌, ◌*ℤ◌, ◌<ℤ◌, ◌≤ℤ◌, neg_ℤ, int_le, int_lt, to_z, of_z, w64}
+use Rattle.std.proofs.Common.{mul-le-mul, ◌≡◌, ℕ, ◌+◌, ◌*◌, ◌<◌, ◌≤◌, arith, Bool, true, false, refl, ap, ap₂, sym, subst, ◌∙◌, inl, inr, cond, List, length, count_by, max, nat_lt, ℤ, pos, negsuc, ◌+ℤ◌, ◌-ℤ◌, ◌*ℤ◌, ◌<ℤ◌, ◌≤ℤ◌, int_le, int_lt, to_z, of_z, w64}
 use Rattle.std.specs.Prelude.{◌&&◌, nat_le}
 use Rattle.std.specs.Int.{int_min, int_max, int_div_euclid, IsIsqrt}
-use Rattle.std.specs.Int.RustNames.{unsigned_abs, int_div}
+use Rattle.std.specs.Int.RustNames.{unsigned_abs}
 use Rattle.std.proofs.Math.Nat.{mul-le-mul_left}
 use Rattle.std.proofs.lemmas.Bool.{cases_lt, and_left, and_right, le-leb, lt-leb, lt-ltb, le-ltb}
-use Rattle.std.proofs.lemmas.Int.{ints, by_lt_z}
+use Rattle.std.proofs.lemmas.Int.{by_lt_z}
 use Rattle.jiff_core.proofs.SignedLemmas.{signed_arith, one_part, unsigned_abs-product, int_div_euclid-parts, back_small}
 use borrow.Author.Differences.{up, down}
 use Rattle.edr_axes.specs.Axes.{value_at, SplitsValues}

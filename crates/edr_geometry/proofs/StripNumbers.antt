@@ -1,5 +1,5 @@
 -- The numbers of a row of a strip fit their types, and come back from their bits as they were.
-use Rattle.std.proofs.Common.{◌≡◌, ◌≤◌, ◌∙◌, arith, ap, ap₂, subst, sym, ℤ, pos, negsuc, ◌+ℤ◌, ◌-ℤ◌, ◌*ℤ◌, ◌≤ℤ◌, int_le, FitsSigned, to_z, of_z, w64}
+use Rattle.std.proofs.Common.{◌≡◌, ◌≤◌, ◌∙◌, arith, ap₂, subst, sym, ℤ, pos, negsuc, ◌+ℤ◌, ◌-ℤ◌, ◌*ℤ◌, ◌≤ℤ◌, int_le, FitsSigned, to_z, of_z, w64}
 use mir.Syntax.{w128}
 use Rattle.std.specs.Int.{IsIsqrt}
 use Rattle.std.specs.Int.RustNames.{unsigned_abs, int_div}

@@ -1,4 +1,5 @@
 pub mod Limits
+pub mod Lines
 pub mod Masks
 pub mod Planar
 pub mod Ranges

@@ -1,4 +1,4 @@
--- Rows of places of one y, and masks of them.
+-- Rows of places of one y, columns of one x, and masks of them.
 use Rattle.std.specs.Prelude.{◌≡◌, ℕ, ◌<◌, ◌≤◌, ℤ, Bool, true, false, List, length, map}
 use Rattle.std.specs.List.{slice_index_or}
 use Rattle.edr_base.specs.declared.places.Spot.{Spot}
@@ -10,6 +10,10 @@ spot_at y x = record { x = x; y = y }
 -- the test of each place of a row
 abbrev pub row_of : (Spot → Bool) → ℤ → List ℤ → List Bool
 row_of test y xs = map (λ x. test (spot_at y x)) xs
+
+-- the test of each place of a column of one x
+abbrev pub column_of : (Spot → Bool) → ℤ → List ℤ → List Bool
+column_of test x ys = map (λ y. test (spot_at y x)) ys
 
 -- a place is set
 abbrev pub IsSet : List Bool → ℕ → Type 0

@@ -1,5 +1,5 @@
 -- Ranges of the places of a row, and those near a segment.
-use Rattle.std.specs.Prelude.{◌≡◌, ℕ, ◌<◌, ◌≤◌, nat_le, nat_lt, ℤ, Bool, ◌&&◌, ◌||◌, List, length}
+use Rattle.std.specs.Prelude.{◌≡◌, ℕ, ◌≤◌, nat_le, nat_lt, ℤ, Bool, ◌&&◌, ◌||◌}
 use Rattle.edr_base.specs.declared.places.Spot.{Spot}
 use Rattle.edr_geometry.specs.declared.strips.NearRanges.{NearRanges}
 use Rattle.edr_geometry.specs.Planar.{near_segment}

@@ -1,5 +1,5 @@
 -- For private clauses: whole numbers from one to another, and the parts of the strip about a segment.
-use Rattle.std.specs.Prelude.{◌≡◌, ◌≤◌, ◌*◌, ℕ, ℤ, pos, ◌-ℤ◌, ◌*ℤ◌, int_le, int_lt, Bool, ◌&&◌}
+use Rattle.std.specs.Prelude.{◌≡◌, ◌≤◌, ◌*◌, ℤ, pos, ◌-ℤ◌, ◌*ℤ◌, int_le, int_lt, Bool, ◌&&◌}
 use Rattle.std.specs.Int.RustNames.{unsigned_abs}
 use Rattle.edr_base.specs.declared.places.Spot.{Spot}
 use Rattle.edr_base.specs.Boxes.{is_between}

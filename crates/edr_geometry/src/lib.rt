@@ -1,9 +1,11 @@
 //! Tests of places in the plane, in whole numbers, and masks of whole rows of places.
 #![tactic(auto)]
 
-mod borders;
+mod crossings;
+mod cuts;
 mod discs;
 mod laws;
+mod lines;
 mod masks;
 mod near;
 mod points;
@@ -11,7 +13,6 @@ mod polygons;
 mod rows;
 mod spans;
 mod strips;
-mod toggles;
 mod traces;
 
 pub use laws::{geometries_are_placed, near_is_exchanged};

@@ -1,19 +1,20 @@
 //! Masks: which places of a row lie in polygons or in a disc.
-ghost use Rattle.std.specs.Prelude.{◌≡◌, IfOk, OnOk, ℕ, ◌+◌, ◌<◌, length, ◌||◌, false, MatchOption, slice_index_or};
-ghost use Rattle.std.specs.List.{All, flat_map};
+ghost use Rattle.std.specs.Prelude.{◌≡◌, IfOk, OnOk, ℕ, ◌+◌, ◌<◌, length, ◌||◌, false, map, MatchOption, slice_index_or};
+ghost use Rattle.std.specs.List.{All};
 ghost use Rattle.edr_base.specs.Limits.{IsCoordinate, IsMetres};
-ghost use Rattle.edr_geometry.specs.Limits.{IsSpot, IsPlacedPolygon, IsPlacedRing};
+ghost use Rattle.edr_geometry.specs.Limits.{IsSpot, IsPlacedPolygon};
 ghost use Rattle.edr_geometry.specs.Planar as plane;
-ghost use Rattle.edr_geometry.specs.Rows.{IsRow, Joins, in_polygon_at, is_set_in, odd_behind, odd_crossed, on_edges};
-ghost use Rattle.edr_geometry.specs.Masks.{row_of, IsSet, NoneSet};
+ghost use Rattle.edr_geometry.specs.Lines.{IsLine, in_polygon_at, spot_on};
+ghost use Rattle.edr_geometry.specs.Rows.{Joins, is_set_in};
+ghost use Rattle.edr_geometry.specs.Masks.{row_of, column_of, IsSet, NoneSet};
 
-use crate::borders::touches_polygon;
+use crate::cuts::join_odd;
 use crate::discs::{Disc, disc_of};
+use crate::lines::Line;
 use crate::rows::Row;
-use crate::toggles::join_odd;
 use crate::traces::trace_polygon;
 use edr_axes::Axis;
-use edr_base::{Items, OutOfMemory, Position, Spot};
+use edr_base::{OutOfMemory, Spot};
 use edr_wkt::Polygon;
 use std::alloc::{AllocError, Global};
 use std::marker::Model;
@@ -32,56 +33,39 @@ impl Model for RowMask {
     ghost view = { λ mask. mask.places.items };
 }
 
-// Flags of which an odd number is set behind each place of a row for which an odd number of edges crosses. Each place
-// of the row on an edge is set in the mask.
-fn crossings_of(
-    alloc: Global,
-    mask: &mut [bool],
-    row: &Row<'_>,
-    rings: &[Items<Position>],
-) -> Result<Vec<bool>, AllocError>
-    requires row { IsRow row.now.y row.now.xs.now }
-    requires rings_in { All IsPlacedRing rings.now }
-    requires mask { length mask.old ≡ length row.now.xs.now }
-    ensures length { IfOk result (λ flags. length flags.items ≡ length row.now.xs.now + 1) }
-    ensures odd { IfOk result (λ flags. (place : ℕ) → place < length row.now.xs.now → odd_behind flags.items place ≡ odd_crossed row.now.y row.now.xs.now (flat_map plane.edges_along rings.now) place) }
-    ensures joins { IfOk result (λ _. Joins mask.old mask.new (on_edges row.now.y row.now.xs.now (flat_map plane.edges_along rings.now))) }
-{
-    let mut flags = vec![in alloc; false; row.xs.len() + 1]?;
-    trace_polygon(&mut flags, mask, row, rings);
-    Ok(flags)
-}
-
-// Sets each place of a row in a polygon.
+// Sets each place of a line in a polygon. The cuts are room for those of the polygon.
 fn join_polygon(
-    alloc: Global,
+    cuts: &mut Vec<usize>,
     mask: &mut [bool],
-    row: &Row<'_>,
+    line: &Line<'_>,
     polygon: &Polygon,
 ) -> Result<(), AllocError>
-    requires row { IsRow row.now.y row.now.xs.now }
+    requires line { IsLine line.now }
     requires polygon_in { IsPlacedPolygon polygon.now }
-    requires mask { length mask.old ≡ length row.now.xs.now }
-    ensures { OnOk result (Joins mask.old mask.new (in_polygon_at row.now.y row.now.xs.now polygon.now)) }
+    requires mask { length mask.old ≡ length line.now.values }
+    ensures { OnOk result (Joins mask.old mask.new (in_polygon_at line.now polygon.now)) }
 {
-    let rings = polygon.rings.items();
-    if !touches_polygon(row, rings) {
-        return Ok(());
-    }
-    let flags = crossings_of(alloc, mask, row, rings)?;
-    join_odd(mask, &flags);
+    cuts.clear();
+    trace_polygon(cuts, mask, line, polygon.rings.items())?;
+    cuts.sort_unstable();
+    join_odd(mask, cuts);
     Ok(())
 }
 
-// The places of a row in some polygon.
-fn polygons_of(alloc: Global, polygons: &[Polygon], row: &Row<'_>) -> Result<Vec<bool>, AllocError>
-    requires row { IsRow row.now.y row.now.xs.now }
+// The places of a line in some polygon.
+fn polygons_of(
+    alloc: Global,
+    polygons: &[Polygon],
+    line: &Line<'_>,
+) -> Result<Vec<bool>, AllocError>
+    requires line { IsLine line.now }
     requires polygons_in { All IsPlacedPolygon polygons.now }
-    ensures { IfOk result (λ places. places.items ≡ row_of (λ p. plane.in_polygons p polygons.now) row.now.y row.now.xs.now) }
+    ensures { IfOk result (λ places. places.items ≡ map (λ v. plane.in_polygons (spot_on line.now v) polygons.now) line.now.values) }
 {
-    let mut places = vec![in alloc; false; row.xs.len()]?;
+    let mut places = vec![in alloc; false; line.len()]?;
+    let mut cuts = Vec::new(alloc);
     for polygon in polygons {
-        join_polygon(alloc, &mut places, row, polygon)?;
+        join_polygon(&mut cuts, &mut places, line, polygon)?;
     }
     Ok(places)
 }
@@ -101,7 +85,7 @@ impl RowMask {
     /// want of memory.
     ///
     /// `y` and the values of `xs` are metres. At each place it is `in_polygons` of that node. The time goes with the edges
-    /// and, for each polygon that meets the row, with the row's length.
+    /// and the logarithm of the row's length, and with the places that are set.
     pub fn of_polygons(
         alloc: Global,
         polygons: &[Polygon],
@@ -113,9 +97,31 @@ impl RowMask {
         requires xs_in { All IsCoordinate xs.now }
         ensures { IfOk result (λ mask. mask ≡ row_of (λ p. plane.in_polygons p polygons.now) y xs.now) }
     {
-        let row = Row { y, xs: xs.values() };
+        let line = Line::row(y, xs);
         Ok(RowMask {
-            places: polygons_of(alloc, polygons, &row)?,
+            places: polygons_of(alloc, polygons, &line)?,
+        })
+    }
+
+    /// The places of a column in one of some polygons, borders of holes included (OGC 06-103r4, sections 6.1.11 and 6.1.14),
+    /// or want of memory.
+    ///
+    /// `x` and the values of `ys` are metres. At each place it is `in_polygons` of that node. The time goes with the edges and
+    /// the logarithm of the column's length, and with the places that are set.
+    pub fn of_column(
+        alloc: Global,
+        polygons: &[Polygon],
+        x: i64,
+        ys: &Axis,
+    ) -> Result<RowMask, OutOfMemory>
+        requires polygons_in { All IsPlacedPolygon polygons.now }
+        requires x_in { IsCoordinate x }
+        requires ys_in { All IsCoordinate ys.now }
+        ensures { IfOk result (λ mask. mask ≡ column_of (λ p. plane.in_polygons p polygons.now) x ys.now) }
+    {
+        let line = Line::column(x, ys);
+        Ok(RowMask {
+            places: polygons_of(alloc, polygons, &line)?,
         })
     }
 

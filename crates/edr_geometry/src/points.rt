@@ -5,12 +5,11 @@ ghost use Rattle.edr_geometry.specs.Limits.{IsSpot};
 ghost use Rattle.edr_base.specs.Limits.{IsMetres};
 ghost use Rattle.edr_geometry.specs.Ways.{IsWay};
 ghost use Rattle.edr_geometry.specs.Planar as plane;
-ghost use Rattle.edr_geometry.specs.Rows as rows;
 
 use edr_base::Spot;
 
-// v lies from one to the other, whichever is less.
-fn is_among(one: i64, other: i64, v: i64) -> bool
+/// v lies from one to the other, whichever is less.
+pub fn is_among(one: i64, other: i64, v: i64) -> bool
     ensures { result ≡ plane.is_among one other v }
 {
     (one <= v && v <= other) || (other <= v && v <= one)
@@ -147,82 +146,6 @@ pub fn crosses(p: Spot, a: Spot, b: Spot) -> bool
     let left = way.turns_left(&to_place);
     let right = way.turns_right(&to_place);
     is_left_of(up, left, down, right)
-}
-
-// The place stands before an edge that goes up, before one that goes down, or before both ends of a level one.
-fn is_one_of_three(
-    up: bool,
-    left: bool,
-    down: bool,
-    right: bool,
-    level: bool,
-    before_ends: bool,
-) -> bool
-    ensures { result ≡ ((up && left) || ((down && right) || (level && before_ends))) }
-{
-    let slanted_down = down && right;
-    let flat = level && before_ends;
-    (up && left) || (slanted_down || flat)
-}
-
-// Whether a place stands below another.
-fn is_below(a: &Spot, b: &Spot) -> bool
-    ensures { result ≡ int_lt a.now.y b.now.y }
-{
-    a.y < b.y
-}
-
-// Whether two places are in one row.
-fn is_level(a: &Spot, b: &Spot) -> bool
-    requires a_in { IsSpot a.now }
-    requires b_in { IsSpot b.now }
-    ensures { result ≡ int_eq a.now.y b.now.y }
-{
-    a.y == b.y
-}
-
-// Whether a place stands before two others.
-fn is_before_both(p: &Spot, a: &Spot, b: &Spot) -> bool
-    ensures { result ≡ (int_lt p.now.x a.now.x && int_lt p.now.x b.now.x) }
-{
-    p.x < a.x && p.x < b.x
-}
-
-/// Whether a place stands before an edge in its row.
-pub fn is_before(p: Spot, a: Spot, b: Spot) -> bool
-    requires p_in { IsSpot p }
-    requires a_in { IsSpot a }
-    requires b_in { IsSpot b }
-    ensures { result ≡ rows.is_before p a b }
-{
-    let way = Way::of(&a, &b);
-    let to_place = Way::of(&a, &p);
-    let up = is_below(&a, &b);
-    let down = is_below(&b, &a);
-    let left = way.turns_left(&to_place);
-    let right = way.turns_right(&to_place);
-    let level = is_level(&a, &b);
-    let before_ends = is_before_both(&p, &a, &b);
-    is_one_of_three(up, left, down, right, level, before_ends)
-}
-
-/// Whether the way from one place to another passes the row of a place, its lower end counted.
-pub fn is_passed(p: &Spot, a: &Spot, b: &Spot) -> bool
-    ensures { result ≡ (plane.rises p.now a.now b.now || plane.rises p.now b.now a.now) }
-{
-    let up = rises(p, a, b);
-    let down = rises(p, b, a);
-    up || down
-}
-
-/// Whether the row of a place lies between two others, both included.
-pub fn is_touched(p: &Spot, a: &Spot, b: &Spot) -> bool
-    requires p_in { IsSpot p.now }
-    requires a_in { IsSpot a.now }
-    requires b_in { IsSpot b.now }
-    ensures { result ≡ plane.is_among a.now.y b.now.y p.now.y }
-{
-    is_among(a.y, b.y, p.y)
 }
 
 /// Whether a place is at most `radius` metres from a centre. It takes no memory.

@@ -51,8 +51,8 @@ impl Span {
         }
     }
 
-    // No number.
-    fn none() -> Span
+    /// No number.
+    pub fn none() -> Span
         ensures { (v : ℤ) → has result v ≡ false }
     {
         Span { low: 1, high: 0 }

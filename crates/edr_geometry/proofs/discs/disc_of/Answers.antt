@@ -8,7 +8,7 @@ use Rattle.edr_geometry.specs.Planar.{in_disc}
 use Rattle.edr_geometry.specs.Masks.{spot_at}
 use Rattle.edr_geometry.specs.Rows.{spot_in}
 use Rattle.edr_geometry.proofs.Whole.{back}
-use Rattle.edr_geometry.proofs.FlagLemmas.{mask_is}
+use Rattle.edr_geometry.proofs.CutLemmas.{mask_is}
 use Rattle.edr_geometry.proofs.Outside.{outside_left, outside_right, beyond, none_at, edge_small}
 use Rattle.edr_geometry.proofs.discs.disc_of.Goals as goal
 

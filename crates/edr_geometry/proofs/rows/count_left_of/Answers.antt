@@ -1,7 +1,7 @@
 use Rattle.std.proofs.Common.{int_lt, pos, rules, arith}
 use Rattle.std.proofs.lemmas.List.Sorted.{IsPartitionPoint-from_clause}
 use Rattle.jiff_core.proofs.SignedLemmas.{signed_arith}
-use Rattle.edr_geometry.proofs.Edges.{left_parted}
+use Rattle.edr_geometry.proofs.LeftOf.{left_parted}
 use Rattle.edr_geometry.proofs.rows.count_left_of.Goals as goal
 
 pub returns : goal.returns

@@ -1,4 +1,4 @@
-use Rattle.std.proofs.Common.{◌≡◌, ◌≤◌, ◌∙◌, ◌+ℤ◌, ◌-ℤ◌, ◌≤ℤ◌, pos, arith, rules, subst, to_z, of_z, w64}
+use Rattle.std.proofs.Common.{◌≡◌, ◌≤◌, ◌+ℤ◌, ◌-ℤ◌, ◌≤ℤ◌, pos, arith, rules, subst, to_z, of_z, w64}
 use Rattle.std.specs.Int.{IsIsqrt}
 use Rattle.std.specs.Int.RustNames.{unsigned_abs}
 use Rattle.jiff_core.proofs.SignedLemmas.{signed_arith, one_part}

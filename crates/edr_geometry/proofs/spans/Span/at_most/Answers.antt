@@ -1,5 +1,4 @@
-use Rattle.std.proofs.Common.{◌≡◌, ◌∙◌, ◌-ℤ◌, ◌*ℤ◌, ◌<ℤ◌, pos, ap, ap₂, sym, arith, rules, true, int_le, to_z, of_z, w64, ℤ}
-use Rattle.std.specs.Int.RustNames.{unsigned_abs}
+use Rattle.std.proofs.Common.{◌≡◌, ◌∙◌, ◌-ℤ◌, ◌*ℤ◌, pos, ap₂, sym, arith, rules, int_le, to_z, of_z, w64, ℤ}
 use Rattle.std.proofs.Math.Bool.{and-true}
 use Rattle.std.proofs.lemmas.Bool.{and_parts}
 use Rattle.jiff_core.proofs.SignedLemmas.{signed_arith, one_part}

@@ -1,15 +1,5 @@
-use Rattle.std.proofs.Common.{◌≡◌, ◌≤◌, ◌∙◌, ◌+ℤ◌, ◌-ℤ◌, ◌*ℤ◌, ◌&&◌, pos, ap, ap₂, sym, subst, arith, rules, refl, int_le, int_lt, true, false, FitsSigned, to_z, of_z, w64, ℤ}
-use Rattle.std.specs.Int.RustNames.{unsigned_abs}
-use Rattle.std.proofs.lemmas.Bool.{and_right}
-use Rattle.jiff_core.proofs.SignedLemmas.{signed_arith, one_part}
-use Rattle.edr_base.specs.Limits.{IsCoordinate}
-use Rattle.edr_geometry.specs.Masks.{spot_at}
-use Rattle.edr_geometry.specs.Planar.{along, cross, squared_distance}
-use Rattle.edr_geometry.specs.Spans.{has, IsBound}
-use Rattle.edr_geometry.proofs.SpanLemmas.{back}
-use Rattle.edr_geometry.proofs.StripLemmas.{disc_of, before_start, behind_start, before_end, behind_end, right_of_line, left_of_line, in_parts}
-use Rattle.edr_geometry.proofs.StripNumbers.{fits, coordinate_back, away_back, away_fits, square_back, square_fits, rest_back, rest_fits, rest_small, way_x_small, way_y_small, start_small, line_small, length_small, sum_small}
-use Rattle.edr_geometry.specs.Spans.{is_before_start, is_beside, is_behind_end}
+use Rattle.std.proofs.Common.{◌≡◌, ◌∙◌, ◌&&◌, ap₂, to_z, of_z, w64}
+use Rattle.edr_geometry.proofs.StripNumbers.{coordinate_back}
 use Rattle.edr_geometry.proofs.strips.Measures.beside_on.Goals as goal
 
 pub returns : goal.returns

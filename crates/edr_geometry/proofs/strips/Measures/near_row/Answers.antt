@@ -1,4 +1,4 @@
-use Rattle.std.proofs.Common.{◌≡◌, ◌<◌, ◌∙◌, ℕ, ℤ, pos, ap₂, arith, length, to_z, of_z, w64}
+use Rattle.std.proofs.Common.{◌≡◌, ◌∙◌, pos, ap₂, to_z, of_z, w64}
 use Rattle.std.specs.Prelude.{◌||◌}
 use Rattle.edr_axes.specs.Axes.{value_at}
 use Rattle.edr_base.specs.Limits.{IsCoordinate}

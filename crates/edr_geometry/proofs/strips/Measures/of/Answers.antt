@@ -1,8 +1,7 @@
-use Rattle.std.proofs.Common.{◌≡◌, ◌≤◌, ◌∙◌, ◌-ℤ◌, ◌+ℤ◌, ◌*ℤ◌, ℤ, pos, ap, ap₂, sym, subst, arith, rules, int_le, to_z, of_z, w64}
+use Rattle.std.proofs.Common.{◌≡◌, ◌≤◌, ◌∙◌, ◌-ℤ◌, ◌+ℤ◌, ◌*ℤ◌, pos, ap, ap₂, sym, subst, arith, rules, int_le, to_z, of_z, w64}
 use Rattle.std.specs.Int.RustNames.{unsigned_abs}
 use Rattle.jiff_core.proofs.SignedLemmas.{signed_arith}
 use Rattle.edr_base.specs.Boxes.{is_between}
-use Rattle.edr_geometry.specs.Planar.{squared_distance}
 use Rattle.edr_geometry.proofs.Products.{opposite_square}
 use Rattle.edr_geometry.proofs.SpanLemmas.{back}
 use Rattle.edr_geometry.proofs.strips.Measures.of.Goals as goal
