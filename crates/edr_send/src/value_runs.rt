@@ -13,8 +13,9 @@ ghost use Rattle.edr_send.specs.Filling.{grid_of, Adds};
 ghost use Rattle.edr_send.specs.Bands.{band_of, BandsRise};
 
 use crate::bands::band_number;
+use crate::coverages::Buffers;
 use crate::filling::fill;
-use crate::slots::{Slot, push_range};
+use crate::slots::push_range;
 use covjson_write::Writer;
 use edr_base::{OutOfMemory, SendFault, Sink};
 use edr_chunk::{GridShape, numbers_tell_places, tiles_are_numbered};
@@ -24,13 +25,6 @@ use std::alloc::Global;
 
 // How many values a run has at least, unless it is the last of a range.
 const LEAST_VALUES: usize = 1_024;
-
-// The values of a run and the slots that they are filled by. Each run takes the memory of the one before.
-#[derive(Drop)]
-pub(crate) struct Run {
-    pub(crate) slots: Vec<Slot>,
-    pub(crate) values: Vec<Option<i64>>,
-}
 
 // The place behind the run that starts at a place: it ends with the first band that gives it the least number of values, or
 // with all.
@@ -61,7 +55,7 @@ fn fill_run(
     shape: GridShape,
     parameter: u64,
     cells: &[GridNode],
-    run: &mut Run,
+    run: &mut Buffers,
 ) -> Result<(), OutOfMemory>
     requires grid { shape ≡ (grid_of store.old.subject.held).shape }
     requires shape { IsShape shape }
@@ -86,7 +80,7 @@ fn write_run<K: Sink>(
     shape: GridShape,
     parameter: u64,
     cells: &[GridNode],
-    run: &mut Run,
+    run: &mut Buffers,
 ) -> Result<(), SendFault>
     requires grid { shape ≡ (grid_of store.old.subject.held).shape }
     requires shape { IsShape shape }
@@ -115,7 +109,7 @@ pub(crate) fn write_runs<K: Sink>(
     shape: GridShape,
     parameter: u64,
     cells: &[GridNode],
-    run: &mut Run,
+    run: &mut Buffers,
 ) -> Result<(), SendFault>
     requires grid { shape ≡ (grid_of store.old.subject.held).shape }
     requires shape { IsShape shape }
