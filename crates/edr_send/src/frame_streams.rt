@@ -16,64 +16,57 @@ ghost use Rattle.edr_send.specs.Strips.{HasRows};
 
 use crate::coverages::{Buffers, Coverages, RangePlace, parameter_at};
 use crate::planes::write_strips;
+use crate::strips::Layer;
 use covjson_value::Coverage;
 use covjson_write::Writer;
 use edr_base::{SendFault, Sink};
 use edr_chunk::{numbers_tell_places, sides_are_small, tiles_are_numbered};
 use edr_edition::Store;
 use edr_select::{Framing, framing_stands};
-use std::alloc::Global;
 
 // Writes the values of a time and a level.
 fn write_plane<K: Sink>(
-    alloc: Global,
+    framing: &Framing,
+    layer: Layer,
     store: &mut Store<'_>,
     writer: &mut Writer,
     sink: &mut K,
-    framing: &Framing,
-    parameter: u64,
-    t: u32,
-    z: u32,
-    values: &mut Vec<Option<i64>>,
+    buffers: &mut Buffers,
 ) -> Result<(), SendFault>
     requires grid { framing.now.shape ≡ (grid_of store.old.subject.held).shape }
-    requires parameter { parameter < framing.now.shape.parameters }
-    requires t { t < framing.now.shape.times }
-    requires z { z < framing.now.shape.levels }
+    requires parameter { layer.parameter < framing.now.shape.parameters }
+    requires t { layer.t < framing.now.shape.times }
+    requires z { layer.z < framing.now.shape.levels }
     requires open { writer.old.stage ≡ Open }
-    requires room { writer.old.values + length (plane_cells framing.now.frame t z) ≤ writer.old.head.count }
-    ensures bytes { Writes result (values_from writer.old.values (map (cell_value (grid_of store.old.subject.held) parameter) (plane_cells framing.now.frame t z))) (K.written sink.old) (K.written sink.new) }
-    ensures writer { OnOk result (writer.new ≡ with_values writer.old (length (plane_cells framing.now.frame t z))) }
-    ensures reads { Adds result (ascending_once (tiles framing.now.shape) (tiles_of_range framing.now.shape (taken (plane_cells framing.now.frame t z)) parameter)) store.old.numbers store.new.numbers }
+    requires room { writer.old.values + length (plane_cells framing.now.frame layer.t layer.z) ≤ writer.old.head.count }
+    ensures bytes { Writes result (values_from writer.old.values (map (cell_value (grid_of store.old.subject.held) layer.parameter) (plane_cells framing.now.frame layer.t layer.z))) (K.written sink.old) (K.written sink.new) }
+    ensures writer { OnOk result (writer.new ≡ with_values writer.old (length (plane_cells framing.now.frame layer.t layer.z))) }
+    ensures reads { Adds result (ascending_once (tiles framing.now.shape) (tiles_of_range framing.now.shape (taken (plane_cells framing.now.frame layer.t layer.z)) layer.parameter)) store.old.numbers store.new.numbers }
     ensures subject { store.new.subject ≡ store.old.subject }
     ensures lent { SinkLent (K.beside sink.old) (K.beside sink.new) (K.faults sink.old) (K.faults sink.new) }
     ensures cause { IsErrOf result SendFault.WriteFault → Rose (K.faults sink.old) (K.faults sink.new) }
 {
     framing_stands(framing);
     write_strips(
-        alloc,
+        framing.shape,
+        &framing.frame,
+        layer,
         store,
         writer,
         sink,
-        framing.shape,
-        &framing.frame,
-        parameter,
-        t,
-        z,
-        values,
+        buffers,
     )
 }
 
 // Writes the values of a time, level by level.
 fn write_levels<K: Sink>(
-    alloc: Global,
-    store: &mut Store<'_>,
-    writer: &mut Writer,
-    sink: &mut K,
     framing: &Framing,
     parameter: u64,
     t: u32,
-    values: &mut Vec<Option<i64>>,
+    store: &mut Store<'_>,
+    writer: &mut Writer,
+    sink: &mut K,
+    buffers: &mut Buffers,
 ) -> Result<(), SendFault>
     requires grid { framing.now.shape ≡ (grid_of store.old.subject.held).shape }
     requires parameter { parameter < framing.now.shape.parameters }
@@ -93,20 +86,20 @@ fn write_levels<K: Sink>(
     let levels = framing.frame.levels.items();
     for place in 0..levels.len() {
         let z = levels[place] as u32;
-        write_plane(alloc, store, writer, sink, framing, parameter, t, z, values)?;
+        let layer = Layer { parameter, t, z };
+        write_plane(framing, layer, store, writer, sink, buffers)?;
     }
     Ok(())
 }
 
 // Writes the values of the open range of a parameter, time by time.
 fn write_times<K: Sink>(
-    alloc: Global,
+    framing: &Framing,
+    parameter: u64,
     store: &mut Store<'_>,
     writer: &mut Writer,
     sink: &mut K,
-    framing: &Framing,
-    parameter: u64,
-    values: &mut Vec<Option<i64>>,
+    buffers: &mut Buffers,
 ) -> Result<(), SendFault>
     requires grid { framing.now.shape ≡ (grid_of store.old.subject.held).shape }
     requires parameter { parameter < framing.now.shape.parameters }
@@ -125,7 +118,7 @@ fn write_times<K: Sink>(
     let times = framing.frame.times.items();
     for place in 0..times.len() {
         let t = times[place] as u32;
-        write_levels(alloc, store, writer, sink, framing, parameter, t, values)?;
+        write_levels(framing, parameter, t, store, writer, sink, buffers)?;
     }
     Ok(())
 }
@@ -159,14 +152,6 @@ impl Coverages for Framing {
     ) -> Result<(), SendFault> {
         framing_stands(self);
         let parameter = parameter_at(self.parameters.items(), place.range);
-        write_times(
-            buffers.alloc,
-            store,
-            writer,
-            sink,
-            self,
-            parameter,
-            &mut buffers.values,
-        )
+        write_times(self, parameter, store, writer, sink, buffers)
     }
 }

@@ -44,14 +44,6 @@ impl Coverages for GappedReply {
         gapped_reply_stands(self);
         let series = &self.series.items()[place.coverage];
         let parameter = parameter_at(self.parameters.items(), place.range);
-        write_runs(
-            buffers.alloc,
-            store,
-            writer,
-            sink,
-            series,
-            parameter,
-            &mut buffers.values,
-        )
+        write_runs(series, parameter, store, writer, sink, buffers)
     }
 }

@@ -17,6 +17,7 @@ ghost use Rattle.edr_select.specs.Stacks.{stack_count, plane_at, cells_of_plane,
 
 use crate::coverages::{Buffers, Coverages, RangePlace, parameter_at};
 use crate::planes::write_strips;
+use crate::strips::Layer;
 use covjson_value::Coverage;
 use covjson_write::Writer;
 use edr_base::{Items, OutOfMemory, SendFault, Sink};
@@ -24,6 +25,13 @@ use edr_chunk::{numbers_tell_places, sides_are_small, tiles_are_numbered};
 use edr_edition::Store;
 use edr_select::{Frame, Stack, Stacking, stacking_stands};
 use std::alloc::Global;
+
+// A plane of a stack, by the numbers of its time and its level among those of the stack.
+#[derive(Clone, Copy, Debug)]
+struct PlanePlace {
+    time: usize,
+    level: usize,
+}
 
 // One of some numbers alone.
 fn alone(alloc: Global, number: u64) -> Result<Items<u64>, OutOfMemory>
@@ -77,25 +85,23 @@ fn plane_of(alloc: Global, stack: &Stack, i: usize, j: usize) -> Result<Frame, O
 
 // Writes the values of the plane of a time and a level.
 fn write_stacked<K: Sink>(
-    alloc: Global,
+    stacking: &Stacking,
+    parameter: u64,
+    place: PlanePlace,
     store: &mut Store<'_>,
     writer: &mut Writer,
     sink: &mut K,
-    stacking: &Stacking,
-    parameter: u64,
-    i: usize,
-    j: usize,
-    values: &mut Vec<Option<i64>>,
+    buffers: &mut Buffers,
 ) -> Result<(), SendFault>
     requires grid { stacking.now.shape ≡ (grid_of store.old.subject.held).shape }
     requires parameter { parameter < stacking.now.shape.parameters }
-    requires time { i < length stacking.now.stack.sides.times }
-    requires level { j < length stacking.now.stack.sides.levels }
+    requires time { place.time < length stacking.now.stack.sides.times }
+    requires level { place.level < length stacking.now.stack.sides.levels }
     requires open { writer.old.stage ≡ Open }
-    requires room { writer.old.values + length (cells_of_plane stacking.now.stack i j) ≤ writer.old.head.count }
-    ensures bytes { Writes result (values_from writer.old.values (map (cell_value (grid_of store.old.subject.held) parameter) (cells_of_plane stacking.now.stack i j))) (K.written sink.old) (K.written sink.new) }
-    ensures writer { OnOk result (writer.new ≡ with_values writer.old (length (cells_of_plane stacking.now.stack i j))) }
-    ensures reads { Adds result (ascending_once (tiles stacking.now.shape) (tiles_of_range stacking.now.shape (taken (cells_of_plane stacking.now.stack i j)) parameter)) store.old.numbers store.new.numbers }
+    requires room { writer.old.values + length (cells_of_plane stacking.now.stack place.time place.level) ≤ writer.old.head.count }
+    ensures bytes { Writes result (values_from writer.old.values (map (cell_value (grid_of store.old.subject.held) parameter) (cells_of_plane stacking.now.stack place.time place.level))) (K.written sink.old) (K.written sink.new) }
+    ensures writer { OnOk result (writer.new ≡ with_values writer.old (length (cells_of_plane stacking.now.stack place.time place.level))) }
+    ensures reads { Adds result (ascending_once (tiles stacking.now.shape) (tiles_of_range stacking.now.shape (taken (cells_of_plane stacking.now.stack place.time place.level)) parameter)) store.old.numbers store.new.numbers }
     ensures subject { store.new.subject ≡ store.old.subject }
     ensures lent { SinkLent (K.beside sink.old) (K.beside sink.new) (K.faults sink.old) (K.faults sink.new) }
     ensures cause { IsErrOf result SendFault.WriteFault → Rose (K.faults sink.old) (K.faults sink.new) }
@@ -103,33 +109,22 @@ fn write_stacked<K: Sink>(
     stacking_stands(stacking);
     sides_are_small();
     let sides = &stacking.stack.sides;
-    let t = sides.times.items()[i] as u32;
-    let z = sides.levels.items()[j] as u32;
-    let plane = plane_of(alloc, &stacking.stack, i, j)?;
-    write_strips(
-        alloc,
-        store,
-        writer,
-        sink,
-        stacking.shape,
-        &plane,
-        parameter,
-        t,
-        z,
-        values,
-    )
+    let t = sides.times.items()[place.time] as u32;
+    let z = sides.levels.items()[place.level] as u32;
+    let plane = plane_of(buffers.alloc, &stacking.stack, place.time, place.level)?;
+    let layer = Layer { parameter, t, z };
+    write_strips(stacking.shape, &plane, layer, store, writer, sink, buffers)
 }
 
 // Writes the values of a time, level by level.
 fn write_levels<K: Sink>(
-    alloc: Global,
-    store: &mut Store<'_>,
-    writer: &mut Writer,
-    sink: &mut K,
     stacking: &Stacking,
     parameter: u64,
     i: usize,
-    values: &mut Vec<Option<i64>>,
+    store: &mut Store<'_>,
+    writer: &mut Writer,
+    sink: &mut K,
+    buffers: &mut Buffers,
 ) -> Result<(), SendFault>
     requires grid { stacking.now.shape ≡ (grid_of store.old.subject.held).shape }
     requires parameter { parameter < stacking.now.shape.parameters }
@@ -147,22 +142,20 @@ fn write_levels<K: Sink>(
     sides_are_small();
     tiles_are_numbered();
     for j in 0..stacking.stack.sides.levels.items().len() {
-        write_stacked(
-            alloc, store, writer, sink, stacking, parameter, i, j, values,
-        )?;
+        let place = PlanePlace { time: i, level: j };
+        write_stacked(stacking, parameter, place, store, writer, sink, buffers)?;
     }
     Ok(())
 }
 
 // Writes the values of the open range of a parameter, time by time.
 fn write_times<K: Sink>(
-    alloc: Global,
+    stacking: &Stacking,
+    parameter: u64,
     store: &mut Store<'_>,
     writer: &mut Writer,
     sink: &mut K,
-    stacking: &Stacking,
-    parameter: u64,
-    values: &mut Vec<Option<i64>>,
+    buffers: &mut Buffers,
 ) -> Result<(), SendFault>
     requires grid { stacking.now.shape ≡ (grid_of store.old.subject.held).shape }
     requires parameter { parameter < stacking.now.shape.parameters }
@@ -179,7 +172,7 @@ fn write_times<K: Sink>(
     sides_are_small();
     tiles_are_numbered();
     for i in 0..stacking.stack.sides.times.items().len() {
-        write_levels(alloc, store, writer, sink, stacking, parameter, i, values)?;
+        write_levels(stacking, parameter, i, store, writer, sink, buffers)?;
     }
     Ok(())
 }
@@ -213,14 +206,6 @@ impl Coverages for Stacking {
     ) -> Result<(), SendFault> {
         stacking_stands(self);
         let parameter = parameter_at(self.parameters.items(), place.range);
-        write_times(
-            buffers.alloc,
-            store,
-            writer,
-            sink,
-            self,
-            parameter,
-            &mut buffers.values,
-        )
+        write_times(self, parameter, store, writer, sink, buffers)
     }
 }

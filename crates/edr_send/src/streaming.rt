@@ -42,15 +42,6 @@ impl Coverages for Listing {
         let planned = &self.coverages.items()[place.coverage];
         let parameter = parameter_at(self.parameters.items(), place.range);
         let cells = planned.cells.items();
-        write_runs(
-            buffers.alloc,
-            store,
-            writer,
-            sink,
-            self.shape,
-            parameter,
-            cells,
-            buffers,
-        )
+        write_runs(self.shape, parameter, cells, store, writer, sink, buffers)
     }
 }
