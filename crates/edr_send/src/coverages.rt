@@ -85,13 +85,19 @@ pub(crate) trait Coverages {
         buffers: &mut Buffers,
     ) -> Result<(), SendFault>
         requires over { over self.now store.old.subject.held }
-        requires range { HasRange (sent self.now store.old.subject.held) place.coverage place.range writer.old.head.count }
+        requires range { HasRange (sent self.now store.old.subject.held) place.coverage place.range
+            writer.old.head.count }
         requires open { writer.old.stage ≡ Open }
         requires none { writer.old.values ≡ 0 }
-        ensures bytes { Writes result (values_from 0 (range_at (sent self.now store.old.subject.held) place.coverage place.range).values) (K.written sink.old) (K.written sink.new) }
+        ensures bytes { Writes result (values_from 0
+            (range_at (sent self.now store.old.subject.held) place.coverage place.range).values)
+            (K.written sink.old) (K.written sink.new) }
         ensures writer { OnOk result (writer.new ≡ with_values writer.old writer.old.head.count) }
-        ensures reads { Adds result (chunks_at (sent self.now store.old.subject.held) place.coverage place.range) store.old.numbers store.new.numbers }
+        ensures reads { Adds result (chunks_at (sent self.now store.old.subject.held) place.coverage
+            place.range) store.old.numbers store.new.numbers }
         ensures subject { store.new.subject ≡ store.old.subject }
-        ensures lent { SinkLent (K.beside sink.old) (K.beside sink.new) (K.faults sink.old) (K.faults sink.new) }
-        ensures cause { IsErrOf result SendFault.WriteFault → Rose (K.faults sink.old) (K.faults sink.new) };
+        ensures lent { SinkLent (K.beside sink.old) (K.beside sink.new) (K.faults sink.old)
+            (K.faults sink.new) }
+        ensures cause { IsErrOf result SendFault.WriteFault → Rose (K.faults sink.old)
+            (K.faults sink.new) };
 }

@@ -47,7 +47,9 @@ pub(crate) fn gather<'a>(
     requires { listing.now.shape ≡ (grid_of store.old.subject.held).shape }
     ensures plan { IfOk result (λ gathered. gathered.plan ≡ listing.now) }
     ensures values { IfOk result (λ gathered. IsGathered gathered store.old.subject.held) }
-    ensures reads { Adds result (ascending_once (tiles listing.now.shape) (map (tile_of listing.now.shape) (places_of_coverages listing.now.parameters listing.now.coverages))) store.old.numbers store.new.numbers }
+    ensures reads { Adds result (ascending_once (tiles listing.now.shape)
+        (map (tile_of listing.now.shape) (places_of_coverages listing.now.parameters
+        listing.now.coverages))) store.old.numbers store.new.numbers }
     ensures subject { store.new.subject ≡ store.old.subject }
 {
     let mut slots = Vec::new(alloc);
@@ -65,7 +67,8 @@ pub(crate) fn gather<'a>(
 // The values of a range, of so many cells, in a coverage whose first value stands at a place.
 fn part_of(values: &[Option<i64>], start: usize, range: usize, cells: usize) -> &[Option<i64>]
     requires { start + range * cells + cells ≤ length values.now }
-    ensures { result.now ≡ slice_range values.now (start + range * cells) (start + range * cells + cells) }
+    ensures { result.now ≡ slice_range values.now (start + range * cells)
+        (start + range * cells + cells) }
 {
     let from = start + range * cells;
     &values[from..from + cells]

@@ -72,7 +72,8 @@ pub(crate) fn push_range(
     requires fits { count shape < 2 ^ 64 }
     requires parameter { parameter < shape.parameters }
     requires cells { All (λ cell. Within shape (place_at 0 cell)) cells.now }
-    ensures { OnOk result (SlotsGrew shape (places_of_range cells.now parameter) slots.old.items slots.new.items) }
+    ensures { OnOk result (SlotsGrew shape (places_of_range cells.now parameter) slots.old.items
+        slots.new.items) }
 {
     for cell in cells {
         let place = place_of(parameter, *cell);
@@ -96,7 +97,8 @@ fn push_coverage(
     requires fits { count shape < 2 ^ 64 }
     requires parameters { All (λ parameter. parameter < shape.parameters) parameters.now }
     requires planned { IsPlanned shape parameters.now planned.now }
-    ensures { OnOk result (SlotsGrew shape (places_of_coverage parameters.now planned.now) slots.old.items slots.new.items) }
+    ensures { OnOk result (SlotsGrew shape (places_of_coverage parameters.now planned.now)
+        slots.old.items slots.new.items) }
 {
     for parameter in parameters {
         push_range(slots, shape, *parameter, planned.cells.items())?;
@@ -112,9 +114,13 @@ pub(crate) fn push_listing(
 ) -> Result<(), OutOfMemory>
     requires none { slots.old.items ≡ [] }
     requires first { starts.old.items ≡ [] }
-    ensures within { All (Within listing.now.shape) (places_of_coverages listing.now.parameters listing.now.coverages) }
-    ensures slots { OnOk result (SlotsGrew listing.now.shape (places_of_coverages listing.now.parameters listing.now.coverages) slots.old.items slots.new.items) }
-    ensures starts { OnOk result (AreStarts listing.now.parameters listing.now.coverages starts.new.items) }
+    ensures within { All (Within listing.now.shape)
+        (places_of_coverages listing.now.parameters listing.now.coverages) }
+    ensures slots { OnOk result (SlotsGrew listing.now.shape
+        (places_of_coverages listing.now.parameters listing.now.coverages) slots.old.items
+        slots.new.items) }
+    ensures starts { OnOk result (AreStarts listing.now.parameters listing.now.coverages
+        starts.new.items) }
 {
     listing_stands(listing);
     for planned in listing.coverages.items() {
