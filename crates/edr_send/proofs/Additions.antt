@@ -39,19 +39,8 @@ added_on before others whole a b c e f g = f ∙ ap (λ (l : List ℕ). l ++ oth
 
 -- ---- from an empty list on
 
-pub opens_all : {T E : Type 0} (r : Result T E) (wanted others old new : List ℕ) → old ≡ [] → wanted ≡ others → new ≡ old ++ wanted → Opens r others new
-opens_all r wanted others old new none same e = all_of r (e ∙ ap (λ (l : List ℕ). l ++ wanted) none ∙ same)
-  where
-    all_of : {T E : Type 0} (r : Result T E) → new ≡ others → Opens r others new
-    all_of (Ok x) e = record { all = e; begun = ([], sym e ∙ sym (append-nil new)) }
-    all_of (Err f) e = record { all = tt; begun = ([], sym e ∙ sym (append-nil new)) }
-
 pub opens_begun : {T E : Type 0} (r : Result T E) (wanted others old new : List ℕ) → IsErr r → old ≡ [] → wanted ≡ others → Added wanted old new → Opens r others new
 opens_begun (Ok x) wanted others old new is none same f = absurd (search (rules, is))
 opens_begun (Err e) wanted others old new is none same f =
     let grew : new ≡ f.front = f.grew ∙ ap (λ (l : List ℕ). l ++ f.front) none in
     record { all = tt; begun = (f.begins.0, sym same ∙ f.begins.1 ∙ ap (λ (l : List ℕ). l ++ f.begins.0) (sym grew)) }
-
-pub opens_adds : {T E : Type 0} (r : Result T E) (wanted others old new : List ℕ) → old ≡ [] → wanted ≡ others → Adds r wanted old new → Opens r others new
-opens_adds (Ok x) wanted others old new none same f = opens_all (Ok x) wanted others old new none same f.all
-opens_adds (Err e) wanted others old new none same f = opens_begun (Err e) wanted others old new (search rules) none same f.begun

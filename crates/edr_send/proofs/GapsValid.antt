@@ -1,26 +1,16 @@
--- The document of a reply over stations of which some values aren't taken is valid, and its text is that of its pieces.
-use Rattle.std.proofs.Common.{◌≡◌, ℕ, List, get_or, All, Option, None, Some, sym, ◌∙◌, subst}
+-- The coverages of a reply over stations of which some values aren't taken are valid.
+use Rattle.std.proofs.Common.{ℕ, List, get_or, All, Option, None, Some, sym, ◌∙◌}
 use Rattle.std.specs.Prelude.{map, IfSome}
 use Rattle.std.proofs.lemmas.List.{length-map}
 use Rattle.std.proofs.lemmas.List.Elements.{All-map}
 use Rattle.edr_base.specs.Limits.{IsSample, HasSample}
 use Rattle.covjson_value.specs.Coverages.{IsRange, IsValid}
-use Rattle.covjson_value.specs.Trees.{document_text}
-use Rattle.covjson_write.specs.Laws.{DocumentOfPieces}
 use Rattle.edr_station.specs.Stations.{StationsValue, AreStations, nowhere}
 use Rattle.edr_station.specs.Blocks.{series_at}
-use Rattle.edr_edition.specs.Stores.{Subject}
-use Rattle.edr_select.specs.declared.plans.Reply.{Reply}
-use Rattle.edr_select.specs.declared.plans.Reply.TheVariants.{Gapped}
-use Rattle.edr_select.specs.Plans.{PlanValue, IsReplyTo, StandsFor, IsOverGaps}
 use Rattle.edr_select.specs.ReplyLaws.{sample_at}
-use Rattle.edr_select.specs.Gaps.{GappedSeriesValue, GappedReplyValue, IsGapped, IsGappedReply, IsOfStation, gapped_value, gapped_range, gapped_coverage, gapped_document}
-use Rattle.edr_send.specs.GapTexts.{station_of, gapped_text}
+use Rattle.edr_select.specs.Gaps.{GappedSeriesValue, IsGapped, IsOfStation, gapped_value, gapped_range, gapped_coverage}
+use Rattle.edr_send.specs.GapTexts.{station_of}
 use Rattle.edr_send.proofs.SeriesValid.{samples_in}
-
--- a plan over stations stands for its query as its reply does
-pub gapped_stands : (plan : PlanValue) (reply : GappedReplyValue) (s : Subject) → plan.reply ≡ Gapped reply → StandsFor plan s → IsOverGaps reply plan.query s
-gapped_stands plan reply s is stands = subst (λ (r : Reply). IsReplyTo r plan.query s) is stands
 
 module _ (collection : StationsValue) (stand : AreStations collection) where
   value_valid : (series : GappedSeriesValue) → IsOfStation collection series → (p : ℕ) (cell : Option ℕ) → IfSome (gapped_value (station_of collection series) p cell) IsSample
@@ -51,12 +41,6 @@ module _ (collection : StationsValue) (stand : AreStations collection) where
         ranges = All-map (IsRange series.head.domain) (gapped_range (station_of collection series) series.cells) parameters (λ k d l. range_valid parameters series is of (get_or parameters k d));
       }
 
-  coverages_valid : (parameters : List ℕ) (all : List GappedSeriesValue) → All (IsGapped parameters) all → All (IsOfStation collection) all → All IsValid (map (gapped_coverage collection.stations parameters) all)
+  pub coverages_valid : (parameters : List ℕ) (all : List GappedSeriesValue) → All (IsGapped parameters) all → All (IsOfStation collection) all → All IsValid (map (gapped_coverage collection.stations parameters) all)
   coverages_valid parameters all are of =
       All-map IsValid (gapped_coverage collection.stations parameters) all (λ k d l. coverage_valid parameters (get_or all k d) (are k d l) (of k d l))
-
--- its text is that of its pieces
-pub gapped_text_is : DocumentOfPieces → (collection : StationsValue) (reply : GappedReplyValue) → AreStations collection → IsGappedReply reply → All (IsOfStation collection) reply.series
-    → gapped_text collection.stations reply ≡ document_text (gapped_document collection.stations reply)
-gapped_text_is law collection reply stand is of =
-    sym (law (gapped_document collection.stations reply) (coverages_valid collection stand reply.parameters reply.series is.series of))

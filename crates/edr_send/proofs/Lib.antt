@@ -8,18 +8,17 @@ mod SlotLists
 mod TextSteps
 mod TileSteps
 mod WriterSteps
+mod SentSteps
+mod FormSteps
 mod BandLaws
 mod RunSteps
-mod PlansOfOne
 mod BandTests
 mod TakenTiles
 mod StripValues
 mod StripReads
 mod FrameSteps
 mod FrameTiles
-mod FramingTexts
 mod StackTiles
-mod StackingTexts
 mod BlockRuns
 mod BlockNumbers
 mod SeriesSteps
@@ -28,3 +27,4 @@ mod GapRuns
 mod GapSteps
 mod SeriesValid
 mod GapsValid
+mod ReplyForms

@@ -1,14 +1,12 @@
 -- Runs of cells whose bands rise: their tiles, their text, and the ranges of parameters that rise.
-use Rattle.std.proofs.Common.{◌≡◌, ◌≢◌, ℕ, suc, ◌+◌, ◌-◌, ◌<◌, ◌≤◌, List, [], ◌∷◌, ◌++◌, length, take, drop, get_or, All, ℤ, Option, ap, sym, ◌∙◌, subst, arith, inl, inr, length-take, length-drop, get_or-take, get_or-drop, append-nil, drop-cons, add-zero, add_assoc}
-use Rattle.std.specs.Prelude.{map, ◌⊎◌}
+use Rattle.std.proofs.Common.{◌≡◌, ◌≢◌, ℕ, ◌+◌, ◌-◌, ◌<◌, ◌≤◌, List, [], ◌∷◌, ◌++◌, length, take, drop, get_or, All, ℤ, Option, ap, sym, ◌∙◌, subst, arith, inl, inr, length-take, length-drop, get_or-take, get_or-drop, append-nil, add-zero, add_assoc}
+use Rattle.std.specs.Prelude.{map}
 use Rattle.std.specs.List.{slice_range, flat_map}
 use Rattle.std.proofs.lemmas.Bool.{cases_lt}
 use Rattle.std.proofs.lemmas.Grind.{flat_map-append}
 use Rattle.std.proofs.lemmas.List.{take_more, take_all, drop_all, drop-drop, length-map, map-append, get_or-map, take-append-drop}
 use Rattle.std.proofs.lemmas.List.Elements.{All-nil, All-cons, All-head, All-tail, All-append, All-from_get_or, All-get_or}
-use Rattle.covjson_value.specs.declared.coverages.NdArray.{NdArray}
-use Rattle.covjson_write.specs.declared.range_heads.RangeHead.{RangeHead}
-use Rattle.covjson_write.specs.Pieces.{values_from, range_piece, ranges_from}
+use Rattle.covjson_write.specs.Pieces.{values_from}
 use Rattle.covjson_write.specs.Writers.{WriterValue, with_values}
 use Rattle.covjson_write.specs.PieceLaws.{values_on}
 use Rattle.edr_chunk.specs.declared.shapes.GridShape.{GridShape}
@@ -127,42 +125,6 @@ module _ (shape : GridShape) (tiled : TilesAreNumbered shape) (numbered : Number
       All-append (λ x. x < behind shape tiled numbered q) (tiles_of_range shape cells p) (flat_map (tiles_of_range shape cells) ps)
       (range_below q p cells within (All-head (λ p. p < q) p ps all)) (ranges_below q ps cells within (All-tail (λ p. p < q) p ps all))
 
-  ranges_behind : (q : ℕ) (ps : List ℕ) (cells : List GridNode) → All (λ p. q ≤ p) ps → All (λ x. behind shape tiled numbered q ≤ x) (flat_map (tiles_of_range shape cells) ps)
-  ranges_behind q [] cells all = All-nil (λ x. behind shape tiled numbered q ≤ x)
-  ranges_behind q (p ∷ ps) cells all =
-      All-append (λ x. behind shape tiled numbered q ≤ x) (tiles_of_range shape cells p) (flat_map (tiles_of_range shape cells) ps)
-      (range_from q p cells (All-head (λ p. q ≤ p) p ps all)) (ranges_behind q ps cells (All-tail (λ p. q ≤ p) p ps all))
-
-  -- the tiles of the parameters from one on come behind those before
-  pub parameter_rest : (ps : List ℕ) (i : ℕ) (cells : List GridNode) → All (λ p. p < shape.parameters) ps → All (λ cell. Within shape (place_at 0 cell)) cells → NumbersRise ps → i < length ps
-      → once (flat_map (tiles_of_range shape cells) ps) ≡ once (flat_map (tiles_of_range shape cells) (take i ps)) ++ once (flat_map (tiles_of_range shape cells) (drop i ps))
-  parameter_rest ps i cells inside within rise l =
-      ap (λ (xs : List ℕ). once (flat_map (tiles_of_range shape cells) xs)) (sym (take-append-drop i ps))
-      ∙ ap once (flat_map-append (tiles_of_range shape cells) (take i ps) (drop i ps))
-      ∙ once_append (tiles shape) (behind shape tiled numbered (get_or ps i 0)) (flat_map (tiles_of_range shape cells) (take i ps)) (flat_map (tiles_of_range shape cells) (drop i ps))
-      (parameter_inside shape tiled numbered (get_or ps i 0) (let low = All-get_or (λ p. p < shape.parameters) ps i 0 l inside in omega (arith, low)))
-      (ranges_below (get_or ps i 0) (take i ps) cells within (firsts_below ps i rise l)) (ranges_behind (get_or ps i 0) (drop i ps) cells (lasts_from ps i rise l))
-    where
-      firsts_below : (ps : List ℕ) (i : ℕ) → NumbersRise ps → i < length ps → All (λ p. p < get_or ps i 0) (take i ps)
-      firsts_below ps i rise l =
-          All-from_get_or (λ p. p < get_or ps i 0) (take i ps) 0 (λ k h.
-          let low : k < i = omega (arith, h, length-take i ps) in
-          subst (λ (p : ℕ). p < get_or ps i 0) (sym (get_or-take i ps k 0 low)) (rise k i 0 low l))
-
-      lasts_from : (ps : List ℕ) (i : ℕ) → NumbersRise ps → i < length ps → All (λ p. get_or ps i 0 ≤ p) (drop i ps)
-      lasts_from ps i rise l =
-          All-from_get_or (λ p. get_or ps i 0 ≤ p) (drop i ps) 0 (λ k h.
-          subst (λ (p : ℕ). get_or ps i 0 ≤ p) (sym (get_or-drop i ps k 0)) (up ps i k rise (omega (arith, h, length-drop i ps))))
-        where
-          still : (i k : ℕ) → k ≤ 0 → i + k ≡ i
-          still i k none = omega (arith, none)
-
-          up : (ps : List ℕ) (i k : ℕ) → NumbersRise ps → i + k < length ps → get_or ps i 0 ≤ get_or ps (i + k) 0
-          up ps i k rise l = elim (cases_lt 0 k) [
-            | inl some ↦ let low = rise i (i + k) 0 (omega (arith, some)) l in omega (arith, low)
-            | inr none ↦ let same : get_or ps (i + k) 0 ≡ get_or ps i 0 = ap (λ (n : ℕ). get_or ps n 0) (still i k none) in omega (arith, same)
-          ]
-
   -- the tiles of one parameter more
   pub parameter_step : (ps : List ℕ) (i : ℕ) (cells : List GridNode) → All (λ p. p < shape.parameters) ps → All (λ cell. Within shape (place_at 0 cell)) cells → NumbersRise ps → i < length ps
       → once (flat_map (tiles_of_range shape cells) (take (i + 1) ps)) ≡ once (flat_map (tiles_of_range shape cells) (take i ps)) ++ once (tiles_of_range shape cells (get_or ps i 0))
@@ -176,22 +138,6 @@ module _ (shape : GridShape) (tiled : TilesAreNumbered shape) (numbered : Number
       let low : k < i = omega (arith, h, length-take i ps) in
       subst (λ (p : ℕ). p < get_or ps i 0) (sym (get_or-take i ps k 0 low)) (rise k i 0 low l))))
       (range_from (get_or ps i 0) (get_or ps i 0) cells (omega arith))
-
-  -- the tiles of the parameters so far begin those of all
-  pub parameter_begun : (ps : List ℕ) (i : ℕ) (cells : List GridNode) → All (λ p. p < shape.parameters) ps → All (λ cell. Within shape (place_at 0 cell)) cells → NumbersRise ps → i < length ps
-      → once (flat_map (tiles_of_range shape cells) ps)
-      ≡ (once (flat_map (tiles_of_range shape cells) (take i ps)) ++ once (tiles_of_range shape cells (get_or ps i 0))) ++ once (flat_map (tiles_of_range shape cells) (drop (i + 1) ps))
-  parameter_begun ps i cells inside within rise l =
-      whole (cases_lt (i + 1) (length ps))
-      ∙ ap (λ (numbers : List ℕ). numbers ++ once (flat_map (tiles_of_range shape cells) (drop (i + 1) ps))) (parameter_step ps i cells inside within rise l)
-    where
-      whole : (i + 1 < length ps) ⊎ (length ps ≤ i + 1) → once (flat_map (tiles_of_range shape cells) ps) ≡ once (flat_map (tiles_of_range shape cells) (take (i + 1) ps)) ++ once (flat_map (tiles_of_range shape cells) (drop (i + 1) ps))
-      whole (inl more) = parameter_rest ps (i + 1) cells inside within rise more
-      whole (inr last) =
-          sym (append-nil (once (flat_map (tiles_of_range shape cells) ps)))
-          ∙ ap (λ (l : List ℕ). once (flat_map (tiles_of_range shape cells) ps) ++ l) (sym (once_none (tiles shape)))
-          ∙ ap (λ (xs : List ℕ). once (flat_map (tiles_of_range shape cells) ps) ++ once (flat_map (tiles_of_range shape cells) xs)) (sym (drop_all (i + 1) ps last))
-          ∙ ap (λ (xs : List ℕ). once (flat_map (tiles_of_range shape cells) xs) ++ once (flat_map (tiles_of_range shape cells) (drop (i + 1) ps))) (sym (take_all (i + 1) ps last))
 
 -- ---- text
 
@@ -213,16 +159,6 @@ values_next f xs a b l m =
   where
     there : {m n : ℕ} → m ≡ n → n ≡ b - a → a + m ≡ b
     there e g = omega (arith, e, g, l)
-
--- the ranges from one on are that one and those behind it
-pub ranges_next : (head : RangeHead) (f : ℕ → NdArray) (ps : List ℕ) (i : ℕ) → i < length ps
-    → ranges_from head i (map f (drop i ps)) ≡ range_piece head i (f (get_or ps i 0)).values ++ ranges_from head (i + 1) (map f (drop (i + 1) ps))
-ranges_next head f ps i l =
-    ap (λ (xs : List ℕ). ranges_from head i (map f xs)) (drop-cons ps i 0 l)
-    ∙ ap (λ (n : ℕ). range_piece head i (f (get_or ps i 0)).values ++ ranges_from head n (map f (drop n ps))) (next i)
-  where
-    next : (n : ℕ) → suc n ≡ n + 1
-    next n = omega arith
 
 -- ---- writers
 

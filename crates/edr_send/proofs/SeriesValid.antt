@@ -1,29 +1,16 @@
--- The document of a reply over stations is valid, and its text is that of its pieces.
-use Rattle.std.proofs.Common.{◌≡◌, ℕ, Bool, List, [], ◌++◌, length, get_or, All, ℤ, Option, Some, ap, sym, ◌∙◌, subst, inl, inr}
+-- The coverages of a reply over stations are valid.
+use Rattle.std.proofs.Common.{ℕ, List, [], length, get_or, All, ℤ, Option, sym, ◌∙◌, subst, inl, inr}
 use Rattle.std.specs.Prelude.{map}
 use Rattle.std.proofs.lemmas.Bool.{cases_lt}
 use Rattle.std.proofs.lemmas.List.{length-map, get_or_past}
 use Rattle.std.proofs.lemmas.List.Elements.{All-nil, All-map}
-use Rattle.covjson_value.specs.declared.coverages.Coverage.{Coverage}
-use Rattle.covjson_value.specs.declared.coverages.Document.{Document}
 use Rattle.edr_base.specs.Limits.{AreSamples, HasSample}
-use Rattle.covjson_value.specs.Coverages.{IsRange, IsValid, coverages_in}
-use Rattle.covjson_value.specs.Trees.{document_text}
-use Rattle.covjson_write.specs.Laws.{DocumentOfPieces}
-use Rattle.covjson_write.specs.Pieces.{coverages_from, document_begin, document_end}
+use Rattle.covjson_value.specs.Coverages.{IsRange, IsValid}
 use Rattle.edr_station.specs.Stations.{StationValue, StationsValue, IsStation, AreStations, nowhere}
 use Rattle.edr_station.specs.Blocks.{series_at}
-use Rattle.edr_edition.specs.Stores.{Subject}
-use Rattle.edr_select.specs.declared.plans.Reply.{Reply}
-use Rattle.edr_select.specs.declared.plans.Reply.TheVariants.{Series}
-use Rattle.edr_select.specs.Plans.{PlanValue, IsReplyTo, StandsFor, IsOverStations}
-use Rattle.edr_select.specs.ReplyLaws.{told_by, sample_at}
-use Rattle.edr_select.specs.Series.{StationSeriesValue, SeriesReplyValue, IsSeries, IsSeriesReply, IsOfStation, series_value, series_range, series_coverage, series_document}
-use Rattle.edr_send.specs.SeriesTexts.{station_of, series_text}
-
--- a plan over stations stands for its query as its reply does
-pub series_stands : (plan : PlanValue) (reply : SeriesReplyValue) (s : Subject) → plan.reply ≡ Series reply → StandsFor plan s → IsOverStations reply plan.query s
-series_stands plan reply s is stands = subst (λ (r : Reply). IsReplyTo r plan.query s) is stands
+use Rattle.edr_select.specs.ReplyLaws.{sample_at}
+use Rattle.edr_select.specs.Series.{StationSeriesValue, IsSeries, IsOfStation, series_value, series_range, series_coverage}
+use Rattle.edr_send.specs.SeriesTexts.{station_of}
 
 -- the samples of a station's parameter
 pub samples_in : (parameters : ℕ) (s : StationValue) → IsStation parameters s → (p : ℕ) → AreSamples (series_at s p)
@@ -57,18 +44,6 @@ module _ (collection : StationsValue) (stand : AreStations collection) where
         ranges = All-map (IsRange series.head.domain) (series_range (station_of collection series) series.cells) parameters (λ k d l. range_valid parameters series is of (get_or parameters k d));
       }
 
-  coverages_valid : (parameters : List ℕ) (all : List StationSeriesValue) → All (IsSeries parameters) all → All (IsOfStation collection) all → All IsValid (map (series_coverage collection.stations parameters) all)
+  pub coverages_valid : (parameters : List ℕ) (all : List StationSeriesValue) → All (IsSeries parameters) all → All (IsOfStation collection) all → All IsValid (map (series_coverage collection.stations parameters) all)
   coverages_valid parameters all are of =
       All-map IsValid (series_coverage collection.stations parameters) all (λ k d l. coverage_valid parameters (get_or all k d) (are k d l) (of k d l))
-
--- ---- the document
-
--- its text is that of its pieces
-pub series_text_is : DocumentOfPieces → (collection : StationsValue) (reply : SeriesReplyValue) (d : Document) → AreStations collection → IsSeriesReply reply → All (IsOfStation collection) reply.series
-    → series_document collection.stations reply ≡ Some d → series_text collection.stations reply ≡ document_text d
-series_text_is law collection reply d stand is of f =
-    let coverages : List Coverage = map (series_coverage collection.stations reply.parameters) reply.series in
-    let told = told_by reply.many coverages d (λ one. length-map reply.series (series_coverage collection.stations reply.parameters) ∙ is.alone one) f in
-    ap (λ (cs : List Coverage). document_begin reply.many ++ (coverages_from 0 cs ++ document_end reply.many)) (sym told.coverages_is)
-    ∙ ap (λ (m : Bool). document_begin m ++ (coverages_from 0 (coverages_in d) ++ document_end m)) (sym told.many_is)
-    ∙ sym (law d (told.valid (coverages_valid collection stand reply.parameters reply.series is.series of)))

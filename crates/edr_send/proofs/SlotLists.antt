@@ -1,8 +1,9 @@
 -- The slots of places.
-use Rattle.std.proofs.Common.{◌≡◌, ℕ, suc, ◌+◌, ◌<◌, List, [], ◌∷◌, ◌++◌, length, take, get_or, All, ℤ, Option, refl, ap, sym, ◌∙◌, subst, arith, append_assoc, append-nil, add-zero, length-append}
+use Rattle.std.proofs.Common.{◌≡◌, ℕ, suc, ◌+◌, ◌<◌, List, [], ◌∷◌, ◌++◌, length, take, get_or, All, ℤ, Option, refl, ap, sym, ◌∙◌, subst, arith, append_assoc, append-nil, add-zero, length-append, inl, inr}
 use Rattle.std.specs.Prelude.{map}
 use Rattle.std.specs.List.{range_with_len, flat_map}
-use Rattle.std.proofs.lemmas.List.{take_more, map-append}
+use Rattle.std.proofs.lemmas.Bool.{cases_lt}
+use Rattle.std.proofs.lemmas.List.{take_more, map-append, get_or_append_left}
 use Rattle.std.proofs.lemmas.Grind.{flat_map-append}
 use Rattle.std.proofs.lemmas.List.Elements.{All-nil, All-cons, All-head, All-tail, All-append}
 use Rattle.edr_chunk.specs.declared.shapes.GridShape.{GridShape}
@@ -116,3 +117,21 @@ slot_is shape n place t m p e f g =
 -- slots that were added to none
 pub from_none : (shape : GridShape) (places : List GridPlace) (a b : List Slot) → a ≡ [] → SlotsGrew shape places a b → b ≡ slots_from shape 0 places
 from_none shape places a b e f = f ∙ ap (λ (l : List Slot). l ++ slots_from shape (length l) places) e
+
+-- ---- numbers of which one more is known
+
+get_or_append_here : (xs : List ℕ) (x d : ℕ) → get_or (xs ++ x ∷ []) (length xs) d ≡ x
+get_or_append_here [] x d = refl
+get_or_append_here (y ∷ xs) x d = get_or_append_here xs x d
+
+pub starts_more : (f : ℕ → ℕ) (old new : List ℕ) (x i : ℕ) → new ≡ old ++ x ∷ [] → length old ≡ i → ((k : ℕ) → k < i → get_or old k 0 ≡ f k) → x ≡ f i
+    → (length new ≡ i + 1) × ((k : ℕ) → k < i + 1 → get_or new k 0 ≡ f k)
+starts_more f old new x i e long at is = (
+  ap length e ∙ length-append old (x ∷ []) ∙ omega (arith, long),
+  λ k l. elim (cases_lt k i) [
+    | inl early ↦ ap (λ (xs : List ℕ). get_or xs k 0) e ∙ get_or_append_left old (x ∷ []) 0 k (omega (arith, early, long)) ∙ at k early
+    | inr late ↦
+        let here : k ≡ i = omega (arith, l, late) in
+        ap (λ (xs : List ℕ). get_or xs k 0) e ∙ ap (λ (n : ℕ). get_or (old ++ x ∷ []) n 0) (here ∙ sym long) ∙ get_or_append_here old x 0 ∙ is ∙ ap f (sym here)
+  ],
+)

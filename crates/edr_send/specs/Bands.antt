@@ -1,13 +1,11 @@
 -- Bands of tiles, and texts whose values' tiles rise band by band; for private clauses.
-use Rattle.std.specs.Prelude.{◌≡◌, ℕ, ◌++◌, List, [], ◌∷◌, map}
+use Rattle.std.specs.Prelude.{◌≡◌, ℕ, List, [], ◌∷◌}
 use Rattle.std.specs.List.Sorted.{IsNonDecreasingBy}
-use Rattle.covjson_write.specs.Pieces.{coverages_from, document_begin, document_end}
 use Rattle.edr_chunk.specs.declared.shapes.GridShape.{GridShape}
 use Rattle.edr_chunk.specs.AllPlaces.{at}
-use Rattle.edr_chunk.specs.Grids as chunk
 use Rattle.edr_chunk.specs.Tiles.{tile_of}
 use Rattle.edr_select.specs.declared.plans.GridNode.{GridNode}
-use Rattle.edr_select.specs.Listings.{PlannedValue, ListingValue, coverage_of, NumbersRise}
+use Rattle.edr_select.specs.Listings.{PlannedValue, ListingValue, NumbersRise}
 
 -- the first tile of a node's band, which is the row of tiles of a parameter at a time and a level
 abbrev pub first_tile : GridShape → ℕ → GridNode → ℕ
@@ -26,7 +24,3 @@ pub record Rises (plan : ListingValue) (planned : PlannedValue) : Type 0 where
   pub alone : plan.coverages ≡ planned ∷ []
   pub parameters : NumbersRise plan.parameters
   pub bands : BandsRise plan.shape planned.cells
-
--- the text of the document that a plan gives over a grid
-abbrev pub listing_text : chunk.Values → ListingValue → List ℕ
-listing_text grid plan = document_begin plan.many ++ (coverages_from 0 (map (coverage_of grid plan.parameters) plan.coverages) ++ document_end plan.many)

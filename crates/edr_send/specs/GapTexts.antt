@@ -1,10 +1,9 @@
 -- Replies over stations of which some values aren't taken, what they are read from, and their text; for private clauses.
-use Rattle.std.specs.Prelude.{◌≡◌, ℕ, ◌/◌, ◌%◌, ◌<◌, ◌≤◌, ◌^◌, ◌++◌, ◌==◌, Bool, true, false, ℤ, List, length, map, All, Option, None, Some}
+use Rattle.std.specs.Prelude.{◌≡◌, ℕ, ◌/◌, ◌%◌, ◌<◌, ◌≤◌, ◌^◌, ◌==◌, Bool, true, false, ℤ, List, length, All, Option, None, Some}
 use Rattle.std.specs.List.{slice_index_or}
-use Rattle.covjson_write.specs.Pieces.{coverages_from, document_begin, document_end}
 use Rattle.edr_station.specs.Stations.{StationValue, StationsValue, station_at}
 use Rattle.edr_station.specs.Blocks.{block_length}
-use Rattle.edr_select.specs.Gaps.{GappedSeriesValue, GappedReplyValue, gapped_coverage, RiseApart, IsOfStation}
+use Rattle.edr_select.specs.Gaps.{GappedSeriesValue, GappedReplyValue, RiseApart, IsOfStation}
 use Rattle.edr_send.specs.SeriesTexts.{blocks_in}
 
 -- the station of a coverage
@@ -44,9 +43,3 @@ BlocksApart cells from end = (k j one other : ℕ) → from ≤ k → k < end �
 abbrev pub picked_of : List (Option ℤ) → Option ℕ → Option ℤ
 picked_of block None = None
 picked_of block (Some cell) = slice_index_or block (cell % block_length) None
-
--- ---- text
-
--- the text of the document that a reply gives over stations
-abbrev pub gapped_text : List StationValue → GappedReplyValue → List ℕ
-gapped_text stations reply = document_begin true ++ (coverages_from 0 (map (gapped_coverage stations reply.parameters) reply.series) ++ document_end true)

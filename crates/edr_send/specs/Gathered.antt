@@ -1,13 +1,13 @@
--- All values of a plan in the order of the text, and the text that is made from them; for private clauses.
-use Rattle.std.specs.Prelude.{◌≡◌, ℕ, ◌+◌, ◌*◌, ◌++◌, ℤ, List, [], ◌∷◌, length, map, drop, Option}
-use Rattle.std.specs.List.{flat_map, slice_range, range_with_len}
+-- All values of a plan in the order of the text; for private clauses.
+use Rattle.std.specs.Prelude.{◌≡◌, ℕ, ◌<◌, ◌++◌, ℤ, List, length, map, take, Option}
+use Rattle.std.specs.List.{flat_map, slice_index_or}
 use Rattle.std.specs.Io.KnownBytes.{append_known}
-use Rattle.covjson_value.specs.declared.coverages.NdArray.{NdArray}
-use Rattle.covjson_value.specs.declared.coverages.Coverage.{Coverage}
-use Rattle.covjson_write.specs.Writers.{with_ranges}
 use Rattle.edr_chunk.specs.declared.shapes.GridPlace.{GridPlace}
 use Rattle.edr_select.specs.declared.plans.GridNode.{GridNode}
-use Rattle.edr_select.specs.Listings.{PlannedValue, place_at}
+use Rattle.edr_chunk.specs.Grids.{value}
+use Rattle.edr_edition.specs.Stores.{Held}
+use Rattle.edr_select.specs.Listings.{PlannedValue, ListingValue, place_at}
+use Rattle.edr_send.specs.Filling.{grid_of}
 
 -- ---- places
 
@@ -21,32 +21,21 @@ places_of_coverage parameters planned = flat_map (places_of_range planned.cells)
 abbrev pub places_of_coverages : List ℕ → List PlannedValue → List GridPlace
 places_of_coverages parameters coverages = flat_map (places_of_coverage parameters) coverages
 
--- ---- values in that order
+-- of each coverage how many values stand before its first one
+pub record AreStarts (parameters : List ℕ) (coverages : List PlannedValue) (starts : List ℕ) : Type 0 where
+  pub long : length starts ≡ length coverages
+  pub at : (i : ℕ) → i < length coverages → slice_index_or starts i 0 ≡ length (places_of_coverages parameters (take i coverages))
 
--- range number n, of ranges of so many cells
-abbrev pub range_cut : ℕ → List (Option ℤ) → ℕ → NdArray
-range_cut cells values n = record { values = slice_range values (n * cells) (n * cells + cells) }
+-- a plan with its values
+pub record GatheredValue : Type 0 where
+  pub plan : ListingValue
+  pub starts : List ℕ
+  pub values : List (Option ℤ)
 
--- so many ranges, from number n on
-abbrev pub ranges_cut : ℕ → List (Option ℤ) → ℕ → ℕ → List NdArray
-ranges_cut cells values n count = map (range_cut cells values) (range_with_len n count)
-
--- a coverage with so many ranges, and how many values these have
-abbrev pub coverage_cut : ℕ → List (Option ℤ) → PlannedValue → Coverage
-coverage_cut parameters values planned = with_ranges planned.head (ranges_cut (length planned.cells) values 0 parameters)
-
-abbrev pub size_of : ℕ → PlannedValue → ℕ
-size_of parameters planned = parameters * length planned.cells
-
--- coverages, each with the values behind those of the one before
-abbrev pub coverages_cut : ℕ → List PlannedValue → List (Option ℤ) → List Coverage
-coverages_cut parameters [] values = []
-coverages_cut parameters (planned ∷ coverages) values =
-    coverage_cut parameters values planned ∷ coverages_cut parameters coverages (drop (size_of parameters planned) values)
-
-abbrev pub sizes_of : ℕ → List PlannedValue → ℕ
-sizes_of parameters [] = 0
-sizes_of parameters (planned ∷ coverages) = size_of parameters planned + sizes_of parameters coverages
+-- they are those of what is held
+pub record IsGathered (gathered : GatheredValue) (held : Held) : Type 0 where
+  pub starts : AreStarts gathered.plan.parameters gathered.plan.coverages gathered.starts
+  pub values : gathered.values ≡ map (value (grid_of held)) (places_of_coverages gathered.plan.parameters gathered.plan.coverages)
 
 -- ---- a text that is written in part
 

@@ -2,8 +2,8 @@ pub mod Bands
 pub mod Filling
 pub mod Gathered
 pub mod Strips
-pub mod FrameTexts
-pub mod StackTexts
 pub mod GapTexts
 pub mod SeriesTexts
+pub mod SentReplies
+pub mod Forms
 pub mod Sending

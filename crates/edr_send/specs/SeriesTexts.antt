@@ -1,11 +1,10 @@
 -- Replies over stations, what they are read from, and their text; for private clauses.
-use Rattle.std.specs.Prelude.{ℕ, ◌<◌, ◌^◌, ◌++◌, List, [], map, All}
-use Rattle.covjson_write.specs.Pieces.{coverages_from, document_begin, document_end}
+use Rattle.std.specs.Prelude.{ℕ, ◌<◌, ◌^◌, [], All}
 use Rattle.edr_station.specs.Stations.{StationValue, StationsValue, station_at}
 use Rattle.edr_station.specs.Blocks.{blocks}
 use Rattle.edr_edition.specs.Stores.{Held, of_grid, of_stations, stations_of}
 use Rattle.edr_select.specs.Listings.{NumbersRise}
-use Rattle.edr_select.specs.Series.{StationSeriesValue, SeriesReplyValue, series_coverage, IsOfStation}
+use Rattle.edr_select.specs.Series.{StationSeriesValue, SeriesReplyValue, IsOfStation}
 
 -- ---- stations
 
@@ -36,9 +35,3 @@ pub record IsReplyOver (collection : StationsValue) (reply : SeriesReplyValue) :
   pub counted : blocks_in collection < 2 ^ 64
   pub asked : All (λ parameter. parameter < collection.parameters) reply.parameters
   pub each : All (IsOfStation collection) reply.series
-
--- ---- text
-
--- the text of the document that a reply gives over stations
-abbrev pub series_text : List StationValue → SeriesReplyValue → List ℕ
-series_text stations reply = document_begin reply.many ++ (coverages_from 0 (map (series_coverage stations reply.parameters) reply.series) ++ document_end reply.many)

@@ -13,6 +13,7 @@ ghost use Rattle.edr_select.specs.Series.{block_at, blocks_of_range, series_rang
 ghost use Rattle.edr_send.specs.Filling.{Adds};
 ghost use Rattle.edr_send.specs.SeriesTexts.{collection_of, blocks_in, station_of, IsOver};
 
+use crate::coverages::Buffers;
 use covjson_write::Writer;
 use edr_base::{OutOfMemory, SendFault, Sink};
 use edr_edition::Store;
@@ -116,14 +117,13 @@ fn read_run(
 
 // Reads the values of a parameter at some cells of one block and writes them, as the next values of the open range.
 fn write_run<K: Sink>(
-    alloc: Global,
-    store: &mut Store<'_>,
-    writer: &mut Writer,
-    sink: &mut K,
     series: &StationSeries,
     parameter: u64,
     cells: &[u64],
-    values: &mut Vec<Option<i64>>,
+    store: &mut Store<'_>,
+    writer: &mut Writer,
+    sink: &mut K,
+    buffers: &mut Buffers,
 ) -> Result<(), SendFault>
     requires over { IsOver (collection_of store.old.subject.held) series.now }
     requires parameter { parameter < (collection_of store.old.subject.held).parameters }
@@ -140,19 +140,25 @@ fn write_run<K: Sink>(
     ensures lent { SinkLent (K.beside sink.old) (K.beside sink.new) (K.faults sink.old) (K.faults sink.new) }
     ensures cause { IsErrOf result SendFault.WriteFault → Rose (K.faults sink.old) (K.faults sink.new) }
 {
-    read_run(alloc, store, series, parameter, cells, values)?;
-    writer.values(sink, values)
+    read_run(
+        buffers.alloc,
+        store,
+        series,
+        parameter,
+        cells,
+        &mut buffers.values,
+    )?;
+    writer.values(sink, &buffers.values)
 }
 
 // Writes the values of the open range of a parameter, block by block.
 pub(crate) fn write_runs<K: Sink>(
-    alloc: Global,
+    series: &StationSeries,
+    parameter: u64,
     store: &mut Store<'_>,
     writer: &mut Writer,
     sink: &mut K,
-    series: &StationSeries,
-    parameter: u64,
-    values: &mut Vec<Option<i64>>,
+    buffers: &mut Buffers,
 ) -> Result<(), SendFault>
     requires over { IsOver (collection_of store.old.subject.held) series.now }
     requires parameter { parameter < (collection_of store.old.subject.held).parameters }
@@ -171,7 +177,7 @@ pub(crate) fn write_runs<K: Sink>(
     while at < cells.len() {
         let end = run_end(cells, at);
         let run = &cells[at..end];
-        write_run(alloc, store, writer, sink, series, parameter, run, values)?;
+        write_run(series, parameter, run, store, writer, sink, buffers)?;
         at = end;
     }
     Ok(())

@@ -3,6 +3,8 @@
 
 mod bands;
 mod block_runs;
+mod coverages;
+mod documents;
 mod filling;
 mod frame_streams;
 mod gapped_runs;
@@ -16,6 +18,5 @@ mod stack_streams;
 mod streaming;
 mod strips;
 mod value_runs;
-mod writing;
 
 pub use sending::send;

@@ -13,51 +13,44 @@ ghost use Rattle.edr_select.specs.Framings.{IsFrame, strip_cells, plane_cells, t
 ghost use Rattle.edr_send.specs.Filling.{grid_of, Adds};
 ghost use Rattle.edr_send.specs.Strips.{HasRows};
 
-use crate::strips::fill_strip;
+use crate::coverages::Buffers;
+use crate::strips::{Layer, Strip, fill_strip};
 use covjson_write::Writer;
 use edr_base::{SendFault, Sink};
 use edr_chunk::{GridShape, TILE_SIDE, sides_are_small, tiles_are_numbered};
 use edr_edition::Store;
 use edr_select::Frame;
-use std::alloc::Global;
 
 // Reads a strip and writes it, as the next values of the open range.
 fn write_strip<K: Sink>(
-    alloc: Global,
+    shape: GridShape,
+    frame: &Frame,
+    strip: Strip,
     store: &mut Store<'_>,
     writer: &mut Writer,
     sink: &mut K,
-    shape: GridShape,
-    frame: &Frame,
-    parameter: u64,
-    t: u32,
-    z: u32,
-    from: u32,
-    to: u32,
-    values: &mut Vec<Option<i64>>,
+    buffers: &mut Buffers,
 ) -> Result<(), SendFault>
     requires grid { shape ≡ (grid_of store.old.subject.held).shape }
     requires shape { IsShape shape }
     requires fits { count shape < 2 ^ 64 }
     requires frame { IsFrame shape frame.now }
-    requires parameter { parameter < shape.parameters }
-    requires t { t < shape.times }
-    requires z { z < shape.levels }
-    requires rows { HasRows frame.now from to }
-    requires one { to ≤ from / tile_side * tile_side + tile_side }
+    requires parameter { strip.layer.parameter < shape.parameters }
+    requires t { strip.layer.t < shape.times }
+    requires z { strip.layer.z < shape.levels }
+    requires rows { HasRows frame.now strip.from strip.to }
+    requires one { strip.to ≤ strip.from / tile_side * tile_side + tile_side }
     requires open { writer.old.stage ≡ Open }
-    requires room { writer.old.values + length (strip_cells frame.now t z from (to - from)) ≤ writer.old.head.count }
-    ensures bytes { Writes result (values_from writer.old.values (map (cell_value (grid_of store.old.subject.held) parameter) (strip_cells frame.now t z from (to - from)))) (K.written sink.old) (K.written sink.new) }
-    ensures writer { OnOk result (writer.new ≡ with_values writer.old (length (strip_cells frame.now t z from (to - from)))) }
-    ensures reads { Adds result (ascending_once (tiles shape) (tiles_of_range shape (taken (strip_cells frame.now t z from (to - from))) parameter)) store.old.numbers store.new.numbers }
+    requires room { writer.old.values + length (strip_cells frame.now strip.layer.t strip.layer.z strip.from (strip.to - strip.from)) ≤ writer.old.head.count }
+    ensures bytes { Writes result (values_from writer.old.values (map (cell_value (grid_of store.old.subject.held) strip.layer.parameter) (strip_cells frame.now strip.layer.t strip.layer.z strip.from (strip.to - strip.from)))) (K.written sink.old) (K.written sink.new) }
+    ensures writer { OnOk result (writer.new ≡ with_values writer.old (length (strip_cells frame.now strip.layer.t strip.layer.z strip.from (strip.to - strip.from)))) }
+    ensures reads { Adds result (ascending_once (tiles shape) (tiles_of_range shape (taken (strip_cells frame.now strip.layer.t strip.layer.z strip.from (strip.to - strip.from))) strip.layer.parameter)) store.old.numbers store.new.numbers }
     ensures subject { store.new.subject ≡ store.old.subject }
     ensures lent { SinkLent (K.beside sink.old) (K.beside sink.new) (K.faults sink.old) (K.faults sink.new) }
     ensures cause { IsErrOf result SendFault.WriteFault → Rose (K.faults sink.old) (K.faults sink.new) }
 {
-    fill_strip(
-        alloc, store, shape, frame, parameter, t, z, from, to, values,
-    )?;
-    writer.values(sink, values)
+    fill_strip(store, shape, frame, strip, buffers)?;
+    writer.values(sink, &buffers.values)
 }
 
 // Where the rows of a frame in a row of tiles begin.
@@ -73,29 +66,26 @@ fn strip_edge(frame: &Frame, down: u32) -> u32
 
 // Writes the values of a frame at a time and a level, strip by strip.
 pub(crate) fn write_strips<K: Sink>(
-    alloc: Global,
+    shape: GridShape,
+    frame: &Frame,
+    layer: Layer,
     store: &mut Store<'_>,
     writer: &mut Writer,
     sink: &mut K,
-    shape: GridShape,
-    frame: &Frame,
-    parameter: u64,
-    t: u32,
-    z: u32,
-    values: &mut Vec<Option<i64>>,
+    buffers: &mut Buffers,
 ) -> Result<(), SendFault>
     requires grid { shape ≡ (grid_of store.old.subject.held).shape }
     requires shape { IsShape shape }
     requires fits { count shape < 2 ^ 64 }
     requires frame { IsFrame shape frame.now }
-    requires parameter { parameter < shape.parameters }
-    requires t { t < shape.times }
-    requires z { z < shape.levels }
+    requires parameter { layer.parameter < shape.parameters }
+    requires t { layer.t < shape.times }
+    requires z { layer.z < shape.levels }
     requires open { writer.old.stage ≡ Open }
-    requires room { writer.old.values + length (plane_cells frame.now t z) ≤ writer.old.head.count }
-    ensures bytes { Writes result (values_from writer.old.values (map (cell_value (grid_of store.old.subject.held) parameter) (plane_cells frame.now t z))) (K.written sink.old) (K.written sink.new) }
-    ensures writer { OnOk result (writer.new ≡ with_values writer.old (length (plane_cells frame.now t z))) }
-    ensures reads { Adds result (ascending_once (tiles shape) (tiles_of_range shape (taken (plane_cells frame.now t z)) parameter)) store.old.numbers store.new.numbers }
+    requires room { writer.old.values + length (plane_cells frame.now layer.t layer.z) ≤ writer.old.head.count }
+    ensures bytes { Writes result (values_from writer.old.values (map (cell_value (grid_of store.old.subject.held) layer.parameter) (plane_cells frame.now layer.t layer.z))) (K.written sink.old) (K.written sink.new) }
+    ensures writer { OnOk result (writer.new ≡ with_values writer.old (length (plane_cells frame.now layer.t layer.z))) }
+    ensures reads { Adds result (ascending_once (tiles shape) (tiles_of_range shape (taken (plane_cells frame.now layer.t layer.z)) layer.parameter)) store.old.numbers store.new.numbers }
     ensures subject { store.new.subject ≡ store.old.subject }
     ensures lent { SinkLent (K.beside sink.old) (K.beside sink.new) (K.faults sink.old) (K.faults sink.new) }
     ensures cause { IsErrOf result SendFault.WriteFault → Rose (K.faults sink.old) (K.faults sink.new) }
@@ -107,9 +97,8 @@ pub(crate) fn write_strips<K: Sink>(
     for down in row / TILE_SIDE..end.div_ceil(TILE_SIDE) {
         let from = strip_edge(frame, down);
         let to = strip_edge(frame, down + 1);
-        write_strip(
-            alloc, store, writer, sink, shape, frame, parameter, t, z, from, to, values,
-        )?;
+        let strip = Strip { layer, from, to };
+        write_strip(shape, frame, strip, store, writer, sink, buffers)?;
     }
     Ok(())
 }

@@ -8,26 +8,20 @@ ghost use Rattle.edr_select.specs.Documents.{document};
 ghost use Rattle.edr_select.specs.Plans.{StandsFor};
 ghost use Rattle.edr_send.specs.Sending.{Opens};
 ghost use Rattle.edr_select.specs.declared.plans.Reply.TheVariants as replies;
-ghost use Rattle.edr_send.specs.Bands.{Rises};
 
 use crate::bands::rising_coverage;
-use crate::frame_streams::stream_framing;
-use crate::gapped_streams::stream_gapped;
+use crate::documents::send_document;
 use crate::gathering::gather;
-use crate::series::stream_series;
-use crate::stack_streams::stream_stacking;
-use crate::streaming::stream_document;
-use crate::writing::write_document;
-use covjson_write::document_of_pieces;
 use edr_base::{SendFault, Sink};
+use edr_chunk::{numbers_tell_places, tiles_are_numbered};
 use edr_edition::Store;
 use edr_select::{
-    Framing, GappedReply, Listing, Plan, Planned, Reply, SeriesReply, Stacking, framing_stands,
-    gapped_reply_stands, listing_stands, series_reply_stands, stacking_stands,
+    Listing, Plan, Reply, framing_stands, gapped_reply_stands, listing_stands, series_reply_stands,
+    stacking_stands,
 };
 use std::alloc::Global;
 
-// Writes a reply from all its values.
+// Writes a reply whose values are listed, which are read before.
 fn send_gathered<K: Sink>(
     alloc: Global,
     plan: &Plan,
@@ -46,37 +40,11 @@ fn send_gathered<K: Sink>(
 {
     listing_stands(listing);
     store.subject_stands();
-    document_of_pieces();
-    let values = gather(alloc, listing, store)?;
-    write_document(alloc, listing, sink, &values)
+    let gathered = gather(alloc, listing, store)?;
+    send_document(alloc, plan, &gathered, store, sink)
 }
 
-// Writes a reply of one coverage, run by run.
-fn send_streamed<K: Sink>(
-    alloc: Global,
-    plan: &Plan,
-    listing: &Listing,
-    planned: &Planned,
-    store: &mut Store<'_>,
-    sink: &mut K,
-) -> Result<(), SendFault>
-    requires listed { plan.now.reply ≡ replies.Listed listing.now }
-    requires rises { Rises listing.now planned.now }
-    requires stands { StandsFor plan.now store.old.subject }
-    requires unread { store.old.numbers ≡ [] }
-    ensures text { Writes result (document_text (document store.old.subject plan.now.query)) (K.written sink.old) (K.written sink.new) }
-    ensures reads { Opens result (needed store.old.subject plan.now.query) store.new.numbers }
-    ensures subject { store.new.subject ≡ store.old.subject }
-    ensures lent { SinkLent (K.beside sink.old) (K.beside sink.new) (K.faults sink.old) (K.faults sink.new) }
-    ensures cause { IsErrOf result SendFault.WriteFault → Rose (K.faults sink.old) (K.faults sink.new) }
-{
-    listing_stands(listing);
-    store.subject_stands();
-    document_of_pieces();
-    stream_document(alloc, listing, planned, store, sink)
-}
-
-// Writes a reply whose values are listed.
+// Writes a reply whose values are listed: as they are read where the tiles rise in the order of the text, and else behind all reads.
 fn send_listed<K: Sink>(
     alloc: Global,
     plan: &Plan,
@@ -93,102 +61,14 @@ fn send_listed<K: Sink>(
     ensures lent { SinkLent (K.beside sink.old) (K.beside sink.new) (K.faults sink.old) (K.faults sink.new) }
     ensures cause { IsErrOf result SendFault.WriteFault → Rose (K.faults sink.old) (K.faults sink.new) }
 {
+    listing_stands(listing);
+    store.subject_stands();
+    tiles_are_numbered();
+    numbers_tell_places();
     match rising_coverage(listing) {
-        Some(planned) => send_streamed(alloc, plan, listing, planned, store, sink),
+        Some(_) => send_document(alloc, plan, listing, store, sink),
         None => send_gathered(alloc, plan, listing, store, sink),
     }
-}
-
-// Writes a reply over a frame, strip by strip.
-fn send_framed<K: Sink>(
-    alloc: Global,
-    plan: &Plan,
-    framing: &Framing,
-    store: &mut Store<'_>,
-    sink: &mut K,
-) -> Result<(), SendFault>
-    requires framed { plan.now.reply ≡ replies.Framed framing.now }
-    requires stands { StandsFor plan.now store.old.subject }
-    requires unread { store.old.numbers ≡ [] }
-    ensures text { Writes result (document_text (document store.old.subject plan.now.query)) (K.written sink.old) (K.written sink.new) }
-    ensures reads { Opens result (needed store.old.subject plan.now.query) store.new.numbers }
-    ensures subject { store.new.subject ≡ store.old.subject }
-    ensures lent { SinkLent (K.beside sink.old) (K.beside sink.new) (K.faults sink.old) (K.faults sink.new) }
-    ensures cause { IsErrOf result SendFault.WriteFault → Rose (K.faults sink.old) (K.faults sink.new) }
-{
-    framing_stands(framing);
-    store.subject_stands();
-    document_of_pieces();
-    stream_framing(alloc, framing, store, sink)
-}
-
-// Writes a reply over a stack, plane by plane.
-fn send_stacked<K: Sink>(
-    alloc: Global,
-    plan: &Plan,
-    stacking: &Stacking,
-    store: &mut Store<'_>,
-    sink: &mut K,
-) -> Result<(), SendFault>
-    requires stacked { plan.now.reply ≡ replies.Stacked stacking.now }
-    requires stands { StandsFor plan.now store.old.subject }
-    requires unread { store.old.numbers ≡ [] }
-    ensures text { Writes result (document_text (document store.old.subject plan.now.query)) (K.written sink.old) (K.written sink.new) }
-    ensures reads { Opens result (needed store.old.subject plan.now.query) store.new.numbers }
-    ensures subject { store.new.subject ≡ store.old.subject }
-    ensures lent { SinkLent (K.beside sink.old) (K.beside sink.new) (K.faults sink.old) (K.faults sink.new) }
-    ensures cause { IsErrOf result SendFault.WriteFault → Rose (K.faults sink.old) (K.faults sink.new) }
-{
-    stacking_stands(stacking);
-    store.subject_stands();
-    document_of_pieces();
-    stream_stacking(alloc, stacking, store, sink)
-}
-
-// Writes a reply over stations, block by block.
-fn send_series<K: Sink>(
-    alloc: Global,
-    plan: &Plan,
-    series: &SeriesReply,
-    store: &mut Store<'_>,
-    sink: &mut K,
-) -> Result<(), SendFault>
-    requires series { plan.now.reply ≡ replies.Series series.now }
-    requires stands { StandsFor plan.now store.old.subject }
-    requires unread { store.old.numbers ≡ [] }
-    ensures text { Writes result (document_text (document store.old.subject plan.now.query)) (K.written sink.old) (K.written sink.new) }
-    ensures reads { Opens result (needed store.old.subject plan.now.query) store.new.numbers }
-    ensures subject { store.new.subject ≡ store.old.subject }
-    ensures lent { SinkLent (K.beside sink.old) (K.beside sink.new) (K.faults sink.old) (K.faults sink.new) }
-    ensures cause { IsErrOf result SendFault.WriteFault → Rose (K.faults sink.old) (K.faults sink.new) }
-{
-    series_reply_stands(series);
-    store.subject_stands();
-    document_of_pieces();
-    stream_series(alloc, series, store, sink)
-}
-
-// Writes a reply over stations of which some values aren't taken.
-fn send_gapped<K: Sink>(
-    alloc: Global,
-    plan: &Plan,
-    reply: &GappedReply,
-    store: &mut Store<'_>,
-    sink: &mut K,
-) -> Result<(), SendFault>
-    requires gapped { plan.now.reply ≡ replies.Gapped reply.now }
-    requires stands { StandsFor plan.now store.old.subject }
-    requires unread { store.old.numbers ≡ [] }
-    ensures text { Writes result (document_text (document store.old.subject plan.now.query)) (K.written sink.old) (K.written sink.new) }
-    ensures reads { Opens result (needed store.old.subject plan.now.query) store.new.numbers }
-    ensures subject { store.new.subject ≡ store.old.subject }
-    ensures lent { SinkLent (K.beside sink.old) (K.beside sink.new) (K.faults sink.old) (K.faults sink.new) }
-    ensures cause { IsErrOf result SendFault.WriteFault → Rose (K.faults sink.old) (K.faults sink.new) }
-{
-    gapped_reply_stands(reply);
-    store.subject_stands();
-    document_of_pieces();
-    stream_gapped(alloc, reply, store, sink)
 }
 
 /// Writes the reply that is planned: the text of its CoverageJSON document (OGC 21-069r2), with the values of the store.
@@ -213,11 +93,26 @@ pub fn send<K: Sink>(
     ensures lent { SinkLent (K.beside sink.old) (K.beside sink.new) (K.faults sink.old) (K.faults sink.new) }
     ensures cause { IsErrOf result SendFault.WriteFault → Rose (K.faults sink.old) (K.faults sink.new) }
 {
+    store.subject_stands();
+    tiles_are_numbered();
+    numbers_tell_places();
     match plan.reply() {
         Reply::Listed(listing) => send_listed(alloc, plan, listing, store, sink),
-        Reply::Framed(framing) => send_framed(alloc, plan, framing, store, sink),
-        Reply::Stacked(stacking) => send_stacked(alloc, plan, stacking, store, sink),
-        Reply::Series(series) => send_series(alloc, plan, series, store, sink),
-        Reply::Gapped(reply) => send_gapped(alloc, plan, reply, store, sink),
+        Reply::Framed(framing) => {
+            framing_stands(framing);
+            send_document(alloc, plan, framing, store, sink)
+        }
+        Reply::Stacked(stacking) => {
+            stacking_stands(stacking);
+            send_document(alloc, plan, stacking, store, sink)
+        }
+        Reply::Series(reply) => {
+            series_reply_stands(reply);
+            send_document(alloc, plan, reply, store, sink)
+        }
+        Reply::Gapped(reply) => {
+            gapped_reply_stands(reply);
+            send_document(alloc, plan, reply, store, sink)
+        }
     }
 }

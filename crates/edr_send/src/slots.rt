@@ -1,10 +1,10 @@
 //! Slots of values: where each is read, and where it goes.
-ghost use Rattle.std.specs.Prelude.{◌≡◌, ◌<◌, ◌^◌, All, OnOk};
+ghost use Rattle.std.specs.Prelude.{◌≡◌, ◌<◌, ◌^◌, [], All, OnOk};
 ghost use Rattle.edr_chunk.specs.Places.{Within, IsShape, count};
 ghost use Rattle.edr_chunk.specs.Tiles.{tiles_along, tile_of};
 ghost use Rattle.edr_select.specs.Listings.{place_at, IsPlanned, IsListing};
 ghost use Rattle.edr_send.specs.Filling.{SlotsGrew};
-ghost use Rattle.edr_send.specs.Gathered.{places_of_range, places_of_coverage, places_of_coverages};
+ghost use Rattle.edr_send.specs.Gathered.{places_of_range, places_of_coverage, places_of_coverages, AreStarts};
 
 use edr_base::OutOfMemory;
 use edr_chunk::{GridPlace, GridShape, TILE_SIDE, tiles_are_numbered};
@@ -72,7 +72,8 @@ pub(crate) fn push_range(
     requires fits { count shape < 2 ^ 64 }
     requires parameter { parameter < shape.parameters }
     requires cells { All (λ cell. Within shape (place_at 0 cell)) cells.now }
-    ensures { OnOk result (SlotsGrew shape (places_of_range cells.now parameter) slots.old.items slots.new.items) }
+    ensures { OnOk result (SlotsGrew shape (places_of_range cells.now parameter) slots.old.items
+        slots.new.items) }
 {
     for cell in cells {
         let place = place_of(parameter, *cell);
@@ -96,7 +97,8 @@ fn push_coverage(
     requires fits { count shape < 2 ^ 64 }
     requires parameters { All (λ parameter. parameter < shape.parameters) parameters.now }
     requires planned { IsPlanned shape parameters.now planned.now }
-    ensures { OnOk result (SlotsGrew shape (places_of_coverage parameters.now planned.now) slots.old.items slots.new.items) }
+    ensures { OnOk result (SlotsGrew shape (places_of_coverage parameters.now planned.now)
+        slots.old.items slots.new.items) }
 {
     for parameter in parameters {
         push_range(slots, shape, *parameter, planned.cells.items())?;
@@ -104,13 +106,25 @@ fn push_coverage(
     Ok(())
 }
 
-// Adds the slots of all values of a listing, in the order of the text.
-pub(crate) fn push_listing(slots: &mut Vec<Slot>, listing: &Listing) -> Result<(), OutOfMemory>
-    ensures within { All (Within listing.now.shape) (places_of_coverages listing.now.parameters listing.now.coverages) }
-    ensures slots { OnOk result (SlotsGrew listing.now.shape (places_of_coverages listing.now.parameters listing.now.coverages) slots.old.items slots.new.items) }
+// Adds the slots of all values of a listing, in the order of the text, and of each coverage where its first one stands.
+pub(crate) fn push_listing(
+    slots: &mut Vec<Slot>,
+    starts: &mut Vec<usize>,
+    listing: &Listing,
+) -> Result<(), OutOfMemory>
+    requires none { slots.old.items ≡ [] }
+    requires first { starts.old.items ≡ [] }
+    ensures within { All (Within listing.now.shape)
+        (places_of_coverages listing.now.parameters listing.now.coverages) }
+    ensures slots { OnOk result (SlotsGrew listing.now.shape
+        (places_of_coverages listing.now.parameters listing.now.coverages) slots.old.items
+        slots.new.items) }
+    ensures starts { OnOk result (AreStarts listing.now.parameters listing.now.coverages
+        starts.new.items) }
 {
     listing_stands(listing);
     for planned in listing.coverages.items() {
+        starts.push(slots.len())?;
         push_coverage(slots, listing.shape, listing.parameters.items(), planned)?;
     }
     Ok(())

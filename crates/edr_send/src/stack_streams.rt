@@ -11,17 +11,27 @@ ghost use Rattle.edr_chunk.specs.Tiles.{tiles};
 ghost use Rattle.edr_select.specs.Samples.{ascending_once};
 ghost use Rattle.edr_select.specs.Listings.{tiles_of_range, NumbersRise};
 ghost use Rattle.edr_send.specs.Filling.{grid_of, Adds};
+ghost use Rattle.edr_send.specs.Forms.{stacking_sent};
 ghost use Rattle.edr_select.specs.Framings.{taken, cell_value};
 ghost use Rattle.edr_select.specs.Stacks.{stack_count, plane_at, cells_of_plane, cells_of_time, stack_cells, stacked_range, stacked_tiles};
-ghost use Rattle.edr_send.specs.StackTexts.{stacked_coverage_text, stacked_text};
 
+use crate::coverages::{Buffers, Coverages, RangePlace, parameter_at};
 use crate::planes::write_strips;
+use crate::strips::Layer;
+use covjson_value::Coverage;
 use covjson_write::Writer;
 use edr_base::{Items, OutOfMemory, SendFault, Sink};
 use edr_chunk::{numbers_tell_places, sides_are_small, tiles_are_numbered};
 use edr_edition::Store;
 use edr_select::{Frame, Stack, Stacking, stacking_stands};
 use std::alloc::Global;
+
+// A plane of a stack, by the numbers of its time and its level among those of the stack.
+#[derive(Clone, Copy, Debug)]
+struct PlanePlace {
+    time: usize,
+    level: usize,
+}
 
 // One of some numbers alone.
 fn alone(alloc: Global, number: u64) -> Result<Items<u64>, OutOfMemory>
@@ -75,25 +85,23 @@ fn plane_of(alloc: Global, stack: &Stack, i: usize, j: usize) -> Result<Frame, O
 
 // Writes the values of the plane of a time and a level.
 fn write_stacked<K: Sink>(
-    alloc: Global,
+    stacking: &Stacking,
+    parameter: u64,
+    place: PlanePlace,
     store: &mut Store<'_>,
     writer: &mut Writer,
     sink: &mut K,
-    stacking: &Stacking,
-    parameter: u64,
-    i: usize,
-    j: usize,
-    values: &mut Vec<Option<i64>>,
+    buffers: &mut Buffers,
 ) -> Result<(), SendFault>
     requires grid { stacking.now.shape ≡ (grid_of store.old.subject.held).shape }
     requires parameter { parameter < stacking.now.shape.parameters }
-    requires time { i < length stacking.now.stack.sides.times }
-    requires level { j < length stacking.now.stack.sides.levels }
+    requires time { place.time < length stacking.now.stack.sides.times }
+    requires level { place.level < length stacking.now.stack.sides.levels }
     requires open { writer.old.stage ≡ Open }
-    requires room { writer.old.values + length (cells_of_plane stacking.now.stack i j) ≤ writer.old.head.count }
-    ensures bytes { Writes result (values_from writer.old.values (map (cell_value (grid_of store.old.subject.held) parameter) (cells_of_plane stacking.now.stack i j))) (K.written sink.old) (K.written sink.new) }
-    ensures writer { OnOk result (writer.new ≡ with_values writer.old (length (cells_of_plane stacking.now.stack i j))) }
-    ensures reads { Adds result (ascending_once (tiles stacking.now.shape) (tiles_of_range stacking.now.shape (taken (cells_of_plane stacking.now.stack i j)) parameter)) store.old.numbers store.new.numbers }
+    requires room { writer.old.values + length (cells_of_plane stacking.now.stack place.time place.level) ≤ writer.old.head.count }
+    ensures bytes { Writes result (values_from writer.old.values (map (cell_value (grid_of store.old.subject.held) parameter) (cells_of_plane stacking.now.stack place.time place.level))) (K.written sink.old) (K.written sink.new) }
+    ensures writer { OnOk result (writer.new ≡ with_values writer.old (length (cells_of_plane stacking.now.stack place.time place.level))) }
+    ensures reads { Adds result (ascending_once (tiles stacking.now.shape) (tiles_of_range stacking.now.shape (taken (cells_of_plane stacking.now.stack place.time place.level)) parameter)) store.old.numbers store.new.numbers }
     ensures subject { store.new.subject ≡ store.old.subject }
     ensures lent { SinkLent (K.beside sink.old) (K.beside sink.new) (K.faults sink.old) (K.faults sink.new) }
     ensures cause { IsErrOf result SendFault.WriteFault → Rose (K.faults sink.old) (K.faults sink.new) }
@@ -101,33 +109,22 @@ fn write_stacked<K: Sink>(
     stacking_stands(stacking);
     sides_are_small();
     let sides = &stacking.stack.sides;
-    let t = sides.times.items()[i] as u32;
-    let z = sides.levels.items()[j] as u32;
-    let plane = plane_of(alloc, &stacking.stack, i, j)?;
-    write_strips(
-        alloc,
-        store,
-        writer,
-        sink,
-        stacking.shape,
-        &plane,
-        parameter,
-        t,
-        z,
-        values,
-    )
+    let t = sides.times.items()[place.time] as u32;
+    let z = sides.levels.items()[place.level] as u32;
+    let plane = plane_of(buffers.alloc, &stacking.stack, place.time, place.level)?;
+    let layer = Layer { parameter, t, z };
+    write_strips(stacking.shape, &plane, layer, store, writer, sink, buffers)
 }
 
 // Writes the values of a time, level by level.
 fn write_levels<K: Sink>(
-    alloc: Global,
-    store: &mut Store<'_>,
-    writer: &mut Writer,
-    sink: &mut K,
     stacking: &Stacking,
     parameter: u64,
     i: usize,
-    values: &mut Vec<Option<i64>>,
+    store: &mut Store<'_>,
+    writer: &mut Writer,
+    sink: &mut K,
+    buffers: &mut Buffers,
 ) -> Result<(), SendFault>
     requires grid { stacking.now.shape ≡ (grid_of store.old.subject.held).shape }
     requires parameter { parameter < stacking.now.shape.parameters }
@@ -145,22 +142,20 @@ fn write_levels<K: Sink>(
     sides_are_small();
     tiles_are_numbered();
     for j in 0..stacking.stack.sides.levels.items().len() {
-        write_stacked(
-            alloc, store, writer, sink, stacking, parameter, i, j, values,
-        )?;
+        let place = PlanePlace { time: i, level: j };
+        write_stacked(stacking, parameter, place, store, writer, sink, buffers)?;
     }
     Ok(())
 }
 
 // Writes the values of the open range of a parameter, time by time.
 fn write_times<K: Sink>(
-    alloc: Global,
+    stacking: &Stacking,
+    parameter: u64,
     store: &mut Store<'_>,
     writer: &mut Writer,
     sink: &mut K,
-    stacking: &Stacking,
-    parameter: u64,
-    values: &mut Vec<Option<i64>>,
+    buffers: &mut Buffers,
 ) -> Result<(), SendFault>
     requires grid { stacking.now.shape ≡ (grid_of store.old.subject.held).shape }
     requires parameter { parameter < stacking.now.shape.parameters }
@@ -177,207 +172,40 @@ fn write_times<K: Sink>(
     sides_are_small();
     tiles_are_numbered();
     for i in 0..stacking.stack.sides.times.items().len() {
-        write_levels(alloc, store, writer, sink, stacking, parameter, i, values)?;
+        write_levels(stacking, parameter, i, store, writer, sink, buffers)?;
     }
     Ok(())
 }
 
-// Writes the values of the open range of a parameter, and the end of it.
-#[tactic(auto, using(edr_base::specs::KnownBytes::writes_stop))]
-fn write_filled<K: Sink>(
-    alloc: Global,
-    store: &mut Store<'_>,
-    writer: &mut Writer,
-    sink: &mut K,
-    stacking: &Stacking,
-    parameter: u64,
-    values: &mut Vec<Option<i64>>,
-) -> Result<(), SendFault>
-    requires grid { stacking.now.shape ≡ (grid_of store.old.subject.held).shape }
-    requires parameter { parameter < stacking.now.shape.parameters }
-    requires open { writer.old.stage ≡ Open }
-    requires none { writer.old.values ≡ 0 }
-    requires one { writer.old.ranges < length writer.old.head.keys }
-    requires whole { length (stack_cells stacking.now.stack) ≡ writer.old.head.count }
-    ensures bytes { Writes result (values_from 0 (stacked_range (grid_of store.old.subject.held) stacking.now.stack parameter).values ++ range_end writer.old.head writer.old.ranges) (K.written sink.old) (K.written sink.new) }
-    ensures writer { OnOk result (writer.new ≡ without_range writer.old) }
-    ensures reads { Adds result (ascending_once (tiles stacking.now.shape) (tiles_of_range stacking.now.shape (taken (stack_cells stacking.now.stack)) parameter)) store.old.numbers store.new.numbers }
-    ensures subject { store.new.subject ≡ store.old.subject }
-    ensures lent { SinkLent (K.beside sink.old) (K.beside sink.new) (K.faults sink.old) (K.faults sink.new) }
-    ensures cause { IsErrOf result SendFault.WriteFault → Rose (K.faults sink.old) (K.faults sink.new) }
-{
-    write_times(alloc, store, writer, sink, stacking, parameter, values)?;
-    writer.range_end(sink)
-}
+impl Coverages for Stacking {
+    ghost over = { λ stacking held. stacking.shape ≡ (grid_of held).shape };
 
-// Writes the range of a parameter, which has this number among the ranges.
-#[tactic(auto, using(edr_base::specs::KnownBytes::writes_stop))]
-fn write_range<K: Sink>(
-    alloc: Global,
-    store: &mut Store<'_>,
-    writer: &mut Writer,
-    sink: &mut K,
-    stacking: &Stacking,
-    number: usize,
-    parameter: u64,
-    values: &mut Vec<Option<i64>>,
-) -> Result<(), SendFault>
-    requires grid { stacking.now.shape ≡ (grid_of store.old.subject.held).shape }
-    requires parameter { parameter < stacking.now.shape.parameters }
-    requires within { writer.old.stage ≡ Within }
-    requires next { number ≡ writer.old.ranges }
-    requires one { number < length writer.old.head.keys }
-    requires whole { length (stack_cells stacking.now.stack) ≡ writer.old.head.count }
-    ensures bytes { Writes result (range_piece writer.old.head number (stacked_range (grid_of store.old.subject.held) stacking.now.stack parameter).values) (K.written sink.old) (K.written sink.new) }
-    ensures writer { OnOk result (writer.new ≡ without_range writer.old) }
-    ensures reads { Adds result (ascending_once (tiles stacking.now.shape) (tiles_of_range stacking.now.shape (taken (stack_cells stacking.now.stack)) parameter)) store.old.numbers store.new.numbers }
-    ensures subject { store.new.subject ≡ store.old.subject }
-    ensures lent { SinkLent (K.beside sink.old) (K.beside sink.new) (K.faults sink.old) (K.faults sink.new) }
-    ensures cause { IsErrOf result SendFault.WriteFault → Rose (K.faults sink.old) (K.faults sink.new) }
-{
-    writer.range_begin(alloc, sink, number)?;
-    write_filled(alloc, store, writer, sink, stacking, parameter, values)
-}
+    ghost sent = { stacking_sent };
 
-// Writes the ranges of some parameters. Each strip takes the memory of the one before.
-fn write_parameters<K: Sink>(
-    alloc: Global,
-    store: &mut Store<'_>,
-    writer: &mut Writer,
-    sink: &mut K,
-    stacking: &Stacking,
-    parameters: &[u64],
-) -> Result<(), SendFault>
-    requires grid { stacking.now.shape ≡ (grid_of store.old.subject.held).shape }
-    requires parameters { All (λ parameter. parameter < stacking.now.shape.parameters) parameters.now }
-    requires rise { NumbersRise parameters.now }
-    requires within { writer.old.stage ≡ Within }
-    requires none { writer.old.ranges ≡ 0 }
-    requires some { 0 < length parameters.now }
-    requires each { length writer.old.head.keys ≡ length parameters.now }
-    requires whole { length (stack_cells stacking.now.stack) ≡ writer.old.head.count }
-    ensures bytes { Writes result (ranges_from writer.old.head 0 (map (stacked_range (grid_of store.old.subject.held) stacking.now.stack) parameters.now)) (K.written sink.old) (K.written sink.new) }
-    ensures stage { OnOk result (writer.new.stage ≡ Ready) }
-    ensures many { OnOk result (writer.new.many ≡ writer.old.many) }
-    ensures begun { OnOk result (writer.new.begun ≡ writer.old.begun) }
-    ensures reads { Adds result (ascending_once (tiles stacking.now.shape) (flat_map (tiles_of_range stacking.now.shape (taken (stack_cells stacking.now.stack))) parameters.now)) store.old.numbers store.new.numbers }
-    ensures subject { store.new.subject ≡ store.old.subject }
-    ensures lent { SinkLent (K.beside sink.old) (K.beside sink.new) (K.faults sink.old) (K.faults sink.new) }
-    ensures cause { IsErrOf result SendFault.WriteFault → Rose (K.faults sink.old) (K.faults sink.new) }
-{
-    stacking_stands(stacking);
-    tiles_are_numbered();
-    numbers_tell_places();
-    let mut values = Vec::new(alloc);
-    for number in 0..parameters.len() {
-        let parameter = parameters[number];
-        write_range(
-            alloc,
-            store,
-            writer,
-            sink,
-            stacking,
-            number,
-            parameter,
-            &mut values,
-        )?;
+    ghost size = { λ _. 1 };
+
+    fn are_many(&self) -> bool {
+        false
     }
-    Ok(())
-}
 
-// Writes the ranges of all parameters of a stacking.
-fn write_ranges<K: Sink>(
-    alloc: Global,
-    store: &mut Store<'_>,
-    writer: &mut Writer,
-    sink: &mut K,
-    stacking: &Stacking,
-) -> Result<(), SendFault>
-    requires grid { stacking.now.shape ≡ (grid_of store.old.subject.held).shape }
-    requires within { writer.old.stage ≡ Within }
-    requires none { writer.old.ranges ≡ 0 }
-    requires some { 0 < length stacking.now.parameters }
-    requires each { length writer.old.head.keys ≡ length stacking.now.parameters }
-    requires whole { length (stack_cells stacking.now.stack) ≡ writer.old.head.count }
-    ensures bytes { Writes result (ranges_from writer.old.head 0 (map (stacked_range (grid_of store.old.subject.held) stacking.now.stack) stacking.now.parameters)) (K.written sink.old) (K.written sink.new) }
-    ensures stage { OnOk result (writer.new.stage ≡ Ready) }
-    ensures many { OnOk result (writer.new.many ≡ writer.old.many) }
-    ensures begun { OnOk result (writer.new.begun ≡ writer.old.begun) }
-    ensures reads { Adds result (ascending_once (tiles stacking.now.shape) (stacked_tiles stacking.now)) store.old.numbers store.new.numbers }
-    ensures subject { store.new.subject ≡ store.old.subject }
-    ensures lent { SinkLent (K.beside sink.old) (K.beside sink.new) (K.faults sink.old) (K.faults sink.new) }
-    ensures cause { IsErrOf result SendFault.WriteFault → Rose (K.faults sink.old) (K.faults sink.new) }
-{
-    stacking_stands(stacking);
-    let parameters = stacking.parameters.items();
-    write_parameters(alloc, store, writer, sink, stacking, parameters)
-}
+    fn count(&self) -> usize {
+        1
+    }
 
-// Writes the one coverage of a stacking.
-#[tactic(auto, using(edr_base::specs::KnownBytes::writes_stop))]
-fn write_coverage<K: Sink>(
-    alloc: Global,
-    store: &mut Store<'_>,
-    writer: &mut Writer,
-    sink: &mut K,
-    stacking: &Stacking,
-) -> Result<(), SendFault>
-    requires grid { stacking.now.shape ≡ (grid_of store.old.subject.held).shape }
-    requires ready { writer.old.stage ≡ Ready }
-    requires none { writer.old.begun ≡ false }
-    ensures bytes { Writes result (stacked_coverage_text (grid_of store.old.subject.held) stacking.now) (K.written sink.old) (K.written sink.new) }
-    ensures stage { OnOk result (writer.new.stage ≡ Ready) }
-    ensures many { OnOk result (writer.new.many ≡ writer.old.many) }
-    ensures begun { OnOk result (writer.new.begun ≡ true) }
-    ensures reads { Adds result (ascending_once (tiles stacking.now.shape) (stacked_tiles stacking.now)) store.old.numbers store.new.numbers }
-    ensures subject { store.new.subject ≡ store.old.subject }
-    ensures lent { SinkLent (K.beside sink.old) (K.beside sink.new) (K.faults sink.old) (K.faults sink.new) }
-    ensures cause { IsErrOf result SendFault.WriteFault → Rose (K.faults sink.old) (K.faults sink.new) }
-{
-    stacking_stands(stacking);
-    writer.coverage(alloc, sink, &stacking.head)?;
-    write_ranges(alloc, store, writer, sink, stacking)
-}
+    fn head(&self, _: usize) -> &Coverage {
+        &self.head
+    }
 
-// Writes the one coverage of a stacking and the end of the document.
-#[tactic(auto, using(edr_base::specs::KnownBytes::writes_stop))]
-fn write_rest<K: Sink>(
-    alloc: Global,
-    store: &mut Store<'_>,
-    writer: Writer,
-    sink: &mut K,
-    stacking: &Stacking,
-) -> Result<(), SendFault>
-    requires grid { stacking.now.shape ≡ (grid_of store.old.subject.held).shape }
-    requires ready { writer.stage ≡ Ready }
-    requires none { writer.begun ≡ false }
-    requires one { writer.many ≡ false }
-    ensures bytes { Writes result (stacked_coverage_text (grid_of store.old.subject.held) stacking.now ++ document_end false) (K.written sink.old) (K.written sink.new) }
-    ensures reads { Adds result (ascending_once (tiles stacking.now.shape) (stacked_tiles stacking.now)) store.old.numbers store.new.numbers }
-    ensures subject { store.new.subject ≡ store.old.subject }
-    ensures lent { SinkLent (K.beside sink.old) (K.beside sink.new) (K.faults sink.old) (K.faults sink.new) }
-    ensures cause { IsErrOf result SendFault.WriteFault → Rose (K.faults sink.old) (K.faults sink.new) }
-{
-    let mut writer = writer;
-    write_coverage(alloc, store, &mut writer, sink, stacking)?;
-    writer.finish(sink)
-}
-
-// Writes the document of a stacking: each strip of values is read and written before the next.
-#[tactic(auto, using(edr_base::specs::KnownBytes::writes_stop))]
-pub(crate) fn stream_stacking<K: Sink>(
-    alloc: Global,
-    stacking: &Stacking,
-    store: &mut Store<'_>,
-    sink: &mut K,
-) -> Result<(), SendFault>
-    requires grid { stacking.now.shape ≡ (grid_of store.old.subject.held).shape }
-    ensures bytes { Writes result (stacked_text (grid_of store.old.subject.held) stacking.now) (K.written sink.old) (K.written sink.new) }
-    ensures reads { Adds result (ascending_once (tiles stacking.now.shape) (stacked_tiles stacking.now)) store.old.numbers store.new.numbers }
-    ensures subject { store.new.subject ≡ store.old.subject }
-    ensures lent { SinkLent (K.beside sink.old) (K.beside sink.new) (K.faults sink.old) (K.faults sink.new) }
-    ensures cause { IsErrOf result SendFault.WriteFault → Rose (K.faults sink.old) (K.faults sink.new) }
-{
-    let writer = Writer::begin(alloc, sink, false)?;
-    write_rest(alloc, store, writer, sink, stacking)
+    fn send_values<K: Sink>(
+        &self,
+        place: RangePlace,
+        store: &mut Store<'_>,
+        writer: &mut Writer,
+        sink: &mut K,
+        buffers: &mut Buffers,
+    ) -> Result<(), SendFault> {
+        stacking_stands(self);
+        let parameter = parameter_at(self.parameters.items(), place.range);
+        write_times(self, parameter, store, writer, sink, buffers)
+    }
 }

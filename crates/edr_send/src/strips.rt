@@ -9,12 +9,29 @@ ghost use Rattle.edr_send.specs.Filling.{grid_of, Adds};
 ghost use Rattle.edr_select.specs.Framings.{IsFrame, is_set, cell_at, strip_cells, taken, cell_value};
 ghost use Rattle.edr_send.specs.Strips.{HasMask, HasRows, HasColumns, some_taken, shown, tile_read};
 
+use crate::coverages::Buffers;
 use crate::slots::tile_number;
 use edr_base::OutOfMemory;
 use edr_chunk::{GridPlace, GridShape, TILE_SIDE, Tile, sides_are_small, tiles_are_numbered};
 use edr_edition::Store;
 use edr_select::Frame;
 use std::alloc::Global;
+
+// A parameter at a time and a level of a grid.
+#[derive(Clone, Copy, Debug)]
+pub(crate) struct Layer {
+    pub(crate) parameter: u64,
+    pub(crate) t: u32,
+    pub(crate) z: u32,
+}
+
+// Some rows of a layer, from one up to another.
+#[derive(Clone, Copy, Debug)]
+pub(crate) struct Strip {
+    pub(crate) layer: Layer,
+    pub(crate) from: u32,
+    pub(crate) to: u32,
+}
 
 // Where the truth values of a row of a frame begin.
 fn row_start(frame: &Frame, y: u32) -> usize
@@ -175,11 +192,7 @@ fn read_tile(
     store: &mut Store<'_>,
     shape: GridShape,
     frame: &Frame,
-    parameter: u64,
-    t: u32,
-    z: u32,
-    from: u32,
-    to: u32,
+    strip: Strip,
     across: u32,
     values: &mut [Option<i64>],
 ) -> Result<(), OutOfMemory>
@@ -187,19 +200,19 @@ fn read_tile(
     requires shape { IsShape shape }
     requires fits { count shape < 2 ^ 64 }
     requires frame { IsFrame shape frame.now }
-    requires parameter { parameter < shape.parameters }
-    requires t { t < shape.times }
-    requires z { z < shape.levels }
-    requires rows { HasRows frame.now from to }
-    requires one { to ≤ from / tile_side * tile_side + tile_side }
+    requires parameter { strip.layer.parameter < shape.parameters }
+    requires t { strip.layer.t < shape.times }
+    requires z { strip.layer.z < shape.levels }
+    requires rows { HasRows frame.now strip.from strip.to }
+    requires one { strip.to ≤ strip.from / tile_side * tile_side + tile_side }
     requires low { frame.now.column < across * tile_side + tile_side }
     requires high { across * tile_side < frame.now.column + frame.now.columns }
-    requires long { length values.old ≡ (to - from) * frame.now.columns }
-    requires blank { (y x : ℕ) → from ≤ y → y < to → frame.now.column ≤ x → x < frame.now.column + frame.now.columns → x / tile_side ≡ across → shown frame.now from values.old y x ≡ None }
+    requires long { length values.old ≡ (strip.to - strip.from) * frame.now.columns }
+    requires blank { (y x : ℕ) → strip.from ≤ y → y < strip.to → frame.now.column ≤ x → x < frame.now.column + frame.now.columns → x / tile_side ≡ across → shown frame.now strip.from values.old y x ≡ None }
     ensures long { length values.new ≡ length values.old }
-    ensures here { OnOk result ((y x : ℕ) → from ≤ y → y < to → frame.now.column ≤ x → x < frame.now.column + frame.now.columns → x / tile_side ≡ across → shown frame.now from values.new y x ≡ cell_value (grid_of store.old.subject.held) parameter (cell_at frame.now t z y x)) }
-    ensures other { (y x : ℕ) → from ≤ y → y < to → frame.now.column ≤ x → x < frame.now.column + frame.now.columns → x / tile_side ≢ across → shown frame.now from values.new y x ≡ shown frame.now from values.old y x }
-    ensures read { OnOk result (store.new.numbers ≡ store.old.numbers ++ tile_read shape frame.now parameter t z from to across) }
+    ensures here { OnOk result ((y x : ℕ) → strip.from ≤ y → y < strip.to → frame.now.column ≤ x → x < frame.now.column + frame.now.columns → x / tile_side ≡ across → shown frame.now strip.from values.new y x ≡ cell_value (grid_of store.old.subject.held) strip.layer.parameter (cell_at frame.now strip.layer.t strip.layer.z y x)) }
+    ensures other { (y x : ℕ) → strip.from ≤ y → y < strip.to → frame.now.column ≤ x → x < frame.now.column + frame.now.columns → x / tile_side ≢ across → shown frame.now strip.from values.new y x ≡ shown frame.now strip.from values.old y x }
+    ensures read { OnOk result (store.new.numbers ≡ store.old.numbers ++ tile_read shape frame.now strip.layer.parameter strip.layer.t strip.layer.z strip.from strip.to across) }
     ensures unread { OnErr result (store.new.numbers ≡ store.old.numbers) }
     ensures subject { store.new.subject ≡ store.old.subject }
 {
@@ -207,21 +220,21 @@ fn read_tile(
     tiles_are_numbered();
     let left = (across * TILE_SIDE).max(frame.column);
     let right = (across * TILE_SIDE + TILE_SIDE).min(frame.column + frame.columns);
-    if !has_taken(frame, from, to, left, right) {
+    if !has_taken(frame, strip.from, strip.to, left, right) {
         return Ok(());
     }
     let number = tile_number(
         shape,
         GridPlace {
-            parameter,
-            t,
-            z,
-            y: from,
+            parameter: strip.layer.parameter,
+            t: strip.layer.t,
+            z: strip.layer.z,
+            y: strip.from,
             x: across * TILE_SIDE,
         },
     );
     let tile = store.tile(alloc, number)?;
-    fill_tile(&tile, frame, from, to, left, right, values);
+    fill_tile(&tile, frame, strip.from, strip.to, left, right, values);
     Ok(())
 }
 
@@ -231,35 +244,29 @@ fn read_tiles(
     store: &mut Store<'_>,
     shape: GridShape,
     frame: &Frame,
-    parameter: u64,
-    t: u32,
-    z: u32,
-    from: u32,
-    to: u32,
+    strip: Strip,
     values: &mut [Option<i64>],
 ) -> Result<(), OutOfMemory>
     requires grid { shape ≡ (grid_of store.old.subject.held).shape }
     requires shape { IsShape shape }
     requires fits { count shape < 2 ^ 64 }
     requires frame { IsFrame shape frame.now }
-    requires parameter { parameter < shape.parameters }
-    requires t { t < shape.times }
-    requires z { z < shape.levels }
-    requires rows { HasRows frame.now from to }
-    requires one { to ≤ from / tile_side * tile_side + tile_side }
-    requires long { length values.old ≡ (to - from) * frame.now.columns }
+    requires parameter { strip.layer.parameter < shape.parameters }
+    requires t { strip.layer.t < shape.times }
+    requires z { strip.layer.z < shape.levels }
+    requires rows { HasRows frame.now strip.from strip.to }
+    requires one { strip.to ≤ strip.from / tile_side * tile_side + tile_side }
+    requires long { length values.old ≡ (strip.to - strip.from) * frame.now.columns }
     requires blank { (k : ℕ) → k < length values.old → slice_index_or values.old k None ≡ None }
     ensures long { length values.new ≡ length values.old }
-    ensures values { OnOk result (values.new ≡ map (cell_value (grid_of store.old.subject.held) parameter) (strip_cells frame.now t z from (to - from))) }
-    ensures reads { Adds result (ascending_once (tiles shape) (tiles_of_range shape (taken (strip_cells frame.now t z from (to - from))) parameter)) store.old.numbers store.new.numbers }
+    ensures values { OnOk result (values.new ≡ map (cell_value (grid_of store.old.subject.held) strip.layer.parameter) (strip_cells frame.now strip.layer.t strip.layer.z strip.from (strip.to - strip.from))) }
+    ensures reads { Adds result (ascending_once (tiles shape) (tiles_of_range shape (taken (strip_cells frame.now strip.layer.t strip.layer.z strip.from (strip.to - strip.from))) strip.layer.parameter)) store.old.numbers store.new.numbers }
     ensures subject { store.new.subject ≡ store.old.subject }
 {
     sides_are_small();
     tiles_are_numbered();
     for across in frame.column / TILE_SIDE..(frame.column + frame.columns).div_ceil(TILE_SIDE) {
-        read_tile(
-            alloc, store, shape, frame, parameter, t, z, from, to, across, values,
-        )?;
+        read_tile(alloc, store, shape, frame, strip, across, values)?;
     }
     Ok(())
 }
@@ -267,34 +274,28 @@ fn read_tiles(
 // The values of a parameter, time and level in some rows of a frame, in the order of the text. The rows stand in one row of
 // tiles, of which those are opened that have a node which is taken, in ascending order.
 pub(crate) fn fill_strip(
-    alloc: Global,
     store: &mut Store<'_>,
     shape: GridShape,
     frame: &Frame,
-    parameter: u64,
-    t: u32,
-    z: u32,
-    from: u32,
-    to: u32,
-    values: &mut Vec<Option<i64>>,
+    strip: Strip,
+    buffers: &mut Buffers,
 ) -> Result<(), OutOfMemory>
     requires grid { shape ≡ (grid_of store.old.subject.held).shape }
     requires shape { IsShape shape }
     requires fits { count shape < 2 ^ 64 }
     requires frame { IsFrame shape frame.now }
-    requires parameter { parameter < shape.parameters }
-    requires t { t < shape.times }
-    requires z { z < shape.levels }
-    requires rows { HasRows frame.now from to }
-    requires one { to ≤ from / tile_side * tile_side + tile_side }
-    ensures values { OnOk result (values.new.items ≡ map (cell_value (grid_of store.old.subject.held) parameter) (strip_cells frame.now t z from (to - from))) }
-    ensures reads { Adds result (ascending_once (tiles shape) (tiles_of_range shape (taken (strip_cells frame.now t z from (to - from))) parameter)) store.old.numbers store.new.numbers }
+    requires parameter { strip.layer.parameter < shape.parameters }
+    requires t { strip.layer.t < shape.times }
+    requires z { strip.layer.z < shape.levels }
+    requires rows { HasRows frame.now strip.from strip.to }
+    requires one { strip.to ≤ strip.from / tile_side * tile_side + tile_side }
+    ensures values { OnOk result (buffers.new.values.items ≡ map (cell_value (grid_of store.old.subject.held) strip.layer.parameter) (strip_cells frame.now strip.layer.t strip.layer.z strip.from (strip.to - strip.from))) }
+    ensures reads { Adds result (ascending_once (tiles shape) (tiles_of_range shape (taken (strip_cells frame.now strip.layer.t strip.layer.z strip.from (strip.to - strip.from))) strip.layer.parameter)) store.old.numbers store.new.numbers }
     ensures subject { store.new.subject ≡ store.old.subject }
 {
-    let count = (to - from) as usize * frame.columns as usize;
+    let count = (strip.to - strip.from) as usize * frame.columns as usize;
+    let values = &mut buffers.values;
     values.clear();
     values.resize(count, None)?;
-    read_tiles(
-        alloc, store, shape, frame, parameter, t, z, from, to, values,
-    )
+    read_tiles(buffers.alloc, store, shape, frame, strip, values)
 }

@@ -13,24 +13,17 @@ ghost use Rattle.edr_send.specs.Filling.{grid_of, Adds};
 ghost use Rattle.edr_send.specs.Bands.{band_of, BandsRise};
 
 use crate::bands::band_number;
+use crate::coverages::Buffers;
 use crate::filling::fill;
-use crate::slots::{Slot, push_range};
+use crate::slots::push_range;
 use covjson_write::Writer;
 use edr_base::{OutOfMemory, SendFault, Sink};
 use edr_chunk::{GridShape, numbers_tell_places, tiles_are_numbered};
 use edr_edition::Store;
 use edr_select::GridNode;
-use std::alloc::Global;
 
 // How many values a run has at least, unless it is the last of a range.
 const LEAST_VALUES: usize = 1_024;
-
-// The values of a run and the slots that they are filled by. Each run takes the memory of the one before.
-#[derive(Drop)]
-pub(crate) struct Run {
-    pub(crate) slots: Vec<Slot>,
-    pub(crate) values: Vec<Option<i64>>,
-}
 
 // The place behind the run that starts at a place: it ends with the first band that gives it the least number of values, or
 // with all.
@@ -56,37 +49,40 @@ fn run_end(shape: GridShape, cells: &[GridNode], from: usize) -> usize
 
 // Fills a run with the values of a parameter at some cells.
 fn fill_run(
-    alloc: Global,
     store: &mut Store<'_>,
     shape: GridShape,
     parameter: u64,
     cells: &[GridNode],
-    run: &mut Run,
+    buffers: &mut Buffers,
 ) -> Result<(), OutOfMemory>
     requires grid { shape ≡ (grid_of store.old.subject.held).shape }
     requires shape { IsShape shape }
     requires fits { count shape < 2 ^ 64 }
     requires parameter { parameter < shape.parameters }
     requires cells { All (λ cell. Within shape (place_at 0 cell)) cells.now }
-    ensures values { OnOk result (run.new.values.items ≡ (range_over (grid_of store.old.subject.held) cells.now parameter).values) }
+    ensures values { OnOk result (buffers.new.values.items ≡ (range_over (grid_of store.old.subject.held) cells.now parameter).values) }
     ensures reads { Adds result (ascending_once (tiles shape) (tiles_of_range shape cells.now parameter)) store.old.numbers store.new.numbers }
     ensures subject { store.new.subject ≡ store.old.subject }
 {
-    run.slots.clear();
-    push_range(&mut run.slots, shape, parameter, cells)?;
-    fill(alloc, store, &mut run.slots, &mut run.values)
+    buffers.slots.clear();
+    push_range(&mut buffers.slots, shape, parameter, cells)?;
+    fill(
+        buffers.alloc,
+        store,
+        &mut buffers.slots,
+        &mut buffers.values,
+    )
 }
 
 // Fills a run and writes it, as the next values of the open range.
 fn write_run<K: Sink>(
-    alloc: Global,
-    store: &mut Store<'_>,
-    writer: &mut Writer,
-    sink: &mut K,
     shape: GridShape,
     parameter: u64,
     cells: &[GridNode],
-    run: &mut Run,
+    store: &mut Store<'_>,
+    writer: &mut Writer,
+    sink: &mut K,
+    buffers: &mut Buffers,
 ) -> Result<(), SendFault>
     requires grid { shape ≡ (grid_of store.old.subject.held).shape }
     requires shape { IsShape shape }
@@ -102,20 +98,19 @@ fn write_run<K: Sink>(
     ensures lent { SinkLent (K.beside sink.old) (K.beside sink.new) (K.faults sink.old) (K.faults sink.new) }
     ensures cause { IsErrOf result SendFault.WriteFault → Rose (K.faults sink.old) (K.faults sink.new) }
 {
-    fill_run(alloc, store, shape, parameter, cells, run)?;
-    writer.values(sink, &run.values)
+    fill_run(store, shape, parameter, cells, buffers)?;
+    writer.values(sink, &buffers.values)
 }
 
 // Writes the values of the open range of a parameter, run by run.
 pub(crate) fn write_runs<K: Sink>(
-    alloc: Global,
-    store: &mut Store<'_>,
-    writer: &mut Writer,
-    sink: &mut K,
     shape: GridShape,
     parameter: u64,
     cells: &[GridNode],
-    run: &mut Run,
+    store: &mut Store<'_>,
+    writer: &mut Writer,
+    sink: &mut K,
+    buffers: &mut Buffers,
 ) -> Result<(), SendFault>
     requires grid { shape ≡ (grid_of store.old.subject.held).shape }
     requires shape { IsShape shape }
@@ -138,16 +133,8 @@ pub(crate) fn write_runs<K: Sink>(
     let mut at = 0;
     while at < cells.len() {
         let end = run_end(shape, cells, at);
-        write_run(
-            alloc,
-            store,
-            writer,
-            sink,
-            shape,
-            parameter,
-            &cells[at..end],
-            run,
-        )?;
+        let run = &cells[at..end];
+        write_run(shape, parameter, run, store, writer, sink, buffers)?;
         at = end;
     }
     Ok(())

@@ -50,7 +50,10 @@ returns-clause-values c =
     let grid : chunk.Values = grid_of c.args.store.now.subject.held in
     let places : List GridPlace = places_of_coverages c.args.listing.now.parameters c.args.listing.now.coverages in
     let is : c.push_listing.new.slots.items ≡ slots_from shape 0 places = from_none shape places c.new-slots.result.items c.push_listing.new.slots.items c.new-slots.ensures.items c.in_ok-push_listing.ensures.slots in
-    c.in_ok-fill.ensures.values ∙ ap (map (value_of grid)) is ∙ slots_values shape grid 0 places
+    record {
+      starts = c.in_ok-push_listing.ensures.starts;
+      values = c.in_ok-fill.ensures.values ∙ ap (map (value_of grid)) is ∙ slots_values shape grid 0 places;
+    }
 
 pub returns-clause-reads : goal.returns-clause-reads
 returns-clause-reads c =

@@ -30,9 +30,9 @@ pub write_strips-requires-clause-frame : goal.write_strips-requires-clause-frame
 write_strips-requires-clause-frame g c =
     let shape : GridShape = c.args.stacking.now.shape in
     let stack : StackValue = c.args.stacking.now.stack in
-    let is : IsFrame shape (plane_at stack c.args.i c.args.j) = plane_is_frame shape stack c.stacking_stands.ensures.is.stack c.args.i c.args.j c.requires.time c.requires.level in
+    let is : IsFrame shape (plane_at stack c.args.place.time c.args.place.level) = plane_is_frame shape stack c.stacking_stands.ensures.is.stack c.args.place.time c.args.place.level c.requires.time c.requires.level in
     let same : c.stacking.inside.stack ≡ stack = search rules in
-    let plane : c.in_ok-plane.plane ≡ plane_at stack c.args.i c.args.j = c.in_ok-plane.ensures ∙ ap (λ (s : StackValue). plane_at s c.args.i c.args.j) same in
+    let plane : c.in_ok-plane.plane ≡ plane_at stack c.args.place.time c.args.place.level = c.in_ok-plane.ensures ∙ ap (λ (s : StackValue). plane_at s c.args.place.time c.args.place.level) same in
     let across : c.stacking-inside.inside.0.0 ≡ shape = search rules in
     subst (λ (s : GridShape). IsFrame s c.in_ok-plane.plane) (sym across) (subst (λ (x : FrameValue). IsFrame shape x) (sym plane) is)
 
@@ -42,17 +42,17 @@ returns-clause-reads g c =
     let stack : StackValue = c.args.stacking.now.stack in
     let p : ℕ = c.args.parameter in
     let same : c.stacking.inside.stack ≡ stack = search rules in
-    let plane : c.in_ok-plane.plane ≡ plane_at stack c.args.i c.args.j = c.in_ok-plane.ensures ∙ ap (λ (s : StackValue). plane_at s c.args.i c.args.j) same in
+    let plane : c.in_ok-plane.plane ≡ plane_at stack c.args.place.time c.args.place.level = c.in_ok-plane.ensures ∙ ap (λ (s : StackValue). plane_at s c.args.place.time c.args.place.level) same in
     let across : c.stacking-inside.inside.0.0 ≡ shape = search rules in
-    let time : get_or c.items.result.now c.args.i 0 ≡ time_at stack.sides c.args.i = search rules in
-    let level : get_or c.items-2.result.now c.args.j 0 ≡ level_at stack.sides c.args.j = search rules in
-    adds_same c.write_strips.result (once_in c.stacking-inside.inside.0.0 p (plane_cells c.in_ok-plane.plane (get_or c.items.result.now c.args.i 0) (get_or c.items-2.result.now c.args.j 0))) (once_in shape p (cells_of_plane stack c.args.i c.args.j))
+    let time : get_or c.items.result.now c.args.place.time 0 ≡ time_at stack.sides c.args.place.time = search rules in
+    let level : get_or c.items-2.result.now c.args.place.level 0 ≡ level_at stack.sides c.args.place.level = search rules in
+    adds_same c.write_strips.result (once_in c.stacking-inside.inside.0.0 p (plane_cells c.in_ok-plane.plane (get_or c.items.result.now c.args.place.time 0) (get_or c.items-2.result.now c.args.place.level 0))) (once_in shape p (cells_of_plane stack c.args.place.time c.args.place.level))
     c.args.store.now.numbers c.write_strips.new.store.numbers
-    (plane_tiles c.stacking-inside.inside.0.0 shape c.in_ok-plane.plane (plane_at stack c.args.i c.args.j) (get_or c.items.result.now c.args.i 0) (time_at stack.sides c.args.i) (get_or c.items-2.result.now c.args.j 0) (level_at stack.sides c.args.j) p across plane time level)
+    (plane_tiles c.stacking-inside.inside.0.0 shape c.in_ok-plane.plane (plane_at stack c.args.place.time c.args.place.level) (get_or c.items.result.now c.args.place.time 0) (time_at stack.sides c.args.place.time) (get_or c.items-2.result.now c.args.place.level 0) (level_at stack.sides c.args.place.level) p across plane time level)
     c.write_strips.ensures.reads
 
 pub returns-in_err-plane-clause-bytes : goal.returns-in_err-plane-clause-bytes
 returns-in_err-plane-clause-bytes g c =
     let written = g.K.Sink.written in
-    let text = text_from c.args.writer.now.values c.args.store.now.subject c.args.parameter (cells_of_plane c.args.stacking.now.stack c.args.i c.args.j) in
+    let text = text_from c.args.writer.now.values c.args.store.now.subject c.args.parameter (cells_of_plane c.args.stacking.now.stack c.args.place.time c.args.place.level) in
     writes_fault c.from_residual.result text (written c.args.sink.now) (written c.args.sink.now) (search rules) (front_none (written c.args.sink.now) (written c.args.sink.now) text refl)

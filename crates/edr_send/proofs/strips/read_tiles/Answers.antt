@@ -19,11 +19,11 @@ loop-across-preserved c =
     let shape : GridShape = c.args.shape in
     let frame : FrameValue = c.args.frame.now in
     let grid : chunk.Values = grid_of c.args.store.now.subject.held in
-    let p : ℕ = c.args.parameter in
-    let t : ℕ = c.args.t in
-    let z : ℕ = c.args.z in
-    let from : ℕ = c.args.from in
-    let to : ℕ = c.args.to in
+    let p : ℕ = c.args.strip.layer.parameter in
+    let t : ℕ = c.args.strip.layer.t in
+    let z : ℕ = c.args.strip.layer.z in
+    let from : ℕ = c.args.strip.from in
+    let to : ℕ = c.args.strip.to in
     let across : ℕ = c.loop-across.across in
     let first : ℕ = frame.column / 64 in
     let same_column : c.frame.inside.column ≡ frame.column = search rules in
@@ -44,11 +44,11 @@ pub returns-in_err-read_tile-clause-reads : goal.returns-in_err-read_tile-clause
 returns-in_err-read_tile-clause-reads c =
     let shape : GridShape = c.args.shape in
     let frame : FrameValue = c.args.frame.now in
-    let p : ℕ = c.args.parameter in
-    let t : ℕ = c.args.t in
-    let z : ℕ = c.args.z in
-    let from : ℕ = c.args.from in
-    let to : ℕ = c.args.to in
+    let p : ℕ = c.args.strip.layer.parameter in
+    let t : ℕ = c.args.strip.layer.t in
+    let z : ℕ = c.args.strip.layer.z in
+    let from : ℕ = c.args.strip.from in
+    let to : ℕ = c.args.strip.to in
     let across : ℕ = c.loop-across.across in
     let first : ℕ = frame.column / 64 in
     let last : ℕ = (frame.column + frame.columns + 63) / 64 in
@@ -74,18 +74,18 @@ returns-clause-values c =
     let same_column : c.frame.inside.column ≡ frame.column = search rules in
     let same_columns : c.frame.inside.columns ≡ frame.columns = search rules in
     let past : (frame.column + frame.columns + 63) / 64 ≤ c.loop-across.across = omega (arith, same_column, same_columns) in
-    strip_is (grid_of c.args.store.now.subject.held) frame c.args.parameter c.args.t c.args.z c.args.from c.args.to c.loop-across.values c.loop-across.invariant.filled.long c.requires.rows.order
+    strip_is (grid_of c.args.store.now.subject.held) frame c.args.strip.layer.parameter c.args.strip.layer.t c.args.strip.layer.z c.args.strip.from c.args.strip.to c.loop-across.values c.loop-across.invariant.filled.long c.requires.rows.order
     (λ y x low high left right. c.loop-across.invariant.filled.here y x low high left right (omega (arith, past, right)))
 
 pub returns-clause-reads : goal.returns-clause-reads
 returns-clause-reads c =
     let shape : GridShape = c.args.shape in
     let frame : FrameValue = c.args.frame.now in
-    let p : ℕ = c.args.parameter in
-    let t : ℕ = c.args.t in
-    let z : ℕ = c.args.z in
-    let from : ℕ = c.args.from in
-    let to : ℕ = c.args.to in
+    let p : ℕ = c.args.strip.layer.parameter in
+    let t : ℕ = c.args.strip.layer.t in
+    let z : ℕ = c.args.strip.layer.z in
+    let from : ℕ = c.args.strip.from in
+    let to : ℕ = c.args.strip.to in
     let across : ℕ = c.loop-across.across in
     let first : ℕ = frame.column / 64 in
     let last : ℕ = (frame.column + frame.columns + 63) / 64 in
