@@ -23,8 +23,4 @@ mod StackingTexts
 mod BlockRuns
 mod BlockNumbers
 mod SeriesSteps
-mod GapBlocks
-mod GapRuns
-mod GapSteps
 mod SeriesValid
-mod GapsValid

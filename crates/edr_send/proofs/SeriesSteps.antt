@@ -1,16 +1,16 @@
 -- A reply over stations is written coverage by coverage, and each coverage parameter by parameter.
-use Rattle.std.proofs.Common.{◌≡◌, ℕ, suc, ◌+◌, ◌<◌, Bool, List, ◌++◌, length, take, drop, get_or, refl, ap, sym, ◌∙◌, arith}
+use Rattle.std.proofs.Common.{◌≡◌, ℕ, suc, ◌+◌, ◌<◌, Bool, List, ◌++◌, length, take, drop, get_or, refl, ap, sym, ◌∙◌, arith, Option}
 use Rattle.std.specs.Prelude.{map}
 use Rattle.std.specs.List.{flat_map}
 use Rattle.std.proofs.lemmas.Grind.{flat_map-append}
 use Rattle.std.proofs.lemmas.List.{take-append-drop}
 use Rattle.covjson_value.specs.declared.coverages.Coverage.{Coverage}
 use Rattle.covjson_write.specs.declared.range_heads.RangeHead.{RangeHead}
-use Rattle.covjson_write.specs.Pieces.{is_later, coverage_begin, head_of, range_piece, ranges_from, coverage_piece, coverages_from}
+use Rattle.covjson_write.specs.Pieces.{is_later, coverage_begin, head_of, range_piece, ranges_from, coverage_piece, coverages_from, values_from}
 use Rattle.serde_json.specs.Written.{comma_if}
 use Rattle.edr_edition.specs.Stores.{Subject}
 use Rattle.edr_select.specs.Samples.{ascending_once}
-use Rattle.edr_select.specs.Series.{StationSeriesValue, series_range, series_coverage, blocks_of_coverage}
+use Rattle.edr_select.specs.Series.{StationSeriesValue, series_range, series_coverage, block_at, cells_taken, blocks_of_coverage}
 use Rattle.edr_send.specs.SeriesTexts.{collection_of, blocks_in, station_of}
 use Rattle.edr_send.proofs.Cuts.{drop_next}
 use Rattle.edr_send.proofs.FrameTiles.{flat_take, flat_drop}
@@ -67,3 +67,18 @@ pub coverage_told : (begun : Bool) (s t : Subject) (ps qs : List ℕ) (i : ℕ) 
     → coverage_written begun s ps series ≡ coverage_piece i (series_coverage (collection_of t.held).stations qs series)
 coverage_told begun s t ps qs i series b e f =
     ap (λ (x : Bool). coverage_written x s ps series) b ∙ ap (λ (x : Subject). coverage_written (is_later i) x ps series) e ∙ ap (λ (l : List ℕ). coverage_written (is_later i) t l series) f
+
+-- ---- of other cells
+
+pub run_text : (s t : Subject) (series : StationSeriesValue) (p n m : ℕ) (cells others : List (Option ℕ)) → s ≡ t → n ≡ m → cells ≡ others
+    → values_from n (series_range (station_of (collection_of s.held) series) cells p).values ≡ values_from m (series_range (station_of (collection_of t.held) series) others p).values
+run_text s t series p n m cells others e f h =
+    ap (λ (x : Subject). values_from n (series_range (station_of (collection_of x.held) series) cells p).values) e
+    ∙ ap (λ (k : ℕ). values_from k (series_range (station_of (collection_of t.held) series) cells p).values) f
+    ∙ ap (λ (l : List (Option ℕ)). values_from m (series_range (station_of (collection_of t.held) series) l p).values) h
+
+pub run_blocks : (s t : Subject) (series : StationSeriesValue) (p : ℕ) (cells others : List (Option ℕ)) → s ≡ t → cells ≡ others
+    → ascending_once (blocks_in (collection_of s.held)) (map (block_at series p) (cells_taken cells)) ≡ ascending_once (blocks_in (collection_of t.held)) (map (block_at series p) (cells_taken others))
+run_blocks s t series p cells others e h =
+    ap (λ (x : Subject). ascending_once (blocks_in (collection_of x.held)) (map (block_at series p) (cells_taken cells))) e
+    ∙ ap (λ (l : List (Option ℕ)). ascending_once (blocks_in (collection_of t.held)) (map (block_at series p) (cells_taken l))) h

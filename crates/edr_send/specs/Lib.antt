@@ -4,6 +4,5 @@ pub mod Gathered
 pub mod Strips
 pub mod FrameTexts
 pub mod StackTexts
-pub mod GapTexts
 pub mod SeriesTexts
 pub mod Sending

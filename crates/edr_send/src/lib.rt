@@ -5,8 +5,6 @@ mod bands;
 mod block_runs;
 mod filling;
 mod frame_streams;
-mod gapped_runs;
-mod gapped_streams;
 mod gathering;
 mod planes;
 mod sending;

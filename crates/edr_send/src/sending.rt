@@ -12,7 +12,6 @@ ghost use Rattle.edr_send.specs.Bands.{Rises};
 
 use crate::bands::rising_coverage;
 use crate::frame_streams::stream_framing;
-use crate::gapped_streams::stream_gapped;
 use crate::gathering::gather;
 use crate::series::stream_series;
 use crate::stack_streams::stream_stacking;
@@ -22,8 +21,8 @@ use covjson_write::document_of_pieces;
 use edr_base::{SendFault, Sink};
 use edr_edition::Store;
 use edr_select::{
-    Framing, GappedReply, Listing, Plan, Planned, Reply, SeriesReply, Stacking, framing_stands,
-    gapped_reply_stands, listing_stands, series_reply_stands, stacking_stands,
+    Framing, Listing, Plan, Planned, Reply, SeriesReply, Stacking, framing_stands, listing_stands,
+    series_reply_stands, stacking_stands,
 };
 use std::alloc::Global;
 
@@ -168,29 +167,6 @@ fn send_series<K: Sink>(
     stream_series(alloc, series, store, sink)
 }
 
-// Writes a reply over stations of which some values aren't taken.
-fn send_gapped<K: Sink>(
-    alloc: Global,
-    plan: &Plan,
-    reply: &GappedReply,
-    store: &mut Store<'_>,
-    sink: &mut K,
-) -> Result<(), SendFault>
-    requires gapped { plan.now.reply ≡ replies.Gapped reply.now }
-    requires stands { StandsFor plan.now store.old.subject }
-    requires unread { store.old.numbers ≡ [] }
-    ensures text { Writes result (document_text (document store.old.subject plan.now.query)) (K.written sink.old) (K.written sink.new) }
-    ensures reads { Opens result (needed store.old.subject plan.now.query) store.new.numbers }
-    ensures subject { store.new.subject ≡ store.old.subject }
-    ensures lent { SinkLent (K.beside sink.old) (K.beside sink.new) (K.faults sink.old) (K.faults sink.new) }
-    ensures cause { IsErrOf result SendFault.WriteFault → Rose (K.faults sink.old) (K.faults sink.new) }
-{
-    gapped_reply_stands(reply);
-    store.subject_stands();
-    document_of_pieces();
-    stream_gapped(alloc, reply, store, sink)
-}
-
 /// Writes the reply that is planned: the text of its CoverageJSON document (OGC 21-069r2), with the values of the store.
 ///
 /// It opens exactly the chunks that hold a selected sample, in ascending order of their numbers, each once. After a fault a
@@ -218,6 +194,5 @@ pub fn send<K: Sink>(
         Reply::Framed(framing) => send_framed(alloc, plan, framing, store, sink),
         Reply::Stacked(stacking) => send_stacked(alloc, plan, stacking, store, sink),
         Reply::Series(series) => send_series(alloc, plan, series, store, sink),
-        Reply::Gapped(reply) => send_gapped(alloc, plan, reply, store, sink),
     }
 }

@@ -1,7 +1,7 @@
 use Rattle.std.proofs.Common.{rules, ◌≡◌, ◌∙◌, ◌++◌, ap, sym, ℕ, ◌<◌, List, [], ◌∷◌, length, take, get_or, ℤ, Option, None}
 use Rattle.std.specs.Prelude.{map}
 use Rattle.std.proofs.lemmas.List.{take_more, map-append}
-use Rattle.edr_send.proofs.gapped_runs.leave_out.Goals as goal
+use Rattle.edr_send.proofs.block_runs.leave_out.Goals as goal
 
 pub loop-preserved : goal.loop-preserved
 loop-preserved c =

@@ -4,15 +4,14 @@ use Rattle.std.proofs.lemmas.Result.{on_ok_weaker}
 use Rattle.std.proofs.lemmas.List.{length-map}
 use Rattle.edr_station.specs.Blocks.{IsBlock}
 use Rattle.edr_select.specs.Samples.{ascending_once}
-use Rattle.edr_select.specs.Gaps.{GappedSeriesValue, block_at, cells_taken}
-use Rattle.edr_send.specs.SeriesTexts.{collection_of, blocks_in}
-use Rattle.edr_send.specs.GapTexts.{picked_of}
+use Rattle.edr_select.specs.Series.{StationSeriesValue, block_at, cells_taken}
+use Rattle.edr_send.specs.SeriesTexts.{collection_of, blocks_in, picked_of}
 use Rattle.edr_send.proofs.Additions.{adds_all, adds_begun}
 use Rattle.edr_send.proofs.Ascending.{once_equal}
 use Rattle.edr_send.proofs.BlockNumbers.{has_block, is_block}
-use Rattle.edr_send.proofs.GapRuns.{some_taken, cell_block, run_numbers, run_inside, run_values}
-use Rattle.edr_send.proofs.gapped_runs.read_block.Goals as goal
-use Rattle.edr_send.proofs.gapped_runs.read_block.Goals.{In_ok-block}
+use Rattle.edr_send.proofs.BlockRuns.{some_taken, cell_block, run_numbers, run_inside, run_values}
+use Rattle.edr_send.proofs.block_runs.read_block.Goals as goal
+use Rattle.edr_send.proofs.block_runs.read_block.Goals.{In_ok-block}
 
 pub block_number-requires : goal.block_number-requires
 block_number-requires c =
@@ -58,7 +57,7 @@ returns-clause-values c =
 pub returns-clause-reads : goal.returns-clause-reads
 returns-clause-reads c =
     let collection = collection_of c.args.store.now.subject.held in
-    let series : GappedSeriesValue = c.args.series.now in
+    let series : StationSeriesValue = c.args.series.now in
     let numbers : List ℕ = map (block_at series c.args.parameter) (cells_taken c.args.cells.now) in
     let number : ℕ = block_at series c.args.parameter c.args.first in
     adds_all c.pick.result (number ∷ []) (ascending_once (blocks_in collection) numbers) c.args.store.now.numbers c.block.new.self.numbers
