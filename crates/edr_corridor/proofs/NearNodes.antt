@@ -217,6 +217,17 @@ module _ (segment : Segment) (ys xs : List ℤ) (wide : IsMetres segment.rule.wi
         (All-push (IsWithin (length ys) (length xs)) [] (record { rows = rows; columns = columns }) (All-nil (IsWithin (length ys) (length xs)))
         (record { rows = (omega (arith, one_row), down.inside.1); columns = (omega (arith, one_column), across.inside.1) }))
 
+  -- without a row, or without a column, nothing is near
+  pub no_row : (rows : ℕ × ℕ) → HasPlaces ys (near_y segment) rows → rows.1 ≤ rows.0 → (rectangles : List Rectangle) → rectangles ≡ [] → HaveSpots segment ys xs rectangles
+  no_row rows down none rectangles is y x y_in x_in =
+      ap (λ (rs : List Rectangle). have_place rs y x) is
+      ∙ sym (far_row (spot_at (value_at ys y) (value_at xs x)) start end width wide.least (sym (down.lies y y_in) ∙ none_lies rows y none))
+
+  pub no_column : (columns : ℕ × ℕ) → HasPlaces xs (near_x segment) columns → columns.1 ≤ columns.0 → (rectangles : List Rectangle) → rectangles ≡ [] → HaveSpots segment ys xs rectangles
+  no_column columns across none rectangles is y x y_in x_in =
+      ap (λ (rs : List Rectangle). have_place rs y x) is
+      ∙ sym (far_column (spot_at (value_at ys y) (value_at xs x)) start end width wide.least (sym (across.lies x x_in) ∙ none_lies columns x none))
+
   pub spots_near : (rectangles : List Rectangle) → HaveSpots segment ys xs rectangles → AreNear segment ys xs rectangles
   spots_near rectangles spots = record {
     rows = λ y x y_in x_in has. (near_within (spot_at (value_at ys y) (value_at xs x)) start end width wide.least (sym (spots y x y_in x_in) ∙ has)).1;

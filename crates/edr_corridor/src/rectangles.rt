@@ -181,10 +181,17 @@ fn is_one(range: (usize, usize)) -> bool
     range.1 - range.0 == 1
 }
 
+// Whether a range has no place.
+fn is_none(range: (usize, usize)) -> bool
+    ensures { result ≡ true → range.1 ≤ range.0 }
+{
+    range.1 <= range.0
+}
+
 /// The nodes of a plane near a segment, or want of memory.
 ///
 /// They are found row by row, or column by column where there are fewer of these, and one node by itself. Only rows or columns at
-/// most half the width away from the segment are looked at.
+/// most half the width away from the segment are looked at, and no distance is reckoned where there are none of these.
 pub fn rectangles_of(
     alloc: Global,
     segment: &Segment,
@@ -198,7 +205,13 @@ pub fn rectangles_of(
     ensures within { IfOk result (λ rectangles. All (IsWithin (length ys.now) (length xs.now)) rectangles.items) }
 {
     let rows = segment.rows().places_on(ys);
+    if is_none(rows) {
+        return Ok(Vec::new(alloc));
+    }
     let columns = segment.columns().places_on(xs);
+    if is_none(columns) {
+        return Ok(Vec::new(alloc));
+    }
     if is_one(rows) && is_one(columns) {
         node_near(alloc, segment, ys, xs, rows, columns)
     } else if columns.1 - columns.0 < rows.1 - rows.0 {

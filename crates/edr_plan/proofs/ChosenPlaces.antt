@@ -15,7 +15,8 @@ use Rattle.edr_station.specs.Stations.{StationValue, IsPlaced, IsAxisWithin}
 use Rattle.edr_select.specs.Listings.{NumbersRise}
 use Rattle.edr_select.specs.LevelLaws.{some_length}
 use Rattle.edr_select.specs.DomainLaws.{count_at, has_axes_at, one_value}
-use Rattle.edr_plan.specs.StationPlans.{ChoiceValue, IsChoiceOf, domain_of}
+use Rattle.edr_plan.specs.StationPlaces.{ChoiceValue}
+use Rattle.edr_plan.specs.StationPlans.{IsChoiceOf, domain_of}
 
 -- ---- some values of an axis
 

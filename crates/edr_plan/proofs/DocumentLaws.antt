@@ -1,41 +1,40 @@
 -- The document of a query that no refusal applies to is that of a reply, and so it is valid.
-use Rattle.std.proofs.Common.{◌≡◌, Bool, true, false, Some, None, refl, ap, sym, ◌∙◌, subst, arith}
+use Rattle.std.proofs.Common.{Bool, None, Some, ap, arith, false, refl, subst, sym, true, ◌∙◌, ◌≡◌}
+use Rattle.std.specs.Prelude.{is_none, not, option_and_then, ◌&&◌}
 use Rattle.std.specs.declared.option.Option.{Option}
-use Rattle.std.specs.Prelude.{not, ◌&&◌, is_none, option_and_then}
 use Rattle.covjson_value.specs.Coverages.{IsValidDocument}
 use Rattle.edr_base.specs.FirstThatApplies.{NoneApplies}
 use Rattle.edr_base.specs.declared.refusals.Refusal.{Refusal}
-use Rattle.edr_base.specs.declared.refusals.Refusal.TheVariants.{UnknownCollection, UnknownInstance, QueryNotOffered, NoSamples}
-use Rattle.edr_ids.specs.Ids.{item_of}
+use Rattle.edr_base.specs.declared.refusals.Refusal.TheVariants.{NoSamples, QueryNotOffered, UnknownCollection, UnknownInstance}
+use Rattle.edr_edition.specs.Editions.{AreCollections, IsCollection}
+use Rattle.edr_edition.specs.GridLaws.{instance_has}
+use Rattle.edr_edition.specs.Instances.{HasGrid, IsInstance}
+use Rattle.edr_edition.specs.Stores.{Subject, instance_named, subject_in, subject_of}
+use Rattle.edr_edition.specs.Values.{CollectionValue, EditionValue, InstanceValue, collection_id}
 use Rattle.edr_edition.specs.declared.kinds.Kind.{Kind}
 use Rattle.edr_edition.specs.declared.kinds.Kind.TheVariants.{Grid, Station}
-use Rattle.edr_edition.specs.Values.{InstanceValue, CollectionValue, EditionValue, collection_id}
-use Rattle.edr_edition.specs.Instances.{IsInstance, HasGrid}
-use Rattle.edr_edition.specs.Editions.{IsCollection, AreCollections}
-use Rattle.edr_edition.specs.Stores.{Subject, instance_named, subject_in, subject_of}
+use Rattle.edr_ids.specs.Ids.{item_of}
 use Rattle.edr_ids.specs.ListLaws.{item_found}
-use Rattle.edr_edition.specs.GridLaws.{instance_has}
-use Rattle.edr_query.specs.declared.pages.Page.TheVariants.{Ask}
-use Rattle.edr_query.specs.declared.shapes.Shape.{Shape}
-use Rattle.edr_query.specs.declared.shapes.Shape.TheVariants as at
-use Rattle.edr_query.specs.Values.{QueryValue}
-use Rattle.edr_query.specs.Queries.{IsQuery}
-use Rattle.edr_select.specs.Refusals.{Applies, applies_if, applies_if_found, applies_in, applies_to_subject, is_of_grids, offers, offers_shape}
-use Rattle.edr_select.specs.Selections.{picked}
-use Rattle.edr_select.specs.Heads.{is_some_stored}
-use Rattle.edr_select.specs.Documents.{document}
-use Rattle.edr_select.specs.DocumentLaws.{GridDocumentsAreValid}
-use Rattle.edr_select.specs.Checks.{grid_of, stations_in}
-use Rattle.edr_select.specs.Choices.{TakesEach}
-use Rattle.edr_select.specs.ListLaws.{all_member}
 use Rattle.edr_lines.specs.Asked.{IsAlong}
 use Rattle.edr_lines.specs.DocumentLaws.{LineDocumentsAreValid}
+use Rattle.edr_query.specs.Queries.{IsQuery}
+use Rattle.edr_query.specs.Values.{QueryValue}
+use Rattle.edr_query.specs.declared.pages.Page.TheVariants.{Ask}
+use Rattle.edr_query.specs.declared.shapes.Shape.{Shape}
+use Rattle.edr_select.specs.Checks.{grid_of, stations_in}
+use Rattle.edr_select.specs.Choices.{TakesEach}
+use Rattle.edr_select.specs.DocumentLaws.{GridDocumentsAreValid}
+use Rattle.edr_select.specs.Documents.{document}
+use Rattle.edr_select.specs.Heads.{is_some_stored}
+use Rattle.edr_select.specs.ListLaws.{all_member}
 use Rattle.edr_select.specs.NamedLaws.{named_member, subject_found}
+use Rattle.edr_select.specs.Refusals.{Applies, applies_if, applies_if_found, applies_in, applies_to_subject, is_of_grids, offers, offers_shape}
+use Rattle.edr_select.specs.Selections.{picked}
 use Rattle.edr_plan.specs.DocumentLaws.{DocumentsAreValid}
-use Rattle.edr_plan.specs.StationPlaces.{IsOfStations}
-use Rattle.edr_plan.specs.Found.{IsOfGrids, IsAmongStations}
+use Rattle.edr_plan.specs.Found.{IsOfGrids}
+use Rattle.edr_plan.specs.StationPlaces.{IsAmongStations}
 use Rattle.edr_plan.proofs.StationReplies.{stations_valid}
-use Rattle.edr_plan.proofs.GappedReplies.{corridor_valid}
+use Rattle.edr_query.specs.declared.shapes.Shape.TheVariants as at
 
 -- there is one
 abbrev Is : {V : Type 0} → Option V → Type 0
@@ -157,20 +156,8 @@ module _ (of_grids : GridDocumentsAreValid) (of_lines : LineDocumentsAreValid) (
     some_stored : is_some_stored (picked (stations_in c) q) ≡ true
     some_stored = some_of (stations_in c) found_stations
 
-    of_stations : IsOfStations q.shape → IsValidDocument (document (stations_in c) q)
-    of_stations of = stations_valid c q collection of some_stored
-
-    among : (shape : Shape) → q.shape ≡ shape → IsAmongStations shape → IsValidDocument (document (stations_in c) q)
-    among (at.Position geometry) e of = absurd of
-    among (at.Radius geometry within) e of = of_stations (subst IsOfStations (sym e) tt)
-    among (at.Area geometry) e of = of_stations (subst IsOfStations (sym e) tt)
-    among (at.Cube lo hi levels) e of = of_stations (subst IsOfStations (sym e) tt)
-    among (at.Trajectory geometry) e of = absurd of
-    among (at.Corridor geometry width height) e of = corridor_valid c q (record { line = geometry; width = width; height = height }) collection e some_stored
-    among (at.Location id) e of = of_stations (subst IsOfStations (sym e) tt)
-
     over_stations : IsAmongStations q.shape → IsValidDocument (document subject q)
-    over_stations of = subst (λ (s : Subject). IsValidDocument (document s q)) (same (stations_in c) found_stations) (among q.shape refl of)
+    over_stations of = subst (λ (s : Subject). IsValidDocument (document s q)) (same (stations_in c) found_stations) (stations_valid c q collection some_stored)
 
   over : (kind : Kind) → c.kind ≡ kind → IsAnswered kind q.shape → IsValidDocument (document subject q)
   over Grid kind of = over_grid kind of

@@ -1,35 +1,46 @@
 -- What is known of stations before samples are counted: where no parameter is asked nothing is picked, and levels that are needed are there.
-use Rattle.std.proofs.Common.{◌≡◌, ℤ, Bool, true, false, List, [], length, refl, ap, sym, ◌∙◌, inl, inr, All, Some, None}
-use Rattle.std.specs.declared.option.Option.{Option}
-use Rattle.std.specs.Prelude.{not, ◌&&◌, ◌||◌, is_some, IsSome}
+use Rattle.std.proofs.Common.{All, Bool, IsSome, List, None, Some, [], ap, cond, false, inl, inr, is_some, length, refl, sym, true, ℤ, ◌||◌, ◌∙◌, ◌≡◌}
 use Rattle.std.specs.List.{list_any}
-use Rattle.std.proofs.lemmas.Bool.{false_from_ne_true, false≢true, and_parts, or_cases}
-use Rattle.edr_base.specs.declared.refusals.Refusal.TheVariants.{NoSamples}
+use Rattle.std.specs.Prelude.{not, ◌&&◌}
+use Rattle.std.specs.declared.option.Option.{Option}
+use Rattle.std.proofs.lemmas.Bool.{and_parts, false_from_ne_true, false≢true, or_cases}
 use Rattle.edr_axes.specs.declared.levels.Levels.{Levels}
-use Rattle.edr_wkt.specs.Wkt.{has_z_of}
-use Rattle.edr_station.specs.Stations.{StationValue}
-use Rattle.edr_edition.specs.Values.{CollectionValue}
-use Rattle.edr_edition.specs.Editions.{AreAlike, IsCollection}
+use Rattle.edr_base.specs.declared.refusals.Refusal.{Refusal}
+use Rattle.edr_base.specs.declared.refusals.Refusal.TheVariants.{NoSamples}
 use Rattle.edr_corridor.specs.Values.{SegmentsValue, needs_level}
-use Rattle.edr_query.specs.declared.shapes.Shape.{Shape}
-use Rattle.edr_query.specs.declared.shapes.Shape.TheVariants as at
-use Rattle.edr_query.specs.Queries.{has_z, has_levels, coords_of, box_of}
+use Rattle.edr_edition.specs.Editions.{AreAlike, IsCollection}
+use Rattle.edr_edition.specs.Values.{CollectionValue}
+use Rattle.edr_query.specs.Queries.{box_of, coords_of, has_levels, has_z}
 use Rattle.edr_query.specs.Values.{QueryValue}
-use Rattle.edr_select.specs.Samples.{id_at}
-use Rattle.edr_select.specs.Selections.{is_asked, picked}
-use Rattle.edr_select.specs.Heads.{is_some_stored}
-use Rattle.edr_select.specs.Choices.{parameter_places}
+use Rattle.edr_query.specs.declared.shapes.Shape.{Shape}
 use Rattle.edr_select.specs.Checks.{stations_in}
+use Rattle.edr_select.specs.Choices.{parameter_places}
+use Rattle.edr_select.specs.Heads.{is_some_stored}
+use Rattle.edr_select.specs.KeptLaws.{contains_kept}
 use Rattle.edr_select.specs.Lines.{single_level}
 use Rattle.edr_select.specs.ListLaws.{no_member}
-use Rattle.edr_select.specs.KeptLaws.{contains_kept}
 use Rattle.edr_select.specs.Refusals.{asks_levels}
+use Rattle.edr_select.specs.Samples.{id_at}
+use Rattle.edr_select.specs.Selections.{is_asked, picked}
 use Rattle.edr_select.specs.Steps.{refused_sizes}
+use Rattle.edr_station.specs.Stations.{StationValue}
+use Rattle.edr_wkt.specs.Wkt.{has_z_of}
+use Rattle.edr_plan.specs.CorridorPlans.{HasLevelsWanted, IsLineOf, LineValue}
 use Rattle.edr_plan.specs.StationPlans.{lacks_levels}
-use Rattle.edr_plan.specs.CorridorPlans.{LineValue, IsLineOf, HasLevelsWanted}
 use Rattle.edr_plan.proofs.SelectedSamples.{some_stored, wanted_found}
 use Rattle.edr_plan.proofs.StationLevels.{none_have}
-use Rattle.edr_plan.proofs.StationReplies.{stops, or_left, or_right}
+
+-- ---- truth values
+
+pub stops : (b : Bool) (refusal : Refusal) (rest : Option Refusal) → b ≡ true → cond b (Some refusal) rest ≡ Some refusal
+stops b refusal rest e = ap (λ b. cond b (Some refusal) rest) e
+
+pub or_left : (b d : Bool) → b ≡ true → (b || d) ≡ true
+or_left b d e = ap (λ b. b || d) e
+
+pub or_right : (b d : Bool) → d ≡ true → (b || d) ≡ true
+or_right true d e = refl
+or_right false d e = e
 
 -- ---- parameters
 

@@ -25,7 +25,7 @@ use Rattle.edr_corridor.specs.Boxes.{level_at}
 use Rattle.edr_select.specs.ListLaws.{any-filter, passes_at, any_range, both, some_member}
 use Rattle.edr_select.specs.KeptLaws.{kept_agree, kept_below, kept_passes, filter_by_places}
 use Rattle.edr_plan.specs.StationPlaces.{stored_in}
-use Rattle.edr_plan.proofs.StationPicks.{one_station}
+use Rattle.edr_plan.proofs.StationIds.{one_station}
 use Rattle.edr_plan.proofs.SelectedSamples.{IsPlace, some_stored}
 use Rattle.edr_plan.proofs.SelectedStations.{StationTest, SelectsBy, Pick, pick_found, found_pick}
 

@@ -1,5 +1,5 @@
 -- What a query picks of stations that selects by its parameters and a test of times and levels, and the values that are found at its nodes.
-use Rattle.std.proofs.Common.{◌≡◌, ◌≢◌, ℕ, ◌<◌, Bool, true, false, List, length, ap, ap₂, sym, ◌∙◌, subst, arith, Some, None, All}
+use Rattle.std.proofs.Common.{◌≡◌, ℕ, ◌<◌, Bool, true, false, List, length, ap, ap₂, sym, ◌∙◌, subst, arith, Some, None, All}
 use Rattle.std.specs.declared.option.Option.{Option}
 use Rattle.std.specs.Prelude.{◌&&◌, option_map, unwrap_or, bytes_eq}
 use Rattle.std.specs.List.{list_any}
@@ -18,7 +18,7 @@ use Rattle.edr_select.specs.Series.{series_value}
 use Rattle.edr_select.specs.ListLaws.{find_each, find_none}
 use Rattle.edr_plan.specs.StationPlaces.{cell_of, stored_in}
 use Rattle.edr_plan.proofs.StationSamples.{levels_are_axis}
-use Rattle.edr_plan.proofs.StationPicks.{one_station, is_there, itself, same_place}
+use Rattle.edr_plan.proofs.StationIds.{one_station, is_there, itself, same_place}
 use Rattle.edr_plan.proofs.SelectedSamples.{IsPlace, wanted_found, found_wanted, each_pick}
 
 -- a test of a station, a time and a level, by their places
@@ -91,7 +91,7 @@ module _ (s : Subject) (q : QueryValue) (ps : List Parameter) (ss : List Station
 
       -- the value of a sample that is taken is found at its node
       pub value_at_place : is_asked q.parameters (id_at ps p) ≡ true → takes k t z ≡ true
-          → value_in picks (Some (station_at ss k).id) (id_at ps p) (stored_in ps ss k p t z).sample.at ≡ series_value (station_at ss k) p (cell_of (station_at ss k) t z)
+          → value_in picks (Some (station_at ss k).id) (id_at ps p) (stored_in ps ss k p t z).sample.at ≡ series_value (station_at ss k) p (Some (cell_of (station_at ss k) t z))
       value_at_place asked taken =
           ap (λ v. unwrap_or v None)
           (find_each there (λ (x : Stored). x.sample.value) (stored_in ps ss k p t z).sample.value picks (each_pick s q ps ss held are (λ x. there x ≡ true → x.sample.value ≡ (stored_in ps ss k p t z).sample.value) same_value)

@@ -1,28 +1,29 @@
 -- The heads of a reply's coverages of stations, by the stations' places.
-use Rattle.std.proofs.Common.{◌≡◌, ◌≢◌, ℕ, suc, ◌+◌, ◌<◌, Bool, true, false, cond, List, [], ◌∷◌, length, get_or, refl, ap, ap₂, sym, ◌∙◌, arith, Some, ℤ, Contains}
-use Rattle.std.specs.declared.option.Option.{Option}
-use Rattle.std.specs.Prelude.{map, option_map, ◌&&◌}
+use Rattle.std.proofs.Common.{Bool, List, Some, [], ap, ap₂, arith, get_or, length, map, refl, suc, sym, ℕ, ℤ, ◌+◌, ◌<◌, ◌∙◌, ◌∷◌, ◌≡◌, ◌≢◌}
 use Rattle.std.specs.List.{filter, range_with_len}
-use Rattle.edr_axes.specs.Axes.{value_at}
-use Rattle.covjson_value.specs.declared.domains.Domain.{Domain}
+use Rattle.std.specs.Prelude.{◌&&◌}
+use Rattle.std.specs.declared.option.Option.{Option}
 use Rattle.covjson_value.specs.declared.coverages.Parameter.{Parameter}
-use Rattle.edr_station.specs.Stations.{StationValue, station_at, nowhere}
-use Rattle.edr_edition.specs.Values.{CollectionValue}
+use Rattle.covjson_value.specs.declared.domains.Domain.{Domain}
 use Rattle.edr_edition.specs.Editions.{IsCollection}
-use Rattle.edr_edition.specs.Stores.{Subject}
+use Rattle.edr_edition.specs.Values.{CollectionValue}
 use Rattle.edr_query.specs.Values.{QueryValue}
-use Rattle.edr_select.specs.Samples.{Stored}
-use Rattle.edr_select.specs.Wanted.{levels_asked}
-use Rattle.edr_select.specs.Selections.{picked}
-use Rattle.edr_select.specs.Heads as heads
-use Rattle.edr_select.specs.Heads.{Head, times_in, levels_in, of_station, domain_at, is_some_stored, heads_of_stations}
-use Rattle.edr_select.specs.Choices.{level_places}
+use Rattle.edr_query.specs.declared.shapes.Shape.{Shape}
 use Rattle.edr_select.specs.Checks.{stations_in}
+use Rattle.edr_select.specs.Choices.{parameter_places}
+use Rattle.edr_select.specs.Heads.{Head, domain_at, heads_of_stations, is_some_stored, of_station}
+use Rattle.edr_select.specs.KeptLaws.{kept_agree, kept_below}
 use Rattle.edr_select.specs.ListLaws.{filter-map, map-map, map_agree_in}
-use Rattle.edr_select.specs.KeptLaws.{kept_agree, kept_below, kept_passes}
-use Rattle.edr_plan.specs.StationPlaces.{IsOfStations, takes_station, station_times, station_levels, station_picks, not_empty, is_taken}
-use Rattle.edr_plan.specs.StationPlans.{choice_of, domain_of}
-use Rattle.edr_plan.proofs.StationPicks.{of_station_is, some_of_station, station_times_in, station_levels_in}
+use Rattle.edr_select.specs.Samples.{Stored, id_at}
+use Rattle.edr_select.specs.Selections.{is_asked, picked, takes, takes_each}
+use Rattle.edr_select.specs.Wanted.{levels_asked, takes_level, takes_place, takes_time}
+use Rattle.edr_station.specs.Stations.{StationValue, nowhere, station_at}
+use Rattle.edr_plan.specs.StationPlaces.{choice_by, is_taken, stored_in, takes_at}
+use Rattle.edr_plan.specs.StationPlans.{domain_of}
+use Rattle.edr_plan.proofs.SelectedAxes.{levels_are, some_own, times_are}
+use Rattle.edr_plan.proofs.SelectedStations.{SelectsBy}
+use Rattle.edr_query.specs.declared.shapes.Shape.TheVariants as at
+use Rattle.edr_select.specs.Heads as heads
 
 -- ---- lists by places
 
@@ -47,83 +48,82 @@ stations_by_places t ss =
     zero_more : (k : ℕ) → 0 + k ≡ k
     zero_more k = omega arith
 
-second_true : (b c : Bool) → (b && c) ≡ true → c ≡ true
-second_true true c h = h
-second_true false c h = cc
+-- ---- what a query selects
 
-some_if : (b : Bool) (xs : List ℕ) → not_empty (cond b xs []) ≡ true → b ≡ true
-some_if true xs h = refl
-some_if false xs h = h
+module _ (c : CollectionValue) (q : QueryValue) (k p t z : ℕ) where
+  abbrev sample : ℕ → Stored
+  sample p = stored_in c.parameters c.stations k p t z
 
--- a station that something is taken of is taken by the shape
-pub taken_by_shape : (q : QueryValue) (ps : List Parameter) (s : StationValue) → is_taken q ps s ≡ true → takes_station q.shape s ≡ true
-taken_by_shape q ps s h =
-    some_if (takes_station q.shape s) (level_places (levels_asked q) s.zs)
-    (second_true (not_empty (station_times q s)) (not_empty (station_levels q s)) (second_true _ (not_empty (station_times q s) && not_empty (station_levels q s)) h))
+  -- the parameter doesn't matter to what is taken
+  place_same : (shape : Shape) → takes_place (stations_in c).held shape (sample p) ≡ takes_place (stations_in c).held shape (sample 0)
+  place_same (at.Position geometry) = refl
+  place_same (at.Radius geometry within) = refl
+  place_same (at.Area geometry) = refl
+  place_same (at.Cube lo hi levels) = refl
+  place_same (at.Trajectory geometry) = refl
+  place_same (at.Corridor geometry width height) = refl
+  place_same (at.Location id) = refl
 
--- so all levels are taken that the query asks for
-pub taken_levels : (q : QueryValue) (ps : List Parameter) (s : StationValue) → is_taken q ps s ≡ true → station_levels q s ≡ (choice_of q s).levels
-taken_levels q ps s h = ap (λ (b : Bool). cond b (level_places (levels_asked q) s.zs) []) (taken_by_shape q ps s h)
+  each_same : takes_each (stations_in c) q (sample p) ≡ takes_each (stations_in c) q (sample 0)
+  each_same = ap (λ b. takes_time q.times (sample 0).sample.at.t && (takes_level (levels_asked q) (sample 0).sample.at.z && b)) (place_same q.shape)
 
-pub not_none : (xs : List ℕ) → not_empty xs ≡ true → xs ≢ []
-not_none [] h none = cc
-not_none (x ∷ xs) h none = cc
+  takes_same : (shape : Shape) → takes (stations_in c) q shape (sample p) ≡ takes (stations_in c) q shape (sample 0)
+  takes_same (at.Position geometry) = each_same
+  takes_same (at.Radius geometry within) = each_same
+  takes_same (at.Area geometry) = each_same
+  takes_same (at.Cube lo hi levels) = each_same
+  takes_same (at.Trajectory geometry) = refl
+  takes_same (at.Corridor geometry width height) = refl
+  takes_same (at.Location id) = each_same
 
--- and there are some
-pub levels_some : (q : QueryValue) (ps : List Parameter) (s : StationValue) → is_taken q ps s ≡ true → (choice_of q s).levels ≢ []
-levels_some q ps s h =
-    not_none (choice_of q s).levels
-    (ap not_empty (sym (taken_levels q ps s h))
-    ∙ second_true (not_empty (station_times q s)) (not_empty (station_levels q s)) (second_true _ (not_empty (station_times q s) && not_empty (station_levels q s)) h))
+-- so it selects by its parameters and by this test
+pub station_selects : (c : CollectionValue) (q : QueryValue) → SelectsBy (stations_in c) q c.parameters c.stations (takes_at c q)
+station_selects c q k p t z = ap (λ b. is_asked q.parameters (id_at c.parameters p) && b) (takes_same c q k p t z q.shape)
 
 -- ---- heads
 
 -- the head of a station with what is taken of it
-abbrev pub head_of_taken : QueryValue → StationValue → Head
-head_of_taken q s = record { id = Some s.id; domain = domain_of s (choice_of q s) }
+abbrev pub head_of_taken : CollectionValue → QueryValue → ℕ → Head
+head_of_taken c q k =
+    let s = station_at c.stations k in
+    record { id = Some s.id; domain = domain_of s (choice_by s (takes_at c q k)) }
 
-abbrev heads_with : StationValue → Domain → Head
-heads_with station domain = record { id = Some station.id; domain = domain }
+abbrev head_with : StationValue → Domain → Head
+head_with station domain = record { id = Some station.id; domain = domain }
 
-module _ (c : CollectionValue) (q : QueryValue) (is : IsCollection c) (of : IsOfStations q.shape) where
+module _ (collection : CollectionValue) (q : QueryValue) (is : IsCollection collection) (some : parameter_places q.parameters collection.parameters ≢ []) where
   abbrev ps : List Parameter
-  ps = c.parameters
+  ps = collection.parameters
 
   abbrev ss : List StationValue
-  ss = c.stations
-
-  abbrev s : Subject
-  s = stations_in c
+  ss = collection.stations
 
   abbrev picks : List Stored
-  picks = picked s q
+  picks = picked (stations_in collection) q
+
+  selects : SelectsBy (stations_in collection) q ps ss (takes_at collection q)
+  selects = station_selects collection q
 
   -- the places of the stations that something is taken of
   abbrev pub places : List ℕ
-  places = filter (λ k. is_taken q ps (station_at ss k)) (range_with_len 0 (length ss))
+  places = filter (is_taken collection q) (range_with_len 0 (length ss))
 
-  of_one : (k : ℕ) → k < length ss → of_station (station_at ss k).id picks ≡ station_picks q ps ss k
-  of_one k inside = of_station_is s q ps ss refl of is.stations.are.each is.stations.are.ascending k inside
+  some_is : (k : ℕ) → k < length ss → is_some_stored (of_station (station_at ss k).id picks) ≡ is_taken collection q k
+  some_is k inside = some_own (stations_in collection) q ps ss refl is.stations.are.each (takes_at collection q) selects is.stations.are.ascending k inside some
 
-  some_is : (k : ℕ) → k < length ss → is_some_stored (of_station (station_at ss k).id picks) ≡ is_taken q ps (station_at ss k)
-  some_is k inside = ap is_some_stored (of_one k inside) ∙ some_of_station q ps ss k
-
-  head_is : (k : ℕ) → Contains places k → heads.head_of_station picks (station_at ss k) ≡ head_of_taken q (station_at ss k)
-  head_is k m =
+  head_is : (k : ℕ) → k < length ss → heads.head_of_station picks (station_at ss k) ≡ head_of_taken collection q k
+  head_is k inside =
       let station : StationValue = station_at ss k in
-      let inside : k < length ss = kept_below (λ k. is_taken q ps (station_at ss k)) (length ss) k m in
-      let taken : is_taken q ps station ≡ true = kept_passes (λ k. is_taken q ps (station_at ss k)) (length ss) k m in
-      ap₂ (λ (ts : List ℤ) (zs : Option (List ℤ)). heads_with station (domain_at ts zs (station.y, station.x)))
-      (ap (λ (xs : List Stored). times_in xs station.ts) (of_one k inside) ∙ station_times_in q ps ss k inside taken)
-      (ap (λ (xs : List Stored). option_map (levels_in xs) station.zs) (of_one k inside)
-      ∙ (station_levels_in q ps ss k inside taken
-      ∙ ap (λ (levels : List ℕ). option_map (λ zs. map (value_at zs) levels) station.zs) (taken_levels q ps station taken)))
+      ap₂ (λ (ts : List ℤ) (zs : Option (List ℤ)). head_with station (domain_at ts zs (station.y, station.x)))
+      (times_are (stations_in collection) q ps ss refl is.stations.are.each (takes_at collection q) selects is.stations.are.ascending k inside some)
+      (levels_are (stations_in collection) q ps ss refl is.stations.are.each (takes_at collection q) selects is.stations.are.ascending k inside some)
 
   -- the heads, by the stations' places
-  pub heads_are : heads_of_stations ss picks ≡ map (λ k. head_of_taken q (station_at ss k)) places
+  pub heads_are : heads_of_stations ss picks ≡ map (head_of_taken collection q) places
   heads_are =
       ap (map (heads.head_of_station picks)) (stations_by_places (λ (station : StationValue). is_some_stored (of_station station.id picks)) ss)
       ∙ (map-map (heads.head_of_station picks) (station_at ss) (filter (λ k. is_some_stored (of_station (station_at ss k).id picks)) (range_with_len 0 (length ss)))
       ∙ (ap (map (λ k. heads.head_of_station picks (station_at ss k)))
-      (kept_agree (λ k. is_some_stored (of_station (station_at ss k).id picks)) (λ k. is_taken q ps (station_at ss k)) 0 (length ss) (λ k low high. some_is k (omega (arith, high))))
-      ∙ map_agree_in (λ k. heads.head_of_station picks (station_at ss k)) (λ k. head_of_taken q (station_at ss k)) places head_is))
+      (kept_agree (λ k. is_some_stored (of_station (station_at ss k).id picks)) (is_taken collection q) 0 (length ss) (λ k low high. some_is k (omega (arith, high))))
+      ∙ map_agree_in (λ k. heads.head_of_station picks (station_at ss k)) (head_of_taken collection q) places
+      (λ k m. head_is k (kept_below (is_taken collection q) (length ss) k m))))

@@ -1,37 +1,33 @@
--- How many values and coverages stations have that are gathered so far.
-use Rattle.std.proofs.Common.{◌≡◌, ℕ, suc, ◌+◌, ◌*◌, ◌<◌, ◌≤◌, true, false, List, [], ◌∷◌, ◌++◌, length, refl, ap₂, sym, ◌∙◌, arith, inl, inr, zero-mul, length-append}
-use Rattle.std.specs.Prelude.{map, nat_le, nat_lt, sum_by}
-use Rattle.std.proofs.lemmas.Bool.{and_parts, and_cases, leb-true, leb-false, ltb-true, ltb-false}
+-- How many values and coverages the stations along a corridor have that are gathered so far.
+use Rattle.std.proofs.Common.{List, [], ap, ap₂, arith, false, inl, inr, length, length-append, map, refl, suc, sum_by, sym, true, zero-mul, ℕ, ◌*◌, ◌++◌, ◌+◌, ◌<◌, ◌∙◌, ◌∷◌, ◌≡◌}
+use Rattle.std.specs.Prelude.{nat_le, nat_lt, ◌&&◌}
+use Rattle.std.specs.declared.option.Option.{Option}
+use Rattle.std.proofs.lemmas.Bool.{and_cases, and_parts, leb-false, leb-true, ltb-false, ltb-true}
+use Rattle.std.proofs.lemmas.Bool.Decides.{nat_tests}
 use Rattle.std.proofs.lemmas.List.{length-map}
-use Rattle.std.proofs.lemmas.List.Sums.{sum_by-cons, sum_by-append, sum_by_push}
-use Rattle.covjson_value.specs.declared.coverages.NdArray.{NdArray}
+use Rattle.std.proofs.lemmas.List.Sums.{sum_by-append, sum_by-cons, sum_by_push}
 use Rattle.covjson_value.specs.declared.coverages.Coverage.{Coverage}
+use Rattle.covjson_value.specs.declared.coverages.NdArray.{NdArray}
+use Rattle.edr_select.specs.Limits.{coverage_limit, value_limit}
+use Rattle.edr_select.specs.Series.{StationSeriesValue, series_coverage, series_range, series_value}
 use Rattle.edr_station.specs.Stations.{StationValue, station_at}
-use Rattle.edr_select.specs.Limits.{value_limit, coverage_limit}
-use Rattle.edr_select.specs.Series.{StationSeriesValue, series_value, series_range, series_coverage}
-use Rattle.edr_plan.specs.StationPlans.{values_of_series, IsTooMany, GatheredValue, IsGathered, has_room, with_series}
+use Rattle.edr_plan.specs.StationPlans.{GatheredValue, IsGathered, IsTooMany, has_room, values_of_series, with_series}
 
 abbrev values_of_one : ℕ → StationSeriesValue → ℕ
 values_of_one n s = n * length s.cells
 
 -- ---- coverages one after the other
 
-pub values_append : (n : ℕ) (xs ys : List StationSeriesValue) → values_of_series n (xs ++ ys) ≡ values_of_series n xs + values_of_series n ys
+values_append : (n : ℕ) (xs ys : List StationSeriesValue) → values_of_series n (xs ++ ys) ≡ values_of_series n xs + values_of_series n ys
 values_append n xs ys = sum_by-append (values_of_one n) xs ys
 
-pub values_push : (n : ℕ) (xs : List StationSeriesValue) (s : StationSeriesValue) → values_of_series n (xs ++ s ∷ []) ≡ values_of_series n xs + n * length s.cells
+values_push : (n : ℕ) (xs : List StationSeriesValue) (s : StationSeriesValue) → values_of_series n (xs ++ s ∷ []) ≡ values_of_series n xs + n * length s.cells
 values_push n xs s = sum_by_push (values_of_one n) xs s
 
 -- the first of them have no more
-pub values_front : (n : ℕ) (xs ys : List StationSeriesValue) → values_of_series n xs ≤ values_of_series n (xs ++ ys)
-values_front n xs ys = omega (arith, values_append n xs ys)
-
-pub length_front : (xs ys : List StationSeriesValue) → length xs ≤ length (xs ++ ys)
-length_front xs ys = omega (arith, length-append xs ys)
-
 pub too_many_front : (n : ℕ) (xs ys : List StationSeriesValue) → IsTooMany n xs → IsTooMany n (xs ++ ys)
-too_many_front n xs ys (inl values) = inl (omega (arith, values, values_front n xs ys))
-too_many_front n xs ys (inr coverages) = inr (omega (arith, coverages, length_front xs ys))
+too_many_front n xs ys (inl values) = inl (omega (arith, values, values_append n xs ys))
+too_many_front n xs ys (inr coverages) = inr (omega (arith, coverages, length-append xs ys))
 
 -- ---- a coverage more
 
@@ -60,18 +56,22 @@ no_room n g s v is room same =
       | inr full ↦ inr (omega (arith, push_length g.series s, ltb-false (length g.series) coverage_limit full))
     ]
 
-pub too_many_values : (n : ℕ) (xs : List StationSeriesValue) (s : StationSeriesValue) → value_limit < n * length s.cells → IsTooMany n (xs ++ s ∷ [])
-too_many_values n xs s above = inl (omega (arith, above, values_push n xs s))
+-- more values than a reply has find no room
+pub none_fit : (g : GatheredValue) (v : ℕ) → value_limit < v → has_room g v ≡ false
+none_fit g v above = ap (λ b. b && nat_lt (length g.series) coverage_limit) (le_false (g.values + v) value_limit (omega (arith, above)))
+  where
+    le_false : (a b : ℕ) → b < a → nat_le a b ≡ false
+    le_false a b h = grind (arith, nat_tests, h)
 
 -- ---- the sizes of coverages
 
-abbrev pub size_of_range : NdArray → ℕ
+abbrev size_of_range : NdArray → ℕ
 size_of_range range = length range.values
 
-abbrev pub size_of_coverage : Coverage → ℕ
+abbrev size_of_coverage : Coverage → ℕ
 size_of_coverage coverage = sum_by size_of_range coverage.ranges
 
-ranges_size : (s : StationValue) (cells parameters : List ℕ) → sum_by size_of_range (map (series_range s cells) parameters) ≡ length parameters * length cells
+ranges_size : (s : StationValue) (cells : List (Option ℕ)) (parameters : List ℕ) → sum_by size_of_range (map (series_range s cells) parameters) ≡ length parameters * length cells
 ranges_size s cells [] = sym (zero-mul (length cells))
 ranges_size s cells (p ∷ parameters) =
     sum_by-cons size_of_range (series_range s cells p) (map (series_range s cells) parameters)

@@ -1,34 +1,33 @@
 -- What a corridor takes of a station as of a grid of one row and one column: its times, its levels and its truth values.
-use Rattle.std.proofs.Common.{◌≡◌, ℕ, zero, suc, ◌+◌, ◌-◌, ◌*◌, ◌<◌, ◌≤◌, ◌^◌, Bool, true, false, List, length, refl, ap, ap₂, sym, ◌∙◌, subst, arith, ℤ, Some, None, Contains}
-use Rattle.std.specs.declared.option.Option.{Option}
-use Rattle.std.specs.Prelude.{map, ◌&&◌, ◌||◌}
+use Rattle.std.proofs.Common.{Bool, Contains, List, None, Some, ap, ap₂, arith, false, length, map, refl, subst, suc, sym, true, zero, ℕ, ℤ, ◌*◌, ◌+◌, ◌-◌, ◌<◌, ◌^◌, ◌||◌, ◌∙◌, ◌≡◌, ◌≤◌}
 use Rattle.std.specs.List.{filter, flat_map, list_any, range_with_len, slice_index_or}
-use Rattle.std.proofs.lemmas.Bool.{false≢true, false_from_ne_true}
+use Rattle.std.specs.Prelude.{◌&&◌}
+use Rattle.std.specs.declared.option.Option.{Option}
+use Rattle.std.proofs.lemmas.Bool.{false_from_ne_true, false≢true}
 use Rattle.std.proofs.lemmas.List.Folds.{flat_map-map}
-use Rattle.edr_axes.specs.Axes.{value_at, axis_length}
+use Rattle.edr_axes.specs.Axes.{axis_length, value_at}
 use Rattle.edr_base.specs.declared.places.Spot.{Spot}
+use Rattle.edr_corridor.specs.BoxLaws.{CorridorsAreCut, is_about}
+use Rattle.edr_corridor.specs.Boxes.{level_at, wants_node}
 use Rattle.edr_corridor.specs.Values.{SegmentsValue}
-use Rattle.edr_corridor.specs.Segments as segments
-use Rattle.edr_corridor.specs.Boxes.{wants_node, level_at}
-use Rattle.edr_corridor.specs.BoxLaws.{is_about, CorridorsAreCut}
 use Rattle.edr_lines.specs.Bits.{IsSmall}
-use Rattle.edr_lines.specs.Taken.{Counts, NodeTest, counts_of, NoneTaken, AreSidesOf, HasBits, some_at_time, some_at_level, bit_number}
-use Rattle.edr_lines.specs.Corridors as lines
 use Rattle.edr_lines.specs.Corridors.{IsCorridorOf}
-use Rattle.edr_station.specs.Stations.{StationValue}
+use Rattle.edr_lines.specs.Taken.{AreSidesOf, Counts, HasBits, NodeTest, NoneTaken, bit_number, counts_of, some_at_level, some_at_time}
 use Rattle.edr_query.specs.Values.{QueryValue}
-use Rattle.edr_select.specs.Lines.{segments_of}
-use Rattle.edr_select.specs.Limits.{value_limit}
-use Rattle.edr_select.specs.ListLaws.{map-map, map_agree_in, passes_at, any_range, both, all_member}
 use Rattle.edr_select.specs.KeptLaws.{all_below, kept_agree}
+use Rattle.edr_select.specs.Limits.{value_limit}
+use Rattle.edr_select.specs.Lines.{segments_of}
+use Rattle.edr_select.specs.ListLaws.{all_member, any_range, both, map-map, map_agree_in, passes_at}
 use Rattle.edr_select.specs.Stacks.{SidesValue, StackValue, plane_size}
-use Rattle.edr_select.specs.Wanted.{takes_time, takes_level}
-use Rattle.edr_plan.specs.StationPlaces.{cell_of}
-use Rattle.edr_plan.specs.StationPlans.{ChoiceValue, IsChoiceOf}
-use Rattle.edr_plan.specs.CorridorPlans.{CorridorValue, axes_of, takes_at, has_time, has_level, choice_along, choice_in, cell_if, bit_at, cells_in, cells_along, is_taken, IsFull, value_count}
+use Rattle.edr_select.specs.Wanted.{takes_level, takes_time}
+use Rattle.edr_station.specs.Stations.{StationValue}
+use Rattle.edr_plan.specs.CorridorPlans.{CorridorValue, IsFull, axes_of, bit_at, cells_in, choice_in, takes_along}
+use Rattle.edr_plan.specs.StationPlaces.{ChoiceValue, cell_if, cell_of, cells_by, choice_by, has_level, has_some, has_time}
+use Rattle.edr_plan.specs.StationPlans.{IsChoiceOf, value_count}
+use Rattle.edr_plan.proofs.StationCells.{flat_map_agree_in, passes_chosen, some_taken_at, taken_at}
 use Rattle.edr_plan.proofs.StationHeads.{read_from}
-use Rattle.edr_plan.proofs.StationCoverages.{flat_map_agree_in}
-use Rattle.edr_plan.proofs.GappedCells.{taken_at, is_taken_at, along_chosen}
+use Rattle.edr_corridor.specs.Segments as segments
+use Rattle.edr_lines.specs.Corridors as lines
 
 -- ---- lists and truth values
 
@@ -80,7 +79,7 @@ module _ (cut : CorridorsAreCut) (q : QueryValue) (c : CorridorValue) (s : Stati
   abbrev n : Counts
   n = counts_of (axes_of s)
 
-  takes_is : (t z : ℕ) → t < length s.ts → z < axis_length s.zs → test t z 0 0 ≡ takes_at q c s t z
+  takes_is : (t z : ℕ) → t < length s.ts → z < axis_length s.zs → test t z 0 0 ≡ takes_along q c s t z
   takes_is t z ht hz =
       sym (cut (segments_of q c.line c.width c.height) time level (value_at s.ts t) (level_at s.zs z) spot
       ∙ (ap (λ (v : SegmentsValue). (segments.wants v (value_at s.ts t) (level_at s.zs z) spot && (v.has_m || time)) && (is_about v || level)) (sym of.segments)
@@ -96,22 +95,22 @@ module _ (cut : CorridorsAreCut) (q : QueryValue) (c : CorridorValue) (s : Stati
       spot : Spot
       spot = record { x = s.x; y = s.y }
 
-  one_node : (t z : ℕ) → t < length s.ts → z < axis_length s.zs → ((test t z 0 0 || false) || false) ≡ takes_at q c s t z
+  one_node : (t z : ℕ) → t < length s.ts → z < axis_length s.zs → ((test t z 0 0 || false) || false) ≡ takes_along q c s t z
   one_node t z ht hz = or_none (test t z 0 0 || false) ∙ (or_none (test t z 0 0) ∙ takes_is t z ht hz)
 
-  time_is : (t : ℕ) → t < length s.ts → some_at_time n test t ≡ has_time q c s t
+  time_is : (t : ℕ) → t < length s.ts → some_at_time n test t ≡ has_time s (takes_along q c s) t
   time_is t ht =
       ap (λ m. list_any (λ z. (test t z 0 0 || false) || false) (range_with_len 0 m)) (same_count s.zs)
-      ∙ any_below (λ z. (test t z 0 0 || false) || false) (takes_at q c s t) (axis_length s.zs) (λ z hz. one_node t z ht hz)
+      ∙ any_below (λ z. (test t z 0 0 || false) || false) (takes_along q c s t) (axis_length s.zs) (λ z hz. one_node t z ht hz)
 
-  level_is : (z : ℕ) → z < axis_length s.zs → some_at_level n test z ≡ has_level q c s z
-  level_is z hz = any_below (λ t. (test t z 0 0 || false) || false) (λ t. takes_at q c s t z) (length s.ts) (λ t ht. one_node t z ht hz)
+  level_is : (z : ℕ) → z < axis_length s.zs → some_at_level n test z ≡ has_level s (takes_along q c s) z
+  level_is z hz = any_below (λ t. (test t z 0 0 || false) || false) (λ t. takes_along q c s t z) (length s.ts) (λ t ht. one_node t z ht hz)
 
   -- where no node is taken nothing is taken of the station
-  pub none_taken : NoneTaken n test → is_taken q c s ≡ false
+  pub none_taken : NoneTaken n test → has_some s (takes_along q c s) ≡ false
   none_taken none =
-      false_from_ne_true (is_taken q c s) (λ h.
-      let at = taken_at q c s h in
+      false_from_ne_true (has_some s (takes_along q c s)) (λ h.
+      let at = taken_at s (takes_along q c s) h in
       absurd (false≢true (sym (none at.time at.level 0 0 at.time_in (omega (arith, at.level_in, same_count s.zs)) (omega arith) (omega arith))
       ∙ (takes_is at.time at.level at.time_in at.level_in ∙ at.taken))))
 
@@ -135,7 +134,7 @@ module _ (cut : CorridorsAreCut) (q : QueryValue) (c : CorridorValue) (s : Stati
         }
 
     -- something is taken
-    pub some_taken : is_taken q c s ≡ true
+    pub some_taken : has_some s (takes_along q c s) ≡ true
     some_taken =
         let row : list_any (λ t. list_any (λ z. test t z 0 0 || false) (range_with_len 0 n.levels)) (range_with_len 0 n.times) ≡ true =
         subst (λ (y : ℕ). list_any (λ t. list_any (λ z. list_any (λ x. test t z y x) (range_with_len 0 n.columns)) (range_with_len 0 n.levels)) (range_with_len 0 n.times) ≡ true)
@@ -144,22 +143,22 @@ module _ (cut : CorridorsAreCut) (q : QueryValue) (c : CorridorValue) (s : Stati
         let fz = passes_at (λ (z : ℕ). test ft.place z 0 0 || false) 0 n.levels ft.passes in
         let ht : ft.place < length s.ts = omega (arith, ft.high) in
         let hz : fz.place < axis_length s.zs = omega (arith, fz.high, same_count s.zs) in
-        is_taken_at q c s ft.place fz.place ht hz (sym (takes_is ft.place fz.place ht hz) ∙ (sym (or_none (test ft.place fz.place 0 0)) ∙ fz.passes))
+        some_taken_at s (takes_along q c s) ft.place fz.place ht hz (sym (takes_is ft.place fz.place ht hz) ∙ (sym (or_none (test ft.place fz.place 0 0)) ∙ fz.passes))
 
     -- the times and the levels are those that occur
-    pub choice_is : choice_in sides ≡ choice_along q c s
+    pub choice_is : choice_in sides ≡ choice_by s (takes_along q c s)
     choice_is =
         ap₂ (λ (times levels : List ℕ). record { times = times; levels = levels })
-        (are.times ∙ kept_agree (some_at_time n test) (has_time q c s) 0 (length s.ts) (λ t low high. time_is t (omega (arith, high))))
+        (are.times ∙ kept_agree (some_at_time n test) (has_time s (takes_along q c s)) 0 (length s.ts) (λ t low high. time_is t (omega (arith, high))))
         (are.levels
         ∙ (ap (λ m. filter (some_at_level n test) (range_with_len 0 m)) (same_count s.zs)
-        ∙ kept_agree (some_at_level n test) (has_level q c s) 0 (axis_length s.zs) (λ z low high. level_is z (omega (arith, high)))))
+        ∙ kept_agree (some_at_level n test) (has_level s (takes_along q c s)) 0 (axis_length s.zs) (λ z low high. level_is z (omega (arith, high)))))
 
     pub sides_chosen : IsChoiceOf s (choice_in sides)
-    sides_chosen = subst (IsChoiceOf s) (sym choice_is) (along_chosen q c s some_taken)
+    sides_chosen = subst (IsChoiceOf s) (sym choice_is) (passes_chosen s (takes_along q c s) some_taken)
 
     -- few values stand in a small stack
-    pub is_small : (parameters : ℕ) → 1 ≤ parameters → value_count parameters sides ≤ value_limit → IsSmall sides
+    pub is_small : (parameters : ℕ) → 1 ≤ parameters → value_count parameters (length sides.times) (length sides.levels) ≤ value_limit → IsSmall sides
     is_small parameters some few = record {
       planes = small (length sides.times * length sides.levels) (plane_size sides) parameters size some few;
       rows = omega (arith, one.row, one.rows);
@@ -203,7 +202,7 @@ module _ (cut : CorridorsAreCut) (q : QueryValue) (c : CorridorValue) (s : Stati
           once node = omega arith
 
       -- it says whether the corridor takes its time and level
-      bit_is : (i j : ℕ) → i < length stack.sides.times → j < length stack.sides.levels → bit_at stack i j ≡ takes_at q c s (time_of i) (level_of j)
+      bit_is : (i j : ℕ) → i < length stack.sides.times → j < length stack.sides.levels → bit_at stack i j ≡ takes_along q c s (time_of i) (level_of j)
       bit_is i j hi hj =
           let row : stack.sides.row ≡ 0 = ap (λ (sides : SidesValue). sides.row) same ∙ one.row in
           let rows : stack.sides.rows ≡ 1 = ap (λ (sides : SidesValue). sides.rows) same ∙ one.rows in
@@ -214,9 +213,9 @@ module _ (cut : CorridorsAreCut) (q : QueryValue) (c : CorridorValue) (s : Stati
           ∙ takes_is (time_of i) (level_of j) (chosen.times_in i 0 hi) (chosen.levels_in j 0 hj))
 
       -- its places are those of what is taken
-      pub cells_are : cells_in s stack ≡ cells_along q c s
+      pub cells_are : cells_in s stack ≡ cells_by s (takes_along q c s)
       cells_are =
-          let along : ℕ → ℕ → Option ℕ = λ t z. cell_if (takes_at q c s t z) (cell_of s t z) in
+          let along : ℕ → ℕ → Option ℕ = λ t z. cell_if (takes_along q c s t z) (cell_of s t z) in
           flat_map_agree_in (λ i. map (λ j. cell_if (bit_at stack i j) (cell_of s (time_of i) (level_of j))) (range_with_len 0 (length stack.sides.levels)))
           (λ i. map (along (time_of i)) stack.sides.levels) (range_with_len 0 (length stack.sides.times))
           (λ i mi. map_agree_in (λ j. cell_if (bit_at stack i j) (cell_of s (time_of i) (level_of j))) (λ j. along (time_of i) (level_of j)) (range_with_len 0 (length stack.sides.levels))

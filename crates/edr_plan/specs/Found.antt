@@ -14,17 +14,13 @@ use Rattle.edr_select.specs.Checks.{refused_in, refused_query}
 use Rattle.edr_select.specs.Documents.{document}
 use Rattle.edr_select.specs.Plans.{IsReplyTo}
 use Rattle.edr_select.specs.Refusals.{refused}
+use Rattle.edr_plan.specs.StationPlaces.{IsAmongStations}
 use Rattle.edr_plan.specs.StationPlans.{IsThere}
 
--- what collections of grids, and those of stations, answer
+-- what collections of grids answer
 abbrev pub IsOfGrids : Shape → Type 0
 IsOfGrids (at.Location id) = ⊥
 IsOfGrids other = ⊤
-
-abbrev pub IsAmongStations : Shape → Type 0
-IsAmongStations (at.Position geometry) = ⊥
-IsAmongStations (at.Trajectory geometry) = ⊥
-IsAmongStations other = ⊤
 
 -- a query is asked of an instance of a collection of grids, and no refusal applies of those before names
 pub record IsFoundIn (collection : CollectionValue) (q : QueryValue) (instance : InstanceValue) : Type 0 where

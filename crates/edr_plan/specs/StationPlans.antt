@@ -1,5 +1,5 @@
 -- What is planned for the stations that a query takes; for private clauses.
-use Rattle.std.specs.Prelude.{⊤, ◌≡◌, ◌≢◌, ◌⊎◌, ℕ, ◌+◌, ◌*◌, ◌<◌, ◌≤◌, nat_lt, nat_le, Bool, true, false, not, ◌&&◌, if◌then◌else◌, List, [], ◌∷◌, ◌++◌, map, length, All, sum_by, None, Some, option_map}
+use Rattle.std.specs.Prelude.{⊤, ◌≡◌, ◌≢◌, ◌⊎◌, ℕ, ◌+◌, ◌*◌, ◌<◌, ◌≤◌, nat_lt, nat_le, Bool, true, false, not, ◌&&◌, if◌then◌else◌, List, [], ◌∷◌, ◌++◌, map, length, All, sum_by, Option, None, Some, option_map}
 use Rattle.std.specs.List.{filter, flat_map, range_with_len}
 use Rattle.edr_axes.specs.Axes.{value_at, axis_length}
 use Rattle.covjson_value.specs.declared.domains.Domain.{Domain}
@@ -26,7 +26,7 @@ use Rattle.edr_select.specs.Limits.{value_limit, coverage_limit}
 use Rattle.edr_select.specs.Listings.{NumbersRise}
 use Rattle.edr_select.specs.Series.{StationSeriesValue, SeriesReplyValue}
 use Rattle.edr_select.specs.Plans.{IsOverStations}
-use Rattle.edr_plan.specs.StationPlaces.{IsOfStations, cell_of, is_taken}
+use Rattle.edr_plan.specs.StationPlaces.{IsAmongStations, ChoiceValue, choice_by, cells_by, cell_of, takes_at, is_taken}
 
 -- ---- what is asked
 
@@ -37,7 +37,7 @@ IsThere other stations = ⊤
 -- a query is asked of the stations of a collection
 pub record AsksStations (collection : CollectionValue) (q : QueryValue) : Type 0 where
   pub kind : collection.kind ≡ Station
-  pub shape : IsOfStations q.shape
+  pub shape : IsAmongStations q.shape
   pub there : IsThere q.shape collection.stations
 
 -- levels are asked of stations without any
@@ -51,13 +51,21 @@ is_many other = true
 
 -- ---- what is taken of a station
 
-pub record ChoiceValue : Type 0 where
-  pub times : List ℕ
-  pub levels : List ℕ
-
--- of a station that the shape takes
+-- of a station that the shape takes by its place or its id: each time and level by itself
 abbrev pub choice_of : QueryValue → StationValue → ChoiceValue
 choice_of q s = record { times = time_places q.times s.ts; levels = level_places (levels_asked q) s.zs }
+
+-- the place of each of its values
+abbrev pub cells_of : StationValue → ChoiceValue → List (Option ℕ)
+cells_of s choice = flat_map (λ t. map (λ z. Some (cell_of s t z)) choice.levels) choice.times
+
+-- some times and some levels
+abbrev pub not_empty : List ℕ → Bool
+not_empty [] = false
+not_empty (place ∷ places) = true
+
+abbrev pub are_some : ChoiceValue → Bool
+are_some choice = not_empty choice.times && not_empty choice.levels
 
 -- some of the times and levels of a station by their places, which rise, of both at least one
 pub record IsChoiceOf (s : StationValue) (choice : ChoiceValue) : Type 0 where
@@ -69,8 +77,8 @@ pub record IsChoiceOf (s : StationValue) (choice : ChoiceValue) : Type 0 where
   pub levels : choice.levels ≢ []
 
 -- how many values some parameters have
-abbrev pub value_count : ℕ → ChoiceValue → ℕ
-value_count parameters choice = parameters * (length choice.times * length choice.levels)
+abbrev pub value_count : ℕ → ℕ → ℕ → ℕ
+value_count parameters times levels = parameters * (times * levels)
 
 -- ---- the coverage of a station
 
@@ -85,29 +93,31 @@ abbrev pub head_of_station : CollectionValue → List ℕ → StationValue → C
 head_of_station collection parameters s choice =
     with_id s.id (planned.head_of collection.referencing (parameters_at collection.parameters parameters) (domain_of s choice))
 
--- of the station at a place, with what is taken of it
-abbrev pub series_at : CollectionValue → List ℕ → ℕ → ChoiceValue → StationSeriesValue
-series_at collection parameters k choice =
+-- of the station at a place, with some of its times and levels and their places
+abbrev pub series_with : CollectionValue → List ℕ → ℕ → ChoiceValue → List (Option ℕ) → StationSeriesValue
+series_with collection parameters k choice cells =
     let s = station_at collection.stations k in
     record {
       head = head_of_station collection parameters s choice;
       station = k;
       first = first_block (stations_of collection.parameters collection.stations) k;
       blocks = blocks_of s;
-      cells = flat_map (λ t. map (cell_of s t) choice.levels) choice.times;
+      cells = cells;
     }
 
+-- with what is taken of it
 abbrev pub series_of : CollectionValue → QueryValue → ℕ → StationSeriesValue
-series_of collection q k = series_at collection (parameter_places q.parameters collection.parameters) k (choice_of q (station_at collection.stations k))
+series_of collection q k =
+    let s = station_at collection.stations k in
+    series_with collection (parameter_places q.parameters collection.parameters) k (choice_by s (takes_at collection q k)) (cells_by s (takes_at collection q k))
 
 -- where something is taken of it
 abbrev pub series_where_taken : CollectionValue → QueryValue → ℕ → List StationSeriesValue
-series_where_taken collection q k = if is_taken q collection.parameters (station_at collection.stations k) then series_of collection q k ∷ [] else []
+series_where_taken collection q k = if is_taken collection q k then series_of collection q k ∷ [] else []
 
 -- of all stations of which something is taken
 abbrev pub all_series : CollectionValue → QueryValue → List StationSeriesValue
-all_series collection q =
-    map (series_of collection q) (filter (λ k. is_taken q collection.parameters (station_at collection.stations k)) (range_with_len 0 (length collection.stations)))
+all_series collection q = map (series_of collection q) (filter (is_taken collection q) (range_with_len 0 (length collection.stations)))
 
 -- ---- sizes
 

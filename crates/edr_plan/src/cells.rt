@@ -1,12 +1,13 @@
-//! The places among a station's values that a query takes.
-ghost use Rattle.std.specs.Prelude.{◌≡◌, ◌<◌, ◌≤◌, ◌++◌, All, length, map, IfOk, OnOk};
-ghost use Rattle.std.specs.List.{flat_map};
+//! The places among a station's values of some of its times and levels.
+ghost use Rattle.std.specs.Prelude.{◌≡◌, ◌<◌, ◌≤◌, ◌++◌, All, Some, length, map, IfOk, OnOk};
 ghost use Rattle.edr_base.specs.Limits.{node_limit};
 ghost use Rattle.edr_station.specs.Stations.{values_along};
 ghost use Rattle.edr_axes.specs.Axes.{axis_length};
 ghost use Rattle.edr_station.specs.Blocks as blocks;
 ghost use Rattle.edr_plan.specs.StationPlaces.{cell_of};
+ghost use Rattle.edr_plan.specs.StationPlans.{cells_of};
 
+use crate::station_choices::StationChoice;
 use edr_base::OutOfMemory;
 use edr_station::{BLOCK_LENGTH, Station};
 use std::alloc::Global;
@@ -32,7 +33,7 @@ pub(crate) fn blocks_of(station: &Station) -> u64
 
 // Adds the places of a time, each level in turn.
 fn push_levels(
-    cells: &mut Vec<u64>,
+    cells: &mut Vec<Option<u64>>,
     station: &Station,
     time: u64,
     levels: &[u64],
@@ -40,11 +41,11 @@ fn push_levels(
     requires few { values_along station.now ≤ node_limit }
     requires time { time < length station.now.ts }
     requires levels { All (λ z. z < axis_length station.now.zs) levels.now }
-    ensures { OnOk result (cells.new.items ≡ cells.old.items ++ map (cell_of station.now time) levels.now) }
+    ensures { OnOk result (cells.new.items ≡ cells.old.items ++ map (λ z. Some (cell_of station.now time z)) levels.now) }
 {
     let first = time * levels_in(station);
     for level in levels {
-        cells.push(first + *level)?;
+        cells.push(Some(first + *level))?;
     }
     Ok(())
 }
@@ -53,17 +54,16 @@ fn push_levels(
 pub(crate) fn cells_at(
     alloc: Global,
     station: &Station,
-    times: &[u64],
-    levels: &[u64],
-) -> Result<Vec<u64>, OutOfMemory>
+    choice: &StationChoice,
+) -> Result<Vec<Option<u64>>, OutOfMemory>
     requires few { values_along station.now ≤ node_limit }
-    requires times { All (λ t. t < length station.now.ts) times.now }
-    requires levels { All (λ z. z < axis_length station.now.zs) levels.now }
-    ensures { IfOk result (λ cells. cells.items ≡ flat_map (λ t. map (cell_of station.now t) levels.now) times.now) }
+    requires times { All (λ t. t < length station.now.ts) choice.now.times }
+    requires levels { All (λ z. z < axis_length station.now.zs) choice.now.levels }
+    ensures { IfOk result (λ cells. cells.items ≡ cells_of station.now choice.now) }
 {
     let mut cells = Vec::new(alloc);
-    for time in times {
-        push_levels(&mut cells, station, *time, levels)?;
+    for time in &choice.times {
+        push_levels(&mut cells, station, *time, &choice.levels)?;
     }
     Ok(cells)
 }

@@ -6,7 +6,8 @@ ghost use Rattle.edr_base.specs.Limits.{IsMetres};
 ghost use Rattle.edr_query.specs.declared.addresses.QueryKind.TheVariants as kinds;
 ghost use Rattle.edr_wkt.specs.Faults.{IsInRange};
 ghost use Rattle.edr_wkt.specs.Geometries.{line_of};
-ghost use Rattle.edr_plan.specs.CorridorPlans.{IsLineOf, IsLower, IsBefore, IsBehind, IsNearBox, HasNear};
+ghost use Rattle.edr_plan.specs.StationPlaces.{HasAll};
+ghost use Rattle.edr_plan.specs.CorridorPlans.{IsLineOf, IsLower, IsBefore, IsBehind, IsNearBox, is_near};
 
 use crate::lines::Line;
 use edr_base::{OutOfMemory, Position, Spot};
@@ -116,7 +117,7 @@ fn beyond_half(width: i64) -> i64
 }
 
 // The places of the stations in the box about a line: no other station is near it.
-fn stations_about(
+fn stations_in(
     alloc: Global,
     geometry: &Geometry,
     width: i64,
@@ -124,7 +125,7 @@ fn stations_about(
 ) -> Result<Vec<usize>, OutOfMemory>
     requires geometry { IsTaken kinds.Corridor geometry.now }
     requires width { IsMetres width }
-    ensures { IfOk result (λ places. HasNear geometry.now width stations.now.stations places.items) }
+    ensures { IfOk result (λ places. HasAll stations.now.stations (is_near geometry.now width stations.now.stations) places.items) }
 {
     near_places_are_within();
     let (lo, hi) = box_about(positions_of(geometry), beyond_half(width));
@@ -141,9 +142,9 @@ pub(crate) fn stations_near(
 ) -> Result<Vec<usize>, OutOfMemory>
     requires shape { IsShape query.now.shape }
     requires line { IsLineOf query.now line.now }
-    ensures { IfOk result (λ places. HasNear line.now.corridor.line line.now.corridor.width stations.now.stations places.items) }
+    ensures { IfOk result (λ places. HasAll stations.now.stations (is_near line.now.corridor.line line.now.corridor.width stations.now.stations) places.items) }
 {
     let _ = &query.shape;
-    let places = stations_about(alloc, line.geometry, line.width, stations)?;
+    let places = stations_in(alloc, line.geometry, line.width, stations)?;
     Ok(places)
 }

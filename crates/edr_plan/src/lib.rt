@@ -3,13 +3,12 @@
 
 mod cells;
 mod checks;
-mod corridor_plans;
 mod corridor_stations;
-mod gapped_cells;
-mod gapped_series;
+mod gathered;
 mod laws;
 mod lines;
 mod planning;
+mod stack_cells;
 mod station_choices;
 mod station_heads;
 mod station_plans;

@@ -11,7 +11,6 @@ ghost use Rattle.edr_select.specs.Refusals.{refused};
 ghost use Rattle.edr_plan.specs.Found.{IsReplyIn, IsReplyOf};
 
 use crate::checks::{found_grid, found_stations};
-use crate::corridor_plans::gapped_of;
 use crate::station_plans::series_of;
 use edr_base::Refusal;
 use edr_edition::{CollectionData, Edition, Kind, instances_have_grids};
@@ -63,22 +62,8 @@ fn reply_of_stations(
     ensures refused { IfErr result (IsFaultOf (refused_in collection.now (Ask query.now))) }
 {
     let stations = found_stations(query, collection)?;
-    match &query.shape {
-        Shape::Corridor {
-            geometry,
-            width,
-            height,
-        } => {
-            let gapped = gapped_of(
-                alloc, query, collection, stations, geometry, *width, *height,
-            )?;
-            Ok(Reply::Gapped(gapped))
-        }
-        _ => {
-            let series = series_of(alloc, query, collection, stations)?;
-            Ok(Reply::Series(series))
-        }
-    }
+    let series = series_of(alloc, query, collection, stations)?;
+    Ok(Reply::Series(series))
 }
 
 // How the values of the reply to a query of an edition are read, or the first refusal that applies.

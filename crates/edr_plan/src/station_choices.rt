@@ -1,14 +1,15 @@
-//! The times and levels of a station that a query takes.
-ghost use Rattle.std.specs.Prelude.{◌≡◌, ◌<◌, ◌≤◌, ◌&&◌, IfOk, MatchOption};
+//! The times and levels of a station that a query takes, each by itself.
+ghost use Rattle.std.specs.Prelude.{◌≡◌, ◌&&◌, true, false, IfOk, MatchOption};
 ghost use Rattle.edr_query.specs.Queries.{IsShape};
-ghost use Rattle.edr_select.specs.Limits.{value_limit};
 ghost use Rattle.edr_station.specs.Stations.{IsPlaced};
-ghost use Rattle.edr_plan.specs.StationPlaces.{not_empty};
-ghost use Rattle.edr_plan.specs.StationPlans.{choice_of, value_count};
+ghost use Rattle.edr_plan.specs.StationPlaces.{IsOfStations, has_some, choice_by, cells_by, takes_each};
+ghost use Rattle.edr_plan.specs.StationPlans.{choice_of, cells_of};
+ghost use Rattle.edr_plan.specs.StationPlans as plans;
 
+use crate::stations_taken::takes_station;
 use edr_base::OutOfMemory;
 use edr_query::Query;
-use edr_select::{levels_of_query, times_taken, value_product};
+use edr_select::{levels_of_query, times_taken};
 use edr_station::Station;
 use std::alloc::Global;
 use std::marker::Model;
@@ -21,7 +22,7 @@ pub(crate) struct StationChoice {
 }
 
 impl Model for StationChoice {
-    ghost use Rattle.edr_plan.specs.StationPlans.{ChoiceValue};
+    ghost use Rattle.edr_plan.specs.StationPlaces.{ChoiceValue};
 
     ghost Value = { ChoiceValue };
 
@@ -35,12 +36,15 @@ pub(crate) fn station_stands(station: &Station)
     let _ = station.id();
 }
 
-// What a query takes of a station that its shape takes.
-pub(crate) fn choose(
-    alloc: Global,
-    query: &Query,
-    station: &Station,
-) -> Result<StationChoice, OutOfMemory>
+// Whether something is taken.
+fn is_some(choice: &StationChoice) -> bool
+    ensures { result ≡ plans.are_some choice.now }
+{
+    !choice.times.is_empty() && !choice.levels.is_empty()
+}
+
+// The times and levels of a station that are asked.
+fn asked_of(alloc: Global, query: &Query, station: &Station) -> Result<StationChoice, OutOfMemory>
     requires { IsShape query.now.shape }
     ensures { IfOk result (λ choice. choice ≡ choice_of query.now station.now) }
 {
@@ -50,20 +54,24 @@ pub(crate) fn choose(
     Ok(StationChoice { times, levels })
 }
 
-impl StationChoice {
-    // Whether something is taken.
-    pub(crate) fn is_some(&self) -> bool
-        ensures { result ≡ (not_empty self.now.times && not_empty self.now.levels) }
-    {
-        !self.times.is_empty() && !self.levels.is_empty()
+// What a query takes of a station by its place or its id, or None where it takes nothing.
+pub(crate) fn chosen(
+    alloc: Global,
+    query: &Query,
+    station: &Station,
+) -> Result<Option<StationChoice>, OutOfMemory>
+    requires shape { IsShape query.now.shape }
+    requires of_stations { IsOfStations query.now.shape }
+    ensures { IfOk result (λ found. MatchOption found (has_some station.now (takes_each query.now station.now) ≡ false)
+        (λ choice. (has_some station.now (takes_each query.now station.now) ≡ true) × (choice ≡ choice_by station.now (takes_each query.now station.now))
+        × (cells_of station.now choice ≡ cells_by station.now (takes_each query.now station.now)))) }
+{
+    if !takes_station(&query.shape, station) {
+        return Ok(None);
     }
-
-    // How many values some parameters have at these times and levels, or None where they are above the limit of a reply.
-    pub(crate) fn value_count(&self, parameters: usize) -> Option<u64>
-        requires { 1 ≤ parameters }
-        ensures { MatchOption result (value_limit < value_count parameters self.now) (λ count. (count ≡ value_count parameters self.now) × (count ≤ value_limit)) }
-    {
-        let nodes = value_product(self.times.len() as u64, self.levels.len() as u64)?;
-        value_product(parameters as u64, nodes)
+    let choice = asked_of(alloc, query, station)?;
+    if !is_some(&choice) {
+        return Ok(None);
     }
+    Ok(Some(choice))
 }

@@ -14,7 +14,6 @@ pub mod Listings
 pub mod Framings
 pub mod Series
 pub mod Stacks
-pub mod Gaps
 pub mod ReplyLaws
 pub mod Plans
 pub mod Planned

@@ -12,15 +12,13 @@ use Rattle.edr_edition.specs.Values.{InstanceValue}
 use Rattle.edr_edition.specs.Stores.{of_grid, of_stations, stations_of, Subject}
 use Rattle.edr_query.specs.Values.{QueryValue}
 use Rattle.edr_select.specs.declared.plans.Reply.{Reply}
-use Rattle.edr_select.specs.declared.plans.Reply.TheVariants.{Listed, Framed, Stacked, Series, Gapped}
+use Rattle.edr_select.specs.declared.plans.Reply.TheVariants.{Listed, Framed, Stacked, Series}
 use Rattle.edr_select.specs.Samples.{ascending_once}
 use Rattle.edr_select.specs.Selections.{needed}
 use Rattle.edr_select.specs.Documents.{document}
 use Rattle.edr_select.specs.Listings.{listing_document, listing_tiles}
 use Rattle.edr_select.specs.Framings.{framed_coverage, framed_tiles}
 use Rattle.edr_select.specs.Stacks.{stacked_coverage, stacked_tiles}
-use Rattle.edr_select.specs.Gaps as gaps
-use Rattle.edr_select.specs.Gaps.{GappedReplyValue, gapped_document, gapped_blocks}
 use Rattle.edr_select.specs.Series.{SeriesReplyValue, series_document, reply_blocks, IsOfStation}
 
 pub record PlanValue : Type 0 where
@@ -47,24 +45,12 @@ pub record IsOverStations (reply : SeriesReplyValue) (query : QueryValue) (subje
   pub document : series_document stations reply ≡ Some (document subject query)
   pub chunks : ascending_once (blocks (length parameters) stations) (reply_blocks reply) ≡ needed subject query
 
--- so it is over stations where some values aren't taken
-pub record IsOverGaps (reply : GappedReplyValue) (query : QueryValue) (subject : Subject) : Type 0 where
-  pub parameters : List Parameter
-  pub stations : List StationValue
-  pub held : subject.held ≡ of_stations parameters stations
-  pub counted : blocks (length parameters) stations < 2 ^ 64
-  pub asked : All (λ parameter. parameter < length parameters) reply.parameters
-  pub each : All (gaps.IsOfStation (stations_of parameters stations)) reply.series
-  pub document : gapped_document stations reply ≡ document subject query
-  pub chunks : ascending_once (blocks (length parameters) stations) (gapped_blocks reply) ≡ needed subject query
-
 -- a reply is that to a query, over what is asked
 abbrev pub IsReplyTo : Reply → QueryValue → Subject → Type 0
 IsReplyTo (Listed listing) query subject = IsOverGrid listing.shape (λ grid. listing_document grid listing) (listing_tiles listing) query subject
 IsReplyTo (Framed framing) query subject = IsOverGrid framing.shape (λ grid. Some (One (framed_coverage grid framing))) (framed_tiles framing) query subject
 IsReplyTo (Stacked stacking) query subject = IsOverGrid stacking.shape (λ grid. Some (One (stacked_coverage grid stacking))) (stacked_tiles stacking) query subject
 IsReplyTo (Series series) query subject = IsOverStations series query subject
-IsReplyTo (Gapped reply) query subject = IsOverGaps reply query subject
 
 -- the plan stands for its query in what is asked
 abbrev pub StandsFor : PlanValue → Subject → Type 0

@@ -5,7 +5,6 @@ ghost use Rattle.edr_chunk.specs.Places.{count};
 ghost use Rattle.edr_select.specs.Listings.{IsListing};
 
 use crate::frames::Framing;
-use crate::gaps::GappedReply;
 use crate::series::SeriesReply;
 use crate::stacks::Stacking;
 use covjson_value::Coverage;
@@ -88,10 +87,8 @@ pub enum Reply {
     Framed(Framing),
     /// Each from a node of a stack, where it is taken.
     Stacked(Stacking),
-    /// Each from a place among the values of a station.
-    Series(SeriesReply),
     /// Each from a place among the values of a station, where it is taken.
-    Gapped(GappedReply),
+    Series(SeriesReply),
 }
 
 /// What a reply to a query will be: its coverages but for their values, and the nodes or places that these are read from.

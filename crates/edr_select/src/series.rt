@@ -16,8 +16,9 @@ pub struct StationSeries {
     pub first: u64,
     /// How many blocks each of its parameters has.
     pub blocks: u64,
-    /// For each value of a range its place among the station's values of a parameter, in the order t, z, ascending.
-    pub cells: Items<u64>,
+    /// For each value of a range its place among the station's values of a parameter, in the order t, z, ascending, or None where
+    /// it isn't taken.
+    pub cells: Items<Option<u64>>,
 }
 
 impl Model for StationSeries {
@@ -63,7 +64,7 @@ impl Model for SeriesReply {
     }) };
 }
 
-/// Each such reply is one: each coverage is valid but for its ranges, and has a place for each value.
+/// Each such reply is one: each coverage is valid but for its ranges, and has a place or none for each value.
 pub fn series_reply_stands(reply: &SeriesReply)
     ensures { IsSeriesReply reply.now }
 {

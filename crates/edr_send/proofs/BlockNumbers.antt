@@ -1,6 +1,6 @@
 -- The numbers of the blocks of a reply over stations rise station by station, parameter by parameter and block by block; and what
 -- the block of a cell has.
-use Rattle.std.proofs.Common.{◌≡◌, ℕ, ◌+◌, ◌*◌, ◌/◌, ◌%◌, ◌<◌, ◌≤◌, List, ◌++◌, length, take, drop, get_or, All, Contains, ℤ, Option, None, ap, sym, ◌∙◌, subst, arith, inl, inr, length-take, length-drop, get_or-take, get_or-drop}
+use Rattle.std.proofs.Common.{◌≡◌, ℕ, ◌+◌, ◌*◌, ◌/◌, ◌%◌, ◌<◌, ◌≤◌, List, ◌++◌, length, take, drop, get_or, All, Contains, ℤ, Option, None, Some, ap, sym, ◌∙◌, subst, arith, inl, inr, length-take, length-drop, get_or-take, get_or-drop}
 use Rattle.std.specs.Prelude.{map, sum_by}
 use Rattle.std.specs.List.{flat_map, slice_range}
 use Rattle.std.proofs.Math.Nat.{mul-le-mul_right}
@@ -16,10 +16,9 @@ use Rattle.edr_edition.specs.Stores.{Held, of_grid, of_stations, HasBlock, IsBlo
 use Rattle.edr_select.specs.Samples.{ascending_once}
 use Rattle.edr_select.specs.Listings.{NumbersRise}
 use Rattle.edr_select.specs.ListLaws.{all_member, map_agree_in}
-use Rattle.edr_select.specs.Series.{StationSeriesValue, series_value, series_range, block_at, blocks_of_range, blocks_of_coverage, place_of, IsOfStation}
+use Rattle.edr_select.specs.Series.{StationSeriesValue, series_value, series_range, block_at, cells_taken, blocks_of_range, blocks_of_coverage, place_of, IsOfStation}
 use Rattle.edr_send.specs.SeriesTexts.{collection_of, blocks_in, station_of}
 use Rattle.edr_send.proofs.BandLaws.{row_above}
-use Rattle.edr_send.proofs.BlockRuns.{Cut}
 use Rattle.edr_send.proofs.FrameTiles.{before_place, from_place, no_place, taken_place}
 use Rattle.edr_send.proofs.Parted.{all_flat_map, Parted, parted_next, parted_whole}
 use Rattle.edr_send.proofs.RunSteps.{drop_on}
@@ -83,73 +82,14 @@ module _ (collection : StationsValue) where
 
     range_below : (p q : ℕ) → p < q → All (λ k. k < range_first series q) (blocks_of_range series p)
     range_below p q l =
-        All-map (λ k. k < range_first series q) (block_at series p) series.cells
-        (All-weaker (λ cell. cell < values_along (station_of collection series)) (λ cell. block_at series p cell < range_first series q) (λ cell m. block_below series p q cell l (cell_inside cell m)) series.cells of.cells)
+        All-map (λ k. k < range_first series q) (block_at series p) (cells_taken series.cells)
+        (All-weaker (λ cell. cell < values_along (station_of collection series)) (λ cell. block_at series p cell < range_first series q) (λ cell m. block_below series p q cell l (cell_inside cell m)) (cells_taken series.cells) of.cells)
 
     range_from : (p q : ℕ) → q ≤ p → All (λ k. range_first series q ≤ k) (blocks_of_range series p)
     range_from p q l =
-        All-map (λ k. range_first series q ≤ k) (block_at series p) series.cells
+        All-map (λ k. range_first series q ≤ k) (block_at series p) (cells_taken series.cells)
         (All-weaker (λ cell. cell < values_along (station_of collection series)) (λ cell. range_first series q ≤ block_at series p cell)
-        (λ cell m. omega (arith, first_up series q p l, block_from series p cell)) series.cells of.cells)
-
-    -- ---- runs of cells of one block
-
-    module _ (p : ℕ) (inside : p < collection.parameters) where
-      runs_by : (at bound : ℕ) → bound ≤ blocks_in collection → ((i : ℕ) → i < at → i < length series.cells → block_at series p (get_or series.cells i 0) < bound)
-          → ((j : ℕ) → at ≤ j → j < length series.cells → bound ≤ block_at series p (get_or series.cells j 0))
-          → Parted (blocks_in collection) (map (block_at series p) (take at series.cells)) (map (block_at series p) (drop at series.cells))
-      runs_by at bound low under from = record {
-        bound = bound;
-        inside = low;
-        below = All-map (λ k. k < bound) (block_at series p) (take at series.cells)
-            (All-from_get_or (λ cell. block_at series p cell < bound) (take at series.cells) 0 (λ i h.
-            let early : i < at = omega (arith, h, length-take at series.cells) in
-            subst (λ (cell : ℕ). block_at series p cell < bound) (sym (get_or-take at series.cells i 0 early)) (under i early (omega (arith, h, length-take at series.cells)))));
-        from = All-map (λ k. bound ≤ k) (block_at series p) (drop at series.cells)
-            (All-from_get_or (λ cell. bound ≤ block_at series p cell) (drop at series.cells) 0 (λ i h.
-            subst (λ (cell : ℕ). bound ≤ block_at series p cell) (sym (get_or-drop at series.cells i 0)) (from (at + i) (omega arith) (omega (arith, h, length-drop at series.cells)))));
-      }
-
-      pub runs_parted : (at : ℕ) → NumbersRise series.cells → Cut series.cells at
-          → Parted (blocks_in collection) (map (block_at series p) (take at series.cells)) (map (block_at series p) (drop at series.cells))
-      runs_parted at rise cut = elim (cases_lt at (length series.cells)) [
-        | inl l ↦
-            let here = block_inside p (get_or series.cells at 0) inside (All-get_or (λ cell. cell < values_along (station_of collection series)) series.cells at 0 l of.cells) in
-            runs_by at (block_at series p (get_or series.cells at 0)) (omega (arith, here)) (λ i early m. let up = cut i at early (omega arith) l in omega (arith, up)) (λ j late m. last_up at j late m)
-        | inr past ↦
-            runs_by at (blocks_in collection) (omega arith) (λ i early m. block_inside p (get_or series.cells i 0) inside (All-get_or (λ cell. cell < values_along (station_of collection series)) series.cells i 0 m of.cells))
-            (λ j late m. absurd (omega (arith, past, late, m)))
-      ]
-        where
-          still : (i j : ℕ) → i ≤ j → j ≤ i → j ≡ i
-          still i j l m = omega arith
-
-          last_up : (i j : ℕ) → i ≤ j → j < length series.cells → block_at series p (get_or series.cells i 0) ≤ block_at series p (get_or series.cells j 0)
-          last_up i j late m = elim (cases_lt i j) [
-            | inl more ↦ let up = rise i j 0 more m in omega (arith, up)
-            | inr same ↦ let one = ap (λ (k : ℕ). block_at series p (get_or series.cells k 0)) (still i j late same) in omega (arith, one)
-          ]
-
-      -- the blocks of a run come behind those of the runs before it
-      pub run_next : (at next : ℕ) → NumbersRise series.cells → Cut series.cells at → at < next
-          → ascending_once (blocks_in collection) (map (block_at series p) (take next series.cells))
-          ≡ ascending_once (blocks_in collection) (map (block_at series p) (take at series.cells)) ++ ascending_once (blocks_in collection) (map (block_at series p) (slice_range series.cells at next))
-      run_next at next rise cut l =
-          let b : ℕ → ℕ = block_at series p in
-          parted_next (blocks_in collection) (map b (take at series.cells)) (map b (drop at series.cells)) (map b (slice_range series.cells at next)) (map b (drop next series.cells)) (map b (take next series.cells))
-          (ap (map b) (drop_on series.cells at next (omega (arith, l))) ∙ map-append b (slice_range series.cells at next) (drop next series.cells))
-          (ap (map b) (take_on series.cells at next (omega (arith, l))) ∙ map-append b (take at series.cells) (slice_range series.cells at next)) (runs_parted at rise cut)
-
-      pub run_whole : (at next : ℕ) → NumbersRise series.cells → Cut series.cells at → Cut series.cells next → at < next
-          → ascending_once (blocks_in collection) (map (block_at series p) series.cells)
-          ≡ (ascending_once (blocks_in collection) (map (block_at series p) (take at series.cells)) ++ ascending_once (blocks_in collection) (map (block_at series p) (slice_range series.cells at next)))
-          ++ ascending_once (blocks_in collection) (map (block_at series p) (drop next series.cells))
-      run_whole at next rise cut later l =
-          let b : ℕ → ℕ = block_at series p in
-          parted_whole (blocks_in collection) (map b (take at series.cells)) (map b (drop at series.cells)) (map b (slice_range series.cells at next)) (map b (drop next series.cells)) (map b (take next series.cells))
-          (ap (map b) (drop_on series.cells at next (omega (arith, l))) ∙ map-append b (slice_range series.cells at next) (drop next series.cells))
-          (ap (map b) (take_on series.cells at next (omega (arith, l))) ∙ map-append b (take at series.cells) (slice_range series.cells at next)) (runs_parted at rise cut) (map b series.cells)
-          (ap (map b) (sym (take-append-drop at series.cells)) ∙ map-append b (take at series.cells) (drop at series.cells)) (runs_parted next rise later)
+        (λ cell m. omega (arith, first_up series q p l, block_from series p cell)) (cells_taken series.cells) of.cells)
 
     -- ---- parameters
 
@@ -225,33 +165,9 @@ module _ (collection : StationsValue) where
         pub value_inside : cell % 256 < length values
         value_inside = subst (λ (n : ℕ). n % 256 < length values) cell_is (is.lies there within numbered)
 
-        pub value_is : get_or values (cell % 256) None ≡ series_value (station_of collection series) p cell
+        pub value_is : get_or values (cell % 256) None ≡ series_value (station_of collection series) p (Some cell)
         value_is =
             ap (λ (n : ℕ). get_or values (n % 256) None) (sym cell_is) ∙ is.same there within numbered ∙ ap (λ (n : ℕ). get_or (series_at (station_of collection series) p) n None) cell_is
-
-    -- cells of one block
-    module _ (p : ℕ) (inside : p < collection.parameters) (cells : List ℕ) (below : All (λ cell. cell < values_along (station_of collection series)) cells)
-        (one : (k : ℕ) → k < length cells → get_or cells k 0 / 256 ≡ get_or cells 0 0 / 256) where
-      abbrev number : ℕ
-      number = block_at series p (get_or cells 0 0)
-
-      cell_number : (cell : ℕ) → Contains cells cell → block_at series p cell ≡ number
-      cell_number cell c =
-          let there : get_or cells c.0 0 ≡ cell = sym (get_or_default cells c.0 cell 0 c.1) ∙ c.2 in
-          ap (λ (n : ℕ). block_at series p n) (sym there) ∙ ap (λ (n : ℕ). series.first + p * series.blocks + n) (one c.0 c.1)
-
-      pub run_numbers : All (λ k. k ≡ number) (map (block_at series p) cells)
-      run_numbers = All-map (λ k. k ≡ number) (block_at series p) cells (λ i d l. cell_number (get_or cells i d) (i, l, get_or_default cells i (get_or cells i d) d l))
-
-      module _ (values : List (Option ℤ)) (is : IsBlock collection number values) where
-        pub run_inside : All (λ cell. cell % 256 < length values) cells
-        run_inside i d l =
-            value_inside p (get_or cells i d) inside (below i d l) values number is (cell_number (get_or cells i d) (i, l, get_or_default cells i (get_or cells i d) d l))
-
-        pub run_values : map (λ cell. get_or values (cell % 256) None) cells ≡ (series_range (station_of collection series) cells p).values
-        run_values =
-            map_agree_in (λ cell. get_or values (cell % 256) None) (series_value (station_of collection series) p) cells
-            (λ cell c. value_is p cell inside (all_member (λ cell. cell < values_along (station_of collection series)) cells cell below c) values number is (cell_number cell c))
 
 -- ---- stations
 

@@ -22,9 +22,5 @@ mod StackTiles
 mod BlockRuns
 mod BlockNumbers
 mod SeriesSteps
-mod GapBlocks
-mod GapRuns
-mod GapSteps
 mod SeriesValid
-mod GapsValid
 mod ReplyForms

@@ -18,31 +18,26 @@ use Rattle.edr_edition.specs.Values.{InstanceValue}
 use Rattle.edr_edition.specs.Stores.{Held, of_grid, stations_of, IsHeld, Subject}
 use Rattle.edr_select.specs.declared.plans.GridNode.{GridNode}
 use Rattle.edr_select.specs.declared.plans.Reply.{Reply}
-use Rattle.edr_select.specs.declared.plans.Reply.TheVariants.{Listed, Framed, Stacked, Series, Gapped}
+use Rattle.edr_select.specs.declared.plans.Reply.TheVariants.{Listed, Framed, Stacked, Series}
 use Rattle.edr_select.specs.Samples.{ascending_once}
 use Rattle.edr_select.specs.Selections.{needed}
 use Rattle.edr_select.specs.Documents.{document}
-use Rattle.edr_select.specs.Plans.{PlanValue, IsReplyTo, StandsFor, IsOverGrid, IsOverStations, IsOverGaps}
+use Rattle.edr_select.specs.Plans.{PlanValue, IsReplyTo, StandsFor, IsOverGrid, IsOverStations}
 use Rattle.edr_select.specs.ReplyLaws.{Told, instance_samples, told_by, document_valid, framed_valid, stacked_valid}
 use Rattle.edr_select.specs.Listings.{PlannedValue, ListingValue, IsListing, IsPlanned, place_at, range_over, coverage_of, listing_document, document_of, tiles_of_range, tiles_of_coverage, listing_tiles, NumbersRise}
 use Rattle.edr_select.specs.Framings.{FramingValue, IsFraming, frame_cells, taken, framed_range, framed_coverage, framed_tiles}
 use Rattle.edr_select.specs.Stacks.{StackingValue, IsStacking, stack_cells, stacked_range, stacked_coverage, stacked_tiles}
 use Rattle.edr_select.specs.Series.{StationSeriesValue, SeriesReplyValue, IsSeriesReply, series_range, series_coverage, blocks_of_range, blocks_of_coverage, reply_blocks}
-use Rattle.edr_select.specs.Gaps as gaps
-use Rattle.edr_select.specs.Gaps.{GappedSeriesValue, GappedReplyValue, IsGappedReply, gapped_range, gapped_coverage, gapped_document, gapped_blocks}
 use Rattle.edr_send.specs.Bands.{BandsRise, Rises}
 use Rattle.edr_send.specs.Filling.{grid_of}
-use Rattle.edr_send.specs.Forms.{once_each, IsRising, listing_sent, gathered_sent, framing_sent, stacking_sent, series_sent, gapped_sent}
+use Rattle.edr_send.specs.Forms.{once_each, IsRising, listing_sent, gathered_sent, framing_sent, stacking_sent, series_sent}
 use Rattle.edr_send.specs.Gathered.{places_of_coverages}
 use Rattle.edr_send.specs.SentReplies.{SentReply, in_a_row, all_chunks, TellsChunks, IsReplyOf}
 use Rattle.edr_send.specs.SeriesTexts as over_series
 use Rattle.edr_send.specs.SeriesTexts.{collection_of, blocks_in}
-use Rattle.edr_send.specs.GapTexts as over_gaps
 use Rattle.edr_send.proofs.BlockNumbers.{parameters_parted, stations_parted}
-use Rattle.edr_send.proofs.GapBlocks as gap_blocks
 use Rattle.edr_send.proofs.FormSteps.{few_told, once_steps, once_items, row_of_map, rows_of_map}
 use Rattle.edr_send.proofs.FrameTiles as frames
-use Rattle.edr_send.proofs.GapsValid as gaps_valid
 use Rattle.edr_send.proofs.ReplyTexts.{tiles_are}
 use Rattle.edr_send.proofs.RunSteps.{parameter_step}
 use Rattle.edr_send.proofs.SeriesSteps.{item_next}
@@ -229,49 +224,3 @@ module _ (plan : PlanValue) (s : Subject) (held : IsHeld s.held) (stands : Stand
 
         told : Told reply.many (map cover reply.series) (document s plan.query)
         told = told_by reply.many (map cover reply.series) (document s plan.query) alone document_told
-
-  module _ (reply : GappedReplyValue) (is : plan.reply ≡ Gapped reply) where
-    gapped_to : IsOverGaps reply plan.query s
-    gapped_to = subst (λ (r : Reply). IsReplyTo r plan.query s) is stands
-
-    gapped_collection : collection_of s.held ≡ stations_of gapped_to.parameters gapped_to.stations
-    gapped_collection = ap collection_of gapped_to.held
-
-    pub gapped_over : over_gaps.IsReplyOver (collection_of s.held) reply
-    gapped_over = subst (λ (collection : StationsValue). over_gaps.IsReplyOver collection reply) (sym gapped_collection) (record { counted = gapped_to.counted; asked = gapped_to.asked; each = gapped_to.each })
-
-    pub gapped_reply : opened ≡ [] → IsGappedReply reply → IsReplyOf (gapped_sent reply s.held) opened (document s plan.query) (needed s plan.query)
-    gapped_reply none replies = record {
-      document_is = document_told;
-      alone = λ one. absurd (cc one);
-      valid = subst IsValidDocument (some_is document_told) (gaps_valid.coverages_valid collection stand reply.parameters reply.series replies.series gapped_over.each);
-      told = all_told cover chunks_in (gapped_sent reply s.held) reply.series refl refl
-          (λ x. as_long n (gaps.blocks_of_range x) (gapped_range (over_gaps.station_of collection x) x.cells) reply.parameters);
-      chunks = ap (λ (l : List ℕ). l ++ all_chunks (gapped_sent reply s.held)) none
-          ∙ rows_of_map chunks_in (λ x. ascending_once n (gaps.blocks_of_coverage reply.parameters x)) reply.series
-          (λ k d l. row_of_map (λ (p : ℕ). ascending_once n (gaps.blocks_of_range (get_or reply.series k d) p)) reply.parameters
-          ∙ sym (once_items n (gaps.blocks_of_range (get_or reply.series k d)) reply.parameters (λ i e m. item_next n (gaps.blocks_of_range (get_or reply.series k d)) reply.parameters i e m
-          (gap_blocks.parameters_parted collection (get_or reply.series k d) (gapped_over.each k d l) reply.parameters i replies.parameters gapped_over.asked))))
-          ∙ sym (once_items n (gaps.blocks_of_coverage reply.parameters) reply.series (λ i e m. item_next n (gaps.blocks_of_coverage reply.parameters) reply.series i e m
-          (gap_blocks.stations_parted collection reply.parameters gapped_over.asked reply.series gapped_over.each replies.rise i e)))
-          ∙ ap (λ (c : StationsValue). ascending_once (blocks_in c) (gapped_blocks reply)) gapped_collection
-          ∙ gapped_to.chunks;
-    }
-      where
-        collection : StationsValue
-        collection = collection_of s.held
-
-        n : ℕ
-        n = blocks_in collection
-
-        cover : GappedSeriesValue → Coverage
-        cover = gapped_coverage collection.stations reply.parameters
-
-        chunks_in : GappedSeriesValue → List (List ℕ)
-        chunks_in x = once_each n (gaps.blocks_of_range x) reply.parameters
-
-        stand : AreStations collection
-        stand = subst (λ (c : StationsValue). AreStations c) (sym gapped_collection) (subst (λ (h : Held). IsHeld h) gapped_to.held held).1.are
-
-        document_told : Some (Many (map cover reply.series)) ≡ Some (document s plan.query)
-        document_told = ap (λ (c : StationsValue). Some (Many (map (gapped_coverage c.stations reply.parameters) reply.series))) gapped_collection ∙ ap Some gapped_to.document

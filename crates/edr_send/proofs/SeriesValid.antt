@@ -13,11 +13,16 @@ use Rattle.edr_select.specs.Series.{StationSeriesValue, IsSeries, IsOfStation, s
 use Rattle.edr_send.specs.SeriesTexts.{station_of}
 
 -- the samples of a station's parameter
-pub samples_in : (parameters : ℕ) (s : StationValue) → IsStation parameters s → (p : ℕ) → AreSamples (series_at s p)
+samples_in : (parameters : ℕ) (s : StationValue) → IsStation parameters s → (p : ℕ) → AreSamples (series_at s p)
 samples_in parameters s is p = elim (cases_lt p (length s.series)) [
   | inl inside ↦ is.has.samples p [] inside
   | inr past ↦ subst (λ (values : List (Option ℤ)). AreSamples values) (sym (get_or_past s.series p [] past)) (All-nil HasSample)
 ]
+
+-- a value at a place, or at none, is one
+value_sample : (parameters : ℕ) (s : StationValue) → IsStation parameters s → (p : ℕ) (cell : Option ℕ) → HasSample (series_value s p cell)
+value_sample parameters s is p None = tt
+value_sample parameters s is p (Some cell) = sample_at (series_at s p) cell (samples_in parameters s is p)
 
 module _ (collection : StationsValue) (stand : AreStations collection) where
   range_valid : (parameters : List ℕ) (series : StationSeriesValue) → IsSeries parameters series → IsOfStation collection series → (p : ℕ)
@@ -25,7 +30,7 @@ module _ (collection : StationsValue) (stand : AreStations collection) where
   range_valid parameters series is of p = record {
     count = length-map series.cells (series_value (station_of collection series) p) ∙ sym is.count;
     samples = All-map HasSample (series_value (station_of collection series) p) series.cells
-        (λ k d l. sample_at (series_at (station_of collection series) p) (get_or series.cells k d) (samples_in collection.parameters (station_of collection series) (stand.each series.station nowhere of.station) p));
+        (λ k d l. value_sample collection.parameters (station_of collection series) (stand.each series.station nowhere of.station) p (get_or series.cells k d));
   }
 
   coverage_valid : (parameters : List ℕ) (series : StationSeriesValue) → IsSeries parameters series → IsOfStation collection series → IsValid (series_coverage collection.stations parameters series)

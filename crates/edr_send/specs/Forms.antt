@@ -8,8 +8,6 @@ use Rattle.edr_select.specs.Framings.{FramingValue, frame_cells, taken, framed_c
 use Rattle.edr_select.specs.Stacks.{StackingValue, stack_cells, stacked_coverage}
 use Rattle.edr_select.specs.Series.{SeriesReplyValue, series_coverage}
 use Rattle.edr_select.specs.Series as series
-use Rattle.edr_select.specs.Gaps.{GappedReplyValue, gapped_coverage}
-use Rattle.edr_select.specs.Gaps as gaps
 use Rattle.edr_send.specs.Bands.{BandsRise}
 use Rattle.edr_send.specs.Filling.{grid_of}
 use Rattle.edr_send.specs.SentReplies.{SentReply}
@@ -62,11 +60,4 @@ series_sent reply held = record {
   many = reply.many;
   coverages = map (series_coverage (collection_of held).stations reply.parameters) reply.series;
   chunks = map (λ s. once_each (blocks_in (collection_of held)) (series.blocks_of_range s) reply.parameters) reply.series;
-}
-
-abbrev pub gapped_sent : GappedReplyValue → Held → SentReply
-gapped_sent reply held = record {
-  many = true;
-  coverages = map (gapped_coverage (collection_of held).stations reply.parameters) reply.series;
-  chunks = map (λ s. once_each (blocks_in (collection_of held)) (gaps.blocks_of_range s) reply.parameters) reply.series;
 }

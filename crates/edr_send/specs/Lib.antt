@@ -2,7 +2,6 @@ pub mod Bands
 pub mod Filling
 pub mod Gathered
 pub mod Strips
-pub mod GapTexts
 pub mod SeriesTexts
 pub mod SentReplies
 pub mod Forms

@@ -7,8 +7,6 @@ mod coverages;
 mod documents;
 mod filling;
 mod frame_streams;
-mod gapped_runs;
-mod gapped_streams;
 mod gathering;
 mod planes;
 mod sending;

@@ -16,7 +16,7 @@ use edr_base::{SendFault, Sink};
 use edr_chunk::{numbers_tell_places, tiles_are_numbered};
 use edr_edition::Store;
 use edr_select::{
-    Listing, Plan, Reply, framing_stands, gapped_reply_stands, listing_stands, series_reply_stands,
+    Listing, Plan, Reply, framing_stands, listing_stands, series_reply_stands,
     stacking_stands,
 };
 use std::alloc::Global;
@@ -108,10 +108,6 @@ pub fn send<K: Sink>(
         }
         Reply::Series(reply) => {
             series_reply_stands(reply);
-            send_document(alloc, plan, reply, store, sink)
-        }
-        Reply::Gapped(reply) => {
-            gapped_reply_stands(reply);
             send_document(alloc, plan, reply, store, sink)
         }
     }

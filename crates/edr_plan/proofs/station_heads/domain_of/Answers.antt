@@ -1,5 +1,5 @@
 use Rattle.std.proofs.Common.{◌∙◌, ap}
-use Rattle.edr_plan.specs.StationPlans.{ChoiceValue}
+use Rattle.edr_plan.specs.StationPlaces.{ChoiceValue}
 use Rattle.edr_plan.proofs.ChosenPlaces.{times_inside, times_axis, levels_inside, levels_axis}
 use Rattle.edr_plan.proofs.station_heads.domain_of.Goals as goal
 

@@ -1,6 +1,6 @@
 use Rattle.std.proofs.Common.{length}
 use Rattle.edr_plan.specs.StationPlans.{series_where_taken}
-use Rattle.edr_plan.proofs.SeriesSteps.{too_many_then}
+use Rattle.edr_plan.proofs.StationSteps.{too_many_then}
 use Rattle.edr_plan.proofs.station_series.series_taken.Goals as goal
 
 pub returns-then-not-room : goal.returns-then-not-room

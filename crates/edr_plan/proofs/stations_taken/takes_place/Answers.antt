@@ -1,7 +1,7 @@
 use Rattle.std.proofs.Common.{◌≡◌, ◌∙◌, ap, rules, sym, to_z, of_z, w64}
 use Rattle.edr_geometry.specs.Planar.{in_disc}
 use Rattle.edr_select.specs.Masks.{takes_spot}
-use Rattle.edr_plan.proofs.TakenStations.{takes_disc}
+use Rattle.edr_plan.proofs.FoundStations.{takes_disc}
 use Rattle.edr_plan.proofs.stations_taken.takes_place.Goals as goal
 
 pub returns-in-Radius : goal.returns-in-Radius

@@ -1,69 +1,26 @@
-use Rattle.std.proofs.Common.{rules, ◌≡◌, ◌∙◌, ap, sym, subst, refl, ℕ, ◌<◌, ◌%◌, List, [], ◌∷◌, ◌++◌, length, get_or, All, ℤ, Option, None, arith, append-nil}
+use Rattle.std.proofs.Common.{rules, ◌≡◌, ◌∙◌, ap, sym, ℕ, List, [], None, get_or, append-nil}
 use Rattle.std.specs.Prelude.{map}
 use Rattle.std.proofs.lemmas.Result.{on_ok_weaker}
-use Rattle.std.proofs.lemmas.List.{length-map}
-use Rattle.edr_station.specs.Blocks.{IsBlock}
 use Rattle.edr_select.specs.Samples.{ascending_once}
-use Rattle.edr_select.specs.Series.{StationSeriesValue, block_at}
+use Rattle.edr_select.specs.Series.{block_at, cells_taken}
 use Rattle.edr_send.specs.SeriesTexts.{collection_of, blocks_in}
-use Rattle.edr_send.proofs.Additions.{adds_all, adds_begun}
-use Rattle.edr_send.proofs.Ascending.{once_equal}
-use Rattle.edr_send.proofs.BlockNumbers.{has_block, is_block, block_inside, run_numbers, run_inside, run_values}
+use Rattle.edr_send.proofs.Additions.{adds_all}
+use Rattle.edr_send.proofs.Ascending.{once_none}
+use Rattle.edr_send.proofs.BlockRuns.{none_taken, values_none}
 use Rattle.edr_send.proofs.block_runs.read_run.Goals as goal
-use Rattle.edr_send.proofs.block_runs.read_run.Goals.{In_ok-block}
 
-pub block_number-requires : goal.block_number-requires
-block_number-requires c =
-    let low = c.requires.cells 0 0 c.requires.some in
-    let inside = block_inside (collection_of c.args.store.now.subject.held) c.args.series.now c.requires.over.station c.args.parameter (get_or c.args.cells.now 0 0) c.requires.parameter low in
-    omega (arith, inside, c.requires.over.counted)
+pub returns-in-None-clause-values : goal.returns-in-None-clause-values
+returns-in-None-clause-values c =
+    let first : get_or c.args.cells.now 0 None ≡ None = search rules in
+    on_ok_weaker c.leave_out.result
+    (λ e. e ∙ values_none (collection_of c.args.store.now.subject.held) c.args.series.now c.requires.over.station c.args.parameter c.requires.parameter c.args.cells.now c.requires.run c.requires.cells first)
+    c.leave_out.ensures
 
-pub block-requires : goal.block-requires
-block-requires c =
-    let held = c.args.store.now.subject.held in
-    let low = c.requires.cells 0 0 c.requires.some in
-    has_block held c.block_number.result
-    (subst (λ (k : ℕ). k < blocks_in (collection_of held)) (sym c.block_number.ensures)
-    (block_inside (collection_of held) c.args.series.now c.requires.over.station c.args.parameter (get_or c.args.cells.now 0 0) c.requires.parameter low))
-
-pub returns-in_err-block-clause-reads : goal.returns-in_err-block-clause-reads
-returns-in_err-block-clause-reads c =
-    let wanted : List ℕ = ascending_once (blocks_in (collection_of c.args.store.now.subject.held)) (map (block_at c.args.series.now c.args.parameter) c.args.cells.now) in
-    adds_begun c.from_residual.result wanted c.args.store.now.numbers c.block.new.self.numbers (search rules)
-    (record { front = []; begins = (wanted, refl); grew = c.in_err-block.ensures.unread ∙ sym (append-nil c.args.store.now.numbers) })
-
--- the block that is opened
-read_is : (c : In_ok-block) → IsBlock (collection_of c.args.store.now.subject.held) (block_at c.args.series.now c.args.parameter (get_or c.args.cells.now 0 0)) c.in_ok-block.block.items
-read_is c =
-    let held = c.args.store.now.subject.held in
-    subst (λ (k : ℕ). IsBlock (collection_of held) k c.in_ok-block.block.items) c.block_number.ensures (is_block held c.block_number.result c.in_ok-block.block.items c.in_ok-block.ensures.block)
-
-pub pick-requires-clause-inside : goal.pick-requires-clause-inside
-pick-requires-clause-inside c =
-    let read : c.deref.result.now ≡ c.in_ok-block.block.items = search rules in
-    subst (λ (values : List (Option ℤ)). All (λ cell. cell % 256 < length values) c.args.cells.now) (sym read)
-    (run_inside (collection_of c.args.store.now.subject.held) c.args.series.now c.requires.over.station c.args.parameter c.requires.parameter c.args.cells.now c.requires.cells c.requires.one
-    c.in_ok-block.block.items (read_is (goal.at.pick-requires-clause-inside c).In_ok-block))
-
-pub returns-clause-values : goal.returns-clause-values
-returns-clause-values c =
-    let read : c.deref.result.now ≡ c.in_ok-block.block.items = search rules in
-    on_ok_weaker c.pick.result
-    (λ e. e ∙ ap (λ (values : List (Option ℤ)). map (λ cell. get_or values (cell % 256) None) c.args.cells.now) read
-    ∙ run_values (collection_of c.args.store.now.subject.held) c.args.series.now c.requires.over.station c.args.parameter c.requires.parameter c.args.cells.now c.requires.cells c.requires.one
-    c.in_ok-block.block.items (read_is (goal.at.returns-clause-values c).In_ok-block))
-    c.pick.ensures
-
-pub returns-clause-reads : goal.returns-clause-reads
-returns-clause-reads c =
+pub returns-in-None-clause-reads : goal.returns-in-None-clause-reads
+returns-in-None-clause-reads c =
+    let first : get_or c.args.cells.now 0 None ≡ None = search rules in
     let collection = collection_of c.args.store.now.subject.held in
-    let series : StationSeriesValue = c.args.series.now in
-    let numbers : List ℕ = map (block_at series c.args.parameter) c.args.cells.now in
-    let low = c.requires.cells 0 0 c.requires.some in
-    let number : ℕ = block_at series c.args.parameter (get_or c.args.cells.now 0 0) in
-    adds_all c.pick.result (number ∷ []) (ascending_once (blocks_in collection) numbers) c.args.store.now.numbers c.block.new.self.numbers
-    (sym (once_equal (blocks_in collection) number numbers
-    (block_inside collection series c.requires.over.station c.args.parameter (get_or c.args.cells.now 0 0) c.requires.parameter low)
-    (omega (arith, length-map c.args.cells.now (block_at series c.args.parameter), c.requires.some))
-    (run_numbers collection series c.requires.over.station c.args.parameter c.requires.parameter c.args.cells.now c.requires.cells c.requires.one)))
-    (c.in_ok-block.ensures.read ∙ ap (λ (k : ℕ). c.args.store.now.numbers ++ k ∷ []) c.block_number.ensures)
+    let b : ℕ → ℕ = block_at c.args.series.now c.args.parameter in
+    adds_all c.leave_out.result [] (ascending_once (blocks_in collection) (map b (cells_taken c.args.cells.now))) c.args.store.now.numbers c.args.store.now.numbers
+    (sym (ap (λ (l : List ℕ). ascending_once (blocks_in collection) (map b l)) (none_taken collection c.args.series.now c.requires.over.station c.args.parameter c.requires.parameter c.args.cells.now c.requires.run c.requires.cells first) ∙ once_none (blocks_in collection)))
+    (sym (append-nil c.args.store.now.numbers))

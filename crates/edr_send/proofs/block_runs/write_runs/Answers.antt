@@ -1,4 +1,4 @@
-use Rattle.std.proofs.Common.{rules, ◌≡◌, ◌++◌, ◌+◌, ◌/◌, ◌<◌, ◌≤◌, ◌≢◌, ℕ, List, length, take, drop, get_or, subst, ap, sym, ◌∙◌, refl, arith, append-nil, zero-add, ℤ, Option}
+use Rattle.std.proofs.Common.{rules, ◌≡◌, ◌++◌, ◌+◌, ◌<◌, ◌≤◌, ℕ, List, length, take, drop, subst, ap, sym, ◌∙◌, refl, arith, append-nil, zero-add, ℤ, Option, All}
 use Rattle.std.specs.Prelude.{map, Ok}
 use Rattle.std.specs.List.{slice_range}
 use Rattle.std.specs.Io.KnownBytes.{append_known}
@@ -6,17 +6,16 @@ use Rattle.std.proofs.lemmas.List.{take_all}
 use Rattle.edr_base.specs.Calls.{Front}
 use Rattle.covjson_write.specs.Pieces.{values_from}
 use Rattle.covjson_write.specs.Writers.{WriterValue, with_values}
-use Rattle.edr_station.specs.Stations.{StationsValue}
+use Rattle.edr_station.specs.Stations.{StationsValue, values_along}
 use Rattle.edr_edition.specs.Stores.{Subject}
 use Rattle.edr_select.specs.Samples.{ascending_once}
-use Rattle.edr_select.specs.Listings.{NumbersRise}
-use Rattle.edr_select.specs.Series.{StationSeriesValue, series_value, series_range, block_at}
+use Rattle.edr_select.specs.Series.{StationSeriesValue, series_value, series_range, block_at, cells_taken, RiseApart}
 use Rattle.edr_send.specs.Filling.{Added}
-use Rattle.edr_send.specs.SeriesTexts.{collection_of, blocks_in, station_of}
+use Rattle.edr_send.specs.SeriesTexts.{collection_of, blocks_in, station_of, BlocksApart}
 use Rattle.edr_send.proofs.Additions.{adds_all, adds_fault, added_on}
 use Rattle.edr_send.proofs.Ascending.{once_none}
-use Rattle.edr_send.proofs.BlockNumbers.{run_next, run_whole}
-use Rattle.edr_send.proofs.BlockRuns.{InOne, cut_next, run_one, run_rise, run_text, run_blocks}
+use Rattle.edr_send.proofs.BlockRuns.{apart_next, run_some, run_below, run_next, run_whole}
+use Rattle.edr_send.proofs.SeriesSteps.{run_text, run_blocks}
 use Rattle.edr_send.proofs.TextSteps.{all_but_same, all_but_on, all_but_front, all_but_all, writes_fault}
 use Rattle.edr_send.proofs.TileSteps.{length-range}
 use Rattle.edr_send.proofs.RunSteps.{values_next, with_none, with_more}
@@ -29,7 +28,7 @@ loop-at-init g c =
     let s = station_of (collection_of c.args.store.now.subject.held) series in
     record {
       high = omega arith;
-      cut = λ i j low high inside. absurd (omega arith);
+      apart = λ k j one other low high behind inside e f. absurd (omega (arith, high));
       writer = with_none c.args.writer.now;
       subject = refl;
       text = all_but_all (values_from 0 (map (series_value s c.args.parameter) series.cells)) (g.K.Sink.written c.args.sink.now);
@@ -37,18 +36,28 @@ loop-at-init g c =
       lent = search rules;
     }
 
-pub write_run-requires-clause-rise : goal.write_run-requires-clause-rise
-write_run-requires-clause-rise g c =
+pub run_end-end-requires-clause-rise : goal.run_end-end-requires-clause-rise
+run_end-end-requires-clause-rise g c =
     let listed : c.items-cells.result.now ≡ c.args.series.now.cells = search rules in
-    run_rise c.items-cells.result.now c.loop-at.at c.run_end-end.result c.run_end-end.ensures.more c.run_end-end.ensures.end (subst (λ (l : List ℕ). NumbersRise l) (sym listed) c.requires.over.rise)
+    subst (λ (l : List (Option ℕ)). RiseApart l) (sym listed) c.requires.over.rise
 
-pub write_run-requires-clause-one : goal.write_run-requires-clause-one
-write_run-requires-clause-one g c = run_one c.items-cells.result.now c.loop-at.at c.run_end-end.result c.run_end-end.ensures.more c.run_end-end.ensures.end c.run_end-end.ensures.same
+pub write_run-requires-clause-some : goal.write_run-requires-clause-some
+write_run-requires-clause-some g c = run_some c.items-cells.result.now c.loop-at.at c.run_end-end.result c.run_end-end.ensures.more c.run_end-end.ensures.end
+
+pub write_run-requires-clause-cells : goal.write_run-requires-clause-cells
+write_run-requires-clause-cells g c =
+    let series : StationSeriesValue = c.args.series.now in
+    let listed : c.items-cells.result.now ≡ series.cells = search rules in
+    let below : All (λ cell. cell < values_along (station_of (collection_of c.args.store.now.subject.held) series)) (cells_taken c.items-cells.result.now) =
+    subst (λ (l : List (Option ℕ)). All (λ cell. cell < values_along (station_of (collection_of c.args.store.now.subject.held) series)) (cells_taken l)) (sym listed) c.requires.over.station.cells in
+    subst (λ (x : Subject). All (λ cell. cell < values_along (station_of (collection_of x.held) series)) (cells_taken (slice_range c.items-cells.result.now c.loop-at.at c.run_end-end.result))) (sym c.loop-at.invariant.subject)
+    (run_below c.items-cells.result.now c.loop-at.at c.run_end-end.result c.run_end-end.ensures.more c.run_end-end.ensures.end
+    (λ cell. cell < values_along (station_of (collection_of c.args.store.now.subject.held) series)) below)
 
 pub loop-at-preserved : goal.loop-at-preserved
 loop-at-preserved g c =
     let series : StationSeriesValue = c.args.series.now in
-    let cells : List ℕ = series.cells in
+    let cells : List (Option ℕ) = series.cells in
     let subject : Subject = c.args.store.now.subject in
     let collection : StationsValue = collection_of subject.held in
     let p : ℕ = c.args.parameter in
@@ -56,15 +65,13 @@ loop-at-preserved g c =
     let at : ℕ = c.loop-at.at in
     let next : ℕ = c.run_end-end.result in
     let listed : c.items-cells.result.now ≡ cells = search rules in
-    let f : ℕ → Option ℤ = series_value (station_of collection series) p in
-    let b : ℕ → ℕ = block_at series p in
+    let f : Option ℕ → Option ℤ = series_value (station_of collection series) p in
+    let b : List (Option ℕ) → List ℕ = λ l. map (block_at series p) (cells_taken l) in
     let more : at < next = c.run_end-end.ensures.more in
-    let inside : next ≤ length cells = subst (λ (l : List ℕ). next ≤ length l) listed c.run_end-end.ensures.end in
-    let one : InOne cells at next = subst (λ (l : List ℕ). InOne l at next) listed c.run_end-end.ensures.same in
-    let other : next < length cells → get_or cells next 0 / 256 ≢ get_or cells at 0 / 256 =
-    subst (λ (l : List ℕ). next < length l → get_or l next 0 / 256 ≢ get_or l at 0 / 256) listed c.run_end-end.ensures.other in
+    let inside : next ≤ length cells = subst (λ (l : List (Option ℕ)). next ≤ length l) listed c.run_end-end.ensures.end in
+    let apart : BlocksApart cells at next = subst (λ (l : List (Option ℕ)). BlocksApart l at next) listed c.run_end-end.ensures.apart in
     let count : c.loop-at.writer.values ≡ at = ap (λ (w : WriterValue). w.values) c.loop-at.invariant.writer ∙ ap (λ (n : ℕ). n + at) c.requires.none ∙ zero-add at in
-    let part : slice_range c.items-cells.result.now at next ≡ slice_range cells at next = ap (λ (l : List ℕ). slice_range l at next) listed in
+    let part : slice_range c.items-cells.result.now at next ≡ slice_range cells at next = ap (λ (l : List (Option ℕ)). slice_range l at next) listed in
     let whole = values_from 0 (map f cells) in
     let piece = values_from at (map f (slice_range cells at next)) in
     let rest = values_from next (map f (drop next cells)) in
@@ -76,24 +83,24 @@ loop-at-preserved g c =
     (run_text c.loop-at.store.subject subject series p c.loop-at.writer.values at (slice_range c.items-cells.result.now at next) (slice_range cells at next) c.loop-at.invariant.subject count part) in
     record {
       high = inside;
-      cut = cut_next cells at next c.requires.over.rise more c.loop-at.invariant.cut one other;
+      apart = apart_next cells at next more c.loop-at.invariant.apart apart;
       writer = c.in_ok-write_run.ensures.writer ∙ with_more c.loop-at.writer c.args.writer.now at (length (slice_range c.items-cells.result.now at next)) c.loop-at.invariant.writer
           ∙ ap (λ (n : ℕ). with_values c.args.writer.now n) (omega (arith, ap length part, length-range cells at next (omega (arith, more)) inside, more));
       subject = c.write_run.ensures.subject ∙ c.loop-at.invariant.subject;
       text = all_but_on piece rest whole (written c.args.sink.now) (written c.loop-at.sink) (written c.write_run.new.sink)
           (all_but_same (values_from at (map f (drop at cells))) (piece ++ rest) whole (written c.args.sink.now) (written c.loop-at.sink) (values_next f cells at next (omega (arith, more)) inside) c.loop-at.invariant.text)
           told;
-      reads = added_on (ascending_once (blocks_in collection) (map b (take at cells))) (ascending_once (blocks_in collection) (map b (slice_range cells at next))) (ascending_once (blocks_in collection) (map b (take next cells)))
+      reads = added_on (ascending_once (blocks_in collection) (b (take at cells))) (ascending_once (blocks_in collection) (b (slice_range cells at next))) (ascending_once (blocks_in collection) (b (take next cells)))
           c.args.store.now.numbers c.loop-at.store.numbers c.write_run.new.store.numbers c.loop-at.invariant.reads
           (c.in_ok-write_run.ensures.reads.all ∙ ap (λ (l : List ℕ). c.loop-at.store.numbers ++ l) (run_blocks c.loop-at.store.subject subject series p (slice_range c.items-cells.result.now at next) (slice_range cells at next) c.loop-at.invariant.subject part))
-          (run_next collection series c.requires.over.station p c.requires.parameter at next c.requires.over.rise c.loop-at.invariant.cut more);
+          (run_next collection series c.requires.over.station p c.requires.parameter at next more c.loop-at.invariant.apart);
       lent = lent_on c.loop-at.invariant.lent c.write_run.ensures.lent;
     }
 
 pub returns-in_err-write_run-clause-bytes : goal.returns-in_err-write_run-clause-bytes
 returns-in_err-write_run-clause-bytes g c =
     let series : StationSeriesValue = c.args.series.now in
-    let cells : List ℕ = series.cells in
+    let cells : List (Option ℕ) = series.cells in
     let subject : Subject = c.args.store.now.subject in
     let collection : StationsValue = collection_of subject.held in
     let p : ℕ = c.args.parameter in
@@ -101,11 +108,11 @@ returns-in_err-write_run-clause-bytes g c =
     let at : ℕ = c.loop-at.at in
     let next : ℕ = c.run_end-end.result in
     let listed : c.items-cells.result.now ≡ cells = search rules in
-    let f : ℕ → Option ℤ = series_value (station_of collection series) p in
+    let f : Option ℕ → Option ℤ = series_value (station_of collection series) p in
     let more : at < next = c.run_end-end.ensures.more in
-    let inside : next ≤ length cells = subst (λ (l : List ℕ). next ≤ length l) listed c.run_end-end.ensures.end in
+    let inside : next ≤ length cells = subst (λ (l : List (Option ℕ)). next ≤ length l) listed c.run_end-end.ensures.end in
     let count : c.loop-at.writer.values ≡ at = ap (λ (w : WriterValue). w.values) c.loop-at.invariant.writer ∙ ap (λ (n : ℕ). n + at) c.requires.none ∙ zero-add at in
-    let part : slice_range c.items-cells.result.now at next ≡ slice_range cells at next = ap (λ (l : List ℕ). slice_range l at next) listed in
+    let part : slice_range c.items-cells.result.now at next ≡ slice_range cells at next = ap (λ (l : List (Option ℕ)). slice_range l at next) listed in
     let whole = values_from 0 (map f cells) in
     let piece = values_from at (map f (slice_range cells at next)) in
     let rest = values_from next (map f (drop next cells)) in
@@ -121,7 +128,7 @@ returns-in_err-write_run-clause-bytes g c =
 pub returns-in_err-write_run-clause-reads : goal.returns-in_err-write_run-clause-reads
 returns-in_err-write_run-clause-reads g c =
     let series : StationSeriesValue = c.args.series.now in
-    let cells : List ℕ = series.cells in
+    let cells : List (Option ℕ) = series.cells in
     let subject : Subject = c.args.store.now.subject in
     let collection : StationsValue = collection_of subject.held in
     let n : ℕ = blocks_in collection in
@@ -129,14 +136,12 @@ returns-in_err-write_run-clause-reads g c =
     let at : ℕ = c.loop-at.at in
     let next : ℕ = c.run_end-end.result in
     let listed : c.items-cells.result.now ≡ cells = search rules in
-    let b : ℕ → ℕ = block_at series p in
+    let b : List (Option ℕ) → List ℕ = λ l. map (block_at series p) (cells_taken l) in
     let more : at < next = c.run_end-end.ensures.more in
-    let one : InOne cells at next = subst (λ (l : List ℕ). InOne l at next) listed c.run_end-end.ensures.same in
-    let other : next < length cells → get_or cells next 0 / 256 ≢ get_or cells at 0 / 256 =
-    subst (λ (l : List ℕ). next < length l → get_or l next 0 / 256 ≢ get_or l at 0 / 256) listed c.run_end-end.ensures.other in
-    let part : slice_range c.items-cells.result.now at next ≡ slice_range cells at next = ap (λ (l : List ℕ). slice_range l at next) listed in
-    adds_fault c.from_residual.result (ascending_once n (map b (take at cells))) (ascending_once n (map b (slice_range cells at next))) (ascending_once n (map b (drop next cells))) (ascending_once n (map b cells)) c.args.store.now.numbers c.loop-at.store.numbers c.write_run.new.store.numbers (search rules) c.loop-at.invariant.reads
-    (run_whole collection series c.requires.over.station p c.requires.parameter at next c.requires.over.rise c.loop-at.invariant.cut (cut_next cells at next c.requires.over.rise more c.loop-at.invariant.cut one other) more)
+    let apart : BlocksApart cells at next = subst (λ (l : List (Option ℕ)). BlocksApart l at next) listed c.run_end-end.ensures.apart in
+    let part : slice_range c.items-cells.result.now at next ≡ slice_range cells at next = ap (λ (l : List (Option ℕ)). slice_range l at next) listed in
+    adds_fault c.from_residual.result (ascending_once n (b (take at cells))) (ascending_once n (b (slice_range cells at next))) (ascending_once n (b (drop next cells))) (ascending_once n (b cells)) c.args.store.now.numbers c.loop-at.store.numbers c.write_run.new.store.numbers (search rules) c.loop-at.invariant.reads
+    (run_whole collection series c.requires.over.station p c.requires.parameter at next more c.loop-at.invariant.apart (apart_next cells at next more c.loop-at.invariant.apart apart))
     (subst (λ (l : List ℕ). Added l c.loop-at.store.numbers c.write_run.new.store.numbers)
     (run_blocks c.loop-at.store.subject subject series p (slice_range c.items-cells.result.now at next) (slice_range cells at next) c.loop-at.invariant.subject part) c.write_run.ensures.reads.begun)
 
@@ -145,6 +150,6 @@ returns-clause-reads g c =
     let series : StationSeriesValue = c.args.series.now in
     let n : ℕ = blocks_in (collection_of c.args.store.now.subject.held) in
     let listed : c.items-cells.result.now ≡ series.cells = search rules in
-    let past : length series.cells ≤ c.loop-at.at = subst (λ (l : List ℕ). length l ≤ c.loop-at.at) listed c.loop-at-test.false in
-    adds_all (Ok tt) (ascending_once n (map (block_at series c.args.parameter) (take c.loop-at.at series.cells))) (ascending_once n (map (block_at series c.args.parameter) series.cells))
-    c.args.store.now.numbers c.loop-at.store.numbers (ap (λ (l : List ℕ). ascending_once n (map (block_at series c.args.parameter) l)) (take_all c.loop-at.at series.cells past)) c.loop-at.invariant.reads
+    let past : length series.cells ≤ c.loop-at.at = subst (λ (l : List (Option ℕ)). length l ≤ c.loop-at.at) listed c.loop-at-test.false in
+    adds_all (Ok tt) (ascending_once n (map (block_at series c.args.parameter) (cells_taken (take c.loop-at.at series.cells)))) (ascending_once n (map (block_at series c.args.parameter) (cells_taken series.cells)))
+    c.args.store.now.numbers c.loop-at.store.numbers (ap (λ (l : List (Option ℕ)). ascending_once n (map (block_at series c.args.parameter) (cells_taken l))) (take_all c.loop-at.at series.cells past)) c.loop-at.invariant.reads

@@ -1,7 +1,7 @@
 use Rattle.std.proofs.Common.{rules, ◌≡◌}
 use Rattle.edr_chunk.specs.Tiles.{tile_shape}
-use Rattle.edr_select.specs.declared.plans.Reply.TheVariants.{Framed, Stacked, Series, Gapped}
-use Rattle.edr_send.proofs.ReplyForms.{framing_reply, stacking_reply, series_reply, gapped_reply}
+use Rattle.edr_select.specs.declared.plans.Reply.TheVariants.{Framed, Stacked, Series}
+use Rattle.edr_send.proofs.ReplyForms.{framing_reply, stacking_reply, series_reply}
 use Rattle.edr_send.proofs.sending.send.Goals as goal
 
 pub send_document-requires-clause-reply : goal.send_document-requires-clause-reply
@@ -21,9 +21,3 @@ send_document-requires-in-Series-clause-reply g c =
     let is : c.args.plan.now.reply ≡ Series c.in-Series.reply = search rules in
     series_reply c.args.plan.now c.args.store.now.subject c.subject_stands.ensures.held c.requires.stands c.args.store.now.numbers c.in-Series.reply is
     c.requires.unread c.series_reply_stands.ensures
-
-pub send_document-requires-in-Gapped-clause-reply : goal.send_document-requires-in-Gapped-clause-reply
-send_document-requires-in-Gapped-clause-reply g c =
-    let is : c.args.plan.now.reply ≡ Gapped c.in-Gapped.reply = search rules in
-    gapped_reply c.args.plan.now c.args.store.now.subject c.subject_stands.ensures.held c.requires.stands c.args.store.now.numbers c.in-Gapped.reply is
-    c.requires.unread c.gapped_reply_stands.ensures

@@ -1,9 +1,0 @@
-use Rattle.std.proofs.Common.{length}
-use Rattle.edr_plan.specs.CorridorPlans.{gapped_where_taken}
-use Rattle.edr_plan.proofs.GappedSteps.{too_many_then}
-use Rattle.edr_plan.proofs.gapped_series.gapped_taken.Goals as goal
-
-pub returns-then-not-room : goal.returns-then-not-room
-returns-then-not-room c =
-    too_many_then (length c.args.parameters.now) (gapped_where_taken c.args.collection.now c.args.query.now c.args.line.now.corridor) c.args.places.now c.loop-place.place-index 0
-    c.loop-place.gathered.series c.loop-place-test.true c.loop-place.invariant.series (c.in_ok-room.ensures.full c.if-not-room.true)

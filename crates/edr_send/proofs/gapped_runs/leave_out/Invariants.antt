@@ -1,6 +1,0 @@
-use Rattle.std.proofs.Common.{◌≡◌, take}
-use Rattle.std.specs.Prelude.{map, None}
-use Rattle.edr_send.proofs.gapped_runs.leave_out.Given as goal
-
-abbrev pub invariant-loop : goal.invariant-loop
-invariant-loop l = l.values.items ≡ map (λ cell. None) (take l.index l.cells)
