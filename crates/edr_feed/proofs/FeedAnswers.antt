@@ -7,7 +7,7 @@ use Rattle.edr_feed.specs.declared.faults.FeedFault.{FeedFault}
 use Rattle.edr_feed.specs.declared.faults.FeedFault.TheVariants.{ReadFault}
 use Rattle.edr_feed.specs.declared.refusals.FeedRefusal.{FeedRefusal}
 use Rattle.edr_feed.specs.Refusals.{refusal_of}
-use Rattle.edr_feed.specs.Feeds.{FeedStands, FeedStandsIn, InnerStandsIn}
+use Rattle.edr_feed.specs.Feeds.{FeedStands, FeedStandsIn, LeavesBehind, LeavesBehindIn, InnerStandsIn}
 use Rattle.edr_feed.specs.Readings.{IsOwn, HasFault, IsFaultOf}
 use Rattle.edr_feed.proofs.StepLemmas.{if_some}
 
@@ -20,6 +20,12 @@ pub whole_stands : (old new : Option (List ℕ)) (bytes : List ℕ) (answer : Re
 whole_stands old None bytes answer e end f = subst (λ (z : Option (List ℕ)). FeedStandsIn z answer) (sym e) (bytes, f)
 whole_stands old (Some rest) bytes answer e end f =
     subst (λ (z : Option (List ℕ)). FeedStandsIn z answer) (sym e) (subst (λ (w : List ℕ). FeedStands w answer) (sym (all_is bytes rest end)) f)
+
+pub whole_leaves : (old new : Option (List ℕ)) (bytes : List ℕ) (behind : ℕ) → old ≡ prepend_known bytes new → IsAtEnd new
+    → LeavesBehind bytes behind → LeavesBehindIn old behind
+whole_leaves old None bytes behind e end l = subst (λ (z : Option (List ℕ)). LeavesBehindIn z behind) (sym e) (bytes, l)
+whole_leaves old (Some rest) bytes behind e end l =
+    subst (λ (z : Option (List ℕ)). LeavesBehindIn z behind) (sym e) (subst (λ (w : List ℕ). LeavesBehind w behind) (sym (all_is bytes rest end)) l)
 
 -- what a fault says of an input
 pub record HasFaultIn (told : Option (List ℕ)) (fault : FeedFault) : Type 0 where

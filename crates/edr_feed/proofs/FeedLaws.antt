@@ -14,7 +14,7 @@ use Rattle.edr_feed.specs.declared.refusals.FeedRefusal.{FeedRefusal}
 use Rattle.edr_feed.specs.declared.refusals.FeedRefusal.TheVariants as refusals
 use Rattle.edr_feed.specs.Forms.{HasForm, HasOutline, TreesHaveOneForm}
 use Rattle.edr_feed.specs.Lines.{read_lines}
-use Rattle.edr_feed.specs.Steps.{Progress, at_start, published, published_if_bare, EntryMakes, UnlessBlank, LineRows, EachLineRows}
+use Rattle.edr_feed.specs.Steps.{Progress, at_start, published, published_if_bare, changed, EntryMakes, UnlessBlank, LineRows, EachLineRows}
 use Rattle.edr_edition.specs.Shelves.{AreNumberedFrom, IsLog}
 use Rattle.edr_feed.specs.Feeds.{FeedStands, FeedsHaveOneAnswer}
 
@@ -24,7 +24,7 @@ use Rattle.edr_feed.specs.Feeds.{FeedStands, FeedsHaveOneAnswer}
 one_made : ChangesHaveOneOutcome → (old : Progress) (entry : Entry) (new other : Progress) → EntryMakes old entry new → EntryMakes old entry other → new ≡ other
 one_made outcomes old (Change change) new other p q =
     let drafts = (outcomes old.draft change).one p.0 q.0 p.1 q.1 in
-    p.2 ∙ ((λ i. published_if_bare change (record { draft = drafts i; editions = old.editions })) ∙ sym q.2)
+    p.2 ∙ ((λ i. published_if_bare change (changed old (drafts i))) ∙ sym q.2)
 one_made outcomes old Publish new other p q = p ∙ sym q
 
 blank_one : (line : List ℕ) (now : Progress) (Next : Result Progress FeedRefusal → Type 0) → HasOneAnswer Next → HasOneAnswer (UnlessBlank line now Next)
@@ -82,7 +82,7 @@ bare_numbers (Bare coverage) now n = publish_numbers now n
 
 entry_numbers : (old : Progress) (entry : Entry) (new : Progress) → AreNumberedFrom 1 old.editions → EntryMakes old entry new → AreNumberedFrom 1 new.editions
 entry_numbers old (Change change) new n makes =
-    subst (λ (now : Progress). AreNumberedFrom 1 now.editions) (sym makes.2) (bare_numbers change (record { draft = makes.0; editions = old.editions }) n)
+    subst (λ (now : Progress). AreNumberedFrom 1 now.editions) (sym makes.2) (bare_numbers change (changed old makes.0) n)
 entry_numbers old Publish new n makes = subst (λ (now : Progress). AreNumberedFrom 1 now.editions) (sym makes) (publish_numbers old n)
 
 -- a line that is done keeps the numbers

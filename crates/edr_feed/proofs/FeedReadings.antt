@@ -14,7 +14,7 @@ use Rattle.edr_feed.specs.declared.refusals.FeedRefusal.{FeedRefusal}
 use Rattle.edr_feed.specs.Refusals.{refusal_of}
 use Rattle.edr_feed.specs.Lines.{lines_of, ended_lines, read_lines, joined}
 use Rattle.edr_feed.specs.Steps.{Progress, at_start, LineRows, EachLineRows}
-use Rattle.edr_feed.specs.Feeds.{FeedStands, IsReached, InnerStands}
+use Rattle.edr_feed.specs.Feeds.{FeedStands, LeavesBehind, IsReached, InnerStands}
 use Rattle.edr_feed.specs.Readings.{progress_of, IsPlain, HasRead, InnerAt, IsAtFault, HasFault, IsFaultOf}
 use Rattle.edr_feed.proofs.FeedLines.{plain_none, plain_append, plain_take, plain_line, first_line, first_lines, ended_none, ended_first, ended_firsts}
 use Rattle.edr_feed.proofs.StepLemmas.{if_some, rows_front, fault_front, lines_done, lines_refused}
@@ -239,8 +239,9 @@ no_edition count (edition ∷ editions) n e = absurd (omega (arith, eqb-true cou
 
 -- the editions where the feed ends
 pub last_done : (bytes : List ℕ) (now : Reading) (next : Progress) → HasRead bytes now → LineRows now.number now.line.items (progress_of now.made) (Ok next)
-    → (count : ℕ) → count ≡ length next.editions → (count == 0) ≡ false → FeedStands bytes (Ok next.editions)
-last_done bytes now next h rows count n e = inl (next, all_done bytes now next h rows, inl (h.within, inl (some_edition count next.editions n e, refl)))
+    → (count : ℕ) → count ≡ length next.editions → (count == 0) ≡ false → FeedStands bytes (Ok next.editions) × LeavesBehind bytes next.behind
+last_done bytes now next h rows count n e =
+    let done = all_done bytes now next h rows in (inl (next, done, inl (h.within, inl (some_edition count next.editions n e, refl))), (next, done, refl))
 
 -- or none
 pub last_none : (bytes : List ℕ) (now : Reading) (next : Progress) → HasRead bytes now → LineRows now.number now.line.items (progress_of now.made) (Ok next)

@@ -34,6 +34,14 @@ abbrev pub FeedStandsIn : Option (List ℕ) → Result (List EditionValue) FeedR
 FeedStandsIn None answer = (bytes : List ℕ) × FeedStands bytes answer
 FeedStandsIn (Some bytes) answer = FeedStands bytes answer
 
+-- so many lines of a feed change what is published next, and stand behind its last publish
+abbrev pub LeavesBehind : List ℕ → ℕ → Type 0
+LeavesBehind bytes behind = (now : Progress) × EachLineRows 1 (read_lines bytes) at_start (Ok now) × (behind ≡ now.behind)
+
+abbrev pub LeavesBehindIn : Option (List ℕ) → ℕ → Type 0
+LeavesBehindIn None behind = (bytes : List ℕ) × LeavesBehind bytes behind
+LeavesBehindIn (Some bytes) behind = LeavesBehind bytes behind
+
 -- ---- the fault inside a line
 
 -- the lines before the one of that number make that draft and these editions

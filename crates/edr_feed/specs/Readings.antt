@@ -1,6 +1,5 @@
 -- What the steps of a reader of feeds make; for private clauses.
-use Rattle.std.specs.Prelude.{◌≡◌, ℕ, ◌+◌, ◌≤◌, ◌<◌, Bool, true, false, List, ◌++◌, length, take, Contains, All, ⊤, Option, None, Some, IfSome, Result, Ok, Err, Vec}
-use Rattle.std.specs.declared.alloc.Global.{Global}
+use Rattle.std.specs.Prelude.{◌≡◌, ℕ, ◌+◌, ◌≤◌, ◌<◌, Bool, true, false, List, ◌++◌, length, take, Contains, All, ⊤, Option, None, Some, IfSome, Result, Ok, Err}
 use Rattle.std.specs.Io.KnownBytes.{prepend_known, IsAtEnd}
 use Rattle.serde_json.specs.Data.{Data}
 use Rattle.edr_base.specs.Limits.{line_limit, feed_limit}
@@ -23,10 +22,10 @@ use Rattle.edr_feed.specs.Forms.{HasForm}
 use Rattle.edr_feed.specs.FormParts.{IsNoEntry}
 use Rattle.edr_feed.specs.Lines.{joined, IsBlank}
 use Rattle.edr_feed.specs.Steps.{Progress, at_start, EntryMakes, LineRows, EachLineRows}
-use Rattle.edr_feed.specs.Feeds.{FeedStands, FailsCheck, RefusesChange, InnerStands}
+use Rattle.edr_feed.specs.Feeds.{FeedStands, LeavesBehind, FailsCheck, RefusesChange, InnerStands}
 
 abbrev pub progress_of : Drafting → Progress
-progress_of now = record { draft = now.draft; editions = now.editions.items }
+progress_of now = record { draft = now.draft; editions = now.editions.items; behind = now.behind }
 
 abbrev pub is_bare : DraftChange → Bool
 is_bare (Bare coverage) = true
@@ -144,7 +143,7 @@ pub record ReadsWhole (old new : Option (List ℕ)) (now : Reading) : Type 0 whe
   pub ended : IsAtEnd new
   pub read : HasRead bytes now
 
--- the bytes are a feed of these editions, or are refused
-abbrev pub Ends : List ℕ → Result (Vec EditionValue Global) FeedFault → Type 0
-Ends bytes (Ok editions) = FeedStands bytes (Ok editions.items)
+-- the bytes are a feed that made this, or are refused
+abbrev pub Ends : List ℕ → Result Drafting FeedFault → Type 0
+Ends bytes (Ok made) = FeedStands bytes (Ok made.editions.items) × LeavesBehind bytes made.behind
 Ends bytes (Err fault) = HasFault bytes fault

@@ -5,7 +5,7 @@ ghost use Rattle.edr_base.specs.Calls.{SourceLent, ReadsAtMost, buffer_size};
 ghost use Rattle.edr_base.specs.Limits.{feed_limit};
 ghost use Rattle.edr_base.specs.Outside.{Rose};
 ghost use Rattle.edr_edition.specs.Shelves.{IsLog};
-ghost use Rattle.edr_feed.specs.Feeds.{FeedStandsIn, InnerStandsIn, ReadsToLine, FeedsHaveOneAnswer};
+ghost use Rattle.edr_feed.specs.Feeds.{FeedStandsIn, LeavesBehindIn, InnerStandsIn, ReadsToLine, FeedsHaveOneAnswer};
 ghost use Rattle.edr_feed.specs.Readings.{ReadsWhole};
 ghost use Rattle.edr_feed.specs.Refusals.{refusal_of, line_of};
 
@@ -23,6 +23,8 @@ use std::alloc::Global;
 pub struct Feed {
     /// Its editions, at least one, numbered from 1.
     pub editions: Items<Edition>,
+    /// How many of its lines make changes behind its last publish.
+    pub behind: u64,
 }
 
 // All that a source gives.
@@ -55,6 +57,7 @@ fn read_whole<S: Source>(alloc: Global, source: &mut S) -> Result<Reading, FeedF
 /// most the lines up to it and 16,384 bytes more.
 pub fn read_feed<S: Source>(alloc: Global, source: &mut S) -> Result<Feed, FeedFault>
     ensures editions { IfOk result (λ feed. FeedStandsIn (S.left source.old) (Ok feed.editions)) }
+    ensures lines { IfOk result (λ feed. LeavesBehindIn (S.left source.old) feed.behind) }
     ensures fault { IfErr result (λ fault. IfSome (refusal_of fault) (λ refusal. FeedStandsIn (S.left source.old) (Err refusal))) }
     ensures inner { IfErr result (λ fault. InnerStandsIn (S.left source.old) fault) }
     ensures log { IfOk result (λ feed. IsLog feed.editions) }
@@ -65,9 +68,10 @@ pub fn read_feed<S: Source>(alloc: Global, source: &mut S) -> Result<Feed, FeedF
     ensures cause { IsErrOf result FeedFault.ReadFault → Rose (S.faults source.old) (S.faults source.new) }
 {
     let now = read_whole(alloc, source)?;
-    let editions = end(alloc, now)?;
+    let made = end(alloc, now)?;
     Ok(Feed {
-        editions: Items::of(editions),
+        editions: Items::of(made.editions),
+        behind: made.behind,
     })
 }
 

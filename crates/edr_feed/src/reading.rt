@@ -6,7 +6,6 @@ use crate::faults::FeedFault;
 use crate::steps::{Drafting, do_line};
 use edr_base::{FEED_LIMIT, LINE_LIMIT, cut_at};
 use edr_draft::Draft;
-use edr_edition::Edition;
 use std::alloc::Global;
 
 /// How far a feed was read: what its lines made, and the line that goes on.
@@ -32,6 +31,7 @@ pub fn begin(alloc: Global) -> Reading
         made: Drafting {
             draft: Draft::empty(alloc),
             editions: Vec::new(alloc),
+            behind: 0,
         },
         line: Vec::new(alloc),
         length: 0,
@@ -100,8 +100,8 @@ pub fn read_on(alloc: Global, now: &mut Reading, piece: &[u8]) -> Result<(), Fee
     go_on(now, rest)
 }
 
-/// The feed ends: the editions that it published.
-pub fn end(alloc: Global, mut now: Reading) -> Result<Vec<Edition>, FeedFault>
+/// The feed ends: what its lines made.
+pub fn end(alloc: Global, mut now: Reading) -> Result<Drafting, FeedFault>
     ensures stands { (bytes : List ℕ) → HasRead bytes now → Ends bytes result }
     ensures on { GoesOn now.number result now.number }
 {
@@ -109,5 +109,5 @@ pub fn end(alloc: Global, mut now: Reading) -> Result<Vec<Edition>, FeedFault>
     if now.made.editions.is_empty() {
         return Err(FeedFault::NothingPublished);
     }
-    Ok(now.made.editions)
+    Ok(now.made)
 }

@@ -12,13 +12,15 @@ use edr_edition::Edition;
 use std::alloc::Global;
 use std::mem;
 
-/// A draft, and the editions that were published before it.
+/// A draft, the editions that were published before it, and how many changes were made since.
 #[derive(Drop)]
 pub struct Drafting {
     /// The collections of the next edition.
     pub draft: Draft,
     /// The editions, in the order of their numbers.
     pub editions: Vec<Edition>,
+    /// It stands still at 18,446,744,073,709,551,615.
+    pub behind: u64,
 }
 
 // The draft becomes the next edition, and goes on.
@@ -30,6 +32,7 @@ fn publish(alloc: Global, now: &mut Drafting) -> Result<(), LineFault>
     let edition = draft.finish(now.editions.len() as u64 + 1);
     now.draft = Draft::from_edition(alloc, &edition)?;
     now.editions.push(edition)?;
+    now.behind = 0;
     Ok(())
 }
 
@@ -48,6 +51,7 @@ fn do_entry(alloc: Global, now: &mut Drafting, entry: Entry) -> Result<(), LineF
         Entry::Change(change) => {
             let bare = is_bare(&change);
             now.draft.apply(change)?;
+            now.behind = now.behind.saturating_add(1);
             if bare { publish(alloc, now) } else { Ok(()) }
         }
         Entry::Publish => publish(alloc, now),

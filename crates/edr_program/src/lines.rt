@@ -24,7 +24,7 @@ pub fn said_of_feed(refusal: FeedRefusal) -> (&'static [u8], Option<usize>)
 }
 
 // Writes one text and then another.
-fn send_both<D: Sink>(sink: &mut D, first: &[u8], second: &[u8]) -> Result<(), SendFault>
+pub(crate) fn send_both<D: Sink>(sink: &mut D, first: &[u8], second: &[u8]) -> Result<(), SendFault>
     ensures bytes { Writes result (first.now ++ second.now) (D.written sink.old) (D.written sink.new) }
     ensures lent { SinkLent (D.beside sink.old) (D.beside sink.new) (D.faults sink.old) (D.faults sink.new) }
     ensures cause { IsErrOf result SendFault.WriteFault → Rose (D.faults sink.old) (D.faults sink.new) }

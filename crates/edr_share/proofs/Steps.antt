@@ -1,5 +1,5 @@
 -- Each kind of step keeps the rule.
-use Rattle.std.proofs.Common.{◌≡◌, ◌≢◌, ℕ, ◌+◌, List, [], ◌∷◌, ◌++◌, length, Bool, true, false, set, refl, sym, ap, subst, ⊎_elim, ◌∙◌, arith, append-nil, Global, fold}
+use Rattle.std.proofs.Common.{◌≡◌, ◌≢◌, ℕ, ◌+◌, List, [], ◌∷◌, ◌++◌, length, length-append, Bool, true, false, set, refl, sym, ap, subst, ⊎_elim, ◌∙◌, arith, append-nil, Global, fold}
 use mathlib.Core.List.{append_assoc}
 use mathlib.Core.Option.{some}
 use lib.ListN.{get_elem?}
@@ -9,9 +9,10 @@ use Rattle.crossbeam_utils.specs.Register.{Admits, TurnsAt}
 use Rattle.atomic_table.proofs.Lists.{at_set, at_snoc}
 use Rattle.edr_edition.specs.declared.editions.Edition.{Edition}
 use Rattle.edr_edition.specs.Values.{EditionValue}
-use Rattle.edr_edition.specs.Shelves.{AreNumberedFrom, IsShelfList, IsLog, BeginsSeen, EndsWith}
+use Rattle.edr_edition.specs.Shelves.{AreNumberedFrom, IsShelfList, BeginsSeen, EndsWith, IsNext}
 use Rattle.edr_share.specs.declared.shown.Shown.{Shown}
 use Rattle.edr_share.specs.declared.rule.View.{View}
+use Rattle.edr_share.specs.Values.{IsShelfLog}
 use Rattle.edr_share.specs.Rule.{Fits, Keeps, newcomer, Sees, Opens, Grows}
 
 -- ---- lists of editions
@@ -25,8 +26,8 @@ none_seen editions = (editions, refl)
 begins_on : (seen log longer : List EditionValue) → BeginsSeen seen log → BeginsSeen log longer → BeginsSeen seen longer
 begins_on seen log longer first then = (first.0 ++ then.0, then.1 ∙ (ap (λ es. es ++ then.0) first.1 ∙ append_assoc seen first.0 then.0))
 
-pub list_of_log : (editions : List EditionValue) → IsLog editions → IsShelfList editions
-list_of_log editions is = (1, is.numbered)
+pub list_of_log : (editions : List EditionValue) → IsShelfLog editions → IsShelfList editions
+list_of_log editions is = (is.first, is.numbered)
 
 not_empty : (editions : List EditionValue) (edition : EditionValue) → editions ++ edition ∷ [] ≢ []
 not_empty [] edition = λ is. cc
@@ -37,9 +38,23 @@ numbered_on : (number : ℕ) (editions : List EditionValue) (edition : EditionVa
 numbered_on number [] edition ascends is = (omega (arith, is), tt)
 numbered_on number (first ∷ editions) edition ascends is = (ascends.0, numbered_on (number + 1) editions edition ascends.1 (omega (arith, is)))
 
+-- the last has the number of its place
+number_of_last : (number : ℕ) (front : List EditionValue) (last : EditionValue) → AreNumberedFrom number (front ++ last ∷ []) → last.number ≡ number + length front
+number_of_last number [] last ascends = let first : last.number ≡ number = ascends.0 in omega (arith, first)
+number_of_last number (first ∷ front) last ascends = let behind = number_of_last (number + 1) front last ascends.1 in omega (arith, behind)
+
+-- a log of one edition
+log_of : (edition : EditionValue) → IsShelfLog (edition ∷ [])
+log_of edition = record { some = not_empty [] edition; first = edition.number; numbered = (refl, tt) }
+
 -- the log with one edition more
-pub log_on : (log : List EditionValue) (next : EditionValue) → IsLog log → next.number ≡ length log + 1 → IsLog (log ++ next ∷ [])
-log_on log next is number = record { some = not_empty log next; numbered = numbered_on 1 log next is.numbered (omega (arith, number)) }
+pub log_on : (log : List EditionValue) (next : EditionValue) → IsShelfLog log → IsNext log next → IsShelfLog (log ++ next ∷ [])
+log_on log next is follows =
+    let front = follows.1.0 in
+    let last = number_of_last is.first front follows.0 (subst (AreNumberedFrom is.first) follows.1.1 is.numbered) in
+    let long : length log ≡ length front + 1 = ap length follows.1.1 ∙ length-append front (follows.0 ∷ []) in
+    let number : next.number ≡ is.first + length log = omega (arith, follows.2, last, long) in
+    record { some = not_empty log next; first = is.first; numbered = numbered_on is.first log next is.numbered number }
 
 -- ---- what the steps have in common
 
@@ -112,11 +127,11 @@ nobody : (seat : ℕ) (view : View) → get_elem? [] seat ≡ some view → ⊥
 nobody seat view at = cc
 
 -- the first view
-pub starts : (shown : Shown) → shown.begun ≡ false → (arc_value shown.latest).number ≡ 1 → Keeps shown (newcomer ∷ [])
-starts shown shut one = admits shown [] (record {
+pub starts : (shown : Shown) → shown.begun ≡ false → Keeps shown (newcomer ∷ [])
+starts shown shut = admits shown [] (record {
   log = arc_value shown.latest ∷ [];
   publisher = 0;
-  is_log = record { some = not_empty [] (arc_value shown.latest); numbered = (one, tt) };
+  is_log = log_of (arc_value shown.latest);
   last = ([], refl);
   first = λ _. refl;
   each = λ seat view at. absurd (nobody seat view at);
@@ -148,7 +163,7 @@ opens seat view shown next first operations one is shut same views keeps at =
 -- ---- a publish
 
 pub publishes : (seat : ℕ) (view : View) (shown next : Shown) (edition : Handle) (operations : List Handle) → operations ≡ edition ∷ []
-    → state_of next ≡ fold applied (state_of shown) operations → view.publishes ≡ true → (arc_value edition).number ≡ length view.seen + 1 → TurnsAt Keeps seat view shown next Grows
+    → state_of next ≡ fold applied (state_of shown) operations → view.publishes ≡ true → IsNext view.seen (arc_value edition) → TurnsAt Keeps seat view shown next Grows
 publishes seat view shown next edition operations one is may number views keeps at =
     let mine = keeps.each seat view at in
     let is' : state_of next ≡ (arc_value edition, true) = is ∙ ap (λ os. fold applied (state_of shown) os) one in
@@ -156,13 +171,13 @@ publishes seat view shown next edition operations one is may number views keeps 
     let begun : next.begun ≡ true = ap (λ (p : EditionValue × Bool). p.1) is' in
     let log' : List EditionValue = view.seen ++ arc_value next.latest ∷ [] in
     let more : BeginsSeen keeps.log log' = (arc_value next.latest ∷ [], ap (λ (l : List EditionValue). l ++ arc_value next.latest ∷ []) (mine.whole may)) in
-    let number' : (arc_value next.latest).number ≡ length view.seen + 1 = ap (λ (e : EditionValue). e.number) latest ∙ number in
+    let number' : IsNext view.seen (arc_value next.latest) = subst (IsNext view.seen) (sym latest) number in
     let after : View = record { seen = log'; publishes = true } in (
       after,
       record {
         log = log';
         publisher = keeps.publisher;
-        is_log = log_on view.seen (arc_value next.latest) (subst IsLog (sym (mine.whole may)) keeps.is_log) number';
+        is_log = log_on view.seen (arc_value next.latest) (subst IsShelfLog (sym (mine.whole may)) keeps.is_log) number';
         last = (view.seen, refl);
         first = λ not. absurd (not_both next.begun begun not);
         each = changed shown next keeps.log log' keeps.publisher keeps.publisher seat after views

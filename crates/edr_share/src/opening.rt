@@ -18,7 +18,6 @@ use std::sync::{Arc, Wait};
 
 // A writer that may publish, with so many places for readers. Its log is the first edition alone.
 fn open<R: Wait>(rt: &R, alloc: Global, first: Edition, readers: usize) -> Result<LogWriter, Stop>
-    requires number { first.number ≡ 1 }
     requires readers { (0 < readers) × (readers < 2 ^ 32) }
     ensures log { IfOk result (λ writer. (view writer.desk.place).seen ≡ first ∷ []) }
     ensures publishes { IfOk result (λ writer. (view writer.desk.place).publishes ≡ true) }
@@ -86,7 +85,6 @@ pub fn open_shelf<R: Wait>(
     readers: usize,
     places: &mut Places,
 ) -> Result<(Publisher, Vec<SharedShelf>), Stop>
-    requires number { first.number ≡ 1 }
     requires readers { 1 ≤ readers }
     ensures publisher { IfOk result (λ opened. (opened.0.log ≡ first ∷ []) × (opened.0.closed ≡ false)) }
     ensures readers { IfOk result (λ opened. vec_len opened.1 ≡ readers) }
@@ -96,9 +94,10 @@ pub fn open_shelf<R: Wait>(
     if readers >= 1 << 32 {
         return Err(Stop::OutOfMemory);
     }
+    let number = first.number();
     let writer = open(rt, alloc, first, readers)?;
     match shelves(alloc, writer.factory(), readers, places) {
-        Ok(shelves) => Ok((Publisher::over(writer), shelves)),
+        Ok(shelves) => Ok((Publisher::over(writer, number), shelves)),
         Err(stop) => {
             let _shown = writer.take(rt);
             Err(stop)

@@ -1,8 +1,9 @@
 //! The one publisher of a shelf, and what it tells.
-ghost use Rattle.std.specs.Prelude.{◌≡◌, ◌+◌, [], ◌∷◌, ◌++◌, drop, length, OnOk, OnErr, MatchResult, IsTrue, IsFalse, true, false, Some, None};
+ghost use Rattle.std.specs.Prelude.{◌≡◌, [], ◌∷◌, ◌++◌, drop, OnOk, OnErr, MatchResult, IsTrue, IsFalse, true, false, Some, None};
 ghost use Rattle.std.specs.Arc.{arc_value};
 ghost use Rattle.left_right.specs.Sides.{view};
-ghost use Rattle.edr_edition.specs.Shelves.{IsLog};
+ghost use Rattle.edr_edition.specs.Shelves.{IsNext};
+ghost use Rattle.edr_share.specs.Values.{EndsAt, IsShelfLog};
 
 use crate::rule::{LogWriter, Origin, Publish};
 use edr_base::OutOfMemory;
@@ -12,10 +13,10 @@ use std::marker::Model;
 use std::snapshot::Snapshot;
 use std::sync::{Arc, Wait};
 
-/// How many editions were published when a publisher told it. Only a publisher makes one.
+/// The number of the last edition that was published when a publisher told it. Only a publisher makes one.
 #[derive(Drop)]
 pub struct Told {
-    count: u64,
+    number: u64,
     // That of the publisher that told it.
     origin: Snapshot<Origin>,
 }
@@ -26,30 +27,29 @@ impl Model for Told {
 
     ghost Value = { ToldValue };
 
-    ghost view = { λ told. record { count = told.count; origin = (arc_value told.origin.value.value.board).shared.table_id } };
+    ghost view = { λ told. record { number = told.number; origin = (arc_value told.origin.value.value.board).shared.table_id } };
 }
 
 impl Told {
     /// The number of the last edition that was published then.
-    pub fn count(&self) -> u64
-        ensures { result ≡ self.now.count }
+    pub fn number(&self) -> u64
+        ensures { result ≡ self.now.number }
     {
-        self.count
+        self.number
     }
 }
 
 // Publishes one more edition, and says whether it did. Where it didn't, the log is as it was.
-#[tactic(auto, using(crate::proofs::Steps::log_on))]
 fn push<R: Wait>(rt: &R, writer: LogWriter, next: Arc<Edition>) -> (LogWriter, bool)
     requires pending { drop writer.behind writer.log.items ≡ [] }
-    requires log { IsLog (view writer.desk.place).seen }
-    requires number { (arc_value next).number ≡ length (view writer.desk.place).seen + 1 }
+    requires log { IsShelfLog (view writer.desk.place).seen }
+    requires number { IsNext (view writer.desk.place).seen (arc_value next) }
     requires publishes { (view writer.desk.place).publishes ≡ true }
     ensures grew { IsTrue result.1 → (view result.0.desk.place).seen ≡ (view writer.desk.place).seen ++ arc_value next ∷ [] }
     ensures kept { IsFalse result.1 → (view result.0.desk.place).seen ≡ (view writer.desk.place).seen }
     ensures pending { IsTrue result.1 → drop result.0.behind result.0.log.items ≡ [] }
-    ensures count { IsTrue result.1 → length (view result.0.desk.place).seen ≡ (arc_value next).number }
-    ensures log { IsLog (view result.0.desk.place).seen }
+    ensures number { IsTrue result.1 → EndsAt (view result.0.desk.place).seen (arc_value next).number }
+    ensures log { IsShelfLog (view result.0.desk.place).seen }
     ensures publishes { (view result.0.desk.place).publishes ≡ true }
 {
     let mut writer = writer;
@@ -81,17 +81,17 @@ fn put(slot: &mut Option<LogWriter>, writer: LogWriter)
 pub struct Publisher {
     writer: Option<LogWriter>,
     origin: Origin,
-    count: u64,
+    // That of the last edition.
+    number: u64,
     closed: bool,
 }
 
 impl Model for Publisher {
-    ghost use Rattle.std.specs.Prelude.{[], ◌≡◌, length, drop, true, false, IsSomeAnd};
+    ghost use Rattle.std.specs.Prelude.{[], ◌≡◌, drop, true, false, IsSomeAnd};
     ghost use Rattle.std.specs.Option.{unwrap_or, option_map};
     ghost use Rattle.std.specs.Arc.{arc_value};
     ghost use Rattle.left_right.specs.Sides.{view as view_of};
-    ghost use Rattle.edr_edition.specs.Shelves.{IsLog};
-    ghost use Rattle.edr_share.specs.Values.{PublisherValue};
+    ghost use Rattle.edr_share.specs.Values.{EndsAt, IsShelfLog, PublisherValue};
     ghost use Rattle.edr_share.specs.declared.shown.Shown.{Shown};
     ghost use Rattle.edr_share.specs.declared.rule.View.{View};
 
@@ -105,16 +105,16 @@ impl Model for Publisher {
 
     ghost invariant = { λ publisher. IsSomeAnd publisher.writer (λ writer.
         ((view_of {T = Shown} {V = View} writer.desk.place).publishes ≡ true)
-        × IsLog (view_of {T = Shown} {V = View} writer.desk.place).seen
-        × (publisher.count ≡ length (view_of {T = Shown} {V = View} writer.desk.place).seen)
+        × IsShelfLog (view_of {T = Shown} {V = View} writer.desk.place).seen
+        × EndsAt (view_of {T = Shown} {V = View} writer.desk.place).seen publisher.number
         × (publisher.closed ≡ false → drop writer.behind writer.log.items ≡ [])) };
 }
 
 impl Publisher {
-    // The publisher of a shelf with one edition.
-    pub(crate) fn over(writer: LogWriter) -> Publisher
-        requires one { length (view writer.desk.place).seen ≡ 1 }
-        requires log { IsLog (view writer.desk.place).seen }
+    // The publisher of a shelf whose last edition has this number.
+    pub(crate) fn over(writer: LogWriter, number: u64) -> Publisher
+        requires number { EndsAt (view writer.desk.place).seen number }
+        requires log { IsShelfLog (view writer.desk.place).seen }
         requires publishes { (view writer.desk.place).publishes ≡ true }
         requires pending { drop writer.behind writer.log.items ≡ [] }
         ensures { result ≡ record { log = (view writer.desk.place).seen; closed = false; origin = writer.desk.place.table_id } }
@@ -123,7 +123,7 @@ impl Publisher {
         Publisher {
             writer: Some(writer),
             origin,
-            count: 1,
+            number,
             closed: false,
         }
     }
@@ -138,10 +138,10 @@ impl Publisher {
         alloc: Global,
         next: Edition,
     ) -> Result<(), OutOfMemory>
-        requires { next.number ≡ length self.old.log + 1 }
+        requires { IsNext self.old.log next }
         ensures grew { OnOk result (self.new.log ≡ self.old.log ++ next ∷ []) }
         ensures kept { OnErr result (self.new.log ≡ self.old.log) }
-        ensures log { IsLog self.new.log }
+        ensures log { IsShelfLog self.new.log }
         ensures closed { MatchResult result (λ _. (self.old.closed ≡ false) × (self.new.closed ≡ false)) (λ _. self.new.closed ≡ true) }
         ensures origin { self.new.origin ≡ self.old.origin }
     {
@@ -157,18 +157,19 @@ impl Publisher {
             return Err(OutOfMemory);
         }
         self.closed = false;
-        self.count = number;
+        self.number = number;
         Ok(())
     }
 
-    /// Tells how many editions were published, for a reader to learn. It takes no memory.
+    /// Tells the number of the last edition that was published, for a reader to learn. It takes no memory.
     pub fn tell(&mut self) -> Told
-        ensures told { result ≡ record { count = length self.old.log; origin = self.old.origin } }
+        ensures told { EndsAt self.old.log result.number }
+        ensures origin { result.origin ≡ self.old.origin }
         ensures kept { self.new ≡ self.old }
-        ensures log { IsLog self.new.log }
+        ensures log { IsShelfLog self.new.log }
     {
         Told {
-            count: self.count,
+            number: self.number,
             origin: Snapshot::of(&self.origin),
         }
     }
@@ -179,7 +180,7 @@ impl Publisher {
         let Publisher {
             writer,
             origin: _,
-            count: _,
+            number: _,
             closed: _,
         } = self;
         let _shown = writer.unwrap().take(rt);

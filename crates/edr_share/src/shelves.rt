@@ -2,8 +2,8 @@
 ghost use Rattle.std.specs.Prelude.{◌≡◌, ◌≤◌, ◌⊎◌, max, [], ◌∷◌, IfOk, IfSome, OnErr, MatchResult, Some, None};
 ghost use Rattle.std.specs.Arc.{arc_value};
 ghost use Rattle.left_right.specs.Sides.{view};
-ghost use Rattle.edr_edition.specs.Shelves.{IsShelfList, IsLog, BeginsSeen, EndsWith, TakenGrew};
-ghost use Rattle.edr_share.specs.Values.{unread};
+ghost use Rattle.edr_edition.specs.Shelves.{IsShelfList, BeginsSeen, EndsWith, TakenGrew};
+ghost use Rattle.edr_share.specs.Values.{IsShelfLog, unread};
 ghost use Rattle.edr_share.specs.Rule.{newcomer};
 
 use crate::publishers::Told;
@@ -18,8 +18,8 @@ use std::sync::Arc;
 fn look(reader: LogReader) -> (LogReader, Option<Arc<Edition>>)
     ensures grows { BeginsSeen (view reader.place).seen (view result.0.place).seen }
     ensures last { IfSome result.1 (λ edition. EndsWith (view result.0.place).seen (arc_value edition)) }
-    ensures log { IfSome result.1 (λ _. IsLog (view result.0.place).seen) }
-    ensures none { ((view result.0.place).seen ≡ (view reader.place).seen) ⊎ IsLog (view result.0.place).seen }
+    ensures log { IfSome result.1 (λ _. IsShelfLog (view result.0.place).seen) }
+    ensures none { ((view result.0.place).seen ≡ (view reader.place).seen) ⊎ IsShelfLog (view result.0.place).seen }
 {
     match reader.enter_as::<Look>() {
         Ok(reading) => {
@@ -78,9 +78,9 @@ impl SharedShelf {
     /// Learns what its publisher told: from now on no take answers a lower number than that. It takes no memory.
     pub fn learn(&mut self, told: Told)
         requires { told.origin ≡ self.old.origin }
-        ensures { self.new ≡ record self.old { floor = max self.old.floor told.count } }
+        ensures { self.new ≡ record self.old { floor = max self.old.floor told.number } }
     {
-        self.floor = self.floor.max(told.count());
+        self.floor = self.floor.max(told.number());
     }
 }
 
@@ -102,7 +102,7 @@ impl Editions for SharedShelf {
         ensures untaken { OnErr result (⟦<SharedShelf as Editions>⟧.taken self.new ≡ ⟦<SharedShelf as Editions>⟧.taken self.old) }
         ensures stock { ⟦<SharedShelf as Editions>⟧.stock self.new ≡ ⟦<SharedShelf as Editions>⟧.stock self.old }
         ensures within { IfSome (⟦<SharedShelf as Editions>⟧.stock self.new) (λ all. BeginsSeen self.new.seen all) }
-        ensures log { MatchResult result (λ _. IsLog self.new.seen) (λ _. (self.new.seen ≡ self.old.seen) ⊎ IsLog self.new.seen) }
+        ensures log { MatchResult result (λ _. IsShelfLog self.new.seen) (λ _. (self.new.seen ≡ self.old.seen) ⊎ IsShelfLog self.new.seen) }
         ensures floor { IfOk result (λ edition. self.old.floor ≤ (arc_value edition).number) }
         ensures kept { (self.new.floor ≡ self.old.floor) × (self.new.origin ≡ self.old.origin) }
     {

@@ -6,10 +6,10 @@ use Rattle.std.proofs.lemmas.Bool.{false≢true}
 use Rattle.std.proofs.lemmas.List.Sums.{sum_by-cons}
 use Rattle.edr_base.specs.Outside.{Rose}
 use Rattle.edr_edition.specs.Values.{EditionValue}
-use Rattle.edr_edition.specs.Shelves.{AreNumberedFrom}
+use Rattle.edr_edition.specs.Shelves.{AreNumberedFrom, IsNext}
 use Rattle.edrd.specs.Limits.{worker_limit, accept_limit}
 use Rattle.edrd.specs.declared.working.Serving.{Serving}
-use Rattle.edrd.specs.Serving.{HasEnded, is_left}
+use Rattle.edrd.specs.Serving.{Continues, HasEnded, is_left}
 use Rattle.edrd.specs.Jobs.{HasServed, acceptor_of, sessions_of, faults_of, has_failed}
 
 -- ---- one by one
@@ -31,21 +31,24 @@ ended_none (Some x) old new n counted is some none = absurd cc
 
 -- ---- the editions that are published
 
-numbered_drop : (n k : ℕ) (all : List EditionValue) → AreNumberedFrom n all → AreNumberedFrom (n + k) (drop k all)
-numbered_drop n zero all h = rw (add-zero n) h
-numbered_drop n (suc k) [] h = tt
-numbered_drop n (suc k) (e ∷ all) h =
-    let rest = numbered_drop (n + 1) k all h.1 in
-    let same : n + 1 + k ≡ n + suc k = omega arith in subst (λ (m : ℕ). AreNumberedFrom m (drop k all)) same rest
+-- the next edition goes on from the log
+pub next_is : (log rest all : List EditionValue) (e : EditionValue) → Continues log all → all ≡ e ∷ rest → IsNext log e
+next_is log rest all e on left =
+    let numbered = subst (AreNumberedFrom (on.number + 1)) left on.numbered in
+    (on.ends.last, on.ends.ends, let number : e.number ≡ on.number + 1 = numbered.0 in omega (arith, number, on.ends.is))
 
--- the next edition has the number behind the log
-pub next_number : (log log' all rest : List EditionValue) (k : ℕ) (e : EditionValue) → AreNumberedFrom (length log + 1) all → k ≤ length all
-    → log' ≡ log ++ take k all → e ∷ rest ≡ drop k all → e.number ≡ length log' + 1
-next_number log log' all rest k e numbered few is left =
-    let first = subst (AreNumberedFrom (length log + 1 + k)) (sym left) (numbered_drop (length log + 1) k all numbered) in
-    let long : length log' ≡ length log + k = ap length is ∙ length-append log (take k all) ∙ ap (λ m. length log + m) (length-take-le k all few) in
-    let number : e.number ≡ length log + 1 + k = first.0 in
-    omega (arith, number, long)
+-- and others go on from it
+pub continues_on : (log log' rest all all' : List EditionValue) (e : EditionValue) → Continues log all → all ≡ e ∷ rest → log' ≡ log ++ e ∷ []
+    → rest ≡ all' → Continues log' all'
+continues_on log log' rest all all' e on left grew then =
+    let numbered = subst (AreNumberedFrom (on.number + 1)) left on.numbered in
+    let number : e.number ≡ on.number + 1 = numbered.0 in
+    let next : on.number + 1 + 1 ≡ e.number + 1 = omega (arith, number) in
+    record {
+      number = e.number;
+      ends = record { last = e; ends = (log, grew); is = refl };
+      numbered = subst (AreNumberedFrom (e.number + 1)) then (subst (λ (n : ℕ). AreNumberedFrom n rest) next numbered.1);
+    }
 
 none_behind : {T : Type 0} (x : T) (xs : List T) (k : ℕ) → x ∷ xs ≡ drop k [] → ⊥
 none_behind x xs zero h = cc

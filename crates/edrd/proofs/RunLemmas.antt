@@ -8,7 +8,7 @@ use Rattle.edr_base.specs.Limits.{feed_limit}
 use Rattle.edr_base.specs.Calls.{ReadsAtMost, buffer_size}
 use Rattle.edr_base.specs.Outside.{Rose}
 use Rattle.edr_edition.specs.Values.{EditionValue}
-use Rattle.edr_feed.specs.Feeds.{FeedStandsIn}
+use Rattle.edr_feed.specs.Feeds.{FeedStandsIn, LeavesBehindIn}
 use Rattle.edr_feed.specs.declared.faults.FeedFault.{FeedFault}
 use Rattle.edr_feed.specs.declared.faults.FeedFault.TheVariants as faults
 use Rattle.edr_feed.specs.declared.refusals.FeedRefusal.{FeedRefusal}
@@ -28,6 +28,11 @@ pub stands_opened : (content left : Option (List ℕ)) (answer : Result (List Ed
 stands_opened None None answer h x = x
 stands_opened None (Some bytes) answer h x = (bytes, x)
 stands_opened (Some told) left answer h x = subst (λ (z : Option (List ℕ)). FeedStandsIn z answer) h x
+
+pub leaves_opened : (content left : Option (List ℕ)) (behind : ℕ) → IfSome content (λ told. left ≡ Some told) → LeavesBehindIn left behind → LeavesBehindIn content behind
+leaves_opened None None behind h x = x
+leaves_opened None (Some bytes) behind h x = (bytes, x)
+leaves_opened (Some told) left behind h x = subst (λ (z : Option (List ℕ)). LeavesBehindIn z behind) h x
 
 pub fault_cause : (fault : FeedFault) (content left : Option (List ℕ)) (before after : ℕ) (idle : Bool) → IfSome content (λ told. left ≡ Some told)
     → IfSome (refusal_of fault) (λ refusal. FeedStandsIn left (Err refusal)) → (fault ≡ faults.ReadFault → Rose before after × (idle ≡ false))

@@ -13,11 +13,11 @@ use Rattle.clap.specs.Words.{App, Row, Text, HasKind, IsAmong, kind_of, is_simpl
 use Rattle.clap.specs.declared.error.Error.{Error}
 use Rattle.clap.specs.declared.error.kind.ErrorKind.{ErrorKind}
 use Rattle.clap.specs.declared.error.kind.ErrorKind.TheVariants as kinds
-use Rattle.clap.specs.Words.{first_value, rows_of}
+use Rattle.clap.specs.Words.{first_of, first_value, rows_of}
 use Rattle.clap.specs.declared.parser.matches.Found.{Found}
 use Rattle.clap.proofs.OnLiterals.{clap_on_literals}
 use Rattle.clap.proofs.WalkLemmas.{first_value-rows}
-use Rattle.edrd.specs.Words.{command, settings_of, settings_in, unless, asked_of, asked_by, all_words}
+use Rattle.edrd.specs.Words.{command, settings_in, unless, asked_of, settings_by, all_words}
 use Rattle.edrd.specs.declared.words.Settings.{Settings}
 
 command_is_simple : is_simple command ≡ true
@@ -62,16 +62,16 @@ by_test : (words : List Text) (answer : Option Settings) → list_all is_utf8 wo
 by_test words answer all = rw all refl
 
 pub of_texts : (words texts : List Text) (settings : Option Settings) → list_all is_utf8 words ≡ true → texts ≡ all_words words
-    → settings ≡ asked_of command texts → settings ≡ asked_by words
+    → settings ≡ asked_of command texts → settings ≡ settings_by words
 of_texts words texts settings all same is =
     is ∙ subst (λ (t : List Text). asked_of command texts ≡ asked_of command t) same refl ∙ by_test words (asked_of command (all_words words)) all
 
 pub of_texts_ok : {E : Type 0} (result : Result (Option Settings) E) (words texts : List Text) → list_all is_utf8 words ≡ true → texts ≡ all_words words
-    → IfOk result (λ settings. settings ≡ asked_of command texts) → IfOk result (λ settings. settings ≡ asked_by words)
+    → IfOk result (λ settings. settings ≡ asked_of command texts) → IfOk result (λ settings. settings ≡ settings_by words)
 of_texts_ok (Ok settings) words texts all same is = of_texts words texts settings all same is
 of_texts_ok (Err fault) words texts all same is = tt
 
-pub not_utf8 : (words : List Text) → list_all is_utf8 words ≡ false → None ≡ asked_by words
+pub not_utf8 : (words : List Text) → list_all is_utf8 words ≡ false → None ≡ settings_by words
 not_utf8 words none = by_none (asked_of command (all_words words)) none
   where
     by_none : (answer : Option Settings) → list_all is_utf8 words ≡ false → None ≡ (if list_all is_utf8 words then answer else None)
@@ -99,14 +99,5 @@ utf8_none words i d within none = decided (list_all is_utf8 words) refl
 
 -- ---- what was found
 
-same_settings : (a a' b b' c c' d d' e e' f f' : Option Text) → a ≡ a' → b ≡ b' → c ≡ c' → d ≡ d' → e ≡ e' → f ≡ f'
-    → settings_of a b c d e f ≡ settings_of a' b' c' d' e' f'
-same_settings a a' b b' c c' d d' e e' f f' p q r s t u = rw (p, q, r, s, t, u) refl
-
-pub found_as : (f : Found) (a b c d e i : Option Text) → a ≡ first_value f (codes "feed") → b ≡ first_value f (codes "port")
-    → c ≡ first_value f (codes "workers") → d ≡ first_value f (codes "every") → e ≡ first_value f (codes "connections")
-    → i ≡ first_value f (codes "idle") → settings_of a b c d e i ≡ settings_in (rows_of f)
-found_as f a b c d e i p q r s t u =
-    same_settings _ _ _ _ _ _ _ _ _ _ _ _ (p ∙ first_value-rows f (codes "feed")) (q ∙ first_value-rows f (codes "port"))
-    (r ∙ first_value-rows f (codes "workers")) (s ∙ first_value-rows f (codes "every")) (t ∙ first_value-rows f (codes "connections"))
-    (u ∙ first_value-rows f (codes "idle"))
+pub first_in : (f : Found) (id : Text) (value : Option Text) → value ≡ first_value f id → value ≡ first_of id (rows_of f)
+first_in f id value is = is ∙ first_value-rows f id

@@ -1,16 +1,20 @@
 -- How a run ends: its status, what it says on the errors and on the standard output, and what became of the feed's files, of the doors, of the shelf's places and of the
 -- gate. Each table goes by the ending; a last row of any `ending` is that of all which have none of their own.
-use Rattle.std.specs.Prelude.{◌≡◌, ◌⊎◌, ℕ, ◌+◌, ◌-◌, min, Bool, true, false, ◌++◌, ⊤, codes, List, [], ◌∷◌, length, take, Ok, Err, IsSome, IsSomeAnd, None, Some, option_map}
+use Rattle.std.specs.Prelude.{◌≡◌, ◌⊎◌, ℕ, ◌+◌, ◌-◌, min, Bool, true, false, ◌++◌, ⊤, codes, List, [], ◌∷◌, length, take, drop, Ok, Err, IsSome, IsSomeAnd, None, Some, option_map}
 use Rattle.std.specs.declared.option.Option.{Option}
 use Rattle.edr_base.specs.Outside.{Aside, Rose}
 use Rattle.edr_base.specs.Limits.{count_limit}
 use Rattle.edr_edition.specs.Values.{EditionValue}
-use Rattle.edr_feed.specs.Feeds.{FeedStandsIn}
+use Rattle.edr_feed.specs.Feeds.{FeedStandsIn, LeavesBehindIn}
 use Rattle.edr_program.specs.FileReads.{IsFileRead}
 use Rattle.edr_program.specs.Lines.{feed_said, Tells}
-use Rattle.edrd.specs.Saying.{OutputState, SaysAll, serving_lines, count_line}
+use Rattle.edr_program.specs.Versions.{version_line}
+use Rattle.edrd.specs.Helps.{usage, help}
+use Rattle.edrd.specs.Saying.{OutputState, SaysAll, serving_lines, open_line, bind_line, count_line}
 use Rattle.edrd.specs.declared.doors.DoorsAsked.{DoorsAsked}
 use Rattle.edrd.specs.declared.words.Settings.{Settings}
+use Rattle.edrd.specs.declared.words.Asked.{Asked}
+use Rattle.edrd.specs.declared.words.Asked.TheVariants.{Nothing, Help, Version, Serve}
 use Rattle.edrd.specs.declared.endings.Ending.{Ending}
 use Rattle.edrd.specs.declared.endings.Ending.TheVariants.{Done, Usage, NotFeed, ReadFault, OutOfMemory, OpenFault, BindFault, ShelfFault}
 
@@ -27,7 +31,7 @@ status_of ShelfFault = 11
 -- what is said on errors
 abbrev pub said_of : Ending → List ℕ
 said_of Done = []
-said_of Usage = codes "usage: edrd FEED --port P [--workers W] [--every S] [--connections C] [--idle I]"
+said_of Usage = usage
 said_of (NotFeed refusal) = feed_said refusal
 said_of ReadFault = codes "read fault"
 said_of OutOfMemory = codes "out of memory"
@@ -71,9 +75,15 @@ doors_asked settings = record { port = settings.port; count = settings.workers; 
 
 -- ---- by what is asked for
 
+-- the editions of a feed that are served: all, or the last alone
+abbrev pub served_of : Bool → List EditionValue → List EditionValue
+served_of false editions = editions
+served_of true editions = drop (length editions - 1) editions
+
 -- editions were served: so many of them were published, the first, and one at each turn of the gate; the doors that were asked
--- for were opened once and are closed, as many as there were workers; and `lines` say so, and how many connections came
-pub record AreServed (editions : List EditionValue) (settings : Settings) (before after : DoorsState) (gate ended : GateState)
+-- for were opened once and are closed, as many as there were workers; and `lines` say so, how many lines of the feed stand behind its
+-- last publish, and how many connections came
+pub record AreServed (editions : List EditionValue) (behind : ℕ) (settings : Settings) (before after : DoorsState) (gate ended : GateState)
     (lines : List (List ℕ)) : Type 0 where
   pub opened : after.last ≡ Some (doors_asked settings)
   pub once : after.opens ≡ min (before.opens + 1) count_limit
@@ -82,20 +92,24 @@ pub record AreServed (editions : List EditionValue) (settings : Settings) (befor
   pub published : ℕ
   pub granted : ended.granted + 1 ≡ gate.granted + published
   pub whole : (published ≡ length editions) ⊎ (ended.shut ≡ true)
-  pub said : lines ≡ serving_lines after.port (take published editions) ++ count_line after.served after.faulted ∷ []
+  pub said : lines ≡ serving_lines after.port behind (take published editions) ++ count_line after.served after.faulted ∷ []
 
 -- the feed's file is a feed of these editions, and they were served
 pub record IsServed (settings : Settings) (before after : Moment) (gate ended : GateState) (lines : List (List ℕ)) : Type 0 where
   pub editions : List EditionValue
+  pub behind : ℕ
   pub feed : FeedStandsIn (before.files.content settings.feed) (Ok editions)
-  pub served : AreServed editions settings before.doors after.doors gate ended lines
+  pub left : LeavesBehindIn (before.files.content settings.feed) behind
+  pub served : AreServed (served_of settings.last editions) behind settings before.doors after.doors gate ended lines
 
--- where memory was wanting: nothing is said, or the port and some of the first editions of the feed
+-- where memory was wanting: nothing is said, or the port, the lines behind the last publish, and some of the first editions
 pub record IsServing (settings : Settings) (before after : Moment) (lines : List (List ℕ)) : Type 0 where
   pub editions : List EditionValue
+  pub behind : ℕ
   pub feed : FeedStandsIn (before.files.content settings.feed) (Ok editions)
+  pub left : LeavesBehindIn (before.files.content settings.feed) behind
   pub published : ℕ
-  pub said : lines ≡ serving_lines after.doors.port (take published editions)
+  pub said : lines ≡ serving_lines after.doors.port behind (take published (served_of settings.last editions))
 
 -- the cause of an ending, where `lines` are said on the standard output
 abbrev pub HasCause : Ending → Settings → Moment → Moment → GateState → Option GateState → List (List ℕ) → Type 0
@@ -107,53 +121,56 @@ HasCause ReadFault settings before after gate ended lines =
     Rose before.file_faults after.file_faults × (after.files.idle ≡ false) × (lines ≡ [])
 HasCause OutOfMemory settings before after gate ended lines = (lines ≡ []) ⊎ IsServing settings before after lines
 HasCause OpenFault settings before after gate ended lines =
-    Rose before.file_faults after.file_faults × (after.files.idle ≡ true) × (lines ≡ [])
+    Rose before.file_faults after.file_faults × (after.files.idle ≡ true) × (lines ≡ open_line settings.feed ∷ [])
 HasCause BindFault settings before after gate ended lines =
     Rose before.doors.faults after.doors.faults × (after.doors.tried ≡ Some (doors_asked settings, false)) × (after.doors.opens ≡ before.doors.opens)
-    × (lines ≡ [])
+    × (lines ≡ bind_line settings.port ∷ [])
 HasCause ShelfFault settings before after gate ended lines = Rose before.places after.places × (lines ≡ [])
 
--- the same of words, which may ask for nothing: then the run ends with the usage line, but for want of memory
-abbrev pub EndsBy : Ending → Option Settings → Moment → Moment → GateState → Option GateState → List (List ℕ) → Type 0
-EndsBy ending None before after gate ended lines = ((ending ≡ Usage) ⊎ (ending ≡ OutOfMemory)) × (lines ≡ [])
-EndsBy ending (Some settings) before after gate ended lines = HasCause ending settings before after gate ended lines
+-- the same of all that words may ask for: where it is nothing the run ends with the usage line, but for want of memory
+abbrev pub EndsBy : Ending → Asked → Moment → Moment → GateState → Option GateState → List (List ℕ) → Type 0
+EndsBy ending Nothing before after gate ended lines = ((ending ≡ Usage) ⊎ (ending ≡ OutOfMemory)) × (lines ≡ [])
+EndsBy ending Help before after gate ended lines = (ending ≡ Done) × (lines ≡ help ∷ [])
+EndsBy ending Version before after gate ended lines = (ending ≡ Done) × (lines ≡ version_line (codes "edrd") ∷ [])
+EndsBy ending (Serve settings) before after gate ended lines = HasCause ending settings before after gate ended lines
 
 -- ---- what is left as it was
 
--- the status says that the run didn't come to the shelf
-abbrev pub LeavesPlaces : ℕ → Type 0
-LeavesPlaces status = (status ≡ 1) ⊎ (status ≡ 2) ⊎ (status ≡ 3) ⊎ (status ≡ 9)
+-- the words or the status say that the run didn't come to the shelf
+abbrev pub LeavesPlaces : Asked → ℕ → Type 0
+LeavesPlaces (Serve settings) status = (status ≡ 2) ⊎ (status ≡ 3) ⊎ (status ≡ 9)
+LeavesPlaces asked status = ⊤
 
--- the status says that it didn't come to the doors
-abbrev pub LeavesDoors : ℕ → Type 0
-LeavesDoors status = LeavesPlaces status ⊎ (status ≡ 11)
+-- they say that it didn't come to the doors
+abbrev pub LeavesDoors : Asked → ℕ → Type 0
+LeavesDoors asked status = LeavesPlaces asked status ⊎ (status ≡ 11)
 
 -- the gate comes back but for want of memory: as it was, or with the pause that is asked for and nothing granted
-abbrev pub GateComesBack : Ending → Option Settings → GateState → Option GateState → Type 0
-GateComesBack Done asked gate ended = IsSome ended
+abbrev pub GateComesBack : Ending → Asked → GateState → Option GateState → Type 0
+GateComesBack Done (Serve settings) gate ended = IsSome ended
 GateComesBack OutOfMemory asked gate ended = ⊤
-GateComesBack BindFault asked gate ended = ended ≡ option_map (λ settings. record gate { seconds = settings.every }) asked
+GateComesBack BindFault (Serve settings) gate ended = ended ≡ Some (record gate { seconds = settings.every })
 GateComesBack ending asked gate ended = ended ≡ Some gate
 
--- just the feed's file was asked for; with want of memory, whose status is 5, that or nothing, and where the words ask for
--- nothing the files are as they were
-abbrev pub AsksFeed : {F : Type 0} → (F → Aside) → Option Settings → ℕ → F → F → Type 0
-AsksFeed aside None status old new = new ≡ old
-AsksFeed aside (Some settings) status old new =
+-- just the feed's file was asked for; with want of memory, whose status is 5, that or nothing, and where the words don't ask to serve
+-- the files are as they were
+abbrev pub AsksFeed : {F : Type 0} → (F → Aside) → Asked → ℕ → F → F → Type 0
+AsksFeed aside (Serve settings) status old new =
     ((aside new).asked ≡ option_map (λ asked. asked ++ (settings.feed, 0) ∷ []) (aside old).asked)
     ⊎ ((status ≡ 5) × ((aside new).asked ≡ (aside old).asked))
+AsksFeed aside asked status old new = new ≡ old
 
 -- ---- how much is read of the feed's file, however the run ends
 
 -- the file that the words name, where they name one; with want of memory that, or the files are as they were
-abbrev pub ReadsFeed : {F : Type 0} → (F → Aside) → (F → Option (List ℕ)) → Option Settings → ℕ → F → F → Type 0
-ReadsFeed aside left None status old new = ⊤
-ReadsFeed aside left (Some settings) status old new =
+abbrev pub ReadsFeed : {F : Type 0} → (F → Aside) → (F → Option (List ℕ)) → Asked → ℕ → F → F → Type 0
+ReadsFeed aside left (Serve settings) status old new =
     IsFileRead (aside new).idle ((aside old).content settings.feed) (left new) ⊎ ((status ≡ 5) × (new ≡ old))
+ReadsFeed aside left asked status old new = ⊤
 
 -- ---- a whole run
 
-pub record Ends (ending : Ending) (asked : Option Settings) (status : ℕ) (before after : Moment) (gate : GateState) (ended : Option GateState)
+pub record Ends (ending : Ending) (asked : Asked) (status : ℕ) (before after : Moment) (gate : GateState) (ended : Option GateState)
     (told told' : Option (List ℕ)) (faults faults' : ℕ) (output output' : OutputState) : Type 0 where
   pub number : status ≡ status_of ending
   pub lines : List (List ℕ)

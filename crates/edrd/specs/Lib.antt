@@ -4,6 +4,7 @@ pub mod Serving
 pub mod Jobs
 pub mod Closing
 pub mod Words
+pub mod Helps
 pub mod Saying
 pub mod Ends
 pub mod Shelving

@@ -1,5 +1,5 @@
 -- What is said on the standard output: lines, one after another.
-use Rattle.std.specs.Prelude.{◌≡◌, ℕ, ◌++◌, List, [], ◌∷◌, map, codes, Result, IsErrOf, OnOk}
+use Rattle.std.specs.Prelude.{◌≡◌, ◌==◌, ℕ, if◌then◌else◌, ◌++◌, List, [], ◌∷◌, map, codes, Result, IsErrOf, OnOk}
 use Rattle.std.specs.declared.option.Option.{Option}
 use Rattle.std.specs.Fmt.{decimal}
 use Rattle.edr_base.specs.Outside.{Rose}
@@ -14,6 +14,10 @@ use Rattle.edr_edition.specs.Values.{EditionValue}
 abbrev pub number_line : List ℕ → ℕ → List ℕ
 number_line text number = text ++ (decimal number ++ codes "\n")
 
+-- a text, and a name behind it
+abbrev pub named_line : List ℕ → List ℕ → List ℕ
+named_line text name = text ++ (name ++ codes "\n")
+
 abbrev pub listening_line : ℕ → List ℕ
 listening_line port = number_line (codes "listening on 127.0.0.1:") port
 
@@ -24,9 +28,23 @@ edition_line edition = number_line (codes "edition ") edition.number
 abbrev pub count_line : ℕ → ℕ → List ℕ
 count_line served faulted = codes "connections " ++ (decimal served ++ number_line (codes ", faults ") faulted)
 
--- the port, and the editions that are published
-abbrev pub serving_lines : ℕ → List EditionValue → List (List ℕ)
-serving_lines port editions = listening_line port ∷ map edition_line editions
+-- how many lines of the feed stand behind its last publish
+abbrev pub behind_line : ℕ → List ℕ
+behind_line behind = codes "feed: " ++ (decimal behind ++ codes " lines after the last publish\n")
+
+abbrev pub behind_lines : ℕ → List (List ℕ)
+behind_lines behind = if behind == 0 then [] else behind_line behind ∷ []
+
+-- the port, the lines behind the last publish, where there are some, and the editions that are published
+abbrev pub serving_lines : ℕ → ℕ → List EditionValue → List (List ℕ)
+serving_lines port behind editions = listening_line port ∷ (behind_lines behind ++ map edition_line editions)
+
+-- the file that can't be opened, and the port that can't be bound
+abbrev pub open_line : List ℕ → List ℕ
+open_line name = named_line (codes "open fault ") name
+
+abbrev pub bind_line : ℕ → List ℕ
+bind_line port = number_line (codes "bind fault ") port
 
 -- ---- how they are said
 

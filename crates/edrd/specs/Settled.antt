@@ -1,9 +1,22 @@
--- What is so of each settings that words ask for; for private clauses.
-use Rattle.std.specs.Prelude.{◌≤◌, IsUtf8}
+-- What is so of all that words ask for; for private clauses.
+use Rattle.std.specs.Prelude.{◌≤◌, ⊤, IsUtf8}
 use Rattle.edrd.specs.Limits.{worker_limit}
 use Rattle.edrd.specs.declared.words.Settings.{Settings}
+use Rattle.edrd.specs.declared.words.Asked.{Asked}
+use Rattle.edrd.specs.declared.words.Asked.TheVariants.{Nothing, Help, Version, Serve}
 
 pub record IsWithin (settings : Settings) : Type 0 where
   pub some : 1 ≤ settings.workers
   pub few : settings.workers ≤ worker_limit
   pub named : IsUtf8 settings.feed
+
+abbrev pub AreWithin : Asked → Type 0
+AreWithin (Serve settings) = IsWithin settings
+AreWithin asked = ⊤
+
+-- what is asked for takes memory
+abbrev pub TakesMemory : Asked → Type 0
+TakesMemory Nothing = ⊤
+TakesMemory Help = ⊥
+TakesMemory Version = ⊥
+TakesMemory (Serve settings) = ⊤

@@ -1,5 +1,5 @@
 -- What the words after the program's name ask for.
-use Rattle.std.specs.Prelude.{ℕ, ◌&&◌, true, if◌then◌else◌, nat_le, List, [], ◌∷◌, codes, option_and_then, option_map}
+use Rattle.std.specs.Prelude.{ℕ, ◌&&◌, Bool, true, false, if◌then◌else◌, bytes_eq, nat_le, List, [], ◌∷◌, codes, option_and_then, option_map}
 use Rattle.std.specs.declared.option.Option.{Option}
 use Rattle.std.specs.Prelude.{None, Some}
 use Rattle.std.specs.List.{list_all}
@@ -8,11 +8,14 @@ use Rattle.std.specs.Str.Parse.{digits_value}
 use Rattle.clap.specs.Words.{App, Kinds, Row, Rule, Text, first_of, new_app, new_rule, with_rule}
 use Rattle.clap.specs.Simple.{matches_of}
 use Rattle.clap.specs.Faults.{fault_of}
+use Rattle.clap.specs.declared.builder.action.ArgAction.TheVariants.{SetTrue}
 use Rattle.edr_program.specs.Numbers.{is_number}
 use Rattle.edrd.specs.Limits.{port_limit, worker_limit, default_workers, pause_limit, default_pause, idle_limit, default_idle, connection_limit, endless}
 use Rattle.edrd.specs.declared.words.Settings.{Settings}
+use Rattle.edrd.specs.declared.words.Asked.{Asked}
+use Rattle.edrd.specs.declared.words.Asked.TheVariants.{Nothing, Help, Version, Serve}
 
--- ---- the command: one positional argument, the feed, and five options of one value each
+-- ---- the command: one positional argument, the feed, five options of one value each, and a flag
 
 abbrev pub feed_rule : Rule
 feed_rule = record (new_rule (codes "feed")) { required = true }
@@ -23,14 +26,17 @@ port_rule = record (new_rule (codes "port")) { long = Some (codes "port"); requi
 abbrev pub option_rule : Text → Rule
 option_rule name = record (new_rule name) { long = Some name }
 
+abbrev pub flag_rule : Text → Rule
+flag_rule name = record (new_rule name) { long = Some name; action = Some SetTrue }
+
 -- the command with what it needs
 abbrev pub bare_command : App
 bare_command = with_rule (with_rule (new_app (codes "edrd")) feed_rule) port_rule
 
 abbrev pub command : App
 command =
-    with_rule (with_rule (with_rule (with_rule bare_command (option_rule (codes "workers"))) (option_rule (codes "every")))
-    (option_rule (codes "connections"))) (option_rule (codes "idle"))
+    with_rule (with_rule (with_rule (with_rule (with_rule bare_command (option_rule (codes "workers"))) (option_rule (codes "every")))
+    (option_rule (codes "connections"))) (option_rule (codes "idle"))) (flag_rule (codes "last"))
 
 -- the words behind the name of the program
 abbrev pub all_words : List (List ℕ) → List (List ℕ)
@@ -48,26 +54,26 @@ abbrev pub number_or : ℕ → ℕ → ℕ → Option (List ℕ) → Option ℕ
 number_or other least most None = Some other
 number_or other least most (Some word) = number_within least most word
 
--- what is asked for, of the values of the arguments
-abbrev pub settings_of : Option Text → Option Text → Option Text → Option Text → Option Text → Option Text → Option Settings
-settings_of feed port workers every connections idle =
+-- whether a flag stands: a parse keeps the text `true` for it then
+abbrev pub is_true : Option Text → Bool
+is_true None = false
+is_true (Some word) = bytes_eq word (codes "true")
+
+-- what is asked for, of what a parse finds
+abbrev pub settings_in : List Row → Option Settings
+settings_in rows =
     option_and_then (λ f.
     option_and_then (λ p.
     option_and_then (λ w.
     option_and_then (λ e.
     option_and_then (λ c.
-    option_map (λ i. record { feed = f; port = p; workers = w; every = e; connections = c; idle = i })
-    (number_or default_idle 1 idle_limit idle))
-    (number_or endless 0 connection_limit connections))
-    (number_or default_pause 0 pause_limit every))
-    (number_or default_workers 1 worker_limit workers))
-    (option_and_then (number_within 0 port_limit) port))
-    feed
-
-abbrev pub settings_in : List Row → Option Settings
-settings_in rows =
-    settings_of (first_of (codes "feed") rows) (first_of (codes "port") rows) (first_of (codes "workers") rows)
-    (first_of (codes "every") rows) (first_of (codes "connections") rows) (first_of (codes "idle") rows)
+    option_map (λ i. record { feed = f; port = p; workers = w; every = e; connections = c; idle = i; last = is_true (first_of (codes "last") rows) })
+    (number_or default_idle 1 idle_limit (first_of (codes "idle") rows)))
+    (number_or endless 0 connection_limit (first_of (codes "connections") rows)))
+    (number_or default_pause 0 pause_limit (first_of (codes "every") rows)))
+    (number_or default_workers 1 worker_limit (first_of (codes "workers") rows)))
+    (option_and_then (number_within 0 port_limit) (first_of (codes "port") rows)))
+    (first_of (codes "feed") rows)
 
 -- nothing is asked for where a step of the parse fails
 abbrev pub unless : Kinds → Option Settings → Option Settings
@@ -79,6 +85,23 @@ unless (kind ∷ kinds) settings = None
 abbrev pub asked_of : App → List Text → Option Settings
 asked_of app texts = unless (fault_of app texts) (settings_in (matches_of app texts))
 
--- what the words ask for: nothing where one isn't UTF-8
-abbrev pub asked_by : List (List ℕ) → Option Settings
-asked_by words = if list_all is_utf8 words then asked_of command (all_words words) else None
+-- what the command takes the words for: nothing where one isn't UTF-8
+abbrev pub settings_by : List (List ℕ) → Option Settings
+settings_by words = if list_all is_utf8 words then asked_of command (all_words words) else None
+
+-- the words are this one alone
+abbrev pub is_alone : List ℕ → List (List ℕ) → Bool
+is_alone word [] = false
+is_alone word (one ∷ []) = bytes_eq one word
+is_alone word (one ∷ next ∷ words) = false
+
+abbrev pub to_serve : Option Settings → Asked
+to_serve None = Nothing
+to_serve (Some settings) = Serve settings
+
+-- what the words ask for
+abbrev pub asked_by : List (List ℕ) → Asked
+asked_by words =
+    if is_alone (codes "--help") words then Help
+    else if is_alone (codes "--version") words then Version
+    else to_serve (settings_by words)

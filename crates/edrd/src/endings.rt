@@ -8,8 +8,9 @@ use edr_base::Sink;
 use edr_feed::FeedRefusal;
 use edr_program::{said_of_feed, tell_line};
 
-const USAGE: &[u8] =
-    b"usage: edrd FEED --port P [--workers W] [--every S] [--connections C] [--idle I]";
+/// The usage line.
+pub const USAGE: &[u8] =
+    b"usage: edrd FEED --port P [--workers W] [--every S] [--connections C] [--idle I] [--last]";
 
 /// How a run ends, by its cause.
 #[derive(Clone, Copy, Debug, PartialEq, Eq)]

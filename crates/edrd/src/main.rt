@@ -3,6 +3,7 @@
 #![tactic(auto)]
 
 mod accept;
+mod choosing;
 mod doors;
 mod endings;
 mod feeding;

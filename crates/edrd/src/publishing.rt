@@ -2,7 +2,7 @@
 ghost use Rattle.std.specs.Prelude.{◌≡◌, ◌⊎◌, ◌+◌, ◌++◌, length, map, take, true, false};
 ghost use Rattle.std.specs.Vec.Iter.{into_iter_items, into_iter_len};
 ghost use Rattle.edr_base.specs.Calls.{SinkLent};
-ghost use Rattle.edr_edition.specs.Shelves.{AreNumberedFrom};
+ghost use Rattle.edrd.specs.Serving.{Continues};
 ghost use Rattle.edrd.specs.Saying.{edition_line, output_state, SaysAll};
 
 use crate::gate::Gate;
@@ -35,7 +35,7 @@ pub fn publish_all<R: Wait, G: Gate, O: Sink>(
 )
     requires open_ { G.shut job.old.gate ≡ false }
     requires counted { into_iter_len job.old.rest ≡ length (into_iter_items job.old.rest) }
-    requires numbers { AreNumberedFrom (length job.old.publisher.log + 1) (into_iter_items job.old.rest) }
+    requires numbers { Continues job.old.publisher.log (into_iter_items job.old.rest) }
     ensures log { job.new.publisher.log ≡ job.old.publisher.log ++ take job.new.published (into_iter_items job.old.rest) }
     ensures granted { job.new.wanting ≡ false → G.granted job.new.gate ≡ G.granted job.old.gate + job.new.published }
     ensures ends { (job.new.published ≡ length (into_iter_items job.old.rest)) ⊎ (G.shut job.new.gate ≡ true) ⊎ (job.new.wanting ≡ true) }

@@ -23,30 +23,37 @@ const POSITION: &[u8] =
 // whose reply can't be sent, `turns` a gate that lets all editions pass and doors through which nothing comes, and a number that
 // call of the files. Else two connections come through the first door, and one through the second, and the gate lets none pass.
 const RUNS: &str = "\
-nothing => 1 0 0 0 usage: edrd FEED --port P [--workers W] [--every S] [--connections C] [--idle I];
-nothing feed => 1 0 0 0 usage: edrd FEED --port P [--workers W] [--every S] [--connections C] [--idle I];
-nothing feed|--port|0|--workers|65 => 1 0 0 0 usage: edrd FEED --port P [--workers W] [--every S] [--connections C] [--idle I];
-nothing ?|--port|0 => 1 0 0 0 usage: edrd FEED --port P [--workers W] [--every S] [--connections C] [--idle I];
+nothing => 1 0 0 0 usage: edrd FEED --port P [--workers W] [--every S] [--connections C] [--idle I] [--last];
+nothing feed => 1 0 0 0 usage: edrd FEED --port P [--workers W] [--every S] [--connections C] [--idle I] [--last];
+nothing feed|--port|0|--workers|65 => 1 0 0 0 usage: edrd FEED --port P [--workers W] [--every S] [--connections C] [--idle I] [--last];
+nothing ?|--port|0 => 1 0 0 0 usage: edrd FEED --port P [--workers W] [--every S] [--connections C] [--idle I] [--last];
 told feed => 1 0 0 0 
 nothing feed|--port|0|--workers|1 => 0 60 1 2 listening on 127.0.0.1:50000;edition 1;connections 2, faults 0;
 nothing feed|--port|8080|--every|5 => 0 5 2 3 listening on 127.0.0.1:8080;edition 1;connections 3, faults 0;
 nothing three|--port|0|--every|0 => 0 0 2 3 listening on 127.0.0.1:50000;edition 1;connections 3, faults 0;
 turns three|--port|0 => 0 60 2 0 listening on 127.0.0.1:50000;edition 1;edition 2;edition 3;connections 0, faults 0;
+turns three|--port|0|--last => 0 60 2 0 listening on 127.0.0.1:50000;edition 3;connections 0, faults 0;
+nothing feed|--last|--port|0 => 0 60 2 3 listening on 127.0.0.1:50000;edition 1;connections 3, faults 0;
+turns behind|--port|0 => 0 60 2 0 listening on 127.0.0.1:50000;feed: 2 lines after the last publish;edition 1;edition 2;connections 0, faults 0;
+turns behind|--port|0|--last => 0 60 2 0 listening on 127.0.0.1:50000;feed: 2 lines after the last publish;edition 2;connections 0, faults 0;
+nothing --version => 0 0 0 0 edrd 1.0.0;
+said --version => 0 0 0 0 
 peer feed|--port|0 => 0 60 2 2 listening on 127.0.0.1:50000;edition 1;connections 3, faults 1;
 said feed|--port|0 => 0 60 2 3 edition 1;connections 3, faults 0;
 nothing feed|--port|0|--workers|3|--connections|1 => 0 60 3 2 listening on 127.0.0.1:50000;edition 1;connections 2, faults 0;
 nothing feed|--port|0|--workers|3|--connections|0 => 0 60 3 3 listening on 127.0.0.1:50000;edition 1;connections 3, faults 0;
 nothing feed|--port|0|--workers|64|--connections|1 => 0 60 64 2 listening on 127.0.0.1:50000;edition 1;connections 2, faults 0;
 nothing feed|--port|0|--workers|64|--connections|1000000 => 0 60 64 3 listening on 127.0.0.1:50000;edition 1;connections 3, faults 0;
-nothing other|--port|0 => 9 0 0 0 open fault;
-1 feed|--port|0 => 9 0 0 0 open fault;
+nothing other|--port|0 => 9 0 0 0 open fault;open fault other;
+1 feed|--port|0 => 9 0 0 0 open fault;open fault feed;
 2 feed|--port|0 => 3 0 0 0 read fault;
 3 feed|--port|0 => 3 0 0 0 read fault;
 4 feed|--port|0 => 0 60 2 3 listening on 127.0.0.1:50000;edition 1;connections 3, faults 0;
 nothing broken|--port|0 => 2 0 0 0 feed: NotJson line 2;
 nothing empty|--port|0 => 2 0 0 0 feed: NothingPublished;
-bind feed|--port|0|--every|5 => 10 5 0 0 bind fault;
+bind feed|--port|8080|--every|5 => 10 5 0 0 bind fault;bind fault 8080;
 bind broken|--port|0 => 2 0 0 0 feed: NotJson line 2;
+nothing --help => 0 0 0 0 usage: edrd FEED --port P [--workers W] [--every S] [--connections C] [--idle I] [--last];  --port P         the port of 127.0.0.1, 0 to 65535; 0 lets the system choose one;  --workers W      connections that are served at once, 1 to 64; else 2;  --every S        seconds before each further edition is served, 0 to 86400; else 60;  --connections C  connections that each worker serves, up to 1000000; else 0, no end of them;  --idle I         seconds that a connection may be idle, 1 to 86400; else 30;  --last           serves the last edition of the feed from the start;  --help           writes these lines, where it stands alone;  --version        writes the version, where it stands alone;
 ";
 
 // A file of a name.
@@ -57,7 +64,11 @@ fn file(alloc: Global, name: &[u8], content: &[u8]) -> Result<(Vec<u8>, Vec<u8>)
     ))
 }
 
-// A feed, one of three editions, one that is broken in its second, and an empty file.
+// Lines behind the last publish, a blank one between them.
+const BEHIND: &[u8] =
+    b"\n{\"publish\":{}}\n{\"collection\":{\"id\":\"a\",\"kind\":\"grid\",\"title\":\"A\",\"crs\":\"http://www.opengis.net/def/crs/EPSG/0/32633\"}}\n \n{\"drop\":{\"collection\":\"a\"}}\n";
+
+// A feed, one of three editions, one that is broken in its second, one with lines behind its last publish, and an empty file.
 fn files(alloc: Global) -> Result<Vec<(Vec<u8>, Vec<u8>)>, OutOfMemory> {
     let mut broken = Vec::from_slice(alloc, GRID)?;
     broken.extend_from_slice(b"\n{\"type\":\"Coverage\",")?;
@@ -65,6 +76,9 @@ fn files(alloc: Global) -> Result<Vec<(Vec<u8>, Vec<u8>)>, OutOfMemory> {
     files.push(file(alloc, b"feed", GRID)?)?;
     files.push(file(alloc, b"three", &three_grids(alloc)?)?)?;
     files.push(file(alloc, b"broken", &broken)?)?;
+    let mut behind = Vec::from_slice(alloc, GRID)?;
+    behind.extend_from_slice(BEHIND)?;
+    files.push(file(alloc, b"behind", &behind)?)?;
     files.push(file(alloc, b"empty", b"")?)?;
     Ok(files)
 }

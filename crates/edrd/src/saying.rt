@@ -3,10 +3,17 @@ ghost use Rattle.std.specs.Prelude.{◌≡◌, ◌++◌, codes, IsErrOf, OnOk};
 ghost use Rattle.std.specs.Fmt.{decimal};
 ghost use Rattle.edr_base.specs.Calls.{SinkLent, Writes, IsFlushed};
 ghost use Rattle.edr_base.specs.Outside.{Rose};
-ghost use Rattle.edrd.specs.Saying.{number_line, count_line, output_state, Says};
+ghost use Rattle.edr_program.specs.Versions.{version_line};
+ghost use Rattle.edrd.specs.Helps.{help};
+ghost use Rattle.edrd.specs.Saying.{number_line, named_line, behind_lines, count_line, output_state, Says, SaysAll};
 
+use crate::endings::USAGE;
 use edr_base::{SendFault, Sink, send, settle};
+use edr_program::send_version;
 use itoa::Buffer;
+
+// The end of the usage line, and the lines behind it.
+const OPTIONS: &[u8] = b"\n  --port P         the port of 127.0.0.1, 0 to 65535; 0 lets the system choose one\n  --workers W      connections that are served at once, 1 to 64; else 2\n  --every S        seconds before each further edition is served, 0 to 86400; else 60\n  --connections C  connections that each worker serves, up to 1000000; else 0, no end of them\n  --idle I         seconds that a connection may be idle, 1 to 86400; else 30\n  --last           serves the last edition of the feed from the start\n  --help           writes these lines, where it stands alone\n  --version        writes the version, where it stands alone\n";
 
 // Writes the digits of a number.
 fn send_digits<O: Sink>(output: &mut O, number: u64) -> Result<(), SendFault>
@@ -18,14 +25,14 @@ fn send_digits<O: Sink>(output: &mut O, number: u64) -> Result<(), SendFault>
     send(output, buffer.format(number).as_bytes())
 }
 
-// Ends a line, and flushes.
-fn send_end<O: Sink>(output: &mut O) -> Result<(), SendFault>
-    ensures bytes { Writes result (codes "\n") (O.written output.old) (O.written output.new) }
+// Ends a line with a text, and flushes.
+fn send_text<O: Sink>(output: &mut O, text: &[u8]) -> Result<(), SendFault>
+    ensures bytes { Writes result (text.now) (O.written output.old) (O.written output.new) }
     ensures settled { OnOk result (IsFlushed (O.written output.new) (O.flushed output.new)) }
     ensures lent { SinkLent (O.beside output.old) (O.beside output.new) (O.faults output.old) (O.faults output.new) }
     ensures cause { IsErrOf result SendFault.WriteFault → Rose (O.faults output.old) (O.faults output.new) }
 {
-    send(output, b"\n")?;
+    send(output, text)?;
     settle(output)
 }
 
@@ -37,7 +44,7 @@ fn send_last<O: Sink>(output: &mut O, number: u64) -> Result<(), SendFault>
     ensures cause { IsErrOf result SendFault.WriteFault → Rose (O.faults output.old) (O.faults output.new) }
 {
     send_digits(output, number)?;
-    send_end(output)
+    send_text(output, b"\n")
 }
 
 // Writes the line of a text and a number behind it, and flushes.
@@ -85,6 +92,102 @@ fn send_both<O: Sink>(
 {
     send(output, text)?;
     send_pair(output, number, between, last)
+}
+
+// Writes a number, ends the line with a text, and flushes.
+fn send_counted<O: Sink>(output: &mut O, number: u64, text: &[u8]) -> Result<(), SendFault>
+    ensures bytes { Writes result (decimal number ++ text.now) (O.written output.old) (O.written output.new) }
+    ensures settled { OnOk result (IsFlushed (O.written output.new) (O.flushed output.new)) }
+    ensures lent { SinkLent (O.beside output.old) (O.beside output.new) (O.faults output.old) (O.faults output.new) }
+    ensures cause { IsErrOf result SendFault.WriteFault → Rose (O.faults output.old) (O.faults output.new) }
+{
+    send_digits(output, number)?;
+    send_text(output, text)
+}
+
+// Writes a line of a number between two texts, and flushes.
+fn send_between<O: Sink>(
+    output: &mut O,
+    text: &[u8],
+    number: u64,
+    last: &[u8],
+) -> Result<(), SendFault>
+    ensures bytes { Writes result (text.now ++ (decimal number ++ last.now)) (O.written output.old) (O.written output.new) }
+    ensures settled { OnOk result (IsFlushed (O.written output.new) (O.flushed output.new)) }
+    ensures lent { SinkLent (O.beside output.old) (O.beside output.new) (O.faults output.old) (O.faults output.new) }
+    ensures cause { IsErrOf result SendFault.WriteFault → Rose (O.faults output.old) (O.faults output.new) }
+{
+    send(output, text)?;
+    send_counted(output, number, last)
+}
+
+/// Says how many lines of the feed stand behind its last publish, where there are some. A fault of the output changes nothing
+/// else.
+pub fn say_behind<O: Sink>(output: &mut O, behind: u64)
+    ensures lines { SaysAll (behind_lines behind) (output_state O.written O.flushed O.faults output.old) (output_state O.written O.flushed O.faults output.new) }
+    ensures lent { SinkLent (O.beside output.old) (O.beside output.new) (O.faults output.old) (O.faults output.new) }
+{
+    if behind == 0 {
+        return;
+    }
+    let _ = send_between(output, b"feed: ", behind, b" lines after the last publish\n");
+}
+
+// Writes two texts, of which the second ends the line, and flushes.
+fn send_two<O: Sink>(output: &mut O, text: &[u8], last: &[u8]) -> Result<(), SendFault>
+    ensures bytes { Writes result (text.now ++ last.now) (O.written output.old) (O.written output.new) }
+    ensures settled { OnOk result (IsFlushed (O.written output.new) (O.flushed output.new)) }
+    ensures lent { SinkLent (O.beside output.old) (O.beside output.new) (O.faults output.old) (O.faults output.new) }
+    ensures cause { IsErrOf result SendFault.WriteFault → Rose (O.faults output.old) (O.faults output.new) }
+{
+    send(output, text)?;
+    send_text(output, last)
+}
+
+// Writes the line of a text and a name behind it, and flushes.
+fn send_named<O: Sink>(output: &mut O, text: &[u8], name: &[u8]) -> Result<(), SendFault>
+    ensures bytes { Writes result (named_line text.now name.now) (O.written output.old) (O.written output.new) }
+    ensures settled { OnOk result (IsFlushed (O.written output.new) (O.flushed output.new)) }
+    ensures lent { SinkLent (O.beside output.old) (O.beside output.new) (O.faults output.old) (O.faults output.new) }
+    ensures cause { IsErrOf result SendFault.WriteFault → Rose (O.faults output.old) (O.faults output.new) }
+{
+    send(output, text)?;
+    send_two(output, name, b"\n")
+}
+
+/// Says a line: a text, and a name behind it. A fault of the output changes nothing else.
+pub fn say_named<O: Sink>(output: &mut O, text: &[u8], name: &[u8])
+    ensures line { Says (named_line text.now name.now) (output_state O.written O.flushed O.faults output.old) (output_state O.written O.flushed O.faults output.new) }
+    ensures lent { SinkLent (O.beside output.old) (O.beside output.new) (O.faults output.old) (O.faults output.new) }
+{
+    let _ = send_named(output, text, name);
+}
+
+/// Says how the daemon is asked: the usage line, and a line an option. A fault of the output changes nothing else.
+pub fn say_help<O: Sink>(output: &mut O)
+    ensures line { Says (help) (output_state O.written O.flushed O.faults output.old) (output_state O.written O.flushed O.faults output.new) }
+    ensures lent { SinkLent (O.beside output.old) (O.beside output.new) (O.faults output.old) (O.faults output.new) }
+{
+    let _ = send_two(output, USAGE, OPTIONS);
+}
+
+// Writes the line of a name and the version, and flushes.
+fn send_whole_version<O: Sink>(output: &mut O, name: &[u8]) -> Result<(), SendFault>
+    ensures bytes { Writes result (version_line name.now) (O.written output.old) (O.written output.new) }
+    ensures settled { OnOk result (IsFlushed (O.written output.new) (O.flushed output.new)) }
+    ensures lent { SinkLent (O.beside output.old) (O.beside output.new) (O.faults output.old) (O.faults output.new) }
+    ensures cause { IsErrOf result SendFault.WriteFault → Rose (O.faults output.old) (O.faults output.new) }
+{
+    send_version(output, name)?;
+    settle(output)
+}
+
+/// Says the version. A fault of the output changes nothing else.
+pub fn say_version<O: Sink>(output: &mut O)
+    ensures line { Says (version_line (codes "edrd")) (output_state O.written O.flushed O.faults output.old) (output_state O.written O.flushed O.faults output.new) }
+    ensures lent { SinkLent (O.beside output.old) (O.beside output.new) (O.faults output.old) (O.faults output.new) }
+{
+    let _ = send_whole_version(output, b"edrd");
 }
 
 /// Says how many connections were served, and how many of them ended by a fault. A fault of the output changes nothing else.

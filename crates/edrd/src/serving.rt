@@ -2,10 +2,9 @@
 ghost use Rattle.std.specs.Prelude.{◌≡◌, ◌⊎◌, ◌≤◌, ◌<◌, ◌+◌, ◌*◌, ◌++◌, ℕ, map, sum_by, count_by, take, length, vec_len, slice_index_or, true, false, All, IfOk, MatchResult};
 ghost use Rattle.std.specs.Vec.Iter.{into_iter_items, into_iter_len};
 ghost use Rattle.edr_base.specs.Calls.{SinkLent};
-ghost use Rattle.edr_edition.specs.Shelves.{AreNumberedFrom};
 ghost use Rattle.edrd.specs.Limits.{worker_limit, accept_limit};
 ghost use Rattle.edrd.specs.Saying.{edition_line, output_state, SaysAll};
-ghost use Rattle.edrd.specs.Serving.{HasEnded, is_left};
+ghost use Rattle.edrd.specs.Serving.{Continues, HasEnded, is_left};
 ghost use Rattle.edrd.specs.Jobs.{HasServed, acceptor_of, sessions_of, faults_of, has_failed};
 ghost use Rattle.edrd.specs.declared.working.Serving.{Serving};
 
@@ -117,7 +116,7 @@ fn run_beside<R: Threads + Wait + Sync, A: Accept + Send, G: Gate + Send, O: Sin
 )
     requires open_ { G.shut publishing.old.gate ≡ false }
     requires counted { into_iter_len publishing.old.rest ≡ length (into_iter_items publishing.old.rest) }
-    requires numbers { AreNumberedFrom (length publishing.old.publisher.log + 1) (into_iter_items publishing.old.rest) }
+    requires numbers { Continues publishing.old.publisher.log (into_iter_items publishing.old.rest) }
     ensures log { publishing.new.publisher.log ≡ publishing.old.publisher.log ++ take publishing.new.published (into_iter_items publishing.old.rest) }
     ensures granted { publishing.new.wanting ≡ false → G.granted publishing.new.gate ≡ G.granted publishing.old.gate + publishing.new.published }
     ensures ends { (publishing.new.published ≡ length (into_iter_items publishing.old.rest)) ⊎ (G.shut publishing.new.gate ≡ true)
@@ -150,7 +149,7 @@ fn served<R: Threads + Wait + Sync, A: Accept + Send + Drop, G: Gate + Send, O: 
 ) -> Vec<Serving<A>>
     requires open_ { G.shut publishing.old.gate ≡ false }
     requires counted { into_iter_len publishing.old.rest ≡ length (into_iter_items publishing.old.rest) }
-    requires numbers { AreNumberedFrom (length publishing.old.publisher.log + 1) (into_iter_items publishing.old.rest) }
+    requires numbers { Continues publishing.old.publisher.log (into_iter_items publishing.old.rest) }
     ensures log { publishing.new.publisher.log ≡ publishing.old.publisher.log ++ take publishing.new.published (into_iter_items publishing.old.rest) }
     ensures granted { publishing.new.wanting ≡ false → G.granted publishing.new.gate ≡ G.granted publishing.old.gate + publishing.new.published }
     ensures ends { (publishing.new.published ≡ length (into_iter_items publishing.old.rest)) ⊎ (G.shut publishing.new.gate ≡ true)
@@ -194,7 +193,7 @@ pub fn serve_connections<
     requires shelves { vec_len shelves ≡ vec_len acceptors }
     requires own { All (λ shelf. shelf.origin ≡ publisher.origin) shelves.items }
     requires open_ { All (λ acceptor. A.over acceptor ≡ false) acceptors.items }
-    requires numbers { AreNumberedFrom (length publisher.log + 1) rest.items }
+    requires numbers { Continues publisher.log rest.items }
     requires gate { G.shut gate ≡ false }
     ensures count { IfOk result (λ report. vec_len report.acceptors ≡ vec_len acceptors) }
     ensures acceptors { IfOk result (λ report. (i : ℕ) (d : A) → i < vec_len acceptors

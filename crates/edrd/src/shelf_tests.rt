@@ -42,17 +42,17 @@ fn taken(shelf: &mut SharedShelf) -> u64
 fn readers_take_what_was_published(rt: HostRuntime) -> Result<(), Fail> {
     let alloc = rt.alloc();
     let mut places = Places::new();
-    let (mut publisher, mut shelves) = open_shelf(&rt, alloc, empty(1), 2, &mut places)?;
+    let (mut publisher, mut shelves) = open_shelf(&rt, alloc, empty(7), 2, &mut places)?;
     let first = taken(&mut shelves[1]);
-    let done = publisher.publish(&rt, alloc, empty(2)).is_ok();
+    let done = publish_next(&rt, alloc, &mut publisher);
     let told = publisher.tell();
-    let count = told.count();
+    let number = told.number();
     shelves[0].learn(told);
     let second = taken(&mut shelves[0]);
     let newer = taken(&mut shelves[1]);
     publisher.end(&rt);
     assert!(rt; done);
-    assert_eq!(rt; (first, count, second, newer), (1, 2, 2, 2));
+    assert_eq!(rt; (first, number, second, newer), (7, 8, 8, 8));
     Ok(())
 }
 
@@ -98,7 +98,7 @@ impl Reading {
 
 // Publishes one edition more, and says whether it did.
 fn publish_next<R: Wait>(rt: &R, alloc: Global, publisher: &mut Publisher) -> bool {
-    match publisher.tell().count().checked_add(1) {
+    match publisher.tell().number().checked_add(1) {
         Some(number) => publisher.publish(rt, alloc, empty(number)).is_ok(),
         None => false,
     }

@@ -4,6 +4,7 @@ ghost use Rattle.edr_edition.specs.Shelves.{IsLog};
 ghost use Rattle.edrd.specs.Limits.{worker_limit};
 
 use crate::accept::Accept;
+use crate::choosing::begin_with;
 use crate::gate::Gate;
 use crate::serving::{ServeReport, serve_connections};
 use edr_base::{MemorySink, MemorySource, OutOfMemory};
@@ -48,9 +49,8 @@ pub(crate) fn serve_feed<R: Threads + Wait + Sync, A: Accept + Send + Drop, G: G
     requires open_ { All (λ acceptor. A.over acceptor ≡ false) acceptors.items }
     requires gate { G.shut gate ≡ false }
 {
-    let mut editions = editions_of(alloc, feed)?;
+    let (first, editions) = begin_with(false, editions_of(alloc, feed)?);
     let mut places = Places::new();
-    let first = editions.remove(0);
     let Ok((publisher, shelves)) = open_shelf(rt, alloc, first, acceptors.len(), &mut places) else {
         return Err(OutOfMemory);
     };
@@ -73,7 +73,7 @@ pub(crate) fn serve_feed<R: Threads + Wait + Sync, A: Accept + Send + Drop, G: G
         gate,
         &mut output,
     )?;
-    let last = publisher.tell().count();
+    let last = publisher.tell().number();
     publisher.end(rt);
     Ok(Outcome {
         sessions,

@@ -1,11 +1,12 @@
 //! What the words ask for.
 
-use crate::words::{Settings, asked_by};
+use crate::words::{Asked, Settings, asked_by};
 use edr_base::{OutOfMemory, Text};
 use std::alloc::{AllocError, Global};
 use std::rt::HostRuntime;
 
-// A line for each row of words, between bars: what is asked for, as feed, port, workers, every, connections and idle. A `?` stands
+// A line for each row of words, between bars: what is asked for, as feed, port, workers, every, connections and idle, and whether
+// the last edition alone is served. A `?` stands
 // for a byte that UTF-8 hasn't.
 const WORDS: &str = "\
 feed|--port|0 => feed 0 2 60 0 30
@@ -54,6 +55,17 @@ feed|--port|? => none
 --port|80|--|feed => feed 80 2 60 0 30
 --port|80|--|--feed => --feed 80 2 60 0 30
 feed|--|--port|80 => none
+feed|--port|80|--last => feed 80 2 60 0 30 last
+--last|--port|80|--idle|9|feed => feed 80 2 60 0 9 last
+feed|--port|80|--last|--last => none
+feed|--port|80|--last=true => none
+feed|--port|80|--last|true => none
+--help => help
+--version => version
+--help|--version => none
+--version|feed => none
+-h => none
+feed|--port|80|--version => none
 ";
 
 // A word; see WORDS.
@@ -82,15 +94,18 @@ fn line_of(alloc: Global, settings: &Settings) -> Result<String, AllocError> {
     let feed = str::from_utf8(settings.feed.bytes()).unwrap_or("?");
     let (port, workers) = (settings.port, settings.workers);
     let (every, connections, idle) = (settings.every, settings.connections, settings.idle);
-    format!(in alloc; "{feed} {port} {workers} {every} {connections} {idle}")
+    let last = if settings.last { " last" } else { "" };
+    format!(in alloc; "{feed} {port} {workers} {every} {connections} {idle}{last}")
 }
 
 // Whether a row of words asks for this.
 fn is_asked(alloc: Global, row: &str, wanted: &str) -> Result<bool, OutOfMemory> {
     let words = words_of(alloc, row)?;
     match asked_by(alloc, &words)? {
-        Some(settings) => Ok(line_of(alloc, &settings)?.as_str() == wanted),
-        None => Ok(wanted == "none"),
+        Asked::Serve(settings) => Ok(line_of(alloc, &settings)?.as_str() == wanted),
+        Asked::Help => Ok(wanted == "help"),
+        Asked::Version => Ok(wanted == "version"),
+        Asked::Nothing => Ok(wanted == "none"),
     }
 }
 

@@ -1,23 +1,23 @@
 //! What the words after the program's name ask for.
-ghost use Rattle.std.specs.Prelude.{◌≡◌, ◌≤◌, map, option_map, MatchOption, IfOk, IfSome, true, false};
+ghost use Rattle.std.specs.Prelude.{◌≡◌, ◌≤◌, map, option_map, MatchOption, IfOk, OnErr, IfSome, true, false};
 ghost use Rattle.std.specs.List.{list_all};
 ghost use Rattle.std.specs.Str.{is_utf8};
-ghost use Rattle.clap.specs.Words.{app_of, found_of, rows_of};
+ghost use Rattle.clap.specs.Words.{app_of, found_of, first_of, rows_of};
 ghost use Rattle.edrd.specs.Words as spelled;
 ghost use Rattle.edrd.specs.Words.{all_words, asked_of};
-ghost use Rattle.edrd.specs.Settled.{IsWithin};
+ghost use Rattle.edrd.specs.Settled.{AreWithin, IsWithin, TakesMemory};
 
 use crate::limits::{
     CONNECTION_LIMIT, DEFAULT_IDLE, DEFAULT_PAUSE, DEFAULT_WORKERS, ENDLESS, IDLE_LIMIT,
     PAUSE_LIMIT, PORT_LIMIT, WORKER_LIMIT,
 };
 use clap::error::ErrorKind;
-use clap::{Arg, ArgMatches, Command, Error};
+use clap::{Arg, ArgAction, ArgMatches, Command, Error};
 use edr_base::{OutOfMemory, Text};
 use edr_program::number_of;
 use std::alloc::{AllocError, Global};
 
-/// What the words ask for.
+/// How the words ask the daemon to serve.
 #[derive(Drop)]
 pub struct Settings {
     /// The name of the feed's file.
@@ -30,6 +30,21 @@ pub struct Settings {
     pub connections: u64,
     /// How many seconds a connection may be idle, before the first byte of a head.
     pub idle: u32,
+    /// Whether the last edition alone is served.
+    pub last: bool,
+}
+
+/// What the words ask for.
+#[derive(Drop)]
+pub enum Asked {
+    /// They are refused.
+    Nothing,
+    /// To be told how the daemon is asked.
+    Help,
+    /// To be told its version.
+    Version,
+    /// To serve.
+    Serve(Settings),
 }
 
 // The words behind the name of the program; None where one isn't UTF-8.
@@ -65,7 +80,12 @@ fn command<'a>(alloc: Global) -> Result<Command<'a>, AllocError>
         .arg(Arg::new(alloc, "workers").long("workers"))?
         .arg(Arg::new(alloc, "every").long("every"))?
         .arg(Arg::new(alloc, "connections").long("connections"))?
-        .arg(Arg::new(alloc, "idle").long("idle"))
+        .arg(Arg::new(alloc, "idle").long("idle"))?
+        .arg(
+            Arg::new(alloc, "last")
+                .long("last")
+                .action(ArgAction::SetTrue),
+        )
 }
 
 // The number that a word writes, where it lies between two limits.
@@ -91,37 +111,47 @@ fn number_or(other: u64, least: u64, most: u64, word: Option<&str>) -> Option<u6
     }
 }
 
-// What is asked for, of the values of the arguments.
-fn settings_of(
-    alloc: Global,
-    feed: Option<&str>,
-    port: Option<&str>,
-    workers: Option<&str>,
-    every: Option<&str>,
-    connections: Option<&str>,
-    idle: Option<&str>,
-) -> Result<Option<Settings>, OutOfMemory>
-    ensures is { IfOk result (λ settings. settings ≡ spelled.settings_of (option_map (λ word. word.now) feed.entry) (option_map (λ word. word.now) port.entry)
-        (option_map (λ word. word.now) workers.entry) (option_map (λ word. word.now) every.entry) (option_map (λ word. word.now) connections.entry)
-        (option_map (λ word. word.now) idle.entry)) }
+// Whether a flag stands, by its text.
+fn is_true(word: Option<&str>) -> bool
+    ensures { result ≡ spelled.is_true (option_map (λ word. word.now) word.entry) }
+{
+    match word {
+        Some(word) => word == "true",
+        None => false,
+    }
+}
+
+// The text of an argument.
+fn text_in<'a>(matches: &ArgMatches<'a>, name: &str) -> Option<&'a str>
+    ensures { option_map (λ word. word.now) result ≡ first_of name.now (rows_of (found_of matches.now)) }
+{
+    matches.get_str(name)
+}
+
+// What is asked for where the command took the words.
+fn settings_in(alloc: Global, matches: &ArgMatches<'_>) -> Result<Option<Settings>, OutOfMemory>
+    ensures is { IfOk result (λ settings. settings ≡ spelled.settings_in (rows_of (found_of matches.now))) }
     ensures within { IfOk result (λ settings. IfSome settings IsWithin) }
 {
-    let (Some(feed), Some(port)) = (feed, port) else {
+    let (Some(feed), Some(port)) = (text_in(matches, "feed"), text_in(matches, "port")) else {
         return Ok(None);
     };
     let Some(port) = number_within(0, PORT_LIMIT, port) else {
         return Ok(None);
     };
+    let workers = text_in(matches, "workers");
     let Some(workers) = number_or(DEFAULT_WORKERS, 1, WORKER_LIMIT, workers) else {
         return Ok(None);
     };
+    let every = text_in(matches, "every");
     let Some(every) = number_or(DEFAULT_PAUSE, 0, PAUSE_LIMIT, every) else {
         return Ok(None);
     };
+    let connections = text_in(matches, "connections");
     let Some(connections) = number_or(ENDLESS, 0, CONNECTION_LIMIT, connections) else {
         return Ok(None);
     };
-    let Some(idle) = number_or(DEFAULT_IDLE, 1, IDLE_LIMIT, idle) else {
+    let Some(idle) = number_or(DEFAULT_IDLE, 1, IDLE_LIMIT, text_in(matches, "idle")) else {
         return Ok(None);
     };
     Ok(Some(Settings {
@@ -131,23 +161,8 @@ fn settings_of(
         every: every as u32,
         connections,
         idle: idle as u32,
+        last: is_true(text_in(matches, "last")),
     }))
-}
-
-// What is asked for where the command took the words.
-fn settings_in(alloc: Global, matches: &ArgMatches<'_>) -> Result<Option<Settings>, OutOfMemory>
-    ensures is { IfOk result (λ settings. settings ≡ spelled.settings_in (rows_of (found_of matches.now))) }
-    ensures within { IfOk result (λ settings. IfSome settings IsWithin) }
-{
-    settings_of(
-        alloc,
-        matches.get_str("feed"),
-        matches.get_str("port"),
-        matches.get_str("workers"),
-        matches.get_str("every"),
-        matches.get_str("connections"),
-        matches.get_str("idle"),
-    )
 }
 
 // What words that are UTF-8 ask for, behind the name of the program.
@@ -164,14 +179,42 @@ fn parsed<'a>(alloc: Global, texts: &'a [&'a str]) -> Result<Option<Settings>, O
     }
 }
 
-/// What the words after the program's name ask for, and `None` where they are refused: one isn't UTF-8, the command doesn't
-/// take them, or a number lies outside its limits.
-pub fn asked_by(alloc: Global, words: &[Text]) -> Result<Option<Settings>, OutOfMemory>
-    ensures is { IfOk result (λ settings. settings ≡ spelled.asked_by words.now) }
+// How the words ask the daemon to serve, and `None` where they are refused: one isn't UTF-8, the command doesn't take them, or a
+// number lies outside its limits.
+fn settings_by(alloc: Global, words: &[Text]) -> Result<Option<Settings>, OutOfMemory>
+    ensures is { IfOk result (λ settings. settings ≡ spelled.settings_by words.now) }
     ensures within { IfOk result (λ settings. IfSome settings IsWithin) }
 {
     match texts_of(alloc, words)? {
         Some(texts) => parsed(alloc, &texts),
         None => Ok(None),
+    }
+}
+
+// Whether the words are this one alone.
+fn is_alone(word: &[u8], words: &[Text]) -> bool
+    ensures { result ≡ spelled.is_alone word.now words.now }
+{
+    match words {
+        [one] => one.bytes() == word,
+        _ => false,
+    }
+}
+
+/// What the words after the program's name ask for. `--help` and `--version` alone take no memory.
+pub fn asked_by(alloc: Global, words: &[Text]) -> Result<Asked, OutOfMemory>
+    ensures is { IfOk result (λ asked. asked ≡ spelled.asked_by words.now) }
+    ensures within { IfOk result AreWithin }
+    ensures memory { OnErr result (TakesMemory (spelled.asked_by words.now)) }
+{
+    if is_alone(b"--help", words) {
+        return Ok(Asked::Help);
+    }
+    if is_alone(b"--version", words) {
+        return Ok(Asked::Version);
+    }
+    match settings_by(alloc, words)? {
+        Some(settings) => Ok(Asked::Serve(settings)),
+        None => Ok(Asked::Nothing),
     }
 }

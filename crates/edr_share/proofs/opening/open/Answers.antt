@@ -1,10 +1,10 @@
-use Rattle.std.proofs.Common.{sym, ◌∙◌, ap, refl, [], ◌∷◌, ◌++◌}
+use Rattle.std.proofs.Common.{sym, ◌∙◌, ap, refl, ◌∷◌, [], ◌++◌}
 use Rattle.std.specs.Arc.{arc_value}
 use Rattle.edr_share.proofs.Steps.{starts, opens}
 use Rattle.edr_share.proofs.opening.open.Goals as goal
 
 pub new-requires-2-clause-rule : goal.new-requires-2-clause-rule
-new-requires-2-clause-rule g c = starts _ refl (ap (λ e. e.number) (c.in_ok-try_clone.ensures ∙ c.in_ok-first.ensures.ok) ∙ c.requires.number)
+new-requires-2-clause-rule g c = starts _ refl
 
 pub publish_as-writer-requires : goal.publish_as-writer-requires
 publish_as-writer-requires g c next is =

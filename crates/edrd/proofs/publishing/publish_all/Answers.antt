@@ -1,6 +1,8 @@
-use Rattle.std.proofs.Common.{◌≡◌, ◌++◌, ◌∷◌, [], ◌∙◌, rules, refl, arith, sym, append-nil}
+use Rattle.std.proofs.Common.{◌≡◌, ◌++◌, ◌∷◌, [], ◌∙◌, rules, refl, arith, sym, ap, subst, append-nil}
+use Rattle.std.specs.Prelude.{option_to_list}
 use Rattle.std.specs.Vec.Iter.{into_iter_items}
-use Rattle.edrd.proofs.JobLemmas.{counted_on, ended_none, next_number, published_on}
+use Rattle.edrd.specs.Serving.{Continues}
+use Rattle.edrd.proofs.JobLemmas.{counted_on, ended_none, next_is, continues_on, published_on}
 use Rattle.edrd.proofs.SayLemmas.{said_on}
 use Rattle.edrd.proofs.publishing.publish_all.Goals as goal
 
@@ -12,6 +14,7 @@ editions-init g c =
       left = sym next.items;
       counted = counted_on c.next-next.result _ _ _ _ c.requires.counted next.items next.len;
       ended = ended_none c.next-next.result _ _ _ c.requires.counted next.items next.variant.1;
+      numbers = subst (Continues c.args.job.now.publisher.log) next.items c.requires.numbers;
       log = sym (append-nil c.args.job.now.publisher.log);
       granted = omega arith;
       open_ = c.requires.open_;
@@ -23,8 +26,8 @@ editions-init g c =
 
 pub publish-requires : goal.publish-requires
 publish-requires g c =
-    next_number c.args.job.now.publisher.log c.editions.job.publisher.log (into_iter_items c.args.job.now.rest) (into_iter_items c.editions.job.rest)
-    c.editions.published c.in-Some.edition c.requires.numbers c.editions.invariant.few c.editions.invariant.log (rw c.in-Some.is at c.editions.invariant.left)
+    next_is c.editions.job.publisher.log (into_iter_items c.editions.job.rest) _ c.in-Some.edition c.editions.invariant.numbers
+    (ap (λ next. option_to_list next ++ into_iter_items c.editions.job.rest) c.in-Some.is)
 
 pub editions-preserved : goal.editions-preserved
 editions-preserved g c =
@@ -40,6 +43,8 @@ editions-preserved g c =
       left = more.2;
       counted = counted_on c.next-next-in-Some.result _ _ _ _ before.counted next.items next.len;
       ended = ended_none c.next-next-in-Some.result _ _ _ before.counted next.items next.variant.1;
+      numbers = continues_on c.editions.job.publisher.log c.publish.new.self.log (into_iter_items c.editions.job.rest) _ _ c.in-Some.edition before.numbers
+          (ap (λ next. option_to_list next ++ into_iter_items c.editions.job.rest) c.in-Some.is) grew next.items;
       log = more.1;
       granted = omega (arith, c.if-not-turn.ensures.granted, before.granted);
       open_ = c.if-not-turn.ensures.shut;

@@ -2,6 +2,7 @@ use Rattle.std.proofs.Common.{◌≡◌, ◌≤◌, ◌+◌, ◌++◌, [], None,
 use Rattle.std.specs.Prelude.{option_to_list}
 use Rattle.std.specs.Vec.Iter.{into_iter_items, into_iter_len}
 use Rattle.edr_base.specs.Calls.{SinkLent}
+use Rattle.edrd.specs.Serving.{Continues}
 use Rattle.edrd.specs.Saying.{edition_line, output_state, SaysAll}
 use Rattle.edrd.proofs.publishing.publish_all.Given as goal
 
@@ -12,6 +13,7 @@ invariant-editions g l =
       left : option_to_list l.next ++ into_iter_items l.job.rest ≡ drop l.published (into_iter_items l.fn.job.rest);
       counted : into_iter_len l.job.rest ≡ length (into_iter_items l.job.rest);
       ended : l.next ≡ None → into_iter_items l.job.rest ≡ [];
+      numbers : Continues l.job.publisher.log (option_to_list l.next ++ into_iter_items l.job.rest);
       log : l.job.publisher.log ≡ l.fn.job.publisher.log ++ take l.published (into_iter_items l.fn.job.rest);
       granted : g.G.Gate.granted l.job.gate ≡ g.G.Gate.granted l.fn.job.gate + l.published;
       open_ : g.G.Gate.shut l.job.gate ≡ false;

@@ -19,15 +19,15 @@ pub returns-in-Ok-serve_connections-clause-cause : goal.returns-in-Ok-serve_conn
 returns-in-Ok-serve_connections-clause-cause g c places =
     let done = c.in-Ok-serve_connections.ensures in
     let port : c.from.result ≡ g.B.Doors.port c.finish.new.doors = search rules in
-    are_served _ _ _ _ _ _ _ _ _ c.in-Ok-serve_connections.report.published _ _ _ _ _ c.requires.log port
+    are_served _ _ _ _ _ _ _ _ _ c.args.behind c.in-Ok-serve_connections.report.published _ _ _ _ _ _ c.requires.log port
     (c.finish.ensures.kept.0 ∙ c.in-Ok.ensures.last.0) (c.finish.ensures.kept.1 ∙ c.in-Ok.ensures.last.1)
     (omega (arith, c.finish.ensures.closed, c.in-Ok.ensures.last.2, done.count, c.in-Ok.ensures.doors.0))
     (ap g.G.Gate.seconds c.finish.ensures.gate ∙ done.seconds ∙ c.requires.gate.1)
     (ap g.G.Gate.granted c.finish.ensures.gate ∙ done.published)
     (rw c.finish.ensures.gate done.ends)
-    c.say_number.ensures.line c.say_number-2.ensures.line done.said c.finish.ensures.line
+    c.say_number.ensures.line c.say_behind.ensures.lines c.say_number-2.ensures.line done.said c.finish.ensures.line
 
 pub returns-in-Err-clause-cause : goal.returns-in-Err-clause-cause
 returns-in-Err-clause-cause g c places =
     let port : c.from.result ≡ g.B.Doors.port c.open.new.self = search rules in
-    are_begun _ _ _ _ _ c.in-Err.ensures.said.0 _ _ _ _ c.requires.log port c.say_number.ensures.line c.say_number-2.ensures.line c.in-Err.ensures.said.1
+    are_begun _ _ _ _ _ c.args.behind c.in-Err.ensures.said.0 _ _ _ _ _ c.requires.log port c.say_number.ensures.line c.say_behind.ensures.lines c.say_number-2.ensures.line c.in-Err.ensures.said.1

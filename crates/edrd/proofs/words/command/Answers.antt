@@ -1,7 +1,7 @@
 use Rattle.std.proofs.Common.{rules, ◌≡◌, ◌∙◌, ap₂, codes}
 use Rattle.std.proofs.lemmas.Result.{IfOk-weaker}
 use Rattle.clap.specs.Words.{with_rule, rule_of}
-use Rattle.edrd.specs.Words.{option_rule}
+use Rattle.edrd.specs.Words.{option_rule, flag_rule}
 use Rattle.edrd.proofs.words.command.Goals as goal
 
 pub returns : goal.returns
@@ -13,4 +13,6 @@ returns c =
     let one = c.in_ok-arg.ensures.shape (search rules) ∙ ap₂ with_rule c.in_ok-bare_command.ensures workers in
     let two = c.in_ok-arg-2.ensures.shape (search rules) ∙ ap₂ with_rule one every in
     let three = c.in_ok-arg-3.ensures.shape (search rules) ∙ ap₂ with_rule two connections in
-    IfOk-weaker c.arg-4.result _ _ (λ m h. h.shape (search rules) ∙ ap₂ with_rule three idle) c.arg-4.ensures
+    let last : rule_of c.action.result ≡ flag_rule (codes "last") = search rules in
+    let four = c.in_ok-arg-4.ensures.shape (search rules) ∙ ap₂ with_rule three idle in
+    IfOk-weaker c.arg-5.result _ _ (λ m h. h.shape (search rules) ∙ ap₂ with_rule four last) c.arg-5.ensures

@@ -1,7 +1,7 @@
 use Rattle.std.proofs.Common.{◌∙◌, ap, map, Bor}
 use Rattle.clap.specs.Words.{Text}
 use Rattle.edrd.proofs.WordLemmas.{of_texts_ok}
-use Rattle.edrd.proofs.words.asked_by.Goals as goal
+use Rattle.edrd.proofs.words.settings_by.Goals as goal
 
 pub returns-in-Some-clause-is : goal.returns-in-Some-clause-is
 returns-in-Some-clause-is c =

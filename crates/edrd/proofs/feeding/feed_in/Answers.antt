@@ -1,15 +1,15 @@
-use Rattle.std.proofs.Common.{◌∙◌, List, Ok, Err, sym, ap, subst, arith, rules}
+use Rattle.std.proofs.Common.{◌∙◌, Err, ap, arith, rules}
 use Rattle.std.proofs.lemmas.Result.{err_from_is_err_and}
 use Rattle.edr_base.specs.Outside.{Aside}
-use Rattle.edr_edition.specs.Values.{EditionValue}
-use Rattle.edr_feed.specs.Feeds.{FeedStandsIn}
-use Rattle.edrd.proofs.RunLemmas.{stands_opened, fault_cause, file_read}
-use Rattle.edrd.proofs.feeding.editions_in.Goals as goal
+use Rattle.edrd.proofs.RunLemmas.{stands_opened, leaves_opened, fault_cause, file_read}
+use Rattle.edrd.proofs.feeding.feed_in.Goals as goal
 
 pub returns-clause-feed : goal.returns-clause-feed
 returns-clause-feed g c =
-    let stands = subst (λ (list : List EditionValue). FeedStandsIn (g.F.Source.left c.open.new.self) (Ok list)) (sym c.into_vec.ensures) c.in_ok-feed.ensures.editions in
-    stands_opened _ _ _ c.in-Ok.ensures.left stands
+    stands_opened _ _ _ c.in-Ok.ensures.left c.in_ok-feed.ensures.editions
+
+pub returns-clause-lines : goal.returns-clause-lines
+returns-clause-lines g c = leaves_opened _ _ _ c.in-Ok.ensures.left c.in_ok-feed.ensures.lines
 
 pub returns-clause-file : goal.returns-clause-file
 returns-clause-file g c =
