@@ -5,6 +5,7 @@ pub mod Nearest
 pub mod Puts
 pub mod Searching
 pub mod SharedItems
+pub mod Sides
 pub mod TakenOut
 pub mod Unread
 pub mod Within

@@ -1,5 +1,5 @@
 -- The nearest of some items, and of some more.
-use Rattle.std.proofs.Common.{◌≡◌, ◌⊎◌, ℕ, Bool, true, false, List, [], ◌∷◌, ◌++◌, Contains, inl, inr, Option, Some, None, Ordering, Less, Equal, Greater, option_to_list, refl, sym, ap, ◌∙◌, subst, arith, ◌+◌, ◌<◌, length, get_or, take, append_assoc}
+use Rattle.std.proofs.Common.{◌≡◌, ◌⊎◌, ℕ, Bool, true, false, List, [], ◌∷◌, ◌++◌, Contains, inl, inr, Option, Some, None, Ordering, Less, Equal, Greater, option_to_list, refl, sym, ap, ◌∙◌, subst, arith, ◌+◌, ◌<◌, length, get_or, take, append_assoc, IsSomeAnd}
 use Rattle.std.proofs.lemmas.List.{take_more}
 use Rattle.std.proofs.lemmas.Bool.{false≢true}
 use Rattle.std.proofs.lemmas.Cmp.{nat_cmp_total, nat_list_cmp_total, on_total, then_total, tied_itself, upto}
@@ -10,6 +10,7 @@ use Rattle.edr_base.specs.Names.{order}
 use Rattle.edr_base.specs.declared.places.Spot.{Spot}
 use Rattle.edr_near.specs.Near as near
 use Rattle.edr_near.specs.Near.{IsNearest, Nearest}
+use Rattle.edr_near.specs.Kept.{AreBoth}
 
 reversed : (o : Ordering) → is_lt (ordering_reverse o) ≡ is_gt o
 reversed Less = refl
@@ -77,6 +78,23 @@ module _ {V : Type 0} (id_of : V → List ℕ) (spot_of : V → Spot) (spot : Sp
     least = of_two (λ x. nearer x best ≡ false) best item (itself best) h;
   }
 
+  -- ---- where none of some items is nearer
+
+  stays : (best : V) (items : List V) → ((v : V) → Contains items v → nearer v best ≡ false) → IsNearest id_of spot_of spot (Contains (best ∷ items)) best
+  stays best items none = record {
+    one = first_in best items;
+    least = λ v there. elim (Contains-append_cases (best ∷ []) items v there) [
+      | inl own ↦ subst (λ x. nearer x best ≡ false) (only_one best v own) (itself best)
+      | inr other ↦ none v other
+    ];
+  }
+
+  pub beyond : (best : Option V) (items : List V)
+      → IsSomeAnd best (λ b. (v : V) → Contains items v → near.distance_of id_of spot_of spot b < near.distance_of id_of spot_of spot v)
+      → Nearest id_of spot_of spot (Contains (option_to_list best ++ items)) best
+  beyond None items h = absurd h
+  beyond (Some best) items h = stays best items (λ v there. farther v best (h v there))
+
   -- ---- of what there was, and of some more
 
   module _ (Is Both : V → Type 0) (more : List V) (was : (v : V) → Is v → Both v) (new : (v : V) → Contains more v → Both v) (either : (v : V) → Both v → Is v ⊎ Contains more v) where
@@ -104,6 +122,28 @@ module _ {V : Type 0} (id_of : V → List ℕ) (spot_of : V → Spot) (spot : Sp
         | inr there ↦ is.least v (Contains-append_right (best ∷ []) more v there)
       ];
     }
+
+  -- ---- of two lists, one after the other
+
+  pub both_sides : (start front back both : List V) → AreBoth front back both → (first answer : Option V) → Nearest id_of spot_of spot (Contains (start ++ front)) first
+      → Nearest id_of spot_of spot (Contains (option_to_list first ++ back)) answer → Nearest id_of spot_of spot (Contains (start ++ both)) answer
+  both_sides start front back both are first answer was is =
+      nearest_more (Contains (start ++ front)) (Contains (start ++ both)) back had (λ v there. Contains-append_right start both v ((are v).1 (inr there))) either first answer was is
+    where
+      had : (v : V) → Contains (start ++ front) v → Contains (start ++ both) v
+      had v there = elim (Contains-append_cases start front v there) [
+        | inl given ↦ Contains-append_left start both v given
+        | inr one ↦ Contains-append_right start both v ((are v).1 (inl one))
+      ]
+
+      either : (v : V) → Contains (start ++ both) v → Contains (start ++ front) v ⊎ Contains back v
+      either v there = elim (Contains-append_cases start both v there) [
+        | inl given ↦ inl (Contains-append_left start front v given)
+        | inr one ↦ elim ((are v).0 one) [
+          | inl front_one ↦ inl (Contains-append_right start front v front_one)
+          | inr back_one ↦ inr back_one
+        ]
+      ]
 
   -- ---- of a list, one more at a time
 

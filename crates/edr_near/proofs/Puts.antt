@@ -1,16 +1,16 @@
 -- One more item in its cell.
-use Rattle.std.proofs.Common.{◌≡◌, ◌≢◌, ◌⊎◌, ℕ, ◌/◌, ◌%◌, ◌<◌, inl, inr, List, [], ◌∷◌, ◌++◌, All, Contains, Option, Some, None, bytes_eq, MatchOption, Result, Ok, Err, IfOk, OnOk, OnErr, refl, sym, ap, ◌∙◌, subst, arith}
+use Rattle.std.proofs.Common.{◌≡◌, ◌≢◌, ◌⊎◌, ℕ, ◌/◌, ◌%◌, ◌<◌, inl, inr, List, [], ◌∷◌, All, Contains, get_or, Option, Some, None, bytes_eq, MatchOption, Result, Ok, Err, IfOk, OnOk, OnErr, refl, sym, ap, ◌∙◌, subst, arith}
 use Rattle.std.specs.Prelude.{◌↔◌, ⊤}
 use Rattle.std.specs.List.{filter}
 use Rattle.std.proofs.lemmas.Bool.{cases_Bool, false≢true}
 use Rattle.std.proofs.lemmas.Slice.Eq.{bytes_eq-Decides}
-use Rattle.std.proofs.lemmas.List.Elements.{All-nil, All-cons, All-append, All-push, All-filter, All-contains, Contains-append_left, Contains-push, Contains-push_cases}
+use Rattle.std.proofs.lemmas.List.Elements.{All-nil, All-cons, All-append, All-filter, All-contains, Contains-get_or}
 use Rattle.edr_base.specs.declared.places.Spot.{Spot}
 use Rattle.edr_ids.specs.Ids.{AscendBy, AreById, item_of, with_item, is_below, is_above}
 use Rattle.edr_ids.specs.ListLaws.{AscendBy-with_item, item_found}
 use Rattle.edr_near.specs.Squares.{strips}
 use Rattle.edr_near.specs.Cells.{CellValue, key_of, cell_key, IsIn, IsCell, AreCells, Has}
-use Rattle.edr_near.specs.Kept.{IsWith}
+use Rattle.edr_near.specs.Kept.{IsMore, IsWith}
 use Rattle.edr_near.proofs.Nearest.{only_one}
 
 number_same : (m n : ℕ) → m / 256 ≡ n / 256 → m % 256 ≡ n % 256 → m ≡ n
@@ -37,26 +37,26 @@ module _ {V : Type 0} (spot_of : V → Spot) (cells : List (CellValue V)) (are :
   has_item : Contains cell.items item
   has_item = by_match (item_of cell_key (key_of column row) cells) with.items
     where
-      by_match : (had : Option (CellValue V)) → MatchOption had (cell.items ≡ item ∷ []) (λ had. cell.items ≡ had.items ++ item ∷ []) → Contains cell.items item
+      by_match : (had : Option (CellValue V)) → MatchOption had (cell.items ≡ item ∷ []) (λ had. IsMore had.items item cell.items) → Contains cell.items item
       by_match None is = subst (λ (l : List V). Contains l item) (sym is) (0, omega arith, refl)
-      by_match (Some had) is = subst (λ (l : List V). Contains l item) (sym is) (Contains-push had.items item)
+      by_match (Some had) is = (is item).1 (inl refl)
 
   in_new_cell : (v : V) → Contains cell.items v → (v ≡ item) ⊎ Has cells v
   in_new_cell v there = by_match (item_of cell_key (key_of column row) cells) refl with.items
     where
-      by_match : (had : Option (CellValue V)) → item_of cell_key (key_of column row) cells ≡ had → MatchOption had (cell.items ≡ item ∷ []) (λ had. cell.items ≡ had.items ++ item ∷ [])
+      by_match : (had : Option (CellValue V)) → item_of cell_key (key_of column row) cells ≡ had → MatchOption had (cell.items ≡ item ∷ []) (λ had. IsMore had.items item cell.items)
           → (v ≡ item) ⊎ Has cells v
       by_match None e is = inl (sym (only_one item v (subst (λ (l : List V). Contains l v) is there)))
-      by_match (Some had) e is = elim (Contains-push_cases had.items item v (subst (λ (l : List V). Contains l v) is there)) [
-        | inl old ↦ inr (record { cell = had; there = ((by.found (key_of column row) cells had are.ascending).0 e).0; stands = old })
-        | inr same ↦ inl (sym same)
+      by_match (Some had) e is = elim ((is v).0 there) [
+        | inl own ↦ inl own
+        | inr old ↦ inr (record { cell = had; there = ((by.found (key_of column row) cells had are.ascending).0 e).0; stands = old })
       ]
 
   still_in_cell : (v : V) (had : CellValue V) → Contains cells had → cell_key had ≡ key_of column row → Contains had.items v → Contains cell.items v
   still_in_cell v had there own stands =
       let e : item_of cell_key (key_of column row) cells ≡ Some had = (by.found (key_of column row) cells had are.ascending).1 (there, own) in
-      let is : cell.items ≡ had.items ++ item ∷ [] = subst (λ o. MatchOption o (cell.items ≡ item ∷ []) (λ (h : CellValue V). cell.items ≡ h.items ++ item ∷ [])) e with.items in
-      subst (λ (l : List V). Contains l v) (sym is) (Contains-append_left had.items (item ∷ []) v stands)
+      let is : IsMore had.items item cell.items = subst (λ o. MatchOption o (cell.items ≡ item ∷ []) (λ (h : CellValue V). IsMore h.items item cell.items)) e with.items in
+      (is v).1 (inr stands)
 
   cell_there : Contains new cell
   cell_there = ((by.found (cell_key cell) new cell new_up).0 (by.set cell cells)).0
@@ -114,7 +114,7 @@ module _ {V : Type 0} (spot_of : V → Spot) (cells : List (CellValue V)) (are :
     all_inside : All (IsIn spot_of column row) cell.items
     all_inside = by_match (item_of cell_key (key_of column row) cells) refl with.items
       where
-        by_match : (had : Option (CellValue V)) → item_of cell_key (key_of column row) cells ≡ had → MatchOption had (cell.items ≡ item ∷ []) (λ had. cell.items ≡ had.items ++ item ∷ [])
+        by_match : (had : Option (CellValue V)) → item_of cell_key (key_of column row) cells ≡ had → MatchOption had (cell.items ≡ item ∷ []) (λ had. IsMore had.items item cell.items)
             → All (IsIn spot_of column row) cell.items
         by_match None e is = subst (All (IsIn spot_of column row)) (sym is) (All-cons (IsIn spot_of column row) item [] inside (All-nil (IsIn spot_of column row)))
         by_match (Some had) e is =
@@ -123,7 +123,10 @@ module _ {V : Type 0} (spot_of : V → Spot) (cells : List (CellValue V)) (are :
             let same : All (IsIn spot_of column row) had.items =
             subst (λ r. All (IsIn spot_of column r) had.items) (row_same had.column had.row column row found.1)
             (subst (λ c. All (IsIn spot_of c had.row) had.items) (column_same had.column had.row column row found.1) was) in
-            subst (All (IsIn spot_of column row)) (sym is) (All-push (IsIn spot_of column row) had.items item same inside)
+            λ k d low. elim ((is (get_or cell.items k d)).0 (Contains-get_or cell.items k d low)) [
+              | inl own ↦ subst (IsIn spot_of column row) (sym own) inside
+              | inr old ↦ All-contains (IsIn spot_of column row) had.items (get_or cell.items k d) same old
+            ]
 
     is_cell : IsCell spot_of cell
     is_cell = record {
@@ -157,14 +160,14 @@ module _ {V E : Type 0} (cells : List (CellValue V)) (column row : ℕ) (item : 
       → IfOk r (λ cell. IsWith cells column row item cell)
   new_is (Ok cell) none is = record {
     key = ap cell_key is;
-    items = subst (λ o. MatchOption o (cell.items ≡ item ∷ []) (λ (had : CellValue V). cell.items ≡ had.items ++ item ∷ [])) (sym none) (ap (λ (c : CellValue V). c.items) is);
+    items = subst (λ o. MatchOption o (cell.items ≡ item ∷ []) (λ (had : CellValue V). IsMore had.items item cell.items)) (sym none) (ap (λ (c : CellValue V). c.items) is);
   }
   new_is (Err e) none is = tt
 
   pub had_is : (had : CellValue V) (r : Result (CellValue V) E) → item_of cell_key (key_of column row) cells ≡ Some had
-      → IfOk r (λ cell. cell ≡ record { column = had.column; row = had.row; items = had.items ++ item ∷ [] }) → IfOk r (λ cell. IsWith cells column row item cell)
-  had_is had (Ok cell) some is = record {
-    key = ap cell_key is ∙ (item_found cell_key (key_of column row) cells had some).1;
-    items = subst (λ o. MatchOption o (cell.items ≡ item ∷ []) (λ (h : CellValue V). cell.items ≡ h.items ++ item ∷ [])) (sym some) (ap (λ (c : CellValue V). c.items) is);
+      → IfOk r (λ cell. cell_key cell ≡ cell_key had) → IfOk r (λ cell. IsMore had.items item cell.items) → IfOk r (λ cell. IsWith cells column row item cell)
+  had_is had (Ok cell) some own is = record {
+    key = own ∙ (item_found cell_key (key_of column row) cells had some).1;
+    items = subst (λ o. MatchOption o (cell.items ≡ item ∷ []) (λ (h : CellValue V). IsMore h.items item cell.items)) (sym some) is;
   }
-  had_is had (Err e) some is = tt
+  had_is had (Err e) some own is = tt

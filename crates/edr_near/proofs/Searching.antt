@@ -54,7 +54,7 @@ module _ {V : Type 0} (spot_of : V → Spot) (spot : Spot) (spot_in : IsSpot spo
   pub items_are : (number : ℕ) (d : CellValue V) → number < length cells → items_at cells number ≡ (get_or cells number d).items
   items_are number d inside = get_or-map (λ (cell : CellValue V). cell.items) cells number d [] inside
 
-  distance_is : (number : ℕ) (d : CellValue V) → number < length cells
+  pub distance_is : (number : ℕ) (d : CellValue V) → number < length cells
       → distance_at (distances spot cells) number ≡ square_distance (get_or cells number d).column (get_or cells number d).row spot
   distance_is number d inside = get_or-map (λ (cell : CellValue V). square_distance cell.column cell.row spot) cells number d 0 inside
 

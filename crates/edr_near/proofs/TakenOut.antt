@@ -80,7 +80,7 @@ module _ {V : Type 0} (id_of : V → List ℕ) (spot_of : V → Spot) (spot : Sp
 
     -- ---- where nothing is left of it
 
-    module _ (left : IsLeft id_of spot_of spot id had []) where
+    module _ (left : IsLeft id_of spot_of spot id had.items []) where
       abbrev fewer : List (CellValue V)
       fewer = without_id cell_key key cells
 
@@ -129,7 +129,7 @@ module _ {V : Type 0} (id_of : V → List ℕ) (spot_of : V → Spot) (spot : Sp
 
     -- ---- where some items are left
 
-    module _ (cell : CellValue V) (key_is : cell_key cell ≡ cell_key had) (some_left : 0 < length cell.items) (left : IsLeft id_of spot_of spot id had cell.items) where
+    module _ (cell : CellValue V) (key_is : cell_key cell ≡ cell_key had) (some_left : 0 < length cell.items) (left : IsLeft id_of spot_of spot id had.items cell.items) where
       abbrev changed : List (CellValue V)
       changed = with_item cell_key cell cells
 

@@ -3,4 +3,7 @@ pub mod Near
 pub mod Cells
 pub mod Looks
 pub mod Kept
+pub mod Frames
+pub mod Trees
+pub mod TreeDepths
 pub mod Search

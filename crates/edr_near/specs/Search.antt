@@ -65,9 +65,31 @@ NextCell distances last limit next =
     (λ candidate. IsFirst distances last (length distances) candidate × IfSome limit (λ distance. candidate.distance ≤ distance))
 
 -- of a candidate, if one is given, and another one the first
-abbrev pub IsFirstOf : Option Candidate → Candidate → Candidate → Type 0
-IsFirstOf None other result = result ≡ other
-IsFirstOf (Some first) other result = ((result ≡ first) × (rank_of first ≤ rank_of other)) ⊎ ((result ≡ other) × (rank_of other < rank_of first))
+abbrev pub first_of : Option Candidate → Candidate → Candidate
+first_of None other = other
+first_of (Some first) other = if nat_le (rank_of first) (rank_of other) then first else other
+
+-- the same, unless the other one was read
+abbrev pub unless_read : Option Candidate → Option Candidate → Candidate → Option Candidate
+unless_read last found other = if is_read last (rank_of other) then found else Some (first_of found other)
+
+-- a square stands at a column and a row or before them, in ascending order of columns, and of rows in a column
+abbrev pub IsFrom : ℕ → ℕ → ℕ → ℕ → Type 0
+IsFrom column row column' row' = (column < column') ⊎ ((column ≡ column') × (row ≤ row'))
+
+-- no cell from one number up to another is nearer than a distance
+abbrev pub AreNoNearer : List ℕ → ℕ → ℕ → ℕ → Type 0
+AreNoNearer distances low high distance = (number : ℕ) → low ≤ number → number < high → distance ≤ distance_at distances number
+
+-- a candidate is read before the cells from one number up to another
+abbrev pub AreBehind : List ℕ → ℕ → ℕ → Option Candidate → Type 0
+AreBehind distances low high found = IsSomeAnd found (λ candidate. (number : ℕ) → low ≤ number → number < high → rank_of candidate ≤ rank_at distances number)
+
+-- of a candidate, if one is given, and those of the cells from one number up to another that weren't read, the first
+pub record IsFirstBetween (distances : List ℕ) (last : Option Candidate) (low high : ℕ) (found result : Option Candidate) : Type 0 where
+  pub unread : IfSome result (IsUnread distances last)
+  pub given : IfSome found (λ candidate. IsSomeAnd result (λ first. rank_of first ≤ rank_of candidate))
+  pub first : (number : ℕ) → low ≤ number → number < high → is_read last (rank_at distances number) ≡ false → IsSomeAnd result (λ first. rank_of first ≤ rank_at distances number)
 
 -- a whole search: the nearest of all items, and which cells were read
 pub record IsSearched {V : Type 0} (id_of : V → List ℕ) (spot_of : V → Spot) (spot : Spot) (cells : List (CellValue V)) (best : Option V) (numbers : List ℕ) : Type 0 where

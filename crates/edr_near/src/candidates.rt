@@ -27,13 +27,20 @@ impl Candidate {
         }
     }
 
-    /// Of a candidate, if one is given, and another one the first.
-    pub fn or_before(self, first: Option<Candidate>) -> Candidate
-        ensures { search.IsFirstOf first self result }
+    /// Of a candidate, if one is given, and this one, unless it was read, the first.
+    pub fn unless_read(
+        self,
+        last: &Option<Candidate>,
+        found: Option<Candidate>,
+    ) -> Option<Candidate>
+        ensures { result ≡ search.unless_read last.now found self }
     {
-        match first {
-            Some(first) if first.rank() <= self.rank() => first,
-            _ => self,
+        if self.is_read(last) {
+            return found;
+        }
+        match found {
+            Some(found) if found.rank() <= self.rank() => Some(found),
+            _ => Some(self),
         }
     }
 }

@@ -1,14 +1,15 @@
 //! One cell: a square and what stands in it.
-ghost use Rattle.std.specs.Prelude.{◌≡◌, false, ◌<◌, ◌↔◌, ◌++◌, ◌∷◌, [], Contains, IfOk, OnOk, option_map, option_to_list};
+ghost use Rattle.std.specs.Prelude.{◌≡◌, ◌<◌, ◌++◌, ◌∷◌, [], length, Contains, IfOk, option_map, option_to_list};
 ghost use Rattle.std.specs.Arc.{arc_value};
 ghost use Rattle.edr_near.specs.Squares.{IsSpot, strips, square_distance};
-ghost use Rattle.edr_near.specs.Near.{Nearest, is_it};
+ghost use Rattle.edr_near.specs.Near.{Nearest};
 ghost use Rattle.edr_near.specs.Cells as keys;
 ghost use Rattle.edr_near.specs.Cells.{cell_key};
-ghost use Rattle.edr_near.specs.Kept.{values_of, IsWithout};
+ghost use Rattle.edr_near.specs.Kept.{IsMore, IsWithout};
 
-use crate::placed::{self, Placed, nearer_of};
+use crate::placed::Placed;
 use crate::squares::Square;
+use crate::trees::Tree;
 use edr_base::{OutOfMemory, Spot};
 use edr_ids::Identified;
 use std::alloc::Global;
@@ -17,15 +18,14 @@ use std::sync::Arc;
 
 /// A square in which something stands, and what stands there.
 #[derive(Drop)]
-pub struct Cell<T> {
+pub struct Cell<T: Placed> {
     key: [u8; 4],
     square: Square,
-    items: Vec<Arc<T>>,
+    items: Tree<T>,
 }
 
-impl<T> Model for Cell<T> {
-    ghost use Rattle.std.specs.Prelude.{◌≡◌, ◌<◌, map};
-    ghost use Rattle.std.specs.Arc.{arc_value};
+impl<T: Placed> Model for Cell<T> {
+    ghost use Rattle.std.specs.Prelude.{◌≡◌, ◌<◌};
     ghost use Rattle.edr_near.specs.Cells.{CellValue, cell_code, key_of};
     ghost use Rattle.edr_near.specs.Squares.{strips};
 
@@ -33,12 +33,12 @@ impl<T> Model for Cell<T> {
 
     ghost coded = { cell_code T.code };
 
-    ghost view = { λ c. record { column = c.square.column; row = c.square.row; items = map (λ item. arc_value item) c.items.items } };
+    ghost view = { λ c. record { column = c.square.column; row = c.square.row; items = c.items } };
 
     ghost invariant = { λ c. (c.key ≡ key_of c.square.column c.square.row) × (c.square.column < strips) × (c.square.row < strips) };
 }
 
-impl<T> Identified for Cell<T> {
+impl<T: Placed> Identified for Cell<T> {
     ghost id_of = { cell_key };
 
     fn id(&self) -> &[u8] {
@@ -60,54 +60,23 @@ pub fn key_of(square: &Square) -> [u8; 4]
     ]
 }
 
-// Shares some items more.
-fn share_all<T: Drop>(items: &[Arc<T>], shared: &mut Vec<Arc<T>>) -> Result<(), OutOfMemory>
-    ensures { OnOk result (values_of shared.new.items ≡ values_of shared.old.items ++ values_of items.now) }
-{
-    for item in items {
-        shared.push(Arc::try_clone(item)?)?;
+impl<T: Placed> Cell<T> {
+    /// Its square.
+    pub fn square(&self) -> Square
+        ensures column { result.column ≡ self.now.column }
+        ensures row { result.row ≡ self.now.row }
+        ensures column_in { result.column < strips }
+        ensures row_in { result.row < strips }
+    {
+        self.square
     }
-    Ok(())
-}
 
-impl<T> Cell<T> {
-    // How far its square is from a place, squared.
-    pub(crate) fn distance(&self, spot: &Spot) -> u64
+    /// How far its square is from a place, squared.
+    pub fn distance(&self, spot: &Spot) -> u64
         requires { IsSpot spot.now }
         ensures { result ≡ square_distance self.now.column self.now.row spot.now }
     {
         self.square.distance(spot)
-    }
-}
-
-impl<T: Drop> Cell<T> {
-    // A square and one item.
-    pub(crate) fn of(alloc: Global, square: Square, item: &Arc<T>) -> Result<Cell<T>, OutOfMemory>
-        requires column { square.column < strips }
-        requires row { square.row < strips }
-        ensures { IfOk result (λ cell. cell ≡ record { column = square.column; row = square.row; items = arc_value item.now ∷ [] }) }
-    {
-        let mut items = Vec::with_capacity(alloc, 1)?;
-        items.push(Arc::try_clone(item)?)?;
-        Ok(Cell {
-            key: key_of(&square),
-            square,
-            items,
-        })
-    }
-
-    // The cell with one more item.
-    pub(crate) fn with(&self, alloc: Global, item: &Arc<T>) -> Result<Cell<T>, OutOfMemory>
-        ensures { IfOk result (λ cell. cell ≡ record { column = self.now.column; row = self.now.row; items = self.now.items ++ arc_value item.now ∷ [] }) }
-    {
-        let mut items = Vec::new(alloc);
-        share_all(&self.items, &mut items)?;
-        items.push(Arc::try_clone(item)?)?;
-        Ok(Cell {
-            key: self.key,
-            square: self.square,
-            items,
-        })
     }
 }
 
@@ -117,30 +86,38 @@ impl<T: Identified + Placed> Cell<T> {
         requires { IsSpot spot.now }
         ensures { Nearest T.id_of T.spot_of spot.now (Contains (option_to_list (option_map (λ b. b.now) best.entry) ++ self.now.items)) (option_map (λ i. i.now) result) }
     {
-        let mut nearest = best;
-        for item in &self.items {
-            nearest = nearer_of(nearest, item, spot);
-        }
-        nearest
+        self.items.nearer(best, spot)
     }
 }
 
 impl<T: Identified + Placed + Drop> Cell<T> {
-    // The items but those that have an id and stand at a place.
-    fn others(&self, alloc: Global, id: &[u8], spot: &Spot) -> Result<Vec<Arc<T>>, OutOfMemory>
-        ensures { IfOk result (λ items. (v : T) → Contains (values_of items.items) v ↔ (Contains self.now.items v × (is_it T.id_of T.spot_of spot.now id.now v ≡ false))) }
+    /// A square and one item.
+    pub fn of(alloc: Global, square: Square, item: &Arc<T>) -> Result<Cell<T>, OutOfMemory>
+        requires column { square.column < strips }
+        requires row { square.row < strips }
+        ensures { IfOk result (λ cell. cell ≡ record { column = square.column; row = square.row; items = arc_value item.now ∷ [] }) }
     {
-        let mut others = Vec::new(alloc);
-        for item in &self.items {
-            if !placed::is_it::<T>(item, id, spot) {
-                others.push(Arc::try_clone(item)?)?;
-            }
-        }
-        Ok(others)
+        Ok(Cell {
+            key: key_of(&square),
+            square,
+            items: Tree::of(alloc, item)?,
+        })
     }
 
-    // The cell without the items that have an id and stand at a place; None where it has no others.
-    pub(crate) fn without(
+    /// The cell with one more item.
+    pub fn with(&self, alloc: Global, item: &Arc<T>) -> Result<Cell<T>, OutOfMemory>
+        ensures key { IfOk result (λ cell. cell_key cell ≡ cell_key self.now) }
+        ensures items { IfOk result (λ cell. IsMore self.now.items (arc_value item.now) cell.items) }
+    {
+        Ok(Cell {
+            key: self.key,
+            square: self.square,
+            items: self.items.with(alloc, item)?,
+        })
+    }
+
+    /// The cell without the items that have an id and stand at a place; None where it has no others.
+    pub fn without(
         &self,
         alloc: Global,
         id: &[u8],
@@ -148,10 +125,10 @@ impl<T: Identified + Placed + Drop> Cell<T> {
     ) -> Result<Option<Cell<T>>, OutOfMemory>
         ensures { IfOk result (λ left. IsWithout T.id_of T.spot_of spot.now id.now self.now left) }
     {
-        let items = self.others(alloc, id, spot)?;
-        if items.is_empty() {
+        let Some(items) = self.items.without(alloc, id, spot)? else {
             return Ok(None);
-        }
+        };
+        items.stand();
         Ok(Some(Cell {
             key: self.key,
             square: self.square,

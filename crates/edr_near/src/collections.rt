@@ -1,5 +1,5 @@
 //! Items in the cells that they stand in.
-ghost use Rattle.std.specs.Prelude.{◌≡◌, false, ◌<◌, ◌^◌, ◌↔◌, ◌⊎◌, ◌++◌, ◌∷◌, [], length, map, Contains, MatchOption, IfOk, OnOk, OnErr, option_map};
+ghost use Rattle.std.specs.Prelude.{◌≡◌, false, ◌<◌, ◌≤◌, ◌^◌, ◌↔◌, ◌⊎◌, ◌++◌, ◌∷◌, [], length, Contains, IsTrue, IfSome, MatchOption, IfOk, OnOk, OnErr, option_map};
 ghost use Rattle.std.specs.List.{slice_index_or};
 ghost use Rattle.std.specs.Arc.{arc_value};
 ghost use Rattle.edr_near.specs.Squares.{IsSpot, strips};
@@ -7,13 +7,13 @@ ghost use Rattle.edr_near.specs.Near.{Nearest, distance_of, is_it};
 ghost use Rattle.edr_near.specs.Cells.{CellValue, AreCells, Has, distances, distance_at, key_of};
 ghost use Rattle.edr_near.specs.Looks.{AreLooks};
 ghost use Rattle.edr_near.specs.Kept.{values_of, IsWith};
-ghost use Rattle.edr_near.specs.Search.{FirstUnread, NextCell, IsSearched};
+ghost use Rattle.edr_near.specs.Search.{IsUnread, FirstUnread, AreNoNearer, AreBehind, IsFirstBetween, NextCell, IsSearched};
 
 use crate::candidates::Candidate;
 use crate::cells::{Cell, key_of};
 use crate::looks::Looks;
 use crate::placed::{Placed, distance_of};
-use crate::squares::{Square, square_of};
+use crate::squares::{Square, distance_of_squares, square_of};
 use edr_base::{OutOfMemory, Spot};
 use edr_ids::{ById, Identified, items_are_by_id};
 use std::alloc::Global;
@@ -96,19 +96,95 @@ impl<T: Identified + Placed> Cells<T> {
         }
     }
 
+    // The square of the cell of a number.
+    fn square_at(&self, place: usize) -> Square
+        requires { place < length self.now }
+        ensures column { (d : CellValue T) → result.column ≡ (slice_index_or self.now place d).column }
+        ensures row { (d : CellValue T) → result.row ≡ (slice_index_or self.now place d).row }
+        ensures column_in { result.column < strips }
+        ensures row_in { result.row < strips }
+    {
+        self.cells.at(place).square()
+    }
+
+    // How far the squares of the cells from one number up to another are from a place, squared: none of them is nearer.
+    fn distance_between(&self, low: usize, high: usize, spot: &Spot) -> u64
+        requires order { low < high }
+        requires inside { high ≤ length self.now }
+        requires spot { IsSpot spot.now }
+        ensures { AreNoNearer (distances spot.now self.now) low high result }
+    {
+        self.stand();
+        distance_of_squares(self.square_at(low), self.square_at(high - 1), spot)
+    }
+
+    // Whether the cells from one number up to another are farther from a place than a candidate.
+    fn are_beyond(&self, low: usize, high: usize, found: &Option<Candidate>, spot: &Spot) -> bool
+        requires order { low < high }
+        requires inside { high ≤ length self.now }
+        requires spot { IsSpot spot.now }
+        requires found { IfSome found.now (λ found. found.place < length self.now) }
+        ensures { IsTrue result → AreBehind (distances spot.now self.now) low high found.now }
+    {
+        self.stand();
+        match found {
+            None => false,
+            Some(found) => found.distance < self.distance_between(low, high, spot),
+        }
+    }
+
+    // Whether the cell of a number stands behind the square of a place.
+    fn is_behind(&self, place: usize, spot: &Spot) -> bool
+        requires place { place < length self.now }
+        requires spot { IsSpot spot.now }
+    {
+        let own = square_of(spot);
+        let square = self.square_at(place);
+        own.column < square.column || own.column == square.column && own.row < square.row
+    }
+
+    // Of a candidate, if one is given, and those of the cells from one number up to another that weren't read, the first.
+    // Those are halved, and first the half is looked at in which the square of the place would stand.
+    fn first_between(
+        &self,
+        low: usize,
+        high: usize,
+        last: &Option<Candidate>,
+        found: Option<Candidate>,
+        spot: &Spot,
+    ) -> Option<Candidate>
+        requires order { low < high }
+        requires inside { high ≤ length self.now }
+        requires spot { IsSpot spot.now }
+        requires found { IfSome found (IsUnread (distances spot.now self.now) last.now) }
+        ensures { IsFirstBetween (distances spot.now self.now) last.now low high found result }
+    {
+        if self.are_beyond(low, high, &found, spot) {
+            return found;
+        }
+        if high - low == 1 {
+            return self.candidate(low, spot).unless_read(last, found);
+        }
+        let middle = low + (high - low) / 2;
+        if self.is_behind(middle, spot) {
+            let first = self.first_between(low, middle, last, found, spot);
+            self.first_between(middle, high, last, first, spot)
+        } else {
+            let first = self.first_between(middle, high, last, found, spot);
+            self.first_between(low, middle, last, first, spot)
+        }
+    }
+
     // Of the cells behind the last one, in the order of their distance and number, the first.
     fn first_unread(&self, last: Option<Candidate>, spot: &Spot) -> Option<Candidate>
         requires { IsSpot spot.now }
         ensures { FirstUnread (distances spot.now self.now) last (length self.now) result }
     {
-        let mut first = None;
-        for place in 0..self.cells.len() {
-            let candidate = self.candidate(place, spot);
-            if !candidate.is_read(&last) {
-                first = Some(candidate.or_before(first));
-            }
+        let end = self.cells.len();
+        if end == 0 {
+            return None;
         }
-        first
+        self.first_between(0, end, &last, None, spot)
     }
 
     // The same, unless it is farther than the best item so far.

@@ -4,10 +4,13 @@
 mod candidates;
 mod cells;
 mod collections;
+mod frames;
+mod keys;
 mod laws;
 mod looks;
 mod placed;
 mod squares;
+mod trees;
 
 pub use collections::Cells;
 pub use laws::nearest_is_one;

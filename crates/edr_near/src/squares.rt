@@ -1,8 +1,9 @@
 //! Places and squares of the plane, in whole metres.
-ghost use Rattle.std.specs.Prelude.{◌≡◌, ◌<◌, ◌≤◌, ◌-ℤ◌, unsigned_abs};
+ghost use Rattle.std.specs.Prelude.{◌≡◌, ℕ, ◌<◌, ◌≤◌, ◌-ℤ◌, unsigned_abs};
 ghost use Rattle.edr_base.specs.Limits.{IsCoordinate};
 ghost use Rattle.edr_near.specs.Squares as plane;
 ghost use Rattle.edr_near.specs.Squares.{IsSpot, strips};
+ghost use Rattle.edr_near.specs.Search.{IsFrom};
 
 use edr_base::Spot;
 
@@ -72,6 +73,18 @@ pub fn square_of(spot: &Spot) -> Square
     }
 }
 
+// How far a coordinate is from those columns or rows from one to another; 0 inside them.
+fn gap_of_strips(first: u64, last: u64, value: i64) -> u64
+    requires first { first < strips }
+    requires last { last < strips }
+    requires value { IsCoordinate value }
+    ensures least { (strip : ℕ) → first ≤ strip → strip ≤ last → result ≤ plane.gap strip value }
+    ensures small { result ≤ 536_870_912 }
+{
+    let at = behind_edge(value);
+    (first * SIDE).saturating_sub(at) + at.saturating_sub(last * SIDE + (SIDE - 1))
+}
+
 // How far a coordinate is from a column or a row; 0 inside it.
 fn gap(strip: u64, value: i64) -> u64
     requires strip { strip < strips }
@@ -96,4 +109,22 @@ impl Square {
         let along = gap(self.row, spot.y);
         across * across + along * along
     }
+}
+
+/// How far the squares from one to another are from a place, squared, in ascending order of columns, and of rows in a column:
+/// none of them is nearer.
+pub fn distance_of_squares(first: Square, last: Square, spot: &Spot) -> u64
+    requires first_column { first.column < strips }
+    requires first_row { first.row < strips }
+    requires last_column { last.column < strips }
+    requires last_row { last.row < strips }
+    requires spot { IsSpot spot.now }
+    ensures { (column row : ℕ) → IsFrom first.column first.row column row → IsFrom column row last.column last.row → result ≤ plane.square_distance column row spot.now }
+{
+    let across = gap_of_strips(first.column, last.column, spot.x);
+    if first.column < last.column {
+        return across * across;
+    }
+    let along = gap_of_strips(first.row, last.row, spot.y);
+    across * across + along * along
 }

@@ -19,4 +19,4 @@ returns-in-Some g c =
     let key = key_of c.args.square.column c.args.square.row in
     let some : item_of cell_key key cells ≡ Some c.in-Some.cell.now =
     ap (λ k. item_of cell_key k cells) (sym c.key_of.ensures) ∙ (ap (item_of cell_key c.key_of.result) (sym c.self.view_is) ∙ (sym c.item_of.ensures ∙ ap (option_map (λ item. item.now)) c.in-Some.is)) in
-    had_is cells c.args.square.column c.args.square.row (arc_value c.args.item.now) c.in-Some.cell.now c.with.result some c.with.ensures
+    had_is cells c.args.square.column c.args.square.row (arc_value c.args.item.now) c.in-Some.cell.now c.with.result some c.with.ensures.key c.with.ensures.items

@@ -5,16 +5,16 @@ use Rattle.edr_near.specs.Near.{is_it}
 use Rattle.edr_near.specs.Kept.{values_of}
 use Rattle.edr_near.proofs.Left.{Has, none_yet, keeps, leaves}
 use Rattle.edr_near.proofs.SharedItems.{taken_more, pushed}
-use Rattle.edr_near.proofs.cells.Cell.others.Goals as goal
-use Rattle.edr_near.proofs.cells.Cell.others.Goals.{then-not-is_it+in_ok-try_clone+in_ok-push, else-not-is_it}
+use Rattle.edr_near.proofs.trees.others.Goals as goal
+use Rattle.edr_near.proofs.trees.others.Goals.{then-not-is_it+in_ok-try_clone+in_ok-push, else-not-is_it}
 
 pub loop-item-init : goal.loop-item-init
-loop-item-init g c = none_yet (is_it g.T.Identified.id_of g.T.Placed.spot_of c.args.spot.now c.args.id.now) (values_of c.new-others.result.items) (ap values_of c.new-others.ensures.items)
+loop-item-init g c = none_yet (is_it g.T.Identified.id_of g.T.Placed.spot_of c.args.spot.now c.args.id.now) (values_of c.in_ok-others.others.items) (ap values_of c.in_ok-others.ensures.items)
 
 pub loop-item-preserved : goal.loop-item-preserved
 loop-item-preserved g c =
     let test = is_it g.T.Identified.id_of g.T.Placed.spot_of c.args.spot.now c.args.id.now in
-    let shared = c.deref-item-items.result.now in
+    let shared = c.args.items.now in
     let k = c.loop-item.item-index in
     let s = c.item-item.result in
     let item = arc_value s in
@@ -39,9 +39,8 @@ loop-item-preserved g c =
 pub returns : goal.returns
 returns g c =
     let test = is_it g.T.Identified.id_of g.T.Placed.spot_of c.args.spot.now c.args.id.now in
-    let shared = c.deref-item-items.result.now in
+    let shared = c.args.items.now in
     let k = c.loop-item.item-index in
-    let all : take k (values_of shared) ≡ c.args.self.now.items =
-    take_all k (values_of shared) (omega (arith, c.loop-item-test.false, length-map shared (λ x. arc_value x)))
-    ∙ (ap values_of c.deref-item-items.ensures.value ∙ ap (λ v. v.items) c.self.view_is) in
+    let all : take k (values_of shared) ≡ values_of shared =
+    take_all k (values_of shared) (omega (arith, c.loop-item-test.false, length-map shared (λ x. arc_value x))) in
     subst (λ l. Has test (values_of c.loop-item.others.items) l) all c.loop-item.invariant

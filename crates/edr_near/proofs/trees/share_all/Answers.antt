@@ -2,7 +2,7 @@ use Rattle.std.proofs.Common.{◌≡◌, ◌++◌, ◌∷◌, [], sym, ap, ◌�
 use Rattle.std.specs.Arc.{arc_value}
 use Rattle.edr_near.specs.Kept.{values_of}
 use Rattle.edr_near.proofs.SharedItems.{taken_more, pushed}
-use Rattle.edr_near.proofs.cells.share_all.Goals as goal
+use Rattle.edr_near.proofs.trees.share_all.Goals as goal
 
 pub loop-item-preserved : goal.loop-item-preserved
 loop-item-preserved g c =
