@@ -4,8 +4,8 @@ use Rattle.std.specs.Prelude.{⊤}
 use Rattle.std.proofs.lemmas.Bool.{eq-eqb, ne_eqb}
 use Rattle.serde_json.specs.Data.{Data, Items}
 use Rattle.serde_json.specs.Find.{get}
-use Rattle.serde_json.specs.View.{items_view}
-use Rattle.serde_json.specs.declared.value.Value.{Value}
+use Rattle.edr_samples.specs.Trees.{items_view}
+use Rattle.edr_samples.specs.declared.trees.Tree.{Tree}
 use Rattle.covjson_value.specs.declared.domains.Domain.{Domain}
 use Rattle.covjson_value.specs.declared.axis_names.AxisName.{AxisName}
 use Rattle.covjson_checks.specs.declared.faults.Member.TheVariants.{Shape, Values}
@@ -20,7 +20,7 @@ use Rattle.covjson_ranges.proofs.RangeParts.{stands_count}
 use Rattle.covjson_ranges.proofs.SampleLemmas.{values_lead, values_passed}
 
 -- as many items as values
-pub count_items_view : (xs : List Value) → count_items (items_view xs) ≡ length xs
+pub count_items_view : (xs : List Tree) → count_items (items_view xs) ≡ length xs
 count_items_view [] = refl
 count_items_view (x ∷ xs) = ap suc (count_items_view xs)
 

@@ -1,6 +1,6 @@
 //! Ranges (OGC 21-069r2, NdArray objects).
 ghost use Rattle.std.specs.Prelude.{◌≡◌, ◌≢◌, IfOk, IfErr, Err, codes, length, map};
-ghost use Rattle.serde_json.specs.View.{view, items_view};
+ghost use Rattle.edr_samples.specs.Trees.{tree_view, items_view};
 ghost use Rattle.serde_json.specs.Find.{get};
 ghost use Rattle.covjson_value.specs.Domains.{count_of};
 ghost use Rattle.covjson_value.specs.declared.coverages.NdArray.{NdArray};
@@ -20,13 +20,12 @@ use covjson_checks::{
 };
 use covjson_value::{AxisName, Domain, NdArray, axis_by_name};
 use edr_base::{Items, SAMPLE_LIMIT};
-use edr_json::text_or_empty;
-use serde_json::Value;
+use edr_json::{Tree, text_or_empty};
 use std::alloc::Global;
 
 // An object of the type NdArray: WrongType, UnsupportedRange.
-fn need_array(alloc: Global, tree: &Value) -> Result<(), CovFault>
-    ensures { GivesUnlessMemory (λ u. u) result (ranges.is_array (view tree.now)) }
+fn need_array(alloc: Global, tree: &Tree) -> Result<(), CovFault>
+    ensures { GivesUnlessMemory (λ u. u) result (ranges.is_array (tree_view tree.now)) }
 {
     let _members = object_at(tree, Member::Ranges)?;
     let kind = text_or_empty(tree, "type");
@@ -37,8 +36,8 @@ fn need_array(alloc: Global, tree: &Value) -> Result<(), CovFault>
 }
 
 // Whole numbers: Missing, UnsupportedRange.
-fn need_integers(alloc: Global, tree: &Value) -> Result<(), CovFault>
-    ensures { GivesUnlessMemory (λ u. u) result (ranges.has_integers (view tree.now)) }
+fn need_integers(alloc: Global, tree: &Tree) -> Result<(), CovFault>
+    ensures { GivesUnlessMemory (λ u. u) result (ranges.has_integers (tree_view tree.now)) }
 {
     let _data_type = need(tree, "dataType", Member::DataType)?;
     let name = text_or_empty(tree, "dataType");
@@ -49,8 +48,8 @@ fn need_integers(alloc: Global, tree: &Value) -> Result<(), CovFault>
 }
 
 // The axis that an item names: WrongType.
-fn axis_named(item: &Value) -> Result<AxisName, CovFault>
-    ensures { result ≡ ranges.axis_named (view item.now) }
+fn axis_named(item: &Tree) -> Result<AxisName, CovFault>
+    ensures { result ≡ ranges.axis_named (tree_view item.now) }
 {
     let Some(text) = item.as_str() else {
         return Err(CovFault::WrongType(Member::AxisNames))
@@ -62,7 +61,7 @@ fn axis_named(item: &Value) -> Result<AxisName, CovFault>
 }
 
 // The axes that a list names: WrongType.
-fn axes_named(alloc: Global, items: &Vec<Value>) -> Result<Vec<AxisName>, CovFault>
+fn axes_named(alloc: Global, items: &Vec<Tree>) -> Result<Vec<AxisName>, CovFault>
     ensures { GivesUnlessMemory (λ v. v.items) result (each ranges.axis_named (items_view items.now.items)) }
 {
     let mut names = Vec::new(alloc);
@@ -136,8 +135,8 @@ fn is_one_place(domain: &Domain) -> bool
 }
 
 // The names of a range's axes in their order; none where they are left out: Missing, WrongType.
-fn names_at(alloc: Global, tree: &Value, domain: &Domain) -> Result<Vec<AxisName>, CovFault>
-    ensures { GivesUnlessMemory (λ v. v.items) result (ranges.names_in domain.now (get (codes "axisNames") (view tree.now))) }
+fn names_at(alloc: Global, tree: &Tree, domain: &Domain) -> Result<Vec<AxisName>, CovFault>
+    ensures { GivesUnlessMemory (λ v. v.items) result (ranges.names_in domain.now (get (codes "axisNames") (tree_view tree.now))) }
 {
     let Some(list) = tree.get("axisNames") else {
         return if is_one_place(domain) {
@@ -155,7 +154,7 @@ fn names_at(alloc: Global, tree: &Value, domain: &Domain) -> Result<Vec<AxisName
 }
 
 // The lengths of these axes, each a whole number from 0: WrongType, WrongCount.
-fn need_lengths(items: &Vec<Value>, names: &[AxisName], domain: &Domain) -> Result<(), CovFault>
+fn need_lengths(items: &Vec<Tree>, names: &[AxisName], domain: &Domain) -> Result<(), CovFault>
     requires { length items.now.items ≡ length names.now }
     ensures { result ≡ ranges.lengths_are (map (axes.length_of domain.now) names.now) (items_view items.now.items) }
 {
@@ -174,8 +173,8 @@ fn need_lengths(items: &Vec<Value>, names: &[AxisName], domain: &Domain) -> Resu
 }
 
 // The lengths of the axes, where they are given: Missing, WrongType, WrongCount.
-fn need_shape(tree: &Value, names: &[AxisName], domain: &Domain) -> Result<(), CovFault>
-    ensures { result ≡ ranges.shape_in domain.now names.now (get (codes "shape") (view tree.now)) }
+fn need_shape(tree: &Tree, names: &[AxisName], domain: &Domain) -> Result<(), CovFault>
+    ensures { result ≡ ranges.shape_in domain.now names.now (get (codes "shape") (tree_view tree.now)) }
 {
     let Some(list) = tree.get("shape") else {
         return if is_one_place(domain) {
@@ -208,7 +207,7 @@ fn wanted_count(domain: &Domain) -> u128
 
 // The samples that items are, absent where they are null: WrongType, NotWhole, OutOfRange. They are read in one pass, and looked
 // at in the order of the checks only where one of them is none.
-fn samples_of(alloc: Global, items: &Vec<Value>) -> Result<Vec<Option<i64>>, CovFault>
+fn samples_of(alloc: Global, items: &Vec<Tree>) -> Result<Vec<Option<i64>>, CovFault>
     ensures { GivesUnlessMemory (λ v. v.items) result (ranges.samples_of (items_view items.now.items)) }
 {
     match wholes_or_nulls(alloc, items, Member::Values, SAMPLE_LIMIT) {
@@ -222,8 +221,8 @@ fn samples_of(alloc: Global, items: &Vec<Value>) -> Result<Vec<Option<i64>>, Cov
 }
 
 // The values of a range: Missing, WrongType, WrongCount, and then sample by sample.
-fn samples(alloc: Global, tree: &Value, wanted: u128) -> Result<Vec<Option<i64>>, CovFault>
-    ensures { GivesUnlessMemory (λ v. v.items) result (ranges.samples_in wanted (view tree.now)) }
+fn samples(alloc: Global, tree: &Tree, wanted: u128) -> Result<Vec<Option<i64>>, CovFault>
+    ensures { GivesUnlessMemory (λ v. v.items) result (ranges.samples_in wanted (tree_view tree.now)) }
 {
     let list = need(tree, "values", Member::Values)?;
     let items = list_at(list, Member::Values)?;
@@ -235,10 +234,10 @@ fn samples(alloc: Global, tree: &Value, wanted: u128) -> Result<Vec<Option<i64>>
 }
 
 // The range of a tree: its form, its axes, their lengths and its values.
-fn range_read(alloc: Global, tree: &Value, read: &ReadDomain) -> Result<NdArray, CovFault>
+fn range_read(alloc: Global, tree: &Tree, read: &ReadDomain) -> Result<NdArray, CovFault>
     requires axes { HasAxes read.now.domain }
     requires tuples { HasTuples read.now.domain }
-    ensures { GivesUnlessMemory (λ r. r) result (ranges.range_of read.now (view tree.now)) }
+    ensures { GivesUnlessMemory (λ r. r) result (ranges.range_of read.now (tree_view tree.now)) }
 {
     need_array(alloc, tree)?;
     need_integers(alloc, tree)?;
@@ -257,14 +256,14 @@ fn range_read(alloc: Global, tree: &Value, read: &ReadDomain) -> Result<NdArray,
 /// Else the first that applies: WrongType or UnsupportedRange of the range itself, Missing or UnsupportedRange of `dataType`,
 /// Missing or WrongType of `axisNames`, Missing, WrongType or WrongCount of `shape`, and Missing, WrongType, WrongCount,
 /// NotWhole or OutOfRange of `values`; or OutOfMemory.
-pub fn range_of(alloc: Global, tree: &Value, read: &ReadDomain) -> Result<NdArray, CovFault>
+pub fn range_of(alloc: Global, tree: &Tree, read: &ReadDomain) -> Result<NdArray, CovFault>
     requires axes { HasAxes read.now.domain }
     requires tuples { HasTuples read.now.domain }
-    ensures stands { IfOk result (StandsForRange read.now.domain read.now.turned (view tree.now)) }
-    ensures fault { IfErr result (λ fault. fault ≢ OutOfMemory → RangeRows read.now (view tree.now) (Err fault)) }
+    ensures stands { IfOk result (StandsForRange read.now.domain read.now.turned (tree_view tree.now)) }
+    ensures fault { IfErr result (λ fault. fault ≢ OutOfMemory → RangeRows read.now (tree_view tree.now) (Err fault)) }
     ensures stands_not { IfErr result (λ fault. fault ≢ OutOfMemory
-        → (range : NdArray) → ¬ (StandsForRange read.now.domain read.now.turned (view tree.now) range)) }
-    ensures answer { GivesUnlessMemory (λ r. r) result (ranges.range_of read.now (view tree.now)) }
+        → (range : NdArray) → ¬ (StandsForRange read.now.domain read.now.turned (tree_view tree.now) range)) }
+    ensures answer { GivesUnlessMemory (λ r. r) result (ranges.range_of read.now (tree_view tree.now)) }
     ensures valid { IfOk result (IsRange read.now.domain) }
 {
     range_read(alloc, tree, read)

@@ -1,5 +1,5 @@
 use Rattle.std.proofs.Common.{rules, ◌≡◌, inl, Ok, sym}
-use Rattle.serde_json.specs.View.{items_view}
+use Rattle.edr_samples.specs.Trees.{items_view}
 use Rattle.covjson_checks.specs.declared.faults.Member.TheVariants.{Values}
 use Rattle.covjson_checks.specs.declared.faults.CovFault.TheVariants.{WrongType}
 use Rattle.covjson_checks.specs.declared.members.Wanted.TheVariants.{NumbersOrNulls}

@@ -1,6 +1,6 @@
 use Rattle.std.specs.Prelude.{is_ok}
 use Rattle.std.proofs.Common.{rules, ◌≡◌, true, inl, inr}
-use Rattle.serde_json.specs.View.{items_view}
+use Rattle.edr_samples.specs.Trees.{items_view}
 use Rattle.covjson_checks.specs.FaultLaws.{fault_answers, memory_alone, stops_here, stops_after}
 use Rattle.covjson_read.specs.SystemAnswers.{plane_in}
 use Rattle.covjson_read.proofs.ResultLaws.{stops_behind}
