@@ -311,7 +311,8 @@ fn tuple_at(names: &[CoordinateName], place: usize, tuple: &Tree) -> Result<Posi
     requires { tuples.list_passes Test.Within names.now (as_array (tree_view tuple.now)) ≡ true }
     ensures { result ≡ tuples.tuple_at names.now place (tree_view tuple.now) }
 {
-    match list_at(tuple, Member::Composite)? {
+    let list = list_at(tuple, Member::Composite)?;
+    match list {
         List::Samples(samples) => tuple_of_samples(names, place, samples),
         List::Items(items) => tuple_of_items(names, place, items),
     }
