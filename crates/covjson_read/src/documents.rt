@@ -1,6 +1,6 @@
 //! Documents (OGC 21-069r2, CoverageJSON documents).
 ghost use Rattle.std.specs.Prelude.{◌≡◌, ◌≢◌, ◌⊎◌, All, IfOk, IfErr, MatchResult, Ok, Err};
-ghost use Rattle.edr_samples.specs.Trees.{tree_view, items_view};
+ghost use Rattle.edr_samples.specs.Trees.{tree_view, items_view, list_view};
 ghost use Rattle.covjson_value.specs.Coverages.{IsValid, IsValidDocument};
 ghost use Rattle.covjson_checks.specs.Answers.{GivesUnlessMemory, each};
 ghost use Rattle.covjson_value.specs.declared.coverages.Document.{Document};
@@ -17,7 +17,7 @@ use crate::laws::{
 use covjson_checks::{CovFault, Member, list_at, need, object_at};
 use covjson_value::{Coverage, Document};
 use edr_base::Items;
-use edr_json::{Tree, read_tree, text_or_empty};
+use edr_json::{List, Tree, read_tree, text_or_empty};
 use std::alloc::Global;
 
 // The coverages of a collection, in turn.
@@ -37,13 +37,33 @@ fn coverages_in(
     Ok(coverages)
 }
 
+// The coverages of a list, in turn. Samples are none: WrongType.
+fn coverages_of(
+    alloc: Global,
+    list: List<'_>,
+    collection: &Tree,
+) -> Result<Vec<Coverage>, CovFault>
+    ensures answer { GivesUnlessMemory (λ v. v.items) result (each (coverage_in (tree_view collection.now)) (list_view list.entry)) }
+    ensures valid { IfOk result (λ v. All IsValid v.items) }
+{
+    match list {
+        List::Samples(samples) => {
+            if samples.len() != 0 {
+                return Err(CovFault::WrongType(Member::Coverages));
+            }
+            Ok(Vec::new(alloc))
+        }
+        List::Items(items) => coverages_in(alloc, items, collection),
+    }
+}
+
 fn many_coverages(alloc: Global, tree: &Tree) -> Result<Document, CovFault>
     ensures answer { GivesUnlessMemory (λ d. d) result (answers.many_coverages (tree_view tree.now)) }
     ensures valid { IfOk result IsValidDocument }
 {
     let list = need(tree, "coverages", Member::Coverages)?;
     let items = list_at(list, Member::Coverages)?;
-    let coverages = coverages_in(alloc, items, tree)?;
+    let coverages = coverages_of(alloc, items, tree)?;
     Ok(Document::Many(Items::of(coverages)))
 }
 

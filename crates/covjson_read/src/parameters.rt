@@ -21,7 +21,7 @@ fn all_texts(members: &Map<String, Tree>) -> bool
     ensures { result ≡ parameters.all_texts (members_view members.now.entries) }
 {
     for (_, text) in members.iter() {
-        if !text.is_string() {
+        if text.as_str().is_none() {
             return false;
         }
     }
@@ -85,7 +85,7 @@ fn unit_text(unit: &Tree) -> Result<&str, CovFault>
     if let Some(text) = symbol.as_str() {
         return Ok(text);
     }
-    if !symbol.is_object() {
+    if symbol.as_object().is_none() {
         return unit_label(unit);
     }
     let value = part(symbol, "value", Member::Unit)?;
@@ -123,7 +123,7 @@ fn all_named_objects(members: &Map<String, Tree>) -> bool
     ensures { result ≡ parameters.all_named_objects (members_view members.now.entries) }
 {
     for (name, tree) in members.iter() {
-        if !is_named(name) || !tree.is_object() {
+        if !is_named(name) || tree.as_object().is_none() {
             return false;
         }
     }

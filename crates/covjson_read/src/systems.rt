@@ -1,5 +1,8 @@
 //! The reference systems of a domain (OGC 21-069r2, reference system objects).
-ghost use Rattle.std.specs.Prelude.{◌≡◌, IfOk, IsSome, option_map, true};
+ghost use Rattle.std.specs.Prelude.{◌≡◌, Bool, Err, IfOk, IsSome, Some, map, option_map, true};
+ghost use Rattle.serde_json.specs.Data.{array};
+ghost use Rattle.serde_json.specs.View.{items_of};
+ghost use Rattle.edr_samples.specs.Tokens.{sample_data};
 ghost use Rattle.edr_samples.specs.Trees.{tree_view, items_view};
 ghost use Rattle.covjson_value.specs.Coverages.{IsReferencing};
 ghost use Rattle.covjson_checks.specs.Answers.{GivesUnlessMemory};
@@ -8,7 +11,7 @@ ghost use Rattle.covjson_read.specs.SystemAnswers as answers;
 
 use covjson_checks::{CovFault, Member, found_or_missing, list_at, text_of, text_where_given};
 use covjson_value::{CoordinateName, Referencing};
-use edr_json::{Tree, is_text, text_in, text_or_empty};
+use edr_json::{List, Samples, Tree, is_text, text_in, text_or_empty};
 use std::alloc::Global;
 
 fn has_text(items: &Vec<Tree>, text: &str) -> bool
@@ -27,9 +30,9 @@ fn holds(entry: &Tree, name: &str) -> bool
     ensures { result ≡ answers.holds name.now (tree_view entry.now) }
 {
     match entry.get("coordinates") {
-        Some(list) => match list.as_array() {
-            Some(items) => has_text(items, name),
-            None => false,
+        Some(list) => match list.as_list() {
+            Some(List::Items(items)) => has_text(items, name),
+            Some(List::Samples(_)) | None => false,
         },
         None => false,
     }
@@ -151,6 +154,30 @@ fn plane_in(alloc: Global, entries: &Vec<Tree>) -> Result<&Tree, CovFault>
     Ok(plane)
 }
 
+// The systems of these entries: WrongType, Missing, UnsupportedSystem.
+fn systems_of(alloc: Global, entries: &Vec<Tree>, has_z: bool) -> Result<Referencing, CovFault>
+    ensures answer { GivesUnlessMemory (λ r. r) result (answers.referencing_of has_z (Some (array (items_view entries.now.items)))) }
+    ensures valid { IfOk result IsReferencing }
+    ensures vertical { IfOk result (λ r. IsSome r.vertical → has_z ≡ true) }
+{
+    let plane = plane_in(alloc, entries)?;
+    only_gregorian(alloc, entries)?;
+    let crs = text_of(alloc, system_text(plane, "id"))?;
+    let vertical = text_where_given(alloc, vertical_name(has_z, entries))?;
+    Ok(Referencing { crs, vertical })
+}
+
+// Why samples are no entries: WrongType, or Missing where there are none.
+fn no_systems(samples: &Samples) -> CovFault
+    ensures { (has_z : Bool) → answers.referencing_of has_z (Some (array (items_of (map sample_data samples.now)))) ≡ Err result }
+{
+    if samples.len() == 0 {
+        CovFault::Missing(Member::Referencing)
+    } else {
+        CovFault::WrongType(Member::Referencing)
+    }
+}
+
 /// The systems of a domain with or without levels, which were found there or elsewhere: the plane's is a projected one, and
 /// those of times are Gregorian. Missing, WrongType, UnsupportedSystem.
 pub fn referencing_of(
@@ -164,9 +191,8 @@ pub fn referencing_of(
 {
     let list = found_or_missing(found, Member::Referencing)?;
     let entries = list_at(list, Member::Referencing)?;
-    let plane = plane_in(alloc, entries)?;
-    only_gregorian(alloc, entries)?;
-    let crs = text_of(alloc, system_text(plane, "id"))?;
-    let vertical = text_where_given(alloc, vertical_name(has_z, entries))?;
-    Ok(Referencing { crs, vertical })
+    match entries {
+        List::Samples(samples) => Err(no_systems(samples)),
+        List::Items(entries) => systems_of(alloc, entries, has_z),
+    }
 }
