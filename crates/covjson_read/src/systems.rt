@@ -3,7 +3,7 @@ ghost use Rattle.std.specs.Prelude.{◌≡◌, Bool, Err, IfOk, IsSome, Some, ma
 ghost use Rattle.serde_json.specs.Data.{array};
 ghost use Rattle.serde_json.specs.View.{items_of};
 ghost use Rattle.edr_samples.specs.Tokens.{sample_data};
-ghost use Rattle.edr_samples.specs.Trees.{tree_view, items_view};
+ghost use Rattle.edr_samples.specs.Trees.{tree_view, items_view, list_view};
 ghost use Rattle.covjson_value.specs.Coverages.{IsReferencing};
 ghost use Rattle.covjson_checks.specs.Answers.{GivesUnlessMemory};
 ghost use Rattle.covjson_read.specs.Systems as systems;
@@ -25,14 +25,24 @@ fn has_text(items: &Vec<Tree>, text: &str) -> bool
     false
 }
 
+// Whether a list has that text. Samples are none.
+fn list_has_text(list: List<'_>, text: &str) -> bool
+    ensures { result ≡ answers.has_text text.now (list_view list.entry) }
+{
+    match list {
+        List::Samples(_samples) => false,
+        List::Items(items) => has_text(items, text),
+    }
+}
+
 // Whether the coordinates of an entry hold a name.
 fn holds(entry: &Tree, name: &str) -> bool
     ensures { result ≡ answers.holds name.now (tree_view entry.now) }
 {
     match entry.get("coordinates") {
         Some(list) => match list.as_list() {
-            Some(List::Items(items)) => has_text(items, name),
-            Some(List::Samples(_)) | None => false,
+            Some(items) => list_has_text(items, name),
+            None => false,
         },
         None => false,
     }

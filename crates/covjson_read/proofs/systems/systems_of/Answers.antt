@@ -9,7 +9,7 @@ use Rattle.covjson_read.proofs.systems.systems_of.Goals as goal
 pub returns-in_err-plane-clause-answer : goal.returns-in_err-plane-clause-answer
 returns-in_err-plane-clause-answer c =
     let fault = c.in_err-plane.field-0.0 in
-    fault_answers (λ given. given) c.from_residual-in_err-plane.result fault _ c.from_residual-in_err-plane.ensures.1 (stops_here _ _ fault c.in_err-plane.ensures)
+    fault_answers (λ given. given) c.from_residual.result fault _ c.from_residual.ensures.1 (stops_here _ _ fault c.in_err-plane.ensures)
 
 pub returns-in_err-only_gregorian-clause-answer : goal.returns-in_err-only_gregorian-clause-answer
 returns-in_err-only_gregorian-clause-answer c =
