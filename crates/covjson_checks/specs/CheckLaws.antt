@@ -1,14 +1,15 @@
 -- Laws of checks of trees.
 use Rattle.std.specs.Prelude.{Result, IfOk, ⊤}
-use Rattle.std.proofs.Common.{◌≡◌, if◌then◌else◌, subst, ℕ, ◌+◌, ◌≤◌, ◌<◌, ◌++◌, ℤ, pos, negsuc, List, [], ◌∷◌, length, get_or, drop, All, Bool, true, false, Option, Some, Ok, Err, refl, sym, ap, ◌∙◌, append_assoc, unsigned_abs, bytes_eq}
+use Rattle.std.proofs.Common.{◌≡◌, if◌then◌else◌, subst, ℕ, ◌+◌, ◌≤◌, ◌<◌, ◌++◌, ℤ, pos, negsuc, List, [], ◌∷◌, length, get_or, drop, map, All, Bool, true, false, Option, Some, Ok, Err, refl, sym, ap, ◌∙◌, append_assoc, unsigned_abs, bytes_eq}
 use Rattle.std.proofs.lemmas.List.{drop_more}
 use Rattle.std.proofs.lemmas.List.Elements.{All-cons, All-nil, All-head, All-tail}
 use Rattle.std.proofs.lemmas.Bool.{leb-true, le-leb, and_from}
 use Rattle.std.proofs.Math.Dec.{leb}
 use Rattle.std.proofs.lemmas.Slice.Eq.{bytes_eq-Decides}
 use Rattle.serde_json.specs.Data.{Data, null, boolean, number, string, array, object, Items, no_items, item, Members, Num}
-use Rattle.serde_json.specs.View.{view, items_view}
-use Rattle.serde_json.specs.declared.value.Value.{Value}
+use Rattle.serde_json.specs.View.{items_of}
+use Rattle.edr_samples.specs.Trees.{tree_view, items_view}
+use Rattle.edr_samples.specs.declared.trees.Tree.{Tree}
 use Rattle.serde_json.specs.Find.{get, as_array, as_object, as_str, as_number, as_integer}
 use Rattle.edr_base.specs.FirstThatApplies.{and_then, or_fault}
 use Rattle.edr_json.specs.Trees.{EachStands, StandsForWhole, whole_of}
@@ -98,27 +99,39 @@ pub onto_more : {V : Type 0} (found : List V) (v : V) (rest : Answer (List V)) �
 onto_more found v (Ok vs) = ap Ok (append_assoc found (v ∷ []) vs)
 onto_more found v (Err f) = refl
 
--- the answer to the items from a place on, by that to the item there
-each_from : {V : Type 0} (answer_of : Data → Answer V) (xs : List Value) (i : ℕ) (x : Value) (here : Answer V) → i < length xs → x ≡ get_or xs i x → here ≡ answer_of (view x)
-    → each answer_of (items_view (drop i xs)) ≡ and_then here (λ v. and_then (each answer_of (items_view (drop (i + 1) xs))) (λ vs. Ok (v ∷ vs)))
-each_from answer_of xs i x here h is read =
-    let rest = each answer_of (items_view (drop (i + 1) xs)) in
-    let first : answer_of (view (get_or xs i x)) ≡ here = ap (λ (y : Value). answer_of (view y)) (sym is) ∙ sym read in
-    ap (λ (ys : List Value). each answer_of (items_view ys)) (drop_more xs i x h) ∙ ap (λ a. and_then a (λ v. and_then rest (λ vs. Ok (v ∷ vs)))) first
+-- things that are seen as data
+module _ {V X : Type 0} (answer_of : Data → Answer V) (seen : X → Data) (xs : List X) where
+  -- the answer to the items from a place on, by that to the item there
+  from_seen : (i : ℕ) (x : X) (here : Answer V) → i < length xs → x ≡ get_or xs i x → here ≡ answer_of (seen x)
+      → each answer_of (items_of (map seen (drop i xs))) ≡ and_then here (λ v. and_then (each answer_of (items_of (map seen (drop (i + 1) xs)))) (λ vs. Ok (v ∷ vs)))
+  from_seen i x here h is read =
+      let rest = each answer_of (items_of (map seen (drop (i + 1) xs))) in
+      let first : answer_of (seen (get_or xs i x)) ≡ here = ap (λ (y : X). answer_of (seen y)) (sym is) ∙ sym read in
+      ap (λ (ys : List X). each answer_of (items_of (map seen ys))) (drop_more xs i x h) ∙ ap (λ a. and_then a (λ v. and_then rest (λ vs. Ok (v ∷ vs)))) first
 
--- after the value of the item at a place the answer to the rest is one shorter
-pub each_more : {V : Type 0} (answer_of : Data → Answer V) (xs : List Value) (i : ℕ) (x : Value) (found new : List V) (v : V) (all : Answer (List V)) → i < length xs
-    → x ≡ get_or xs i x → Ok v ≡ answer_of (view x) → new ≡ found ++ v ∷ [] → onto found (each answer_of (items_view (drop i xs))) ≡ all
+  -- after the value of the item at a place the answer to the rest is one shorter
+  pub seen_more : (i : ℕ) (x : X) (found new : List V) (v : V) (all : Answer (List V)) → i < length xs
+      → x ≡ get_or xs i x → Ok v ≡ answer_of (seen x) → new ≡ found ++ v ∷ [] → onto found (each answer_of (items_of (map seen (drop i xs)))) ≡ all
+      → onto new (each answer_of (items_of (map seen (drop (i + 1) xs)))) ≡ all
+  seen_more i x found new v all h is read pushed before =
+      let rest = each answer_of (items_of (map seen (drop (i + 1) xs))) in
+      rw pushed (onto_more found v rest ∙ ap (λ a. onto found a) (sym (from_seen i x (Ok v) h is read)) ∙ before)
+
+  -- the fault of the item at a place is the answer
+  pub seen_stops : (i : ℕ) (x : X) (found : List V) (f : CovFault) (all : Answer (List V)) → i < length xs
+      → x ≡ get_or xs i x → Err f ≡ answer_of (seen x) → onto found (each answer_of (items_of (map seen (drop i xs)))) ≡ all → all ≡ Err f
+  seen_stops i x found f all h is read before =
+      sym before ∙ ap (λ a. onto found a) (from_seen i x (Err f) h is read)
+
+-- of trees
+pub each_more : {V : Type 0} (answer_of : Data → Answer V) (xs : List Tree) (i : ℕ) (x : Tree) (found new : List V) (v : V) (all : Answer (List V)) → i < length xs
+    → x ≡ get_or xs i x → Ok v ≡ answer_of (tree_view x) → new ≡ found ++ v ∷ [] → onto found (each answer_of (items_view (drop i xs))) ≡ all
     → onto new (each answer_of (items_view (drop (i + 1) xs))) ≡ all
-each_more answer_of xs i x found new v all h is read pushed before =
-    let rest = each answer_of (items_view (drop (i + 1) xs)) in
-    rw pushed (onto_more found v rest ∙ ap (λ a. onto found a) (sym (each_from answer_of xs i x (Ok v) h is read)) ∙ before)
+each_more answer_of xs = seen_more answer_of tree_view xs
 
--- the fault of the item at a place is the answer
-pub each_stops : {V : Type 0} (answer_of : Data → Answer V) (xs : List Value) (i : ℕ) (x : Value) (found : List V) (f : CovFault) (all : Answer (List V)) → i < length xs
-    → x ≡ get_or xs i x → Err f ≡ answer_of (view x) → onto found (each answer_of (items_view (drop i xs))) ≡ all → all ≡ Err f
-each_stops answer_of xs i x found f all h is read before =
-    sym before ∙ ap (λ a. onto found a) (each_from answer_of xs i x (Err f) h is read)
+pub each_stops : {V : Type 0} (answer_of : Data → Answer V) (xs : List Tree) (i : ℕ) (x : Tree) (found : List V) (f : CovFault) (all : Answer (List V)) → i < length xs
+    → x ≡ get_or xs i x → Err f ≡ answer_of (tree_view x) → onto found (each answer_of (items_view (drop i xs))) ≡ all → all ≡ Err f
+each_stops answer_of xs = seen_stops answer_of tree_view xs
 
 -- and the check that it is one passes
 pub object_given : (m : Member) (key : List ℕ) (d v : Data) → get key d ≡ Some v → (ms : Members) × (object_at m d ≡ Ok ms)

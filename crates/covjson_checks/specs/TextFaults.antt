@@ -1,6 +1,6 @@
 -- The fault of a text that isn't read to a tree.
-use Rattle.edr_json.specs.declared.reading.JsonFault.{JsonFault}
-use Rattle.edr_json.specs.declared.reading.JsonFault.TheVariants as json
+use Rattle.edr_samples.specs.declared.faults.JsonFault.{JsonFault}
+use Rattle.edr_samples.specs.declared.faults.JsonFault.TheVariants as json
 use Rattle.covjson_checks.specs.declared.faults.CovFault.{CovFault}
 use Rattle.covjson_checks.specs.declared.faults.CovFault.TheVariants.{NotJson, OutOfMemory}
 

@@ -1,14 +1,16 @@
 //! Members of objects and items of lists, each with the fault where it isn't as it has to be.
-ghost use Rattle.std.specs.Prelude.{◌≡◌, ◌<◌, ◌^◌, option_map};
-ghost use Rattle.serde_json.specs.View.{view, items_view, members_view, number_view};
+ghost use Rattle.std.specs.Prelude.{◌≡◌, ◌<◌, ◌^◌, map, option_map};
+ghost use Rattle.serde_json.specs.View.{items_of, number_view};
+ghost use Rattle.edr_samples.specs.Tokens.{sample_data};
+ghost use Rattle.edr_samples.specs.Trees.{tree_view, items_view, list_view, members_view};
 ghost use Rattle.serde_json.specs.Find.{get};
 ghost use Rattle.covjson_checks.specs.Answers.{GivesAnswer, GivesUnlessMemory, each};
 ghost use Rattle.edr_base.specs.FirstThatApplies.{or_fault};
 ghost use Rattle.covjson_checks.specs.Members as members;
 
 use crate::faults::{CovFault, Member};
-use edr_json::whole_of;
-use serde_json::{Map, Number, Value};
+use edr_json::{List, Samples, Tree, natural_of, whole_of};
+use serde_json::{Map, Number};
 use std::alloc::Global;
 
 /// What each item of a list has to be.
@@ -23,8 +25,8 @@ pub enum Wanted {
 }
 
 /// The member of a name, or Missing.
-pub fn need<'a>(tree: &'a Value, name: &str, member: Member) -> Result<&'a Value, CovFault>
-    ensures { GivesAnswer (λ v. view v.now) result (members.need name.now member (view tree.now)) }
+pub fn need<'a>(tree: &'a Tree, name: &str, member: Member) -> Result<&'a Tree, CovFault>
+    ensures { GivesAnswer (λ v. tree_view v.now) result (members.need name.now member (tree_view tree.now)) }
 {
     match tree.get(name) {
         Some(found) => Ok(found),
@@ -33,8 +35,8 @@ pub fn need<'a>(tree: &'a Value, name: &str, member: Member) -> Result<&'a Value
 }
 
 /// The member of a name, or WrongType.
-pub fn part<'a>(tree: &'a Value, name: &str, member: Member) -> Result<&'a Value, CovFault>
-    ensures { GivesAnswer (λ v. view v.now) result (members.part name.now member (view tree.now)) }
+pub fn part<'a>(tree: &'a Tree, name: &str, member: Member) -> Result<&'a Tree, CovFault>
+    ensures { GivesAnswer (λ v. tree_view v.now) result (members.part name.now member (tree_view tree.now)) }
 {
     match tree.get(name) {
         Some(found) => Ok(found),
@@ -43,8 +45,8 @@ pub fn part<'a>(tree: &'a Value, name: &str, member: Member) -> Result<&'a Value
 }
 
 /// What was found of a member, or Missing.
-pub fn found_or_missing(found: Option<&Value>, member: Member) -> Result<&Value, CovFault>
-    ensures { GivesAnswer (λ v. view v.now) result (or_fault (option_map (λ v. view v.now) found.entry) (CovFault.Missing member)) }
+pub fn found_or_missing(found: Option<&Tree>, member: Member) -> Result<&Tree, CovFault>
+    ensures { GivesAnswer (λ v. tree_view v.now) result (or_fault (option_map (λ v. tree_view v.now) found.entry) (CovFault.Missing member)) }
 {
     match found {
         Some(value) => Ok(value),
@@ -53,8 +55,8 @@ pub fn found_or_missing(found: Option<&Value>, member: Member) -> Result<&Value,
 }
 
 /// The member of a tree, else of the collection that it is in.
-pub fn lent<'a>(tree: &'a Value, collection: &'a Value, name: &str) -> Option<&'a Value>
-    ensures { option_map (λ v. view v.now) result ≡ members.lent name.now (view tree.now) (view collection.now) }
+pub fn lent<'a>(tree: &'a Tree, collection: &'a Tree, name: &str) -> Option<&'a Tree>
+    ensures { option_map (λ v. tree_view v.now) result ≡ members.lent name.now (tree_view tree.now) (tree_view collection.now) }
 {
     match tree.get(name) {
         Some(found) => Some(found),
@@ -63,8 +65,8 @@ pub fn lent<'a>(tree: &'a Value, collection: &'a Value, name: &str) -> Option<&'
 }
 
 /// The members of an object, or WrongType.
-pub fn object_at(tree: &Value, member: Member) -> Result<&Map<String, Value>, CovFault>
-    ensures { GivesAnswer (λ m. members_view m.now.entries) result (members.object_at member (view tree.now)) }
+pub fn object_at(tree: &Tree, member: Member) -> Result<&Map<String, Tree>, CovFault>
+    ensures { GivesAnswer (λ m. members_view m.now.entries) result (members.object_at member (tree_view tree.now)) }
 {
     match tree.as_object() {
         Some(found) => Ok(found),
@@ -73,18 +75,18 @@ pub fn object_at(tree: &Value, member: Member) -> Result<&Map<String, Value>, Co
 }
 
 /// The items of a list, or WrongType.
-pub fn list_at(tree: &Value, member: Member) -> Result<&Vec<Value>, CovFault>
-    ensures { GivesAnswer (λ v. items_view v.now.items) result (members.list_at member (view tree.now)) }
+pub fn list_at(tree: &Tree, member: Member) -> Result<List<'_>, CovFault>
+    ensures { GivesAnswer list_view result (members.list_at member (tree_view tree.now)) }
 {
-    match tree.as_array() {
+    match tree.as_list() {
         Some(found) => Ok(found),
         None => Err(CovFault::WrongType(member)),
     }
 }
 
 /// A text, or WrongType.
-pub fn text_at(tree: &Value, member: Member) -> Result<&str, CovFault>
-    ensures { GivesAnswer (λ s. s.now) result (members.text_at member (view tree.now)) }
+pub fn text_at(tree: &Tree, member: Member) -> Result<&str, CovFault>
+    ensures { GivesAnswer (λ s. s.now) result (members.text_at member (tree_view tree.now)) }
 {
     match tree.as_str() {
         Some(found) => Ok(found),
@@ -93,8 +95,8 @@ pub fn text_at(tree: &Value, member: Member) -> Result<&str, CovFault>
 }
 
 /// A number, or WrongType.
-pub fn number_at(tree: &Value, member: Member) -> Result<&Number, CovFault>
-    ensures { GivesAnswer (λ n. number_view n.now) result (members.number_at member (view tree.now)) }
+pub fn number_at(tree: &Tree, member: Member) -> Result<&Number, CovFault>
+    ensures { GivesAnswer (λ n. number_view n.now) result (members.number_at member (tree_view tree.now)) }
 {
     match tree.as_number() {
         Some(number) => Ok(number),
@@ -110,9 +112,9 @@ pub fn is_within(value: i128, limit: u64) -> bool
 }
 
 // A whole number of at most that size: WrongType, NotWhole, OutOfRange.
-fn whole_within(tree: &Value, member: Member, limit: u64) -> Result<i64, CovFault>
+fn whole_within(tree: &Tree, member: Member, limit: u64) -> Result<i64, CovFault>
     requires { limit < 2 ^ 63 }
-    ensures { result ≡ members.whole_within member limit (view tree.now) }
+    ensures { result ≡ members.whole_within member limit (tree_view tree.now) }
 {
     let number = number_at(tree, member)?;
     let Some(whole) = number.as_i128() else {
@@ -125,9 +127,9 @@ fn whole_within(tree: &Value, member: Member, limit: u64) -> Result<i64, CovFaul
 }
 
 // The same, where null stands for an absent number.
-fn whole_or_null(tree: &Value, member: Member, limit: u64) -> Result<Option<i64>, CovFault>
+fn whole_or_null(tree: &Tree, member: Member, limit: u64) -> Result<Option<i64>, CovFault>
     requires { limit < 2 ^ 63 }
-    ensures { result ≡ members.whole_or_null member limit (view tree.now) }
+    ensures { result ≡ members.whole_or_null member limit (tree_view tree.now) }
 {
     if tree.is_null() {
         return Ok(None);
@@ -136,20 +138,20 @@ fn whole_or_null(tree: &Value, member: Member, limit: u64) -> Result<Option<i64>
     Ok(Some(whole))
 }
 
-fn is_wanted(item: &Value, wanted: Wanted) -> bool
-    ensures { result ≡ members.is_wanted wanted (view item.now) }
+fn is_wanted(item: &Tree, wanted: Wanted) -> bool
+    ensures { result ≡ members.is_wanted wanted (tree_view item.now) }
 {
     match wanted {
-        Wanted::Texts => item.is_string(),
-        Wanted::Numbers => item.is_number(),
+        Wanted::Texts => item.as_str().is_some(),
+        Wanted::Numbers => item.as_number().is_some(),
         Wanted::Wholes => whole_of(item).is_some(),
-        Wanted::Naturals => item.is_u64(),
-        Wanted::NumbersOrNulls => item.is_null() || item.is_number(),
+        Wanted::Naturals => natural_of(item).is_some(),
+        Wanted::NumbersOrNulls => item.is_null() || item.as_number().is_some(),
         Wanted::WholesOrNulls => item.is_null() || whole_of(item).is_some(),
     }
 }
 
-fn all_wanted(items: &Vec<Value>, wanted: Wanted) -> bool
+fn all_wanted(items: &Vec<Tree>, wanted: Wanted) -> bool
     ensures { result ≡ members.all_wanted wanted (items_view items.now.items) }
 {
     for item in items {
@@ -160,11 +162,46 @@ fn all_wanted(items: &Vec<Value>, wanted: Wanted) -> bool
     true
 }
 
-/// Each item of a list is what is wanted, or the list is at fault with WrongType.
-pub fn need_form(items: &Vec<Value>, wanted: Wanted, member: Member) -> Result<(), CovFault>
-    ensures { result ≡ members.need_each wanted (CovFault.WrongType member) (items_view items.now.items) }
+fn is_wanted_sample(sample: Option<i64>, wanted: Wanted) -> bool
+    ensures { result ≡ members.is_wanted wanted (sample_data sample) }
 {
-    if all_wanted(items, wanted) {
+    match sample {
+        Some(number) => match wanted {
+            Wanted::Texts => false,
+            Wanted::Naturals => number >= 0,
+            Wanted::Numbers | Wanted::Wholes | Wanted::NumbersOrNulls | Wanted::WholesOrNulls => {
+                true
+            }
+        },
+        None => matches!(wanted, Wanted::NumbersOrNulls | Wanted::WholesOrNulls),
+    }
+}
+
+fn all_wanted_samples(samples: &Samples, wanted: Wanted) -> bool
+    ensures { result ≡ members.all_wanted wanted (items_of (map sample_data samples.now)) }
+{
+    for place in 0..samples.len() {
+        if !is_wanted_sample(samples.get(place), wanted) {
+            return false;
+        }
+    }
+    true
+}
+
+fn all_wanted_in(list: List<'_>, wanted: Wanted) -> bool
+    ensures { result ≡ members.all_wanted wanted (list_view list.entry) }
+{
+    match list {
+        List::Samples(samples) => all_wanted_samples(samples, wanted),
+        List::Items(items) => all_wanted(items, wanted),
+    }
+}
+
+/// Each item of a list is what is wanted, or the list is at fault with WrongType.
+pub fn need_form(list: List<'_>, wanted: Wanted, member: Member) -> Result<(), CovFault>
+    ensures { result ≡ members.need_each wanted (CovFault.WrongType member) (list_view list.entry) }
+{
+    if all_wanted_in(list, wanted) {
         Ok(())
     } else {
         Err(CovFault::WrongType(member))
@@ -172,20 +209,20 @@ pub fn need_form(items: &Vec<Value>, wanted: Wanted, member: Member) -> Result<(
 }
 
 /// Each item of a list is held as a whole number, or null where that is wanted; or the list is at fault with NotWhole.
-pub fn need_wholes(items: &Vec<Value>, wanted: Wanted, member: Member) -> Result<(), CovFault>
-    ensures { result ≡ members.need_each wanted (CovFault.NotWhole member) (items_view items.now.items) }
+pub fn need_wholes(list: List<'_>, wanted: Wanted, member: Member) -> Result<(), CovFault>
+    ensures { result ≡ members.need_each wanted (CovFault.NotWhole member) (list_view list.entry) }
 {
-    if all_wanted(items, wanted) {
+    if all_wanted_in(list, wanted) {
         Ok(())
     } else {
         Err(CovFault::NotWhole(member))
     }
 }
 
-/// The whole numbers of a list, in one vector.
-pub fn wholes(
+// The whole numbers of these items, in one vector.
+fn wholes_of(
     alloc: Global,
-    items: &Vec<Value>,
+    items: &Vec<Tree>,
     member: Member,
     limit: u64,
 ) -> Result<Vec<i64>, CovFault>
@@ -200,10 +237,56 @@ pub fn wholes(
     Ok(found)
 }
 
-/// The whole numbers and nulls of a list, in one vector.
-pub fn wholes_or_nulls(
+// The number of a sample, of at most that size: WrongType, OutOfRange.
+fn sample_within(sample: Option<i64>, member: Member, limit: u64) -> Result<i64, CovFault>
+    ensures { result ≡ members.whole_within member limit (sample_data sample) }
+{
+    let Some(number) = sample else {
+        return Err(CovFault::WrongType(member));
+    };
+    if !is_within(number as i128, limit) {
+        return Err(CovFault::OutOfRange(member));
+    }
+    Ok(number)
+}
+
+// The numbers of these samples, in one vector.
+fn wholes_of_samples(
     alloc: Global,
-    items: &Vec<Value>,
+    samples: &Samples,
+    member: Member,
+    limit: u64,
+) -> Result<Vec<i64>, CovFault>
+    ensures { GivesUnlessMemory (λ v. v.items) result (each (members.whole_within member limit) (items_of (map sample_data samples.now))) }
+{
+    let mut found = Vec::with_capacity(alloc, samples.len())?;
+    for place in 0..samples.len() {
+        let whole = sample_within(samples.get(place), member, limit)?;
+        found.push(whole)?;
+    }
+    Ok(found)
+}
+
+/// The whole numbers of a list, in one vector.
+pub fn wholes(
+    alloc: Global,
+    list: List<'_>,
+    member: Member,
+    limit: u64,
+) -> Result<Vec<i64>, CovFault>
+    requires { limit < 2 ^ 63 }
+    ensures { GivesUnlessMemory (λ v. v.items) result (each (members.whole_within member limit) (list_view list.entry)) }
+{
+    match list {
+        List::Samples(samples) => wholes_of_samples(alloc, samples, member, limit),
+        List::Items(items) => wholes_of(alloc, items, member, limit),
+    }
+}
+
+// The whole numbers and nulls of these items, in one vector.
+fn wholes_or_nulls_of(
+    alloc: Global,
+    items: &Vec<Tree>,
     member: Member,
     limit: u64,
 ) -> Result<Vec<Option<i64>>, CovFault>
@@ -216,4 +299,53 @@ pub fn wholes_or_nulls(
         found.push(whole)?;
     }
     Ok(found)
+}
+
+// A sample, of at most that size: OutOfRange.
+fn sample_or_null(
+    sample: Option<i64>,
+    member: Member,
+    limit: u64,
+) -> Result<Option<i64>, CovFault>
+    ensures { result ≡ members.whole_or_null member limit (sample_data sample) }
+{
+    if let Some(number) = sample {
+        if !is_within(number as i128, limit) {
+            return Err(CovFault::OutOfRange(member));
+        }
+    }
+    Ok(sample)
+}
+
+// These samples, in one vector.
+fn samples_within(
+    alloc: Global,
+    samples: &Samples,
+    member: Member,
+    limit: u64,
+) -> Result<Vec<Option<i64>>, CovFault>
+    ensures { GivesUnlessMemory (λ v. v.items) result (each (members.whole_or_null member limit) (items_of (map sample_data samples.now))) }
+{
+    let mut found = Vec::with_capacity(alloc, samples.len())?;
+    for place in 0..samples.len() {
+        let sample = sample_or_null(samples.get(place), member, limit)?;
+        found.push(sample)?;
+    }
+    Ok(found)
+}
+
+/// The whole numbers and nulls of a list, in one vector.
+pub fn wholes_or_nulls(
+    alloc: Global,
+    list: List<'_>,
+    member: Member,
+    limit: u64,
+) -> Result<Vec<Option<i64>>, CovFault>
+    requires { limit < 2 ^ 63 }
+    ensures { GivesUnlessMemory (λ v. v.items) result (each (members.whole_or_null member limit) (list_view list.entry)) }
+{
+    match list {
+        List::Samples(samples) => samples_within(alloc, samples, member, limit),
+        List::Items(items) => wholes_or_nulls_of(alloc, items, member, limit),
+    }
 }

@@ -2,23 +2,23 @@
 use Rattle.std.proofs.Common.{◌≡◌, inl, inr, ℕ, zero, suc, ◌-◌, ℤ, ◌<ℤ◌, int_lt, List, [], ◌∷◌, length, reverse, arith, true, false, Ok, Err, refl, add-one}
 use Rattle.std.proofs.lemmas.Bool.{and_parts, and_from, cases_Bool}
 use Rattle.std.proofs.lemmas.Int.{ints}
-use Rattle.serde_json.specs.View.{items_view}
-use Rattle.serde_json.specs.declared.value.Value.{Value}
+use Rattle.serde_json.specs.Data.{Items, no_items, item}
+use Rattle.edr_json.specs.Trees.{count_items}
 use Rattle.edr_axes.specs.Axes.{value_at, IsAscending, FallsAt}
 use Rattle.covjson_checks.specs.declared.faults.Member.{Member}
 use Rattle.covjson_checks.specs.declared.faults.CovFault.TheVariants.{NotMonotonic}
 use Rattle.covjson_domains.specs.AxisAnswers.{has_some, ascends, in_direction}
 use Rattle.covjson_domains.proofs.OrderTests.{below_tells, below_given}
 
--- no values make an empty list of items
-pub has_some-empty : (vs : List Value) → length vs ≡ 0 → has_some (items_view vs) ≡ false
-has_some-empty [] h = refl
-has_some-empty (v ∷ vs) h = absurd (omega arith)
+-- a list of no items is empty
+pub has_some-empty : (ds : Items) → count_items ds ≡ 0 → has_some ds ≡ false
+has_some-empty no_items h = refl
+has_some-empty (item d ds) h = absurd (omega arith)
 
--- some values make a list of some items
-pub has_some-more : (vs : List Value) → ¬ (length vs ≡ 0) → has_some (items_view vs) ≡ true
-has_some-more [] h = absurd (h refl)
-has_some-more (v ∷ vs) h = refl
+-- a list of some items has some
+pub has_some-more : (ds : Items) → ¬ (count_items ds ≡ 0) → has_some ds ≡ true
+has_some-more no_items h = absurd (h refl)
+has_some-more (item d ds) h = refl
 
 -- values that are tested to ascend do
 pub ascends_tells : (values : List ℤ) → ascends values ≡ true → IsAscending values

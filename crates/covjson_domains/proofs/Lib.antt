@@ -8,6 +8,7 @@ pub mod AxisDirections
 pub mod AxisLaws
 pub mod AscendLemmas
 pub mod SpanLemmas
+pub mod SampleItems
 pub mod TupleLists
 pub mod TupleReads
 pub mod TupleValues

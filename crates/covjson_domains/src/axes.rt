@@ -1,6 +1,6 @@
 //! Axes of a domain (OGC 21-069r2, Axis objects).
 ghost use Rattle.std.specs.Prelude.{◌≡◌, IfOk, false};
-ghost use Rattle.serde_json.specs.View.{view, items_view};
+ghost use Rattle.edr_samples.specs.Trees.{tree_view, items_view, list_view};
 ghost use Rattle.covjson_checks.specs.Answers.{GivesAnswer, GivesUnlessMemory};
 ghost use Rattle.covjson_domains.specs.AxisAnswers.{times_from};
 ghost use Rattle.covjson_domains.specs.DomainTypes.{member_of, presence};
@@ -16,7 +16,7 @@ use covjson_checks::{
 use covjson_value::{CoordinateName, DomainType, axis_key, axis_name};
 use edr_axes::{Axis, AxisFault, instants_are_read, read_instant};
 use edr_base::COORDINATE_LIMIT;
-use serde_json::Value;
+use edr_json::{List, Tree, count_items};
 use std::alloc::Global;
 
 /// An axis in ascending order, and whether it was turned round for that.
@@ -40,20 +40,20 @@ fn member_of(name: CoordinateName) -> Member
 }
 
 /// The items of the member `values`, of which there are some: WrongType.
-pub fn value_items(axis: &Value, member: Member) -> Result<&Vec<Value>, CovFault>
-    ensures { GivesAnswer (λ v. items_view v.now.items) result (axes.value_items member (view axis.now)) }
+pub fn value_items(axis: &Tree, member: Member) -> Result<List<'_>, CovFault>
+    ensures { GivesAnswer list_view result (axes.value_items member (tree_view axis.now)) }
 {
     let list = part(axis, "values", member)?;
     let items = list_at(list, member)?;
-    if items.is_empty() {
+    if count_items(items) == 0 {
         return Err(CovFault::WrongType(member));
     }
     Ok(items)
 }
 
 /// The time of a text, of which the place is that: WrongType, BadTime.
-pub fn time_at(item: &Value, member: Member, place: usize) -> Result<i64, CovFault>
-    ensures { result ≡ axes.time_at member place (view item.now) }
+pub fn time_at(item: &Tree, member: Member, place: usize) -> Result<i64, CovFault>
+    ensures { result ≡ axes.time_at member place (tree_view item.now) }
 {
     instants_are_read();
     let text = text_at(item, member)?;
@@ -64,7 +64,7 @@ pub fn time_at(item: &Value, member: Member, place: usize) -> Result<i64, CovFau
 }
 
 // The times of the texts of a list.
-fn times(alloc: Global, items: &Vec<Value>) -> Result<Vec<i64>, CovFault>
+fn times(alloc: Global, items: &Vec<Tree>) -> Result<Vec<i64>, CovFault>
     ensures { GivesUnlessMemory (λ v. v.items) result (times_from 0 (items_view items.now.items)) }
 {
     let mut found = Vec::with_capacity(alloc, items.len())?;
@@ -75,19 +75,34 @@ fn times(alloc: Global, items: &Vec<Value>) -> Result<Vec<i64>, CovFault>
     Ok(found)
 }
 
+// The times of a list: WrongType, BadTime. Samples are none.
+fn times_in(alloc: Global, list: List<'_>) -> Result<Vec<i64>, CovFault>
+    ensures { GivesUnlessMemory (λ v. v.items) result (times_from 0 (list_view list.entry)) }
+{
+    match list {
+        List::Samples(samples) => {
+            if samples.len() != 0 {
+                return Err(CovFault::WrongType(Member::T));
+            }
+            Ok(Vec::new(alloc))
+        }
+        List::Items(items) => times(alloc, items),
+    }
+}
+
 // Listed times.
-fn axis_times(alloc: Global, axis: &Value) -> Result<Vec<i64>, CovFault>
-    ensures { GivesUnlessMemory (λ v. v.items) result (axes.axis_times (view axis.now)) }
+fn axis_times(alloc: Global, axis: &Tree) -> Result<Vec<i64>, CovFault>
+    ensures { GivesUnlessMemory (λ v. v.items) result (axes.axis_times (tree_view axis.now)) }
 {
     let _members = object_at(axis, Member::T)?;
     let items = value_items(axis, Member::T)?;
     need_form(items, Wanted::Texts, Member::T)?;
-    times(alloc, items)
+    times_in(alloc, items)
 }
 
 // Numbers: listed where `values` is there, else spanned.
-fn axis_numbers(alloc: Global, axis: &Value, member: Member) -> Result<Vec<i64>, CovFault>
-    ensures { GivesUnlessMemory (λ v. v.items) result (axes.axis_numbers member (view axis.now)) }
+fn axis_numbers(alloc: Global, axis: &Tree, member: Member) -> Result<Vec<i64>, CovFault>
+    ensures { GivesUnlessMemory (λ v. v.items) result (axes.axis_numbers member (tree_view axis.now)) }
 {
     let _members = object_at(axis, member)?;
     if axis.get("values").is_none() {
@@ -128,8 +143,8 @@ fn in_direction(alloc: Global, values: Vec<i64>, member: Member) -> Result<ReadA
 }
 
 // An axis: its form, its values and their order.
-fn axis_read(alloc: Global, axis: &Value, name: CoordinateName) -> Result<ReadAxis, CovFault>
-    ensures { GivesUnlessMemory (λ r. r) result (axes.axis_read name (view axis.now)) }
+fn axis_read(alloc: Global, axis: &Tree, name: CoordinateName) -> Result<ReadAxis, CovFault>
+    ensures { GivesUnlessMemory (λ r. r) result (axes.axis_read name (tree_view axis.now)) }
 {
     let member = member_of(name);
     let values = match name {
@@ -145,11 +160,11 @@ fn axis_read(alloc: Global, axis: &Value, name: CoordinateName) -> Result<ReadAx
 /// order, and WrongCount where it has a single value.
 pub fn axis_by(
     alloc: Global,
-    tree: &Value,
+    tree: &Tree,
     name: CoordinateName,
     kind: DomainType,
 ) -> Result<Option<ReadAxis>, CovFault>
-    ensures answer { GivesUnlessMemory (λ r. r) result (axes.axis_by (presence kind (axis_name name)) name (view tree.now)) }
+    ensures answer { GivesUnlessMemory (λ r. r) result (axes.axis_by (presence kind (axis_name name)) name (tree_view tree.now)) }
     ensures needed { IfOk result (λ r. IfNeeded (presence kind (axis_name name)) r) }
 {
     let wanted = presence_of(kind, axis_name(name));

@@ -1,12 +1,13 @@
 //! The domain types (OGC 21-069r2, Domain types), and which axes a domain of each has.
 ghost use Rattle.std.specs.Prelude.{◌≡◌};
-ghost use Rattle.serde_json.specs.View.{members_view};
+ghost use Rattle.edr_samples.specs.Trees.{members_view};
 ghost use Rattle.covjson_domains.specs.DomainTypes.{presence};
 ghost use Rattle.covjson_domains.specs.TypeAnswers as types;
 
 use covjson_checks::{CovFault, Member};
 use covjson_value::{AxisName, DomainType, axis_by_name};
-use serde_json::{Map, Value};
+use edr_json::Tree;
+use serde_json::Map;
 
 /// Whether a domain of a type has an axis, and how many values that has.
 #[derive(Clone, Copy)]
@@ -88,7 +89,7 @@ fn may_have(kind: DomainType, key: &str) -> bool
 }
 
 /// Whether each member has the name of an axis that a domain of the type may have.
-pub fn has_no_others(kind: DomainType, members: &Map<String, Value>) -> bool
+pub fn has_no_others(kind: DomainType, members: &Map<String, Tree>) -> bool
     ensures { result ≡ types.has_no_others kind (members_view members.now.entries) }
 {
     for (key, _) in members.iter() {

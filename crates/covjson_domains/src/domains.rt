@@ -1,6 +1,6 @@
 //! The domain of a tree (OGC 21-069r2, Domain objects and domain types).
 ghost use Rattle.std.specs.Prelude.{◌≡◌, ◌≢◌, IfOk, IfErr, option_map, IsSome};
-ghost use Rattle.serde_json.specs.View.{view};
+ghost use Rattle.edr_samples.specs.Trees.{tree_view};
 ghost use Rattle.covjson_value.specs.Coverages.{HasAxes, HasTuples};
 ghost use Rattle.covjson_checks.specs.Answers.{GivesAnswer, GivesUnlessMemory};
 ghost use Rattle.covjson_checks.specs.declared.turned.ReadDomain.{ReadDomain};
@@ -18,7 +18,7 @@ use covjson_checks::{
 };
 use covjson_value::{AxisName, CoordinateName, Domain, DomainType, axis_key, type_by_name};
 use edr_axes::{Axis, instants_are_read};
-use serde_json::Value;
+use edr_json::Tree;
 use std::alloc::Global;
 
 /// The axes of a domain, as they were read.
@@ -37,8 +37,8 @@ pub struct ReadAxes {
 }
 
 // The type of a domain: Missing, WrongType, UnsupportedDomain.
-fn type_at(alloc: Global, found: Option<&Value>) -> Result<DomainType, CovFault>
-    ensures { GivesUnlessMemory (λ k. k) result (domains.type_at (option_map (λ v. view v.now) found.entry)) }
+fn type_at(alloc: Global, found: Option<&Tree>) -> Result<DomainType, CovFault>
+    ensures { GivesUnlessMemory (λ k. k) result (domains.type_at (option_map (λ v. tree_view v.now) found.entry)) }
 {
     let found = found_or_missing(found, Member::DomainType)?;
     let name = text_at(found, Member::DomainType)?;
@@ -49,8 +49,8 @@ fn type_at(alloc: Global, found: Option<&Value>) -> Result<DomainType, CovFault>
 }
 
 // The axes of a domain of a type, and no others: Missing, WrongType.
-fn axes_at(tree: &Value, kind: DomainType) -> Result<&Value, CovFault>
-    ensures { GivesAnswer (λ v. view v.now) result (domains.axes_at kind (view tree.now)) }
+fn axes_at(tree: &Tree, kind: DomainType) -> Result<&Tree, CovFault>
+    ensures { GivesAnswer (λ v. tree_view v.now) result (domains.axes_at kind (tree_view tree.now)) }
 {
     let axes = need(tree, "axes", Member::Axes)?;
     let members = object_at(axes, Member::Axes)?;
@@ -83,11 +83,11 @@ fn tuple_kind(kind: DomainType, has_level: bool) -> TupleKind
 // The composite axis: Missing where it is needed, then its form, its numbers, its times and their order.
 fn composite_by(
     alloc: Global,
-    axes: &Value,
+    axes: &Tree,
     wanted: Presence,
     kind: TupleKind,
 ) -> Result<Option<ReadTuples>, CovFault>
-    ensures answer { GivesUnlessMemory (λ r. r) result (domains.composite_by wanted kind (view axes.now)) }
+    ensures answer { GivesUnlessMemory (λ r. r) result (domains.composite_by wanted kind (tree_view axes.now)) }
     ensures needed { IfOk result (λ r. IfNeeded wanted r) }
     ensures counted { IfOk result (λ r. CompositeCounted r) }
 {
@@ -104,8 +104,8 @@ fn composite_by(
 }
 
 // The axes of a domain of a type: t, z, y, x and then composite, each as the type has it.
-fn axes_read(alloc: Global, axes: &Value, kind: DomainType) -> Result<ReadAxes, CovFault>
-    ensures answer { GivesUnlessMemory (λ r. r) result (domains.axes_read kind (view axes.now)) }
+fn axes_read(alloc: Global, axes: &Tree, kind: DomainType) -> Result<ReadAxes, CovFault>
+    ensures answer { GivesUnlessMemory (λ r. r) result (domains.axes_read kind (tree_view axes.now)) }
     ensures needed { IfOk result (λ r. HasNeeded kind r) }
     ensures counted { IfOk result (λ r. CompositeCounted r.composite) }
 {
@@ -233,8 +233,8 @@ fn tuples_of(read: &mut Option<ReadTuples>) -> ReadTuples
 }
 
 // The domain of a tree: its type, the names of its axes, and then axis by axis.
-fn domain_read(alloc: Global, tree: &Value, found: Option<&Value>) -> Result<ReadDomain, CovFault>
-    ensures answer { GivesUnlessMemory (λ read. read) result (domains.domain_of (option_map (λ v. view v.now) found.entry) (view tree.now)) }
+fn domain_read(alloc: Global, tree: &Tree, found: Option<&Tree>) -> Result<ReadDomain, CovFault>
+    ensures answer { GivesUnlessMemory (λ read. read) result (domains.domain_of (option_map (λ v. tree_view v.now) found.entry) (tree_view tree.now)) }
     ensures counted { IfOk result (λ read. AreCounted read.domain) }
 {
     let kind = type_at(alloc, found)?;
@@ -252,14 +252,14 @@ fn domain_read(alloc: Global, tree: &Value, found: Option<&Value>) -> Result<Rea
 
 /// The domain of a tree, whose type was found there or elsewhere, or the fault of the first check that isn't passed: of its
 /// type, the names of its axes, and then axis by axis.
-pub fn domain_of(alloc: Global, tree: &Value, found: Option<&Value>) -> Result<ReadDomain, CovFault>
-    ensures stands { IfOk result (λ read. StandsForDomain (option_map (λ v. view v.now) found.entry) (view tree.now) read.turned read.domain) }
-    ensures refused { IfErr result (λ fault. fault ≢ CovFault.OutOfMemory → DomainRows (option_map (λ v. view v.now) found.entry) (view tree.now) (Err fault)) }
+pub fn domain_of(alloc: Global, tree: &Tree, found: Option<&Tree>) -> Result<ReadDomain, CovFault>
+    ensures stands { IfOk result (λ read. StandsForDomain (option_map (λ v. tree_view v.now) found.entry) (tree_view tree.now) read.turned read.domain) }
+    ensures refused { IfErr result (λ fault. fault ≢ CovFault.OutOfMemory → DomainRows (option_map (λ v. tree_view v.now) found.entry) (tree_view tree.now) (Err fault)) }
     ensures stands_not { IfErr result (λ fault. fault ≢ CovFault.OutOfMemory
-        → (read : ReadDomain) → ¬ (StandsForDomain (option_map (λ v. view v.now) found.entry) (view tree.now) read.turned read.domain)) }
+        → (read : ReadDomain) → ¬ (StandsForDomain (option_map (λ v. tree_view v.now) found.entry) (tree_view tree.now) read.turned read.domain)) }
     ensures axes { IfOk result (λ read. HasAxes read.domain) }
     ensures tuples { IfOk result (λ read. HasTuples read.domain) }
-    ensures answer { GivesUnlessMemory (λ read. read) result (domains.domain_of (option_map (λ v. view v.now) found.entry) (view tree.now)) }
+    ensures answer { GivesUnlessMemory (λ read. read) result (domains.domain_of (option_map (λ v. tree_view v.now) found.entry) (tree_view tree.now)) }
 {
     instants_are_read();
     domain_read(alloc, tree, found)

@@ -1,6 +1,7 @@
 //! Axes of numbers by their first value, their last, and how many there are (OGC 21-069r2, regularly spaced axes).
 ghost use Rattle.std.specs.Prelude.{◌≡◌, ◌≤◌, ◌<◌, ◌^◌, ◌+ℤ◌, ◌-ℤ◌, ◌*◌, ◌*ℤ◌, IfOk, pos, unsigned_abs, true};
-ghost use Rattle.serde_json.specs.View.{view, number_view};
+ghost use Rattle.serde_json.specs.View.{number_view};
+ghost use Rattle.edr_samples.specs.Trees.{tree_view};
 ghost use Rattle.edr_base.specs.Limits.{coordinate_limit, node_limit, IsCoordinate};
 ghost use Rattle.covjson_checks.specs.Answers.{GivesAnswer, GivesUnlessMemory};
 ghost use Rattle.covjson_checks.specs.Members as members;
@@ -9,12 +10,13 @@ ghost use Rattle.covjson_domains.specs.SpanAnswers as spans;
 
 use covjson_checks::{CovFault, Member, is_within, number_at, part};
 use edr_base::{COORDINATE_LIMIT, NODE_LIMIT};
-use serde_json::{Number, Value};
+use edr_json::Tree;
+use serde_json::Number;
 use std::alloc::Global;
 
 // A member that is a number: WrongType.
-fn number_in<'a>(axis: &'a Value, key: &str, member: Member) -> Result<&'a Number, CovFault>
-    ensures { GivesAnswer (λ n. number_view n.now) result (axes.number_in key.now member (view axis.now)) }
+fn number_in<'a>(axis: &'a Tree, key: &str, member: Member) -> Result<&'a Number, CovFault>
+    ensures { GivesAnswer (λ n. number_view n.now) result (axes.number_in key.now member (tree_view axis.now)) }
 {
     let found = part(axis, key, member)?;
     number_at(found, member)
@@ -121,8 +123,8 @@ fn spanned_between(
 
 /// The values of an axis of numbers by `start`, `stop` and `num`: WrongType, then NotWhole where one of them or the step
 /// isn't whole, then OutOfRange.
-pub fn spanned(alloc: Global, axis: &Value, member: Member) -> Result<Vec<i64>, CovFault>
-    ensures { GivesUnlessMemory (λ v. v.items) result (axes.spanned member (view axis.now)) }
+pub fn spanned(alloc: Global, axis: &Tree, member: Member) -> Result<Vec<i64>, CovFault>
+    ensures { GivesUnlessMemory (λ v. v.items) result (axes.spanned member (tree_view axis.now)) }
 {
     let start = number_in(axis, "start", member)?;
     let stop = number_in(axis, "stop", member)?;

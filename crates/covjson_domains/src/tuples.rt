@@ -1,6 +1,9 @@
 //! Composite axes of tuples (OGC 21-069r2, composite axes).
 ghost use Rattle.std.specs.Prelude.{◌≡◌, ◌<◌, ◌^◌, option_map, map, IfOk, length, true};
-ghost use Rattle.serde_json.specs.View.{view, items_view};
+ghost use Rattle.edr_samples.specs.Tokens.{sample_data};
+ghost use Rattle.edr_samples.specs.Trees.{tree_view, items_view, list_view};
+ghost use Rattle.serde_json.specs.Data.{array};
+ghost use Rattle.serde_json.specs.View.{items_of};
 ghost use Rattle.serde_json.specs.Find.{as_array};
 ghost use Rattle.covjson_value.specs.declared.domains.CoordinateName.TheVariants.{T};
 ghost use Rattle.covjson_value.specs.Domains.{coordinate};
@@ -12,8 +15,7 @@ use crate::axes::{time_at, value_items};
 use covjson_checks::{CovFault, Member, is_within, list_at, object_at, part};
 use covjson_value::CoordinateName;
 use edr_base::{COORDINATE_LIMIT, Items, Position};
-use edr_json::{is_text, text_or_empty, whole_of};
-use serde_json::Value;
+use edr_json::{List, Samples, Tree, is_text, text_or_empty, whole_of};
 use std::alloc::Global;
 
 /// The tuples that a domain may have, by their coordinates.
@@ -75,7 +77,7 @@ fn names_of(kind: TupleKind, has_z: bool) -> &'static [CoordinateName]
 }
 
 // The items are the names of these coordinates, in this order.
-fn are_keys(names: &[CoordinateName], items: &Vec<Value>) -> bool
+fn are_keys(names: &[CoordinateName], items: &Vec<Tree>) -> bool
     ensures { result ≡ tuples.are_keys names.now (items_view items.now.items) }
 {
     if items.len() != names.len() {
@@ -89,9 +91,19 @@ fn are_keys(names: &[CoordinateName], items: &Vec<Value>) -> bool
     true
 }
 
+// The items of a list are the names of these coordinates, in this order. Samples are none.
+fn list_has_keys(names: &[CoordinateName], list: List<'_>) -> bool
+    ensures { result ≡ tuples.are_keys names.now (list_view list.entry) }
+{
+    match list {
+        List::Samples(samples) => samples.len() == 0 && names.is_empty(),
+        List::Items(items) => are_keys(names, items),
+    }
+}
+
 // Whether the tuples of an axis have levels of their own: WrongType.
-fn axis_has_z(axis: &Value, kind: TupleKind) -> Result<bool, CovFault>
-    ensures { result ≡ tuples.axis_has_z kind (view axis.now) }
+fn axis_has_z(axis: &Tree, kind: TupleKind) -> Result<bool, CovFault>
+    ensures { result ≡ tuples.axis_has_z kind (tree_view axis.now) }
 {
     let _members = object_at(axis, Member::Composite)?;
     if text_or_empty(axis, "dataType") != "tuple" {
@@ -99,25 +111,25 @@ fn axis_has_z(axis: &Value, kind: TupleKind) -> Result<bool, CovFault>
     }
     let list = part(axis, "coordinates", Member::Composite)?;
     let keys = list_at(list, Member::Composite)?;
-    if are_keys(names_of(kind, false), keys) {
+    if list_has_keys(names_of(kind, false), keys) {
         Ok(false)
-    } else if !matches!(kind, TupleKind::LevelSteps) && are_keys(names_of(kind, true), keys) {
+    } else if !matches!(kind, TupleKind::LevelSteps) && list_has_keys(names_of(kind, true), keys) {
         Ok(true)
     } else {
         Err(CovFault::WrongType(Member::Composite))
     }
 }
 
-fn passes(test: Test, name: CoordinateName, item: &Value) -> bool
-    ensures { result ≡ tuples.passes test name (view item.now) }
+fn passes(test: Test, name: CoordinateName, item: &Tree) -> bool
+    ensures { result ≡ tuples.passes test name (tree_view item.now) }
 {
     match name {
         CoordinateName::T => match test {
-            Test::Form => item.is_string(),
+            Test::Form => item.as_str().is_some(),
             Test::Whole | Test::Within => true,
         },
         CoordinateName::Z | CoordinateName::Y | CoordinateName::X => match test {
-            Test::Form => item.is_number(),
+            Test::Form => item.as_number().is_some(),
             Test::Whole => whole_of(item).is_some(),
             Test::Within => match whole_of(item) {
                 Some(value) => is_within(value, COORDINATE_LIMIT),
@@ -127,7 +139,7 @@ fn passes(test: Test, name: CoordinateName, item: &Value) -> bool
     }
 }
 
-fn all_pass(test: Test, names: &[CoordinateName], items: &Vec<Value>) -> bool
+fn all_pass(test: Test, names: &[CoordinateName], items: &Vec<Tree>) -> bool
     ensures { result ≡ tuples.all_pass test names.now (items_view items.now.items) }
 {
     if items.len() != names.len() {
@@ -141,16 +153,46 @@ fn all_pass(test: Test, names: &[CoordinateName], items: &Vec<Value>) -> bool
     true
 }
 
-fn list_passes(test: Test, names: &[CoordinateName], tuple: &Value) -> bool
-    ensures { result ≡ tuples.list_passes test names.now (as_array (view tuple.now)) }
+fn sample_passes(test: Test, name: CoordinateName, sample: Option<i64>) -> bool
+    ensures { result ≡ tuples.passes test name (sample_data sample) }
 {
-    match tuple.as_array() {
-        Some(items) => all_pass(test, names, items),
+    match name {
+        CoordinateName::T => !matches!(test, Test::Form),
+        CoordinateName::Z | CoordinateName::Y | CoordinateName::X => match sample {
+            Some(number) => match test {
+                Test::Form | Test::Whole => true,
+                Test::Within => is_within(number as i128, COORDINATE_LIMIT),
+            },
+            None => false,
+        },
+    }
+}
+
+fn all_samples_pass(test: Test, names: &[CoordinateName], samples: &Samples) -> bool
+    ensures { result ≡ tuples.all_pass test names.now (items_of (map sample_data samples.now)) }
+{
+    if samples.len() != names.len() {
+        return false;
+    }
+    for place in 0..names.len() {
+        if !sample_passes(test, names[place], samples.get(place)) {
+            return false;
+        }
+    }
+    true
+}
+
+fn list_passes(test: Test, names: &[CoordinateName], tuple: &Tree) -> bool
+    ensures { result ≡ tuples.list_passes test names.now (as_array (tree_view tuple.now)) }
+{
+    match tuple.as_list() {
+        Some(List::Samples(samples)) => all_samples_pass(test, names, samples),
+        Some(List::Items(items)) => all_pass(test, names, items),
         None => false,
     }
 }
 
-fn tuples_pass(test: Test, names: &[CoordinateName], items: &Vec<Value>) -> bool
+fn tuples_pass(test: Test, names: &[CoordinateName], items: &Vec<Tree>) -> bool
     ensures { result ≡ tuples.tuples_pass test names.now (items_view items.now.items) }
 {
     for tuple in items {
@@ -165,10 +207,10 @@ fn tuples_pass(test: Test, names: &[CoordinateName], items: &Vec<Value>) -> bool
 fn value_of<'a>(
     name: CoordinateName,
     names: &[CoordinateName],
-    items: &'a Vec<Value>,
-) -> Option<&'a Value>
+    items: &'a Vec<Tree>,
+) -> Option<&'a Tree>
     requires { length names.now ≡ length items.now.items }
-    ensures { option_map (λ v. view v.now) result ≡ tuples.value_of name names.now (items_view items.now.items) }
+    ensures { option_map (λ v. tree_view v.now) result ≡ tuples.value_of name names.now (items_view items.now.items) }
 {
     for place in 0..names.len() {
         if names[place] == name {
@@ -179,7 +221,7 @@ fn value_of<'a>(
 }
 
 // The number of a coordinate, and 0 where the tuple hasn't it.
-fn number_of(name: CoordinateName, names: &[CoordinateName], items: &Vec<Value>) -> i64
+fn number_of(name: CoordinateName, names: &[CoordinateName], items: &Vec<Tree>) -> i64
     requires counted { length names.now ≡ length items.now.items }
     requires within { tuples.all_pass Test.Within names.now (items_view items.now.items) ≡ true }
     requires number { ¬ (name ≡ T) }
@@ -194,12 +236,44 @@ fn number_of(name: CoordinateName, names: &[CoordinateName], items: &Vec<Value>)
     }
 }
 
-// The tuple of a list, at that place: BadTime.
-fn tuple_at(names: &[CoordinateName], place: usize, tuple: &Value) -> Result<Position, CovFault>
-    requires { tuples.list_passes Test.Within names.now (as_array (view tuple.now)) ≡ true }
-    ensures { result ≡ tuples.tuple_at names.now place (view tuple.now) }
+// The sample of a coordinate, where the tuple has it.
+fn sample_of(
+    name: CoordinateName,
+    names: &[CoordinateName],
+    samples: &Samples,
+) -> Option<Option<i64>>
+    requires { length names.now ≡ length samples.now }
+    ensures { option_map sample_data result ≡ tuples.value_of name names.now (items_of (map sample_data samples.now)) }
 {
-    let items = list_at(tuple, Member::Composite)?;
+    for place in 0..names.len() {
+        if names[place] == name {
+            return Some(samples.get(place));
+        }
+    }
+    None
+}
+
+// The number of a coordinate among samples, and 0 where the tuple hasn't it.
+fn sample_number(name: CoordinateName, names: &[CoordinateName], samples: &Samples) -> i64
+    requires { length names.now ≡ length samples.now }
+    ensures { result ≡ tuples.number_of name names.now (items_of (map sample_data samples.now)) }
+{
+    match sample_of(name, names, samples) {
+        Some(Some(number)) => number,
+        Some(None) | None => 0,
+    }
+}
+
+// The tuple of these items, at that place: BadTime.
+fn tuple_of_items(
+    names: &[CoordinateName],
+    place: usize,
+    items: &Vec<Tree>,
+) -> Result<Position, CovFault>
+    requires counted { length names.now ≡ length items.now.items }
+    requires within { tuples.all_pass Test.Within names.now (items_view items.now.items) ≡ true }
+    ensures { result ≡ tuples.tuple_at names.now place (array (items_view items.now.items)) }
+{
     let time = match value_of(CoordinateName::T, names, items) {
         Some(value) => time_at(value, Member::Composite, place)?,
         None => 0,
@@ -212,11 +286,43 @@ fn tuple_at(names: &[CoordinateName], place: usize, tuple: &Value) -> Result<Pos
     })
 }
 
+// The tuple of these samples, at that place. None of them is a time: WrongType.
+fn tuple_of_samples(
+    names: &[CoordinateName],
+    place: usize,
+    samples: &Samples,
+) -> Result<Position, CovFault>
+    requires { length names.now ≡ length samples.now }
+    ensures { result ≡ tuples.tuple_at names.now place (array (items_of (map sample_data samples.now))) }
+{
+    if sample_of(CoordinateName::T, names, samples).is_some() {
+        return Err(CovFault::WrongType(Member::Composite));
+    }
+    Ok(Position {
+        x: sample_number(CoordinateName::X, names, samples),
+        y: sample_number(CoordinateName::Y, names, samples),
+        z: sample_number(CoordinateName::Z, names, samples),
+        m: 0,
+    })
+}
+
+// The tuple of a list, at that place: BadTime.
+fn tuple_at(names: &[CoordinateName], place: usize, tuple: &Tree) -> Result<Position, CovFault>
+    requires { tuples.list_passes Test.Within names.now (as_array (tree_view tuple.now)) ≡ true }
+    ensures { result ≡ tuples.tuple_at names.now place (tree_view tuple.now) }
+{
+    let list = list_at(tuple, Member::Composite)?;
+    match list {
+        List::Samples(samples) => tuple_of_samples(names, place, samples),
+        List::Items(items) => tuple_of_items(names, place, items),
+    }
+}
+
 // The tuples of a list: BadTime.
 fn read_tuples(
     alloc: Global,
     names: &[CoordinateName],
-    items: &Vec<Value>,
+    items: &Vec<Tree>,
 ) -> Result<Vec<Position>, CovFault>
     requires { tuples.tuples_pass Test.Within names.now (items_view items.now.items) ≡ true }
     ensures { GivesUnlessMemory (λ v. v.items) result (tuples_from names.now 0 (items_view items.now.items)) }
@@ -245,7 +351,7 @@ fn are_in_time(positions: &[Position]) -> bool
 fn tuples_of_items(
     alloc: Global,
     names: &[CoordinateName],
-    items: &Vec<Value>,
+    items: &Vec<Tree>,
 ) -> Result<Vec<Position>, CovFault>
     ensures { GivesUnlessMemory (λ v. v.items) result (tuples_of_items names.now (items_view items.now.items)) }
 {
@@ -265,14 +371,33 @@ fn tuples_of_items(
     Ok(found)
 }
 
+// The tuples of a list. Samples are none: WrongType.
+fn tuples_of_list(
+    alloc: Global,
+    names: &[CoordinateName],
+    list: List<'_>,
+) -> Result<Vec<Position>, CovFault>
+    ensures { GivesUnlessMemory (λ v. v.items) result (tuples_of_items names.now (list_view list.entry)) }
+{
+    match list {
+        List::Samples(samples) => {
+            if samples.len() != 0 {
+                return Err(CovFault::WrongType(Member::Composite));
+            }
+            Ok(Vec::new(alloc))
+        }
+        List::Items(items) => tuples_of_items(alloc, names, items),
+    }
+}
+
 /// The tuples of a composite axis: its form, its numbers, its times and their order.
-pub fn tuples_read(alloc: Global, axis: &Value, kind: TupleKind) -> Result<ReadTuples, CovFault>
-    ensures answer { GivesUnlessMemory (λ r. r) result (tuples.tuples_read kind (view axis.now)) }
+pub fn tuples_read(alloc: Global, axis: &Tree, kind: TupleKind) -> Result<ReadTuples, CovFault>
+    ensures answer { GivesUnlessMemory (λ r. r) result (tuples.tuples_read kind (tree_view axis.now)) }
     ensures counted { IfOk result (λ r. length r.tuples < 2 ^ 64) }
 {
     let has_z = axis_has_z(axis, kind)?;
     let items = value_items(axis, Member::Composite)?;
-    let found = tuples_of_items(alloc, names_of(kind, has_z), items)?;
+    let found = tuples_of_list(alloc, names_of(kind, has_z), items)?;
     Ok(ReadTuples {
         tuples: Items::of(found),
         has_z,

@@ -1,28 +1,30 @@
 -- The lengths and the values of a range, after the checks that passed.
-use Rattle.std.proofs.Common.{◌≡◌, ◌≢◌, ℕ, suc, ℤ, List, [], ◌∷◌, length, map, codes, Option, Some, Ok, Err, refl, sym, ap, ◌∙◌, subst}
+use Rattle.std.proofs.Common.{◌≡◌, ◌≢◌, ℕ, suc, ℤ, List, [], ◌∷◌, length, map, codes, Option, Some, None, Ok, Err, refl, sym, ap, ◌∙◌, subst}
 use Rattle.std.specs.Prelude.{⊤}
 use Rattle.std.proofs.lemmas.Bool.{eq-eqb, ne_eqb}
 use Rattle.serde_json.specs.Data.{Data, Items}
 use Rattle.serde_json.specs.Find.{get}
-use Rattle.serde_json.specs.View.{items_view}
-use Rattle.serde_json.specs.declared.value.Value.{Value}
+use Rattle.serde_json.specs.View.{items_of}
+use Rattle.edr_samples.specs.Tokens.{sample_data}
 use Rattle.covjson_value.specs.declared.domains.Domain.{Domain}
 use Rattle.covjson_value.specs.declared.axis_names.AxisName.{AxisName}
-use Rattle.covjson_checks.specs.declared.faults.Member.TheVariants.{Shape, Values}
+use Rattle.covjson_checks.specs.declared.faults.Member.TheVariants.{AxisNames, Shape, Values}
 use Rattle.covjson_checks.specs.declared.faults.CovFault.TheVariants.{WrongType, WrongCount}
 use Rattle.covjson_checks.specs.declared.members.Wanted.TheVariants.{Naturals}
+use Rattle.covjson_checks.specs.Answers.{each}
 use Rattle.covjson_checks.specs.Members.{need, list_at, need_each}
 use Rattle.covjson_ranges.specs.Ranges.{StandsForSample, length_of}
 use Rattle.covjson_ranges.specs.RangeRows.{ValuesRows}
 use Rattle.edr_json.specs.Trees.{count_items}
-use Rattle.covjson_ranges.specs.RangeAnswers.{lengths_are, shape_in, samples_of, samples_in}
+use Rattle.covjson_ranges.specs.RangeAnswers.{axis_named, lengths_are, shape_in, samples_of, samples_in}
 use Rattle.covjson_ranges.proofs.RangeParts.{stands_count}
 use Rattle.covjson_ranges.proofs.SampleLemmas.{values_lead, values_passed}
 
--- as many items as values
-pub count_items_view : (xs : List Value) → count_items (items_view xs) ≡ length xs
-count_items_view [] = refl
-count_items_view (x ∷ xs) = ap suc (count_items_view xs)
+-- samples name no axes
+pub named_some : (ss : List (Option ℤ)) → ¬ (length ss ≡ 0) → each axis_named (items_of (map sample_data ss)) ≡ Err (WrongType AxisNames)
+named_some [] h = absurd (h refl)
+named_some (None ∷ ss) h = refl
+named_some (Some z ∷ ss) h = refl
 
 -- ---- lengths
 

@@ -1,6 +1,8 @@
 //! Ranges (OGC 21-069r2, NdArray objects).
 ghost use Rattle.std.specs.Prelude.{◌≡◌, ◌≢◌, IfOk, IfErr, Err, codes, length, map};
-ghost use Rattle.serde_json.specs.View.{view, items_view};
+ghost use Rattle.serde_json.specs.View.{items_of};
+ghost use Rattle.edr_samples.specs.Tokens.{sample_data};
+ghost use Rattle.edr_samples.specs.Trees.{tree_view, items_view, list_view};
 ghost use Rattle.serde_json.specs.Find.{get};
 ghost use Rattle.covjson_value.specs.Domains.{count_of};
 ghost use Rattle.covjson_value.specs.declared.coverages.NdArray.{NdArray};
@@ -11,6 +13,7 @@ ghost use Rattle.covjson_ranges.specs.Ranges.{StandsForRange};
 ghost use Rattle.covjson_ranges.specs.RangeRows.{RangeRows};
 ghost use Rattle.covjson_ranges.specs.Ranges as axes;
 ghost use Rattle.covjson_ranges.specs.RangeAnswers as ranges;
+ghost use Rattle.edr_json.specs.Trees as trees;
 
 use crate::orders::in_order;
 use crate::places::{axis_len, has_axis};
@@ -20,13 +23,12 @@ use covjson_checks::{
 };
 use covjson_value::{AxisName, Domain, NdArray, axis_by_name};
 use edr_base::{Items, SAMPLE_LIMIT};
-use edr_json::text_or_empty;
-use serde_json::Value;
+use edr_json::{List, Samples, Tree, count_items, natural_of, text_or_empty};
 use std::alloc::Global;
 
 // An object of the type NdArray: WrongType, UnsupportedRange.
-fn need_array(alloc: Global, tree: &Value) -> Result<(), CovFault>
-    ensures { GivesUnlessMemory (λ u. u) result (ranges.is_array (view tree.now)) }
+fn need_array(alloc: Global, tree: &Tree) -> Result<(), CovFault>
+    ensures { GivesUnlessMemory (λ u. u) result (ranges.is_array (tree_view tree.now)) }
 {
     let _members = object_at(tree, Member::Ranges)?;
     let kind = text_or_empty(tree, "type");
@@ -37,8 +39,8 @@ fn need_array(alloc: Global, tree: &Value) -> Result<(), CovFault>
 }
 
 // Whole numbers: Missing, UnsupportedRange.
-fn need_integers(alloc: Global, tree: &Value) -> Result<(), CovFault>
-    ensures { GivesUnlessMemory (λ u. u) result (ranges.has_integers (view tree.now)) }
+fn need_integers(alloc: Global, tree: &Tree) -> Result<(), CovFault>
+    ensures { GivesUnlessMemory (λ u. u) result (ranges.has_integers (tree_view tree.now)) }
 {
     let _data_type = need(tree, "dataType", Member::DataType)?;
     let name = text_or_empty(tree, "dataType");
@@ -49,8 +51,8 @@ fn need_integers(alloc: Global, tree: &Value) -> Result<(), CovFault>
 }
 
 // The axis that an item names: WrongType.
-fn axis_named(item: &Value) -> Result<AxisName, CovFault>
-    ensures { result ≡ ranges.axis_named (view item.now) }
+fn axis_named(item: &Tree) -> Result<AxisName, CovFault>
+    ensures { result ≡ ranges.axis_named (tree_view item.now) }
 {
     let Some(text) = item.as_str() else {
         return Err(CovFault::WrongType(Member::AxisNames))
@@ -62,7 +64,7 @@ fn axis_named(item: &Value) -> Result<AxisName, CovFault>
 }
 
 // The axes that a list names: WrongType.
-fn axes_named(alloc: Global, items: &Vec<Value>) -> Result<Vec<AxisName>, CovFault>
+fn axes_named(alloc: Global, items: &Vec<Tree>) -> Result<Vec<AxisName>, CovFault>
     ensures { GivesUnlessMemory (λ v. v.items) result (each ranges.axis_named (items_view items.now.items)) }
 {
     let mut names = Vec::new(alloc);
@@ -71,6 +73,21 @@ fn axes_named(alloc: Global, items: &Vec<Value>) -> Result<Vec<AxisName>, CovFau
         names.push(name)?;
     }
     Ok(names)
+}
+
+// The axes that a list names: WrongType. Samples are none.
+fn axes_in(alloc: Global, list: List<'_>) -> Result<Vec<AxisName>, CovFault>
+    ensures { GivesUnlessMemory (λ v. v.items) result (each ranges.axis_named (list_view list.entry)) }
+{
+    match list {
+        List::Samples(samples) => {
+            if samples.len() != 0 {
+                return Err(CovFault::WrongType(Member::AxisNames));
+            }
+            Ok(Vec::new(alloc))
+        }
+        List::Items(items) => axes_named(alloc, items),
+    }
 }
 
 fn is_named(name: AxisName, names: &[AxisName]) -> bool
@@ -136,8 +153,8 @@ fn is_one_place(domain: &Domain) -> bool
 }
 
 // The names of a range's axes in their order; none where they are left out: Missing, WrongType.
-fn names_at(alloc: Global, tree: &Value, domain: &Domain) -> Result<Vec<AxisName>, CovFault>
-    ensures { GivesUnlessMemory (λ v. v.items) result (ranges.names_in domain.now (get (codes "axisNames") (view tree.now))) }
+fn names_at(alloc: Global, tree: &Tree, domain: &Domain) -> Result<Vec<AxisName>, CovFault>
+    ensures { GivesUnlessMemory (λ v. v.items) result (ranges.names_in domain.now (get (codes "axisNames") (tree_view tree.now))) }
 {
     let Some(list) = tree.get("axisNames") else {
         return if is_one_place(domain) {
@@ -147,21 +164,21 @@ fn names_at(alloc: Global, tree: &Value, domain: &Domain) -> Result<Vec<AxisName
         };
     };
     let items = list_at(list, Member::AxisNames)?;
-    let names = axes_named(alloc, items)?;
+    let names = axes_in(alloc, items)?;
     if !are_range_axes(&names, domain) {
         return Err(CovFault::WrongType(Member::AxisNames));
     }
     Ok(names)
 }
 
-// The lengths of these axes, each a whole number from 0: WrongType, WrongCount.
-fn need_lengths(items: &Vec<Value>, names: &[AxisName], domain: &Domain) -> Result<(), CovFault>
+// These lengths, each that of its axis: WrongType, WrongCount.
+fn need_lengths(items: &Vec<Tree>, names: &[AxisName], domain: &Domain) -> Result<(), CovFault>
     requires { length items.now.items ≡ length names.now }
     ensures { result ≡ ranges.lengths_are (map (axes.length_of domain.now) names.now) (items_view items.now.items) }
 {
     for place in 0..names.len() {
         let length = axis_len(domain, names[place]);
-        match items[place].as_u64() {
+        match natural_of(&items[place]) {
             Some(found) => {
                 if found != length as u64 {
                     return Err(CovFault::WrongCount(Member::Shape, length as u128, found as u128));
@@ -173,9 +190,55 @@ fn need_lengths(items: &Vec<Value>, names: &[AxisName], domain: &Domain) -> Resu
     Ok(())
 }
 
+// The sample is that length: WrongType, WrongCount.
+fn need_length(sample: Option<i64>, length: usize) -> Result<(), CovFault>
+    ensures { result ≡ ranges.length_is length (sample_data sample) }
+{
+    let Some(found) = sample else {
+        return Err(CovFault::WrongType(Member::Shape));
+    };
+    if found < 0 {
+        return Err(CovFault::WrongType(Member::Shape));
+    }
+    if found as u64 != length as u64 {
+        return Err(CovFault::WrongCount(Member::Shape, length as u128, found as u128));
+    }
+    Ok(())
+}
+
+// Lengths that are samples.
+fn need_sample_lengths(
+    samples: &Samples,
+    names: &[AxisName],
+    domain: &Domain,
+) -> Result<(), CovFault>
+    requires { length samples.now ≡ length names.now }
+    ensures { result ≡ ranges.lengths_are (map (axes.length_of domain.now) names.now) (items_of (map sample_data samples.now)) }
+{
+    for place in 0..names.len() {
+        need_length(samples.get(place), axis_len(domain, names[place]))?;
+    }
+    Ok(())
+}
+
+// The lengths of these axes, each a whole number from 0: WrongType, WrongCount.
+fn need_list_lengths(
+    list: List<'_>,
+    names: &[AxisName],
+    domain: &Domain,
+) -> Result<(), CovFault>
+    requires { trees.count_items (list_view list) ≡ length names.now }
+    ensures { result ≡ ranges.lengths_are (map (axes.length_of domain.now) names.now) (list_view list.entry) }
+{
+    match list {
+        List::Samples(samples) => need_sample_lengths(samples, names, domain),
+        List::Items(items) => need_lengths(items, names, domain),
+    }
+}
+
 // The lengths of the axes, where they are given: Missing, WrongType, WrongCount.
-fn need_shape(tree: &Value, names: &[AxisName], domain: &Domain) -> Result<(), CovFault>
-    ensures { result ≡ ranges.shape_in domain.now names.now (get (codes "shape") (view tree.now)) }
+fn need_shape(tree: &Tree, names: &[AxisName], domain: &Domain) -> Result<(), CovFault>
+    ensures { result ≡ ranges.shape_in domain.now names.now (get (codes "shape") (tree_view tree.now)) }
 {
     let Some(list) = tree.get("shape") else {
         return if is_one_place(domain) {
@@ -186,10 +249,11 @@ fn need_shape(tree: &Value, names: &[AxisName], domain: &Domain) -> Result<(), C
     };
     let items = list_at(list, Member::Shape)?;
     need_form(items, Wanted::Naturals, Member::Shape)?;
-    if items.len() != names.len() {
-        return Err(CovFault::WrongCount(Member::Shape, names.len() as u128, items.len() as u128));
+    let count = count_items(items);
+    if count != names.len() {
+        return Err(CovFault::WrongCount(Member::Shape, names.len() as u128, count as u128));
     }
-    need_lengths(items, names, domain)
+    need_list_lengths(items, names, domain)
 }
 
 // How many values a range has. Each axis has fewer values than its limits have numbers, so that no product is beyond its type.
@@ -208,8 +272,8 @@ fn wanted_count(domain: &Domain) -> u128
 
 // The samples that items are, absent where they are null: WrongType, NotWhole, OutOfRange. They are read in one pass, and looked
 // at in the order of the checks only where one of them is none.
-fn samples_of(alloc: Global, items: &Vec<Value>) -> Result<Vec<Option<i64>>, CovFault>
-    ensures { GivesUnlessMemory (λ v. v.items) result (ranges.samples_of (items_view items.now.items)) }
+fn samples_of(alloc: Global, items: List<'_>) -> Result<Vec<Option<i64>>, CovFault>
+    ensures { GivesUnlessMemory (λ v. v.items) result (ranges.samples_of (list_view items.entry)) }
 {
     match wholes_or_nulls(alloc, items, Member::Values, SAMPLE_LIMIT) {
         Ok(found) => Ok(found),
@@ -222,12 +286,12 @@ fn samples_of(alloc: Global, items: &Vec<Value>) -> Result<Vec<Option<i64>>, Cov
 }
 
 // The values of a range: Missing, WrongType, WrongCount, and then sample by sample.
-fn samples(alloc: Global, tree: &Value, wanted: u128) -> Result<Vec<Option<i64>>, CovFault>
-    ensures { GivesUnlessMemory (λ v. v.items) result (ranges.samples_in wanted (view tree.now)) }
+fn samples(alloc: Global, tree: &Tree, wanted: u128) -> Result<Vec<Option<i64>>, CovFault>
+    ensures { GivesUnlessMemory (λ v. v.items) result (ranges.samples_in wanted (tree_view tree.now)) }
 {
     let list = need(tree, "values", Member::Values)?;
     let items = list_at(list, Member::Values)?;
-    let found = items.len() as u128;
+    let found = count_items(items) as u128;
     if found != wanted {
         return Err(CovFault::WrongCount(Member::Values, wanted, found));
     }
@@ -235,10 +299,10 @@ fn samples(alloc: Global, tree: &Value, wanted: u128) -> Result<Vec<Option<i64>>
 }
 
 // The range of a tree: its form, its axes, their lengths and its values.
-fn range_read(alloc: Global, tree: &Value, read: &ReadDomain) -> Result<NdArray, CovFault>
+fn range_read(alloc: Global, tree: &Tree, read: &ReadDomain) -> Result<NdArray, CovFault>
     requires axes { HasAxes read.now.domain }
     requires tuples { HasTuples read.now.domain }
-    ensures { GivesUnlessMemory (λ r. r) result (ranges.range_of read.now (view tree.now)) }
+    ensures { GivesUnlessMemory (λ r. r) result (ranges.range_of read.now (tree_view tree.now)) }
 {
     need_array(alloc, tree)?;
     need_integers(alloc, tree)?;
@@ -257,14 +321,14 @@ fn range_read(alloc: Global, tree: &Value, read: &ReadDomain) -> Result<NdArray,
 /// Else the first that applies: WrongType or UnsupportedRange of the range itself, Missing or UnsupportedRange of `dataType`,
 /// Missing or WrongType of `axisNames`, Missing, WrongType or WrongCount of `shape`, and Missing, WrongType, WrongCount,
 /// NotWhole or OutOfRange of `values`; or OutOfMemory.
-pub fn range_of(alloc: Global, tree: &Value, read: &ReadDomain) -> Result<NdArray, CovFault>
+pub fn range_of(alloc: Global, tree: &Tree, read: &ReadDomain) -> Result<NdArray, CovFault>
     requires axes { HasAxes read.now.domain }
     requires tuples { HasTuples read.now.domain }
-    ensures stands { IfOk result (StandsForRange read.now.domain read.now.turned (view tree.now)) }
-    ensures fault { IfErr result (λ fault. fault ≢ OutOfMemory → RangeRows read.now (view tree.now) (Err fault)) }
+    ensures stands { IfOk result (StandsForRange read.now.domain read.now.turned (tree_view tree.now)) }
+    ensures fault { IfErr result (λ fault. fault ≢ OutOfMemory → RangeRows read.now (tree_view tree.now) (Err fault)) }
     ensures stands_not { IfErr result (λ fault. fault ≢ OutOfMemory
-        → (range : NdArray) → ¬ (StandsForRange read.now.domain read.now.turned (view tree.now) range)) }
-    ensures answer { GivesUnlessMemory (λ r. r) result (ranges.range_of read.now (view tree.now)) }
+        → (range : NdArray) → ¬ (StandsForRange read.now.domain read.now.turned (tree_view tree.now) range)) }
+    ensures answer { GivesUnlessMemory (λ r. r) result (ranges.range_of read.now (tree_view tree.now)) }
     ensures valid { IfOk result (IsRange read.now.domain) }
 {
     range_read(alloc, tree, read)

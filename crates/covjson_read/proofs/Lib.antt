@@ -1,4 +1,5 @@
 pub mod ItemTests
+pub mod SampleEntries
 pub mod EntryTests
 pub mod ItemSteps
 pub mod RowAnswers

@@ -5,8 +5,8 @@ use Rattle.std.specs.List.Sorted.{IsStrictlySortedBy}
 use Rattle.std.specs.Cmp.Lexicographic.{slice_cmp}
 use Rattle.std.proofs.lemmas.List.{map-append}
 use Rattle.serde_json.specs.Data.{Data, Members}
-use Rattle.serde_json.specs.View.{view, members_view}
-use Rattle.serde_json.specs.declared.value.Value.{Value}
+use Rattle.edr_samples.specs.Trees.{tree_view, members_view}
+use Rattle.edr_samples.specs.declared.trees.Tree.{Tree}
 use Rattle.covjson_value.specs.declared.coverages.NdArray.{NdArray}
 use Rattle.covjson_value.specs.declared.coverages.Parameter.{Parameter}
 use Rattle.covjson_value.specs.Coverages.{ids_of, AscendById}
@@ -27,7 +27,7 @@ use Rattle.covjson_read.specs.CollectedAnswers.{ranges_from, has_members, ranges
 
 -- the entries of an object
 abbrev pub Entries : Type 0
-Entries = List (String Global × Value)
+Entries = List (String Global × Tree)
 
 -- ---- the answer
 
@@ -76,10 +76,10 @@ module _ (rest : Answer ReadRanges) where
   tree_first (Ok t) parameter range = parameter_first (parameter t) range
   tree_first (Err f) parameter range = refl
 
-entry_first : (read : ReadDomain) (parameters : Data) (next : Entries) (k : String Global) (v : Value) → ranges_from read parameters (members_view ((k, v) ∷ next))
-    ≡ and_then (range_with read parameters (string_bytes k) (view v)) (λ both. put_before (ranges_from read parameters (members_view next)) both.0 both.1)
+entry_first : (read : ReadDomain) (parameters : Data) (next : Entries) (k : String Global) (v : Tree) → ranges_from read parameters (members_view ((k, v) ∷ next))
+    ≡ and_then (range_with read parameters (string_bytes k) (tree_view v)) (λ both. put_before (ranges_from read parameters (members_view next)) both.0 both.1)
 entry_first read parameters next k v =
-    tree_first (ranges_from read parameters (members_view next)) (need (string_bytes k) Parameters parameters) (parameter_of (string_bytes k)) (range_of read (view v))
+    tree_first (ranges_from read parameters (members_view next)) (need (string_bytes k) Parameters parameters) (parameter_of (string_bytes k)) (range_of read (tree_view v))
 
 -- none before those of all entries
 pub from_none : (read : ReadDomain) (parameters : Data) (kept : List Parameter) (found : List NdArray) (es : Entries) → kept ≡ [] → found ≡ []
@@ -87,8 +87,8 @@ pub from_none : (read : ReadDomain) (parameters : Data) (kept : List Parameter) 
 from_none read parameters kept found es no_parameter no_range = rw (no_parameter, no_range) (after_none (ranges_from read parameters (members_view es)))
 
 -- one range more, and one entry fewer that is left
-pub one_more : (read : ReadDomain) (parameters : Data) (kept all_kept : List Parameter) (found all_found : List NdArray) (es next : Entries) (k : String Global) (v : Value) (p : Parameter)
-    (r : NdArray) (all : Answer ReadRanges) → es ≡ (k, v) ∷ next → from_here read parameters kept found es ≡ all → range_with read parameters (string_bytes k) (view v) ≡ Ok (p, r)
+pub one_more : (read : ReadDomain) (parameters : Data) (kept all_kept : List Parameter) (found all_found : List NdArray) (es next : Entries) (k : String Global) (v : Tree) (p : Parameter)
+    (r : NdArray) (all : Answer ReadRanges) → es ≡ (k, v) ∷ next → from_here read parameters kept found es ≡ all → range_with read parameters (string_bytes k) (tree_view v) ≡ Ok (p, r)
     → all_kept ≡ kept ++ p ∷ [] → all_found ≡ found ++ r ∷ [] → from_here read parameters all_kept all_found next ≡ all
 one_more read parameters kept all_kept found all_found es next k v p r all is before both pushed put =
     let left = ranges_from read parameters (members_view next) in
@@ -98,7 +98,7 @@ one_more read parameters kept all_kept found all_found es next k v p r all is be
     rw (pushed, put) (sym (twice kept found p r left)) ∙ sym here ∙ before
 
 -- a fault at an entry is the answer of all
-module _ {T : Type 0} (seen : T → ReadRanges) (read : ReadDomain) (parameters : Data) (kept : List Parameter) (found : List NdArray) (es next : Entries) (k : String Global) (v : Value)
+module _ {T : Type 0} (seen : T → ReadRanges) (read : ReadDomain) (parameters : Data) (kept : List Parameter) (found : List NdArray) (es next : Entries) (k : String Global) (v : Tree)
     (all : Answer ReadRanges) (r : Result T CovFault)
     (fault : CovFault) (is : es ≡ (k, v) ∷ next) (before : from_here read parameters kept found es ≡ all) (same : IsErrAnd r (λ e. e ≡ fault)) where
   answered : (r : Result T CovFault) → IsErrAnd r (λ e. e ≡ fault) → from_here read parameters kept found ((k, v) ∷ next) ≡ Err fault → GivesUnlessMemory seen r all
@@ -109,7 +109,7 @@ module _ {T : Type 0} (seen : T → ReadRanges) (read : ReadDomain) (parameters 
   wanting (Ok u) same memory = absurd same
   wanting (Err e) same memory = inr (same ∙ memory)
 
-  pub entry_stops : (range_with read parameters (string_bytes k) (view v) ≡ Err fault) ⊎ (fault ≡ OutOfMemory) → GivesUnlessMemory seen r all
+  pub entry_stops : (range_with read parameters (string_bytes k) (tree_view v) ≡ Err fault) ⊎ (fault ≡ OutOfMemory) → GivesUnlessMemory seen r all
   entry_stops (inl stops) = answered r same (ap (after_these kept found) (entry_first read parameters next k v) ∙ rw stops refl)
   entry_stops (inr memory) = wanting r same memory
 
@@ -130,7 +130,7 @@ id_is read parameters id d p r both =
 -- ---- the parameters' ids
 
 -- one more id, and one name fewer that is left
-pub ids_more : (kept all : List Parameter) (p : Parameter) (es next : Entries) (k : String Global) (v : Value) (names : List (List ℕ))
+pub ids_more : (kept all : List Parameter) (p : Parameter) (es next : Entries) (k : String Global) (v : Tree) (names : List (List ℕ))
     → es ≡ (k, v) ∷ next → p.id ≡ string_bytes k → all ≡ kept ++ p ∷ []
     → ids_of kept ++ names_of (members_view es) ≡ names → ids_of all ++ names_of (members_view next) ≡ names
 ids_more kept all p es next k v names is named pushed before =

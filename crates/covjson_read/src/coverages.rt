@@ -1,7 +1,7 @@
 //! Coverages (OGC 21-069r2, Coverage objects).
 ghost use Rattle.std.specs.Prelude.{◌≡◌, ◌≢◌, ◌<◌, length, IfOk, IfErr, Err, option_map, codes};
 ghost use Rattle.serde_json.specs.Data.{null};
-ghost use Rattle.serde_json.specs.View.{view};
+ghost use Rattle.edr_samples.specs.Trees.{tree_view};
 ghost use Rattle.covjson_value.specs.Coverages.{HasAxes, HasTuples, IsValid};
 ghost use Rattle.edr_base.specs.FirstThatApplies.{and_then};
 ghost use Rattle.covjson_checks.specs.Answers.{GivesAnswer, GivesUnlessMemory};
@@ -24,13 +24,12 @@ use covjson_checks::{CovFault, Member, ReadDomain, lent, need, object_at, text_w
 use covjson_domains::domain_of;
 use covjson_value::{CoordinateName, Coverage, Referencing};
 use edr_base::Text;
-use edr_json::{text_in, text_or_empty};
-use serde_json::Value;
+use edr_json::{Tree, text_in, text_or_empty};
 use std::alloc::Global;
 
 // An object of type Coverage: WrongType, Missing.
-fn is_coverage(tree: &Value) -> Result<&Value, CovFault>
-    ensures { GivesAnswer (λ v. view v.now) result (answers.is_coverage (view tree.now)) }
+fn is_coverage(tree: &Tree) -> Result<&Tree, CovFault>
+    ensures { GivesAnswer (λ v. tree_view v.now) result (answers.is_coverage (tree_view tree.now)) }
 {
     let _members = object_at(tree, Member::Coverages)?;
     let _kind = need(tree, "type", Member::Kind)?;
@@ -41,8 +40,8 @@ fn is_coverage(tree: &Value) -> Result<&Value, CovFault>
 }
 
 // The type of a domain: its own, else that of the coverage, else that of the collection.
-fn type_of<'a>(domain: &'a Value, tree: &'a Value, collection: &'a Value) -> Option<&'a Value>
-    ensures { option_map (λ v. view v.now) result ≡ type_of (view domain.now) (view tree.now) (view collection.now) }
+fn type_of<'a>(domain: &'a Tree, tree: &'a Tree, collection: &'a Tree) -> Option<&'a Tree>
+    ensures { option_map (λ v. tree_view v.now) result ≡ type_of (tree_view domain.now) (tree_view tree.now) (tree_view collection.now) }
 {
     match domain.get("domainType") {
         Some(found) => Some(found),
@@ -61,15 +60,15 @@ struct Parts {
 // The ranges of a coverage over a domain that was read, each with its parameter.
 fn ranges_over(
     alloc: Global,
-    tree: &Value,
-    collection: &Value,
+    tree: &Tree,
+    collection: &Tree,
     read: &ReadDomain,
 ) -> Result<ReadRanges, CovFault>
     requires axes { HasAxes read.now.domain }
     requires tuples { HasTuples read.now.domain }
     ensures answer { GivesUnlessMemory (λ r. r) result (
-        and_then (parameters_of (lent (codes "parameters") (view tree.now) (view collection.now))) (λ parameters.
-        ranges_in read.now parameters (view tree.now))) }
+        and_then (parameters_of (lent (codes "parameters") (tree_view tree.now) (tree_view collection.now))) (λ parameters.
+        ranges_in read.now parameters (tree_view tree.now))) }
     ensures some { IfOk result (λ r. 0 < length r.parameters) }
     ensures valid { IfOk result (λ r. AreValid read.now.domain r.parameters r.ranges) }
 {
@@ -80,14 +79,14 @@ fn ranges_over(
 // What a coverage has over a domain that was read: its systems, its parameters and its ranges.
 fn parts_over(
     alloc: Global,
-    tree: &Value,
-    collection: &Value,
-    domain: &Value,
+    tree: &Tree,
+    collection: &Tree,
+    domain: &Tree,
     read: &ReadDomain,
 ) -> Result<Parts, CovFault>
     requires axes { HasAxes read.now.domain }
     requires tuples { HasTuples read.now.domain }
-    ensures answer { GivesUnlessMemory (with_domain read.now.domain) result (over_domain (view collection.now) (view tree.now) (view domain.now) read.now) }
+    ensures answer { GivesUnlessMemory (with_domain read.now.domain) result (over_domain (tree_view collection.now) (tree_view tree.now) (tree_view domain.now) read.now) }
     ensures valid { IfOk result (λ p. IsValid (with_domain read.now.domain p)) }
 {
     let id = text_where_given(alloc, text_in(tree, "id"))?;
@@ -103,8 +102,8 @@ fn parts_over(
 
 /// The coverage that a tree of JSON stands for within a collection, which lends it what it lacks: its type of domain, its
 /// systems and its parameters. The collection is null where there is none.
-pub fn coverage_in(alloc: Global, tree: &Value, collection: &Value) -> Result<Coverage, CovFault>
-    ensures answer { GivesUnlessMemory (λ c. c) result (answers.coverage_in (view collection.now) (view tree.now)) }
+pub fn coverage_in(alloc: Global, tree: &Tree, collection: &Tree) -> Result<Coverage, CovFault>
+    ensures answer { GivesUnlessMemory (λ c. c) result (answers.coverage_in (tree_view collection.now) (tree_view tree.now)) }
     ensures valid { IfOk result IsValid }
 {
     let _tree = is_coverage(tree)?;
@@ -126,11 +125,11 @@ pub fn coverage_in(alloc: Global, tree: &Value, collection: &Value) -> Result<Co
 }
 
 /// The coverage that a tree of JSON stands for by itself.
-pub fn coverage_alone(alloc: Global, tree: &Value) -> Result<Coverage, CovFault>
-    ensures answer { GivesUnlessMemory (λ c. c) result (answers.coverage_in null (view tree.now)) }
+pub fn coverage_alone(alloc: Global, tree: &Tree) -> Result<Coverage, CovFault>
+    ensures answer { GivesUnlessMemory (λ c. c) result (answers.coverage_in null (tree_view tree.now)) }
     ensures valid { IfOk result IsValid }
 {
-    coverage_in(alloc, tree, &Value::Null)
+    coverage_in(alloc, tree, &Tree::Null)
 }
 
 /// The coverage that a tree of JSON stands for (OGC 21-069r2, CoverageJSON objects), or the first check that it fails.
@@ -140,10 +139,10 @@ pub fn coverage_alone(alloc: Global, tree: &Value) -> Result<Coverage, CovFault>
 /// values in a list, or one of numbers has them by `start`, `stop` and `num`; descending values are turned round with the
 /// samples over them. A range may have its axes in any order. Members that aren't needed are passed over, and parameters
 /// without a range are dropped. A tree is JSON, so that NotJson is none of the faults.
-pub fn coverage_of(alloc: Global, tree: &Value) -> Result<Coverage, CovFault>
-    ensures stands { IfOk result (Stands (view tree.now)) }
-    ensures none { IfErr result (λ fault. fault ≢ CovFault.OutOfMemory → (coverage : Coverage) → ¬ (Stands (view tree.now) coverage)) }
-    ensures first_fault { IfErr result (λ fault. fault ≢ CovFault.OutOfMemory → CoverageRows null (view tree.now) (Err fault)) }
+pub fn coverage_of(alloc: Global, tree: &Tree) -> Result<Coverage, CovFault>
+    ensures stands { IfOk result (Stands (tree_view tree.now)) }
+    ensures none { IfErr result (λ fault. fault ≢ CovFault.OutOfMemory → (coverage : Coverage) → ¬ (Stands (tree_view tree.now) coverage)) }
+    ensures first_fault { IfErr result (λ fault. fault ≢ CovFault.OutOfMemory → CoverageRows null (tree_view tree.now) (Err fault)) }
     ensures valid { IfOk result IsValid }
 {
     coverage_answers_follow_rows();

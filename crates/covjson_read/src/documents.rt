@@ -1,6 +1,6 @@
 //! Documents (OGC 21-069r2, CoverageJSON documents).
 ghost use Rattle.std.specs.Prelude.{◌≡◌, ◌≢◌, ◌⊎◌, All, IfOk, IfErr, MatchResult, Ok, Err};
-ghost use Rattle.serde_json.specs.View.{view, items_view};
+ghost use Rattle.edr_samples.specs.Trees.{tree_view, items_view, list_view};
 ghost use Rattle.covjson_value.specs.Coverages.{IsValid, IsValidDocument};
 ghost use Rattle.covjson_checks.specs.Answers.{GivesUnlessMemory, each};
 ghost use Rattle.covjson_value.specs.declared.coverages.Document.{Document};
@@ -17,17 +17,16 @@ use crate::laws::{
 use covjson_checks::{CovFault, Member, list_at, need, object_at};
 use covjson_value::{Coverage, Document};
 use edr_base::Items;
-use edr_json::{read_tree, text_or_empty};
-use serde_json::Value;
+use edr_json::{List, Tree, read_tree, text_or_empty};
 use std::alloc::Global;
 
 // The coverages of a collection, in turn.
 fn coverages_in(
     alloc: Global,
-    items: &Vec<Value>,
-    collection: &Value,
+    items: &Vec<Tree>,
+    collection: &Tree,
 ) -> Result<Vec<Coverage>, CovFault>
-    ensures answer { GivesUnlessMemory (λ v. v.items) result (each (coverage_in (view collection.now)) (items_view items.now.items)) }
+    ensures answer { GivesUnlessMemory (λ v. v.items) result (each (coverage_in (tree_view collection.now)) (items_view items.now.items)) }
     ensures valid { IfOk result (λ v. All IsValid v.items) }
 {
     let mut coverages = Vec::new(alloc);
@@ -38,18 +37,38 @@ fn coverages_in(
     Ok(coverages)
 }
 
-fn many_coverages(alloc: Global, tree: &Value) -> Result<Document, CovFault>
-    ensures answer { GivesUnlessMemory (λ d. d) result (answers.many_coverages (view tree.now)) }
+// The coverages of a list, in turn. Samples are none: WrongType.
+fn coverages_of(
+    alloc: Global,
+    list: List<'_>,
+    collection: &Tree,
+) -> Result<Vec<Coverage>, CovFault>
+    ensures answer { GivesUnlessMemory (λ v. v.items) result (each (coverage_in (tree_view collection.now)) (list_view list.entry)) }
+    ensures valid { IfOk result (λ v. All IsValid v.items) }
+{
+    match list {
+        List::Samples(samples) => {
+            if samples.len() != 0 {
+                return Err(CovFault::WrongType(Member::Coverages));
+            }
+            Ok(Vec::new(alloc))
+        }
+        List::Items(items) => coverages_in(alloc, items, collection),
+    }
+}
+
+fn many_coverages(alloc: Global, tree: &Tree) -> Result<Document, CovFault>
+    ensures answer { GivesUnlessMemory (λ d. d) result (answers.many_coverages (tree_view tree.now)) }
     ensures valid { IfOk result IsValidDocument }
 {
     let list = need(tree, "coverages", Member::Coverages)?;
     let items = list_at(list, Member::Coverages)?;
-    let coverages = coverages_in(alloc, items, tree)?;
+    let coverages = coverages_of(alloc, items, tree)?;
     Ok(Document::Many(Items::of(coverages)))
 }
 
-fn document_of_type(alloc: Global, tree: &Value, kind: &str) -> Result<Document, CovFault>
-    ensures answer { GivesUnlessMemory (λ d. d) result (document_of_type kind.now (view tree.now)) }
+fn document_of_type(alloc: Global, tree: &Tree, kind: &str) -> Result<Document, CovFault>
+    ensures answer { GivesUnlessMemory (λ d. d) result (document_of_type kind.now (tree_view tree.now)) }
     ensures valid { IfOk result IsValidDocument }
 {
     if kind == "Coverage" {
@@ -62,8 +81,8 @@ fn document_of_type(alloc: Global, tree: &Value, kind: &str) -> Result<Document,
 }
 
 // The document that a tree stands for: its object and its type, and then coverage by coverage.
-fn document_of(alloc: Global, tree: &Value) -> Result<Document, CovFault>
-    ensures answer { GivesUnlessMemory (λ d. d) result (answers.document_of (view tree.now)) }
+fn document_of(alloc: Global, tree: &Tree) -> Result<Document, CovFault>
+    ensures answer { GivesUnlessMemory (λ d. d) result (answers.document_of (tree_view tree.now)) }
     ensures valid { IfOk result IsValidDocument }
 {
     let _members = object_at(tree, Member::Document)?;

@@ -1,6 +1,6 @@
 //! Parameters (OGC 21-069r2, Parameter objects).
 ghost use Rattle.std.specs.Prelude.{◌≡◌, option_map, IfOk, codes};
-ghost use Rattle.serde_json.specs.View.{view, members_view};
+ghost use Rattle.edr_samples.specs.Trees.{tree_view, members_view};
 ghost use Rattle.serde_json.specs.Find.{get};
 ghost use Rattle.covjson_value.specs.Coverages.{IsParameter};
 ghost use Rattle.covjson_checks.specs.Answers.{GivesAnswer, GivesUnlessMemory};
@@ -13,14 +13,15 @@ use covjson_checks::{
 };
 use covjson_value::Parameter;
 use edr_base::is_name;
-use serde_json::{Map, Value};
+use edr_json::Tree;
+use serde_json::Map;
 use std::alloc::Global;
 
-fn all_texts(members: &Map<String, Value>) -> bool
+fn all_texts(members: &Map<String, Tree>) -> bool
     ensures { result ≡ parameters.all_texts (members_view members.now.entries) }
 {
     for (_, text) in members.iter() {
-        if !text.is_string() {
+        if text.as_str().is_none() {
             return false;
         }
     }
@@ -28,9 +29,9 @@ fn all_texts(members: &Map<String, Value>) -> bool
 }
 
 // Of a label's members that of English, else the first; with its language.
-fn said_in<'a>(label: &'a Value, members: &'a Map<String, Value>) -> Option<(&'a str, &'a Value)>
-    ensures { option_map (λ p. (p.0.now, view p.1.now)) result
-        ≡ parameters.said_in (get (codes "en") (view label.now)) (members_view members.now.entries) }
+fn said_in<'a>(label: &'a Tree, members: &'a Map<String, Tree>) -> Option<(&'a str, &'a Tree)>
+    ensures { option_map (λ p. (p.0.now, tree_view p.1.now)) result
+        ≡ parameters.said_in (get (codes "en") (tree_view label.now)) (members_view members.now.entries) }
 {
     if let Some(english) = label.get("en") {
         return Some(("en", english));
@@ -42,8 +43,8 @@ fn said_in<'a>(label: &'a Value, members: &'a Map<String, Value>) -> Option<(&'a
 }
 
 // The language and the text of a label.
-fn label_at<'a>(tree: &'a Value, member: Member) -> Result<(&'a str, &'a str), CovFault>
-    ensures { GivesAnswer (λ p. (p.0.now, p.1.now)) result (parameters.label_at member (view tree.now)) }
+fn label_at<'a>(tree: &'a Tree, member: Member) -> Result<(&'a str, &'a str), CovFault>
+    ensures { GivesAnswer (λ p. (p.0.now, p.1.now)) result (parameters.label_at member (tree_view tree.now)) }
 {
     let label = part(tree, "label", member)?;
     let members = object_at(label, member)?;
@@ -57,8 +58,8 @@ fn label_at<'a>(tree: &'a Value, member: Member) -> Result<(&'a str, &'a str), C
     Ok((lang, text))
 }
 
-fn parameter_label(tree: &Value) -> Result<(&str, &str), CovFault>
-    ensures { GivesAnswer (λ p. (p.0.now, p.1.now)) result (parameters.parameter_label (view tree.now)) }
+fn parameter_label(tree: &Tree) -> Result<(&str, &str), CovFault>
+    ensures { GivesAnswer (λ p. (p.0.now, p.1.now)) result (parameters.parameter_label (tree_view tree.now)) }
 {
     let property = need(tree, "observedProperty", Member::ObservedProperty)?;
     if property.get("categories").is_some() {
@@ -67,16 +68,16 @@ fn parameter_label(tree: &Value) -> Result<(&str, &str), CovFault>
     label_at(property, Member::ObservedProperty)
 }
 
-fn unit_label(unit: &Value) -> Result<&str, CovFault>
-    ensures { GivesAnswer (λ s. s.now) result (parameters.unit_label (view unit.now)) }
+fn unit_label(unit: &Tree) -> Result<&str, CovFault>
+    ensures { GivesAnswer (λ s. s.now) result (parameters.unit_label (tree_view unit.now)) }
 {
     let (_, text) = label_at(unit, Member::Unit)?;
     Ok(text)
 }
 
 // The text of a unit: its symbol, or the value of its symbol, else its label.
-fn unit_text(unit: &Value) -> Result<&str, CovFault>
-    ensures { GivesAnswer (λ s. s.now) result (parameters.unit_by_symbol (view unit.now) (get (codes "symbol") (view unit.now))) }
+fn unit_text(unit: &Tree) -> Result<&str, CovFault>
+    ensures { GivesAnswer (λ s. s.now) result (parameters.unit_by_symbol (tree_view unit.now) (get (codes "symbol") (tree_view unit.now))) }
 {
     let Some(symbol) = unit.get("symbol") else {
         return unit_label(unit);
@@ -84,15 +85,15 @@ fn unit_text(unit: &Value) -> Result<&str, CovFault>
     if let Some(text) = symbol.as_str() {
         return Ok(text);
     }
-    if !symbol.is_object() {
+    if symbol.as_object().is_none() {
         return unit_label(unit);
     }
     let value = part(symbol, "value", Member::Unit)?;
     text_at(value, Member::Unit)
 }
 
-fn parameter_unit(tree: &Value) -> Result<Option<&str>, CovFault>
-    ensures { GivesAnswer (λ o. option_map (λ s. s.now) o) result (parameters.parameter_unit (view tree.now)) }
+fn parameter_unit(tree: &Tree) -> Result<Option<&str>, CovFault>
+    ensures { GivesAnswer (λ o. option_map (λ s. s.now) o) result (parameters.parameter_unit (tree_view tree.now)) }
 {
     let Some(unit) = tree.get("unit") else {
         return Ok(None);
@@ -101,7 +102,7 @@ fn parameter_unit(tree: &Value) -> Result<Option<&str>, CovFault>
     Ok(Some(text))
 }
 
-fn parameter_forms(members: &Map<String, Value>) -> Result<(), CovFault>
+fn parameter_forms(members: &Map<String, Tree>) -> Result<(), CovFault>
     ensures { result ≡ parameters.parameter_forms (members_view members.now.entries) }
 {
     for (_, tree) in members.iter() {
@@ -118,11 +119,11 @@ fn is_named(name: &str) -> bool
     is_name(name.as_bytes())
 }
 
-fn all_named_objects(members: &Map<String, Value>) -> bool
+fn all_named_objects(members: &Map<String, Tree>) -> bool
     ensures { result ≡ parameters.all_named_objects (members_view members.now.entries) }
 {
     for (name, tree) in members.iter() {
-        if !is_named(name) || !tree.is_object() {
+        if !is_named(name) || tree.as_object().is_none() {
             return false;
         }
     }
@@ -131,8 +132,8 @@ fn all_named_objects(members: &Map<String, Value>) -> bool
 
 /// The parameters, which were found in the coverage or elsewhere: an object of objects by names, each of which is as it has
 /// to be. Missing, WrongType.
-pub fn parameters_of(found: Option<&Value>) -> Result<&Value, CovFault>
-    ensures { GivesAnswer (λ v. view v.now) result (parameters.parameters_of (option_map (λ v. view v.now) found.entry)) }
+pub fn parameters_of(found: Option<&Tree>) -> Result<&Tree, CovFault>
+    ensures { GivesAnswer (λ v. tree_view v.now) result (parameters.parameters_of (option_map (λ v. tree_view v.now) found.entry)) }
 {
     let found = found_or_missing(found, Member::Parameters)?;
     let members = object_at(found, Member::Parameters)?;
@@ -144,8 +145,8 @@ pub fn parameters_of(found: Option<&Value>) -> Result<&Value, CovFault>
 }
 
 /// The parameter of an id that a tree stands for.
-pub fn parameter_of(alloc: Global, id: &str, tree: &Value) -> Result<Parameter, CovFault>
-    ensures answer { GivesUnlessMemory (λ p. p) result (parameters.parameter_of id.now (view tree.now)) }
+pub fn parameter_of(alloc: Global, id: &str, tree: &Tree) -> Result<Parameter, CovFault>
+    ensures answer { GivesUnlessMemory (λ p. p) result (parameters.parameter_of id.now (tree_view tree.now)) }
     ensures valid { IfOk result (λ p. IsName id.now → IsParameter p) }
 {
     let (lang, label) = parameter_label(tree)?;

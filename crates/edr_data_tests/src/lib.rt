@@ -1,5 +1,5 @@
 //! Tests of the outside, of names and refusals, of numbers and texts, of lists by id, of packed samples, of well-known text and
-//! of axes; of documents, which are written, read, and written as tables; and of editions, of drafts of them, and of feeds.
+//! of axes; of trees of JSON; of documents, which are written, read, and written as tables; and of editions, of drafts of them, and of feeds.
 #![tactic(auto)]
 
 #[cfg(test)]
@@ -32,6 +32,8 @@ mod reading;
 mod tables;
 #[cfg(test)]
 mod texts;
+#[cfg(test)]
+mod trees;
 #[cfg(test)]
 mod validity;
 #[cfg(test)]

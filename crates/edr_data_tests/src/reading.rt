@@ -6,7 +6,7 @@ use covjson_checks::CovFault;
 use covjson_read::{coverage_of, read_document};
 use covjson_value::{Document, document_tree};
 use edr_base::Text;
-use serde_json::Value;
+use edr_json::Tree;
 use std::alloc::Global;
 use std::rt::HostRuntime;
 use std::string::String;
@@ -429,7 +429,7 @@ pub fn is_right(alloc: Global, words: &str, answer: &str) -> bool {
 
 // Whether an empty list is no coverage, for this reason.
 fn is_no_coverage(alloc: Global, answer: &str) -> bool {
-    match coverage_of(alloc, &Value::Array(Vec::new(alloc))) {
+    match coverage_of(alloc, &Tree::Items(Vec::new(alloc))) {
         Ok(_) => false,
         Err(fault) => is_fault(alloc, &fault, answer),
     }

@@ -1,7 +1,7 @@
 -- The faults of a line, where others lead to them; for private clauses.
 use Rattle.std.specs.Prelude.{ℕ}
-use Rattle.edr_json.specs.declared.reading.JsonFault.{JsonFault}
-use Rattle.edr_json.specs.declared.reading.JsonFault.TheVariants as json
+use Rattle.edr_samples.specs.declared.faults.JsonFault.{JsonFault}
+use Rattle.edr_samples.specs.declared.faults.JsonFault.TheVariants as json
 use Rattle.covjson_checks.specs.declared.faults.CovFault.{CovFault}
 use Rattle.covjson_checks.specs.declared.faults.CovFault.TheVariants as covjson
 use Rattle.edr_draft.specs.declared.changes.ChangeFault.{ChangeFault}

@@ -1,6 +1,6 @@
 //! The forms of a line, as trees of JSON.
 ghost use Rattle.std.specs.Prelude.{◌≡◌, ◌↔◌, codes, IfOk, IfSome, IsTrue, IsUtf8, true};
-ghost use Rattle.serde_json.specs.View.{view};
+ghost use Rattle.edr_samples.specs.Trees.{tree_view};
 ghost use Rattle.edr_json.specs.Trees as trees;
 ghost use Rattle.edr_feed.specs.FormParts as parts;
 ghost use Rattle.edr_feed.specs.FormParts.{HasText, HasName, HasTextIfGiven, HasKind, Finds, ReadsEntry, IsEntry, line_of};
@@ -12,13 +12,12 @@ use covjson_read::{coverage_of, trees_stand_for_one};
 use edr_base::{Text, is_name};
 use edr_draft::Change;
 use edr_edition::Kind;
-use edr_json::{has_members, text_in};
-use serde_json::Value;
+use edr_json::{Tree, has_members, text_in};
 use std::alloc::Global;
 
 // Whether a member is that text.
-fn has_text(tree: &Value, key: &str, wanted: &str) -> bool
-    ensures { IsTrue result ↔ HasText key.now (view tree.now) wanted.now }
+fn has_text(tree: &Tree, key: &str, wanted: &str) -> bool
+    ensures { IsTrue result ↔ HasText key.now (tree_view tree.now) wanted.now }
 {
     match text_in(tree, key) {
         Some(text) => text == wanted,
@@ -26,8 +25,8 @@ fn has_text(tree: &Value, key: &str, wanted: &str) -> bool
     }
 }
 
-fn kept_text_in(alloc: Global, tree: &Value, key: &str) -> Result<Text, LineFault>
-    ensures finds { Finds (HasText key.now (view tree.now)) result }
+fn kept_text_in(alloc: Global, tree: &Tree, key: &str) -> Result<Text, LineFault>
+    ensures finds { Finds (HasText key.now (tree_view tree.now)) result }
     ensures utf8 { IfOk result IsUtf8 }
 {
     match text_in(tree, key) {
@@ -36,8 +35,8 @@ fn kept_text_in(alloc: Global, tree: &Value, key: &str) -> Result<Text, LineFaul
     }
 }
 
-fn name_in(alloc: Global, tree: &Value, key: &str) -> Result<Text, LineFault>
-    ensures { Finds (HasName key.now (view tree.now)) result }
+fn name_in(alloc: Global, tree: &Tree, key: &str) -> Result<Text, LineFault>
+    ensures { Finds (HasName key.now (tree_view tree.now)) result }
 {
     let Some(text) = text_in(tree, key) else {
         return Err(LineFault::NotFeedLine);
@@ -49,8 +48,8 @@ fn name_in(alloc: Global, tree: &Value, key: &str) -> Result<Text, LineFault>
 }
 
 // The text of a member that may be left out.
-fn text_if_given(alloc: Global, tree: &Value, key: &str) -> Result<Option<Text>, LineFault>
-    ensures finds { Finds (HasTextIfGiven key.now (view tree.now)) result }
+fn text_if_given(alloc: Global, tree: &Tree, key: &str) -> Result<Option<Text>, LineFault>
+    ensures finds { Finds (HasTextIfGiven key.now (tree_view tree.now)) result }
     ensures utf8 { IfOk result (λ text. IfSome text IsUtf8) }
 {
     match tree.get(key) {
@@ -63,8 +62,8 @@ fn text_if_given(alloc: Global, tree: &Value, key: &str) -> Result<Option<Text>,
 }
 
 // What a collection has.
-fn kind_in(tree: &Value) -> Result<Kind, LineFault>
-    ensures { Finds (HasKind (view tree.now)) result }
+fn kind_in(tree: &Tree) -> Result<Kind, LineFault>
+    ensures { Finds (HasKind (tree_view tree.now)) result }
 {
     if has_text(tree, "kind", "grid") {
         return Ok(Kind::Grid);
@@ -83,8 +82,8 @@ fn collection_members(vertical: &Option<Text>) -> usize
 }
 
 // A new collection, of grids or of stations.
-fn collection_entry(alloc: Global, tree: &Value) -> Result<Entry, LineFault>
-    ensures reads { ReadsEntry (line_of (codes "collection") (view tree.now)) result }
+fn collection_entry(alloc: Global, tree: &Tree) -> Result<Entry, LineFault>
+    ensures reads { ReadsEntry (line_of (codes "collection") (tree_view tree.now)) result }
     ensures is { IfOk result IsEntry }
 {
     let kind = kind_in(tree)?;
@@ -105,8 +104,8 @@ fn collection_entry(alloc: Global, tree: &Value) -> Result<Entry, LineFault>
 }
 
 // An instance: first its form, and then its coverage.
-fn grid_entry(alloc: Global, tree: &Value) -> Result<Entry, LineFault>
-    ensures reads { ReadsEntry (line_of (codes "grid") (view tree.now)) result }
+fn grid_entry(alloc: Global, tree: &Tree) -> Result<Entry, LineFault>
+    ensures reads { ReadsEntry (line_of (codes "grid") (tree_view tree.now)) result }
     ensures is { IfOk result IsEntry }
 {
     let Some(found) = tree.get("coverage") else {
@@ -126,8 +125,8 @@ fn grid_entry(alloc: Global, tree: &Value) -> Result<Entry, LineFault>
 }
 
 // A station: first its form, and then its coverage.
-fn station_entry(alloc: Global, tree: &Value) -> Result<Entry, LineFault>
-    ensures reads { ReadsEntry (line_of (codes "station") (view tree.now)) result }
+fn station_entry(alloc: Global, tree: &Tree) -> Result<Entry, LineFault>
+    ensures reads { ReadsEntry (line_of (codes "station") (tree_view tree.now)) result }
     ensures is { IfOk result IsEntry }
 {
     let Some(found) = tree.get("coverage") else {
@@ -148,8 +147,8 @@ fn station_entry(alloc: Global, tree: &Value) -> Result<Entry, LineFault>
     }))
 }
 
-fn drop_entry(alloc: Global, tree: &Value) -> Result<Entry, LineFault>
-    ensures reads { ReadsEntry (line_of (codes "drop") (view tree.now)) result }
+fn drop_entry(alloc: Global, tree: &Tree) -> Result<Entry, LineFault>
+    ensures reads { ReadsEntry (line_of (codes "drop") (tree_view tree.now)) result }
     ensures is { IfOk result IsEntry }
 {
     let collection = name_in(alloc, tree, "collection")?;
@@ -171,8 +170,8 @@ fn drop_entry(alloc: Global, tree: &Value) -> Result<Entry, LineFault>
     }
 }
 
-fn publish_entry(tree: &Value) -> Result<Entry, LineFault>
-    ensures reads { ReadsEntry (line_of (codes "publish") (view tree.now)) result }
+fn publish_entry(tree: &Tree) -> Result<Entry, LineFault>
+    ensures reads { ReadsEntry (line_of (codes "publish") (tree_view tree.now)) result }
     ensures is { IfOk result IsEntry }
 {
     if has_members(tree, 0) {
@@ -183,10 +182,10 @@ fn publish_entry(tree: &Value) -> Result<Entry, LineFault>
 }
 
 // By the one member that there is.
-fn member_entry(alloc: Global, tree: &Value) -> Result<Entry, LineFault>
-    requires one { trees.has_members 1 (view tree.now) ≡ true }
-    requires not_bare { ¬ (IsBare (view tree.now)) }
-    ensures reads { ReadsEntry (view tree.now) result }
+fn member_entry(alloc: Global, tree: &Tree) -> Result<Entry, LineFault>
+    requires one { trees.has_members 1 (tree_view tree.now) ≡ true }
+    requires not_bare { ¬ (IsBare (tree_view tree.now)) }
+    ensures reads { ReadsEntry (tree_view tree.now) result }
     ensures is { IfOk result IsEntry }
 {
     if let Some(found) = tree.get("collection") {
@@ -208,9 +207,9 @@ fn member_entry(alloc: Global, tree: &Value) -> Result<Entry, LineFault>
 }
 
 // A coverage by itself.
-fn bare_entry(alloc: Global, tree: &Value) -> Result<Entry, LineFault>
-    requires { IsBare (view tree.now) }
-    ensures reads { ReadsEntry (view tree.now) result }
+fn bare_entry(alloc: Global, tree: &Tree) -> Result<Entry, LineFault>
+    requires { IsBare (tree_view tree.now) }
+    ensures reads { ReadsEntry (tree_view tree.now) result }
     ensures is { IfOk result IsEntry }
 {
     let coverage = coverage_of(alloc, tree)?;
@@ -218,8 +217,8 @@ fn bare_entry(alloc: Global, tree: &Value) -> Result<Entry, LineFault>
 }
 
 /// What the tree of a line says: NotFeedLine where it has none of the forms, or the fault of its coverage.
-pub fn entry_of(alloc: Global, tree: &Value) -> Result<Entry, LineFault>
-    ensures reads { ReadsEntry (view tree.now) result }
+pub fn entry_of(alloc: Global, tree: &Tree) -> Result<Entry, LineFault>
+    ensures reads { ReadsEntry (tree_view tree.now) result }
     ensures is { IfOk result IsEntry }
 {
     if has_text(tree, "type", "Coverage") {

@@ -4,11 +4,12 @@ use Rattle.std.proofs.lemmas.List.{drop_more}
 use Rattle.std.proofs.lemmas.List.Elements.{All-head, All-tail}
 use Rattle.serde_json.specs.Data.{Data, null, boolean, number, string, array, object, Items, Members, Num}
 use Rattle.serde_json.specs.Find.{get, as_array, as_object, as_str, as_number, as_integer}
-use Rattle.serde_json.specs.View.{view, items_view, members_view, items_of}
-use Rattle.serde_json.specs.declared.value.Value.{Value}
+use Rattle.serde_json.specs.View.{items_of}
+use Rattle.edr_samples.specs.Trees.{tree_view, items_view, members_view}
+use Rattle.edr_samples.specs.declared.trees.Tree.{Tree}
 use Rattle.std.specs.Prelude.{String}
 use Rattle.std.specs.declared.alloc.Global.{Global}
-use Rattle.edr_json.specs.Trees.{EachStands, count_members, text_or_empty, whole_of}
+use Rattle.edr_json.specs.Trees.{EachStands, count_items, count_members, text_or_empty, whole_of}
 
 -- what is taken for a list is one
 pub as_array_some : (d : Data) (ds : Items) → as_array d ≡ Some ds → d ≡ array ds
@@ -48,12 +49,12 @@ text_is (Some (array ds)) b bs h = cc
 text_is (Some (object ms)) b bs h = cc
 
 -- values of the rest, after those that were found, are values of all
-pub stands_more : {V : Type 0} (R : Data → V → Type 0) (xs : List Value) (i : ℕ) (x : Value) (found new : List V) (v : V)
-    → i < length xs → x ≡ get_or xs i x → R (view x) v → new ≡ found ++ v ∷ []
+pub stands_more : {V : Type 0} (R : Data → V → Type 0) (xs : List Tree) (i : ℕ) (x : Tree) (found new : List V) (v : V)
+    → i < length xs → x ≡ get_or xs i x → R (tree_view x) v → new ≡ found ++ v ∷ []
     → ((rest : List V) → EachStands R (items_view (drop i xs)) rest → EachStands R (items_view xs) (found ++ rest))
     → (rest : List V) → EachStands R (items_view (drop (i + 1) xs)) rest → EachStands R (items_view xs) (new ++ rest)
 stands_more R xs i x found new v h is r pushed before rest s =
-    let here : R (view (get_or xs i x)) v = rw (← is) r in
+    let here : R (tree_view (get_or xs i x)) v = rw (← is) r in
     rw (pushed, append_assoc found (v ∷ []) rest) (before (v ∷ rest) (rw (drop_more xs i x h) (here, s)))
 
 -- what has a member is an object
@@ -66,9 +67,14 @@ member_of_object key (array ds) v h = cc
 member_of_object key (object ms) v h = (ms, refl)
 
 -- as many members as entries
-pub count_members_view : (ms : List (String Global × Value)) → count_members (members_view ms) ≡ length ms
+pub count_members_view : (ms : List (String Global × Tree)) → count_members (members_view ms) ≡ length ms
 count_members_view [] = refl
 count_members_view (m ∷ ms) = ap suc (count_members_view ms)
+
+-- as many items as there are things that are seen as them
+pub count_seen : {V : Type 0} (seen : V → Data) (vs : List V) → count_items (items_of (map seen vs)) ≡ length vs
+count_seen seen [] = refl
+count_seen seen (v ∷ vs) = ap suc (count_seen seen vs)
 
 -- a whole number is a number
 pub whole_is_number : (d : Data) (v : ℤ) → whole_of d ≡ Some v → (n : Num) × (as_number d ≡ Some n) × (as_integer n ≡ Some v)

@@ -4,5 +4,6 @@
 mod reading;
 mod trees;
 
-pub use reading::{JsonFault, read_tree, texts_have_one_tree, texts_have_trees};
-pub use trees::{has_members, is_text, text_in, text_or_empty, whole_of};
+pub use edr_samples::{JsonFault, List, Samples, Tree};
+pub use reading::{read_tree, texts_have_one_tree, texts_have_trees};
+pub use trees::{count_items, has_members, is_text, natural_of, text_in, text_or_empty, whole_of};

@@ -1,5 +1,5 @@
 use Rattle.std.proofs.Common.{refl, sym, ◌∙◌}
-use Rattle.serde_json.specs.View.{items_view}
+use Rattle.edr_samples.specs.Trees.{items_view}
 use Rattle.covjson_checks.specs.Members.{is_wanted, all_wanted}
 use Rattle.covjson_checks.specs.ItemTests.{item_passes, item_fails, items_passed}
 use Rattle.covjson_checks.proofs.members.all_wanted.Goals as goal

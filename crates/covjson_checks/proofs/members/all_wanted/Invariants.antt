@@ -1,5 +1,5 @@
 use Rattle.std.proofs.Common.{◌≡◌, drop}
-use Rattle.serde_json.specs.View.{items_view}
+use Rattle.edr_samples.specs.Trees.{items_view}
 use Rattle.covjson_checks.specs.Members as members
 use Rattle.covjson_checks.proofs.members.all_wanted.Given as goal
 

@@ -3,7 +3,7 @@ use Rattle.std.proofs.lemmas.Int.{ints, to_z-of_z}
 use Rattle.edr_axes.specs.InstantGrammar.{IsInstant}
 use Rattle.edr_axes.specs.InstantComputed.{instant_of}
 use Rattle.serde_json.specs.Data.{Data}
-use Rattle.serde_json.specs.View.{view}
+use Rattle.edr_samples.specs.Trees.{tree_view}
 use Rattle.covjson_checks.specs.declared.faults.Member.{Member}
 use Rattle.covjson_checks.specs.declared.faults.CovFault.TheVariants.{BadTime}
 use Rattle.edr_base.specs.FirstThatApplies.{or_fault}
@@ -19,7 +19,7 @@ time_reads m place d text o h e = rw h (ap (λ x. or_fault x (BadTime place)) (s
 
 pub returns-in-Some : goal.returns-in-Some
 returns-in-Some c =
-    let d = view c.args.item.now in
+    let d = tree_view c.args.item.now in
     let text = c.in_ok-text.text.now in
     let found : MatchOption c.read_instant.result ((t : ℤ) → ¬ (IsInstant text t)) (λ t. IsInstant text t) = rw c.as_bytes.ensures.value at c.read_instant.ensures in
     let i = c.in-Some.ensures in
@@ -31,7 +31,7 @@ returns-in-Some c =
 
 pub returns-in-None : goal.returns-in-None
 returns-in-None c =
-    let d = view c.args.item.now in
+    let d = tree_view c.args.item.now in
     let text = c.in_ok-text.text.now in
     let found : MatchOption c.read_instant.result ((t : ℤ) → ¬ (IsInstant text t)) (λ t. IsInstant text t) = rw c.as_bytes.ensures.value at c.read_instant.ensures in
     sym (time_reads c.args.member c.args.place d text c.read_instant.result c.in_ok-text.ensures (instant_found c.instants_are_read.ensures text c.read_instant.result found)

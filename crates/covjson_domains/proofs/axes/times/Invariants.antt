@@ -1,5 +1,5 @@
 use Rattle.std.proofs.Common.{◌≡◌, drop}
-use Rattle.serde_json.specs.View.{items_view}
+use Rattle.edr_samples.specs.Trees.{items_view}
 use Rattle.covjson_checks.specs.Answers.{onto}
 use Rattle.covjson_domains.specs.AxisAnswers.{times_from}
 use Rattle.covjson_domains.proofs.axes.times.Given as goal

@@ -1,5 +1,5 @@
 use Rattle.std.proofs.Common.{◌≡◌}
-use Rattle.serde_json.specs.View.{members_view}
+use Rattle.edr_samples.specs.Trees.{members_view}
 use Rattle.covjson_domains.specs.TypeAnswers as types
 use Rattle.covjson_domains.proofs.domain_types.has_no_others.Given as goal
 

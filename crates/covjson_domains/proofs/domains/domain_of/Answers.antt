@@ -1,12 +1,12 @@
 use Rattle.std.proofs.Common.{option_map}
-use Rattle.serde_json.specs.View.{view}
+use Rattle.edr_samples.specs.Trees.{tree_view}
 use Rattle.covjson_domains.proofs.DomainRowLaws.{result_stands, result_refused, result_stands_not, result_axes, result_tuples}
 use Rattle.covjson_domains.proofs.domains.domain_of.Goals as goal
 
 pub returns : goal.returns
 returns c =
-    let found = option_map (λ v. view v.now) c.args.found in
-    let tree = view c.args.tree.now in
+    let found = option_map (λ v. tree_view v.now) c.args.found in
+    let tree = tree_view c.args.tree.now in
     let instants = c.instants_are_read.ensures in
     let result = c.domain_read.result in
     let answer = c.domain_read.ensures.answer in record {

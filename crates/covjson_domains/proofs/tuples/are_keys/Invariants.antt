@@ -1,5 +1,5 @@
 use Rattle.std.proofs.Common.{◌≡◌, length, drop}
-use Rattle.serde_json.specs.View.{items_view}
+use Rattle.edr_samples.specs.Trees.{items_view}
 use Rattle.covjson_domains.specs.TupleAnswers as tuples
 use Rattle.covjson_domains.proofs.tuples.are_keys.Given as goal
 

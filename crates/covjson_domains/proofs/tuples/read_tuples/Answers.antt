@@ -1,6 +1,6 @@
 use Rattle.std.proofs.Common.{arith, ◌≡◌, ◌<◌, ◌++◌, [], ◌∷◌, length, get_or, inl, sym, ap, ◌∙◌}
 use Rattle.std.proofs.lemmas.Result.{err_from_is_err_and}
-use Rattle.serde_json.specs.View.{items_view}
+use Rattle.edr_samples.specs.Trees.{items_view}
 use Rattle.covjson_domains.specs.TupleAnswers.{tuples_from}
 use Rattle.covjson_domains.proofs.TupleLists.{pass_first, pass_rest, read_more, read_stops, read_end}
 use Rattle.covjson_domains.proofs.tuples.read_tuples.Goals as goal

@@ -1,5 +1,5 @@
 use Rattle.std.proofs.Common.{◌≡◌, drop, true}
-use Rattle.serde_json.specs.View.{items_view}
+use Rattle.edr_samples.specs.Trees.{items_view}
 use Rattle.covjson_domains.specs.declared.tuples.Test.TheVariants.{Within}
 use Rattle.covjson_checks.specs.Answers.{onto}
 use Rattle.covjson_domains.specs.TupleAnswers as tuples

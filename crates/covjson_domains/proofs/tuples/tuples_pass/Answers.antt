@@ -1,6 +1,6 @@
 use Rattle.std.proofs.Common.{refl, sym, ◌∙◌}
 use Rattle.serde_json.specs.Find.{as_array}
-use Rattle.serde_json.specs.View.{items_view}
+use Rattle.edr_samples.specs.Trees.{items_view}
 use Rattle.covjson_checks.specs.ItemTests.{item_passes, item_fails, items_passed}
 use Rattle.covjson_domains.specs.TupleAnswers.{list_passes, tuples_pass}
 use Rattle.covjson_domains.proofs.tuples.tuples_pass.Goals as goal

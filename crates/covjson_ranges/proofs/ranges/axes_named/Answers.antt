@@ -1,6 +1,6 @@
 use Rattle.std.proofs.Common.{arith, ◌≡◌, ◌<◌, ◌++◌, [], ◌∷◌, length, get_or, inl, ap, ◌∙◌}
 use Rattle.std.proofs.lemmas.Result.{err_from_is_err_and}
-use Rattle.serde_json.specs.View.{items_view}
+use Rattle.edr_samples.specs.Trees.{items_view}
 use Rattle.covjson_checks.specs.Answers.{each}
 use Rattle.covjson_checks.specs.CheckLaws.{each_more, each_stops}
 use Rattle.covjson_ranges.specs.RangeAnswers.{axis_named}

@@ -1,5 +1,5 @@
 use Rattle.std.proofs.Common.{◌≡◌, drop}
-use Rattle.serde_json.specs.View.{items_view}
+use Rattle.edr_samples.specs.Trees.{items_view}
 use Rattle.covjson_checks.specs.Answers.{each, onto}
 use Rattle.covjson_ranges.specs.RangeAnswers as ranges
 use Rattle.covjson_ranges.proofs.ranges.axes_named.Given as goal

@@ -1,5 +1,5 @@
 use Rattle.std.proofs.Common.{◌≡◌, length, drop, map}
-use Rattle.serde_json.specs.View.{items_view}
+use Rattle.edr_samples.specs.Trees.{items_view}
 use Rattle.covjson_ranges.specs.Ranges.{length_of}
 use Rattle.covjson_ranges.specs.RangeAnswers.{lengths_are}
 use Rattle.covjson_ranges.proofs.ranges.need_lengths.Given as goal

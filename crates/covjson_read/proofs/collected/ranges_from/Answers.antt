@@ -2,7 +2,7 @@ use Rattle.std.proofs.Common.{rules, arith, ◌≡◌, [], ◌∷◌, ◌++◌, 
 use Rattle.std.proofs.lemmas.List.{length_push}
 use Rattle.std.proofs.lemmas.List.Elements.{All-nil}
 use Rattle.serde_json.specs.Find.{get}
-use Rattle.serde_json.specs.View.{view}
+use Rattle.edr_samples.specs.Trees.{tree_view}
 use Rattle.covjson_value.specs.Coverages.{IsParameter, IsRange}
 use Rattle.covjson_checks.specs.declared.faults.Member.TheVariants.{Parameters}
 use Rattle.covjson_checks.specs.Members.{need}
@@ -15,7 +15,7 @@ use Rattle.covjson_read.proofs.collected.ranges_from.Goals as goal
 pub loop-id-init : goal.loop-id-init
 loop-id-init c =
     let read = c.args.read.now in
-    let d = view c.args.parameters.now in
+    let d = tree_view c.args.parameters.now in
     let none_kept = c.requires.none_kept in
     let none_found = c.requires.none_found in
     let all : c.into_iter-id-iterator.result ≡ c.args.members.now.entries = search rules in
@@ -35,21 +35,21 @@ loop-id-preserved c =
     let k = c.in-Some.id.now in
     let v = c.in-Some.range.now in
     let read = c.args.read.now in
-    let d = view c.args.parameters.now in
-    let t = view c.in_ok-tree.tree.now in
+    let d = tree_view c.args.parameters.now in
+    let t = tree_view c.in_ok-tree.tree.now in
     let id = string_bytes k in
     let pushed : c.push.new.self.items ≡ c.loop-id.kept.items ++ p ∷ [] = c.in_ok-push.ensures.items in
     let put : c.push-in-loop-id.new.self.items ≡ c.loop-id.found.items ++ a ∷ [] = c.in_ok-push-2.ensures.items in
     let there : need id Parameters d ≡ Ok t = rw c.deref.ensures at c.in_ok-tree.ensures in
     let kept : parameter_of id t ≡ Ok p = rw c.deref-in-loop-id.ensures at c.in_ok-parameter.ensures.answer in
-    let both : range_with read d id (view v) ≡ Ok (p, a) =
+    let both : range_with read d id (tree_view v) ≡ Ok (p, a) =
     and_then_given _ _ t _ there (and_then_given _ _ p _ kept (and_then_given _ _ a _ c.in_ok-array.ensures.answer refl)) in
     let named = named_found id d t c.requires.named (or_fault_ok (get id d) _ t there) in
     let valid : IsParameter p = (rw c.deref-in-loop-id.ensures at c.in_ok-parameter.ensures.valid) named in
     record {
       answer = one_more read d c.loop-id.kept.items c.push.new.self.items c.loop-id.found.items c.push-in-loop-id.new.self.items c.loop-id.id-iterator c.next.new.self
           k v p a _ c.in-Some.ensures.steps i.answer both pushed put;
-      ids = ids_more c.loop-id.kept.items c.push.new.self.items p c.loop-id.id-iterator c.next.new.self k v _ c.in-Some.ensures.steps (id_is read d id (view v) p a both) pushed i.ids;
+      ids = ids_more c.loop-id.kept.items c.push.new.self.items p c.loop-id.id-iterator c.next.new.self k v _ c.in-Some.ensures.steps (id_is read d id (tree_view v) p a both) pushed i.ids;
       parameters = All-push IsParameter c.loop-id.kept.items c.push.new.self.items p pushed i.parameters valid;
       as_many = omega (arith, i.as_many, ap length pushed, ap length put, length_push c.loop-id.kept.items p, length_push c.loop-id.found.items a);
       ranges = All-push (IsRange read.domain) c.loop-id.found.items c.push-in-loop-id.new.self.items a put i.ranges c.in_ok-array.ensures.valid;

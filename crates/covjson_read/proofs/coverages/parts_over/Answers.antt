@@ -1,5 +1,5 @@
 use Rattle.std.proofs.Common.{codes, sym, ap₂, ◌∙◌}
-use Rattle.serde_json.specs.View.{view}
+use Rattle.edr_samples.specs.Trees.{tree_view}
 use Rattle.covjson_checks.specs.Members.{lent}
 use Rattle.covjson_read.specs.CollectedAnswers.{ranges_in}
 use Rattle.covjson_read.specs.CoverageParts.{with_domain}
@@ -27,7 +27,7 @@ returns-clause-valid c =
 pub returns-in_err-ranges-clause-answer : goal.returns-in_err-ranges-clause-answer
 returns-in_err-ranges-clause-answer c =
     let fault = c.in_err-ranges.field-0.0 in
-    let tree = view c.args.tree.now in
+    let tree = tree_view c.args.tree.now in
     let referencing = ap₂ referencing_of (sym c.has-levels.ensures) (sym c.lent.ensures) ∙ c.in_ok-referencing.ensures.answer in
     fault_answers (with_domain c.args.read.now.domain) c.from_residual-in_err-ranges.result fault _ c.from_residual-in_err-ranges.ensures.1 (stops_after _ _ fault _ referencing
-    (both_stop (parameters_of (lent (codes "parameters") tree (view c.args.collection.now))) (λ parameters. ranges_in c.args.read.now parameters tree) _ fault c.in_err-ranges.ensures.answer))
+    (both_stop (parameters_of (lent (codes "parameters") tree (tree_view c.args.collection.now))) (λ parameters. ranges_in c.args.read.now parameters tree) _ fault c.in_err-ranges.ensures.answer))

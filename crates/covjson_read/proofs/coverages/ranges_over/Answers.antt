@@ -1,5 +1,5 @@
 use Rattle.std.proofs.Common.{◌≡◌, inl, Ok, codes, option_map, sym, ap, ◌∙◌}
-use Rattle.serde_json.specs.View.{view}
+use Rattle.edr_samples.specs.Trees.{tree_view}
 use Rattle.covjson_checks.specs.Members.{lent}
 use Rattle.covjson_read.specs.ParameterAnswers.{parameters_of}
 use Rattle.covjson_read.proofs.ParameterLaws.{parameters_are}
@@ -10,8 +10,8 @@ use Rattle.covjson_read.proofs.coverages.ranges_over.Goals as goal
 
 pub ranges_in-requires-clause-named : goal.ranges_in-requires-clause-named
 ranges_in-requires-clause-named c =
-    let d = view c.in_ok-parameters.parameters.now in
-    let found = option_map (λ v. view v.now) c.lent.result in
+    let d = tree_view c.in_ok-parameters.parameters.now in
+    let found = option_map (λ v. tree_view v.now) c.lent.result in
     have_names d ((parameters_are found d).0 c.in_ok-parameters.ensures).1
 
 pub returns-in_err-parameters-clause-answer : goal.returns-in_err-parameters-clause-answer
@@ -21,9 +21,9 @@ returns-in_err-parameters-clause-answer c =
 
 pub returns-clause-answer : goal.returns-clause-answer
 returns-clause-answer c =
-    let found : parameters_of (lent (codes "parameters") (view c.args.tree.now) (view c.args.collection.now)) ≡ Ok (view c.in_ok-parameters.parameters.now) =
+    let found : parameters_of (lent (codes "parameters") (tree_view c.args.tree.now) (tree_view c.args.collection.now)) ≡ Ok (tree_view c.in_ok-parameters.parameters.now) =
     ap parameters_of (sym c.lent.ensures) ∙ c.in_ok-parameters.ensures in
     rw found c.ranges_in.ensures.answer
 
 pub returns-clause-some : goal.returns-clause-some
-returns-clause-some c = some_given c.args.read.now (view c.in_ok-parameters.parameters.now) (view c.args.tree.now) c.ranges_in.result c.ranges_in.ensures.answer
+returns-clause-some c = some_given c.args.read.now (tree_view c.in_ok-parameters.parameters.now) (tree_view c.args.tree.now) c.ranges_in.result c.ranges_in.ensures.answer

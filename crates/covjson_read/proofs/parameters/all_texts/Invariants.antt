@@ -1,5 +1,5 @@
 use Rattle.std.proofs.Common.{◌≡◌}
-use Rattle.serde_json.specs.View.{members_view}
+use Rattle.edr_samples.specs.Trees.{members_view}
 use Rattle.covjson_read.specs.ParameterAnswers.{all_texts}
 use Rattle.covjson_read.proofs.parameters.all_texts.Given as goal
 

@@ -1,5 +1,5 @@
 use Rattle.std.proofs.Common.{◌≡◌}
-use Rattle.serde_json.specs.View.{members_view}
+use Rattle.edr_samples.specs.Trees.{members_view}
 use Rattle.covjson_read.specs.ParameterAnswers.{parameter_forms}
 use Rattle.covjson_read.proofs.parameters.parameter_forms.Given as goal
 

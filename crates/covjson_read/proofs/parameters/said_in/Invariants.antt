@@ -1,5 +1,5 @@
 use Rattle.std.proofs.Common.{◌≡◌, None}
-use Rattle.serde_json.specs.View.{members_view}
+use Rattle.edr_samples.specs.Trees.{members_view}
 use Rattle.covjson_read.specs.ParameterAnswers.{said_in}
 use Rattle.covjson_read.proofs.parameters.said_in.Given as goal
 

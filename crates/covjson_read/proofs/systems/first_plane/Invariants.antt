@@ -1,5 +1,5 @@
 use Rattle.std.proofs.Common.{◌≡◌, drop}
-use Rattle.serde_json.specs.View.{items_view}
+use Rattle.edr_samples.specs.Trees.{items_view}
 use Rattle.covjson_read.specs.SystemAnswers as answers
 use Rattle.covjson_read.proofs.systems.first_plane.Given as goal
 

@@ -1,6 +1,6 @@
 use Rattle.std.proofs.Common.{sym, ◌∙◌, ap, codes}
 use Rattle.std.proofs.lemmas.Result.{err_from_is_err_and}
-use Rattle.serde_json.specs.View.{view}
+use Rattle.edr_samples.specs.Trees.{tree_view}
 use Rattle.edr_feed.specs.FormParts.{HasText, HasName, HasTextIfGiven, HasKind, line_of}
 use Rattle.edr_json.specs.Trees.{has_members}
 use Rattle.edr_feed.proofs.FormLemmas.{just_line, no_entry_by}
@@ -10,43 +10,43 @@ use Rattle.edr_feed.proofs.forms.collection_entry.Goals as goal
 
 pub returns-in_err-id-clause-reads : goal.returns-in_err-id-clause-reads
 returns-in_err-id-clause-reads c =
-    let d = view c.args.tree.now in
+    let d = tree_view c.args.tree.now in
     let p = err_from_is_err_and c.from_residual-in_err-id.result c.from_residual-in_err-id.ensures.1 in
     rw (p.1, p.2) (no_entry_by (HasName (codes "id") d) (line_of (codes "collection") d) _ c.in_err-id.ensures (λ outline. let adds = (collection_outline d outline).1 in (adds.id, adds.parts.has_id)))
 
 pub returns-in_err-kind-clause-reads : goal.returns-in_err-kind-clause-reads
 returns-in_err-kind-clause-reads c =
-    let d = view c.args.tree.now in
+    let d = tree_view c.args.tree.now in
     let p = err_from_is_err_and c.from_residual.result c.from_residual.ensures.1 in
     rw (p.1, p.2) (no_entry_by (HasKind d) (line_of (codes "collection") d) _ c.in_err-kind.ensures (λ outline. let adds = (collection_outline d outline).1 in (adds.kind, adds.parts.has_kind)))
 
 pub returns-in_err-title-clause-reads : goal.returns-in_err-title-clause-reads
 returns-in_err-title-clause-reads c =
-    let d = view c.args.tree.now in
+    let d = tree_view c.args.tree.now in
     let p = err_from_is_err_and c.from_residual-in_err-title.result c.from_residual-in_err-title.ensures.1 in
     rw (p.1, p.2) (no_entry_by (HasText (codes "title") d) (line_of (codes "collection") d) _ c.in_err-title.ensures.finds (λ outline. let adds = (collection_outline d outline).1 in (adds.title, adds.parts.has_title)))
 
 pub returns-in_err-crs-clause-reads : goal.returns-in_err-crs-clause-reads
 returns-in_err-crs-clause-reads c =
-    let d = view c.args.tree.now in
+    let d = tree_view c.args.tree.now in
     let p = err_from_is_err_and c.from_residual-in_err-crs.result c.from_residual-in_err-crs.ensures.1 in
     rw (p.1, p.2) (no_entry_by (HasText (codes "crs") d) (line_of (codes "collection") d) _ c.in_err-crs.ensures.finds (λ outline. let adds = (collection_outline d outline).1 in (adds.crs, adds.parts.has_crs)))
 
 pub returns-in_err-vertical-clause-reads : goal.returns-in_err-vertical-clause-reads
 returns-in_err-vertical-clause-reads c =
-    let d = view c.args.tree.now in
+    let d = tree_view c.args.tree.now in
     let p = err_from_is_err_and c.from_residual-in_err-vertical.result c.from_residual-in_err-vertical.ensures.1 in
     rw (p.1, p.2) (no_entry_by (HasTextIfGiven (codes "vertical") d) (line_of (codes "collection") d) _ c.in_err-vertical.ensures.finds (λ outline. let adds = (collection_outline d outline).1 in (adds.vertical, adds.parts.has_vertical)))
 
 pub returns-then-not-has_members-clause-reads : goal.returns-then-not-has_members-clause-reads
 returns-then-not-has_members-clause-reads c =
-    let d = view c.args.tree.now in
+    let d = tree_view c.args.tree.now in
     let wanted = ap (λ n. has_members n d) (sym c.collection_members.ensures) in
     collection_counts d _ c.in_ok-vertical.ensures.finds (wanted ∙ (sym c.has_members.ensures ∙ c.if-not-has_members.true))
 
 pub returns-clause-reads : goal.returns-clause-reads
 returns-clause-reads c =
-    let d = view c.args.tree.now in
+    let d = tree_view c.args.tree.now in
     let wanted = ap (λ n. has_members n d) (sym c.collection_members.ensures) in (
       d,
       just_line (codes "collection") d,

@@ -1,14 +1,5 @@
-use Rattle.std.proofs.Common.{Bool, true, false, Result, Ok, Err, ap}
-use Rattle.std.proofs.lemmas.Bool.{false≢true}
-use Rattle.edr_json.specs.declared.reading.JsonFault.{JsonFault}
-use Rattle.edr_json.specs.declared.reading.JsonFault.TheVariants.{NotJson, OutOfMemory}
+use Rattle.std.proofs.Common.{ap}
 use Rattle.edr_json.proofs.reading.read_tree.Goals as goal
 
--- an answer is that a text isn't JSON
-abbrev is_no_json : {T : Type 0} → Result T JsonFault → Bool
-is_no_json (Ok x) = false
-is_no_json (Err NotJson) = true
-is_no_json (Err OutOfMemory) = false
-
-pub returns-then-eq-clause-none : goal.returns-then-eq-clause-none
-returns-then-eq-clause-none c = λ is. absurd (false≢true (ap is_no_json is))
+pub returns-clause-none : goal.returns-clause-none
+returns-clause-none c = λ is tree json. let none = c.read_tree.ensures.none is json.utf8 in let some = json.tree_is in cc

@@ -1,8 +1,8 @@
 use Rattle.std.proofs.Common.{◌≡◌, drop}
-use Rattle.serde_json.specs.View.{items_view}
+use Rattle.edr_samples.specs.Trees.{items_view}
 use Rattle.covjson_checks.specs.Answers.{each, onto}
 use Rattle.covjson_checks.specs.Members as members
-use Rattle.covjson_checks.proofs.members.wholes.Given as goal
+use Rattle.covjson_checks.proofs.members.wholes_of.Given as goal
 
 abbrev pub invariant-loop-item : goal.invariant-loop-item
 invariant-loop-item l =

@@ -1,0 +1,7 @@
+use Rattle.std.proofs.Common.{inl, arith}
+use Rattle.std.proofs.lemmas.Bool.Decides.{nat_tests}
+use Rattle.covjson_ranges.proofs.RangeLemmas.{named_some}
+use Rattle.covjson_ranges.proofs.ranges.axes_in.Goals as goal
+
+pub returns-then-len-ne0 : goal.returns-then-len-ne0
+returns-then-len-ne0 c = rw c.in-Samples.is (inl (named_some c.in-Samples.samples.now (λ e. grind (arith, nat_tests))))
