@@ -15,8 +15,9 @@ use Rattle.edr_fetch.specs.Exchanges.{LinkMoment, IsSent, Heard, Exchanged}
 use Rattle.edr.specs.declared.endings.Ending.{Ending}
 use Rattle.edr.specs.declared.endings.Ending.TheVariants.{Done, Usage, NotFeed, ReadFault, WriteFault, OutOfMemory, Refused, NoDocument, ConnectFault, OpenFault}
 use Rattle.edr.specs.Documents.{OfInput, IsTableHeard, IsTableBegun}
-use Rattle.edr.specs.Causes.{Counts}
-use Rattle.edr.specs.Ends.{OutputEnds, LinkEnds, IsTaken, IsBroken}
+use Rattle.edr.specs.Meanings.{Counts}
+use Rattle.edr.specs.Ends.{OutputEnds}
+use Rattle.edr.specs.Links.{LinkEnds, IsTaken, IsBroken}
 use Rattle.edr.specs.Making.{MakeCause}
 use Rattle.edr.specs.Fetching.{FetchCause, fetch_ends}
 

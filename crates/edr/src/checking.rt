@@ -4,9 +4,9 @@ ghost use Rattle.std.specs.Io.KnownBytes.{IsAtEnd};
 ghost use Rattle.edr_base.specs.Outside.{Rose};
 ghost use Rattle.edr_base.specs.Calls.{SourceLent, SinkLent, ReadsAtMost, WrittenWhole, WrittenInPart, buffer_size};
 ghost use Rattle.edr_base.specs.Limits.{feed_limit};
-ghost use Rattle.edr.specs.Outputs.{IsTextOfFeed, count_line, summary_lines};
+ghost use Rattle.edr.specs.Outputs.{IsTextOfFeed, count_line, summary_lines, told};
 ghost use Rattle.edr.specs.Ends.{OutputEnds, IsReadByEnd};
-ghost use Rattle.edr.specs.Checking.{CheckCause, fault_ends, told};
+ghost use Rattle.edr.specs.Checking.{CheckCause, fault_ends};
 
 use crate::endings::Ending;
 use edr_base::{OutOfMemory, SendFault, Sink, Source, Text, send, settle};

@@ -12,14 +12,11 @@ use edr_program::number_of;
 pub enum Command {
     /// `ask TARGET`: answers a target from the last edition of the feed on the input.
     Ask,
-    /// `replay FEED`: serves the input as one connection, from the first edition of the feed in a file.
-    Replay,
-    /// `replay FEED --advance`: the same, with the feed's next edition before each request but the first.
-    ReplayAdvance,
-    /// `check`: tells how many editions the feed on the input has.
-    Check,
-    /// `check --summary`: tells what each edition of the feed on the input has.
-    CheckSummary,
+    /// `replay FEED`: serves the input as one connection, from the first edition of the feed in a file; true of
+    /// `replay FEED --advance`, where each request but the first has the feed's next edition.
+    Replay(bool),
+    /// `check`: tells how many editions the feed on the input has; true of `check --summary`, which tells what each of them has.
+    Check(bool),
     /// `make NUMBER`: writes the feed that is made of this number.
     Make(u64),
     /// `work NUMBER`: makes the feed of this number and reads it, and tells of its edition and of the answers to four targets.
@@ -44,7 +41,7 @@ fn asked_alone(word: &[u8]) -> Option<(Command, &'static [u8])>
     ensures named { IfSome result (λ asked. IsNamed asked.0 asked.1.now) }
 {
     if word == b"check".as_slice() {
-        Some((Command::Check, &[]))
+        Some((Command::Check(false), &[]))
     } else if word == b"show".as_slice() {
         Some((Command::Show, &[]))
     } else {
@@ -74,9 +71,9 @@ fn asked_with<'a>(word: &[u8], next: &'a [u8]) -> Option<(Command, &'a [u8])>
     if word == b"ask".as_slice() {
         Some((Command::Ask, next))
     } else if word == b"replay".as_slice() && is_name(next) {
-        Some((Command::Replay, next))
+        Some((Command::Replay(false), next))
     } else if word == b"check".as_slice() && next == b"--summary".as_slice() {
-        Some((Command::CheckSummary, &[]))
+        Some((Command::Check(true), &[]))
     } else if word == b"fetch".as_slice() {
         Some((Command::Fetch, next))
     } else {
@@ -91,7 +88,7 @@ fn asked_of_three<'a>(word: &[u8], next: &'a [u8], more: &[u8]) -> Option<(Comma
     ensures named { IfSome result (λ asked. IsNamed asked.0 asked.1.now) }
 {
     if word == b"replay".as_slice() && is_name(next) && more == b"--advance".as_slice() {
-        Some((Command::ReplayAdvance, next))
+        Some((Command::Replay(true), next))
     } else {
         None
     }

@@ -1,12 +1,11 @@
 //! Fetches URLs.
-ghost use Rattle.std.specs.Prelude.{◌≡◌, ◌⊎◌, false, IfSome, IsNone};
+ghost use Rattle.std.specs.Prelude.{◌≡◌, ◌⊎◌, false, IfSome, IsNone, option_map};
 ghost use Rattle.edr_base.specs.Calls.{SinkLent};
 ghost use Rattle.edr_fetch.specs.Requests.{request_of, request_text};
 ghost use Rattle.edr_fetch.specs.Exchanges.{LinkKept};
-ghost use Rattle.edr.specs.Commands.{peer_of, link_asked};
-ghost use Rattle.edr.specs.declared.commands.Command.TheVariants.{Fetch};
 ghost use Rattle.edr.specs.Documents.{IsTableHeard, IsTableBegun};
-ghost use Rattle.edr.specs.Ends.{OutputEnds, LinkEnds, AskedBeside, status_of};
+ghost use Rattle.edr.specs.Links.{peer_of, LinkEnds};
+ghost use Rattle.edr.specs.Ends.{OutputEnds, AskedBeside, status_of};
 ghost use Rattle.edr.specs.Fetching.{FetchCause, IsBeforeOutput, fetch_ends};
 
 use crate::endings::{DocumentRefusal, Ending};
@@ -48,7 +47,7 @@ pub fn fetch_url<K: Sink, L: Link>(
         (K.faults output.old) (K.faults output.new)
         (record { idle = (L.aside link.old).idle; left = L.left link.old; written = L.written link.old; flushed = L.flushed link.old; faults = L.faults link.old })
         (record { idle = (L.aside link.new).idle; left = L.left link.new; written = L.written link.new; flushed = L.flushed link.new; faults = L.faults link.new })) }
-    ensures asked { AskedBeside L.aside (link_asked Fetch url.now) (status_of result) link.old link.new }
+    ensures asked { AskedBeside L.aside (option_map peer_of (request_of url.now)) (status_of result) link.old link.new }
     ensures before { IsBeforeOutput result → output.new ≡ output.old }
     ensures kept { LinkKept (L.aside link.old) (L.aside link.new) (L.faults link.old) (L.faults link.new) }
     ensures lent { SinkLent (K.beside output.old) (K.beside output.new) (K.faults output.old) (K.faults output.new) }
