@@ -5,7 +5,7 @@ use Rattle.std.specs.Str.{is_utf8}
 use Rattle.std.specs.Str.Parse.{digits_value}
 use Rattle.edr_program.specs.Numbers.{is_number}
 use Rattle.edr.specs.declared.commands.Command.{Command}
-use Rattle.edr.specs.declared.commands.Command.TheVariants.{Ask, Replay, Check, Make, Work, Show, Fetch}
+use Rattle.edr.specs.declared.commands.Command.TheVariants.{Ask, Replay, Check, Make, Work, Show, Fetch, Help, Version}
 
 -- a command, and the word behind it that it goes by, where it has one
 pub record Asked : Type 0 where
@@ -30,6 +30,8 @@ asked_by [] = None
 asked_by (word ∷ []) =
     if bytes_eq word (codes "check") then asks (Check false) []
     else if bytes_eq word (codes "show") then asks Show []
+    else if bytes_eq word (codes "--help") then asks Help []
+    else if bytes_eq word (codes "--version") then asks Version []
     else None
 asked_by (word ∷ next ∷ []) =
     if bytes_eq word (codes "ask") then asks Ask next

@@ -13,6 +13,7 @@ use Rattle.edr.specs.declared.endings.Ending.TheVariants.{Done, Usage, NotFeed, 
 use Rattle.edr.specs.declared.endings.DocumentRefusal.{DocumentRefusal}
 use Rattle.edr.specs.declared.endings.DocumentRefusal.TheVariants.{TooLong, Cov, BadReply, NotData}
 use Rattle.edr.specs.Commands.{Asked}
+use Rattle.edr.specs.Helps.{usage}
 use Rattle.edr.specs.Meanings.{Meaning, Inputs, Counts}
 
 abbrev pub status_of : Ending → ℕ
@@ -37,7 +38,7 @@ name_of (NotData status) = codes "NotData " ++ decimal status
 -- what is said on errors
 abbrev pub said_of : Ending → List ℕ
 said_of Done = []
-said_of Usage = codes "usage: edr ask TARGET | replay FEED [--advance] | check [--summary] | make NUMBER | work NUMBER | show | fetch URL"
+said_of Usage = usage
 said_of (NotFeed refusal) = feed_said refusal
 said_of ReadFault = codes "read fault"
 said_of WriteFault = codes "write fault"

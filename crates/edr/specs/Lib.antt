@@ -2,6 +2,7 @@ pub mod Replays
 pub mod Documents
 pub mod Commands
 pub mod Outputs
+pub mod Helps
 pub mod Links
 pub mod Meanings
 pub mod Ends

@@ -1,6 +1,6 @@
 -- What each command does: one record for each, with what it reads, writes and asks for, and how it can end. One more command is one
 -- more record, and a row of `meaning_of`.
-use Rattle.std.specs.Prelude.{◌≡◌, ◌⊎◌, ℕ, ◌+◌, Bool, true, false, List, [], ◌∷◌, IsNone, ⊤, Ok, Err, None, Some, option_map, IfSome}
+use Rattle.std.specs.Prelude.{◌≡◌, ◌⊎◌, ℕ, ◌+◌, Bool, true, false, codes, List, [], ◌∷◌, IsNone, ⊤, Ok, Err, None, Some, option_map, IfSome}
 use Rattle.std.specs.declared.option.Option.{Option}
 use Rattle.std.specs.Io.KnownBytes.{IsAtEnd}
 use Rattle.edr_base.specs.declared.refusals.Refusal.{Refusal}
@@ -15,11 +15,13 @@ use Rattle.edr_reply.specs.Messages.{body_limit}
 use Rattle.edr_fetch.specs.Requests.{request_of, request_text}
 use Rattle.edr_fetch.specs.Exchanges.{LinkMoment}
 use Rattle.edr_program.specs.FileReads.{IsFileRead}
+use Rattle.edr_program.specs.Versions.{version_line}
 use Rattle.edr.specs.declared.commands.Command.{Command}
-use Rattle.edr.specs.declared.commands.Command.TheVariants.{Ask, Replay, Check, Make, Work, Show, Fetch}
+use Rattle.edr.specs.declared.commands.Command.TheVariants.{Ask, Replay, Check, Make, Work, Show, Fetch, Help, Version}
 use Rattle.edr.specs.declared.endings.Ending.{Ending}
 use Rattle.edr.specs.declared.endings.DocumentRefusal.{DocumentRefusal}
 use Rattle.edr.specs.Commands.{Asked}
+use Rattle.edr.specs.Helps.{help}
 use Rattle.edr.specs.Outputs.{IsTextOfFeed, told, IsAnswerFrom}
 use Rattle.edr.specs.Replays.{IsReplayOf, IsReplayBegun, ReplayReads, ReplayWaits, IsServed}
 use Rattle.edr.specs.Documents.{IsTableIn, IsNoDocumentIn, IsTableHeard, IsTableBegun, IsNoReplyHeard}
@@ -167,6 +169,8 @@ meaning_of (Work number) argument =
     record (writing (λ given. IsWork number)) { is_no_feed = λ given. IsMadeNoFeed number; refuses = λ given. IsWorkRefused number }
 meaning_of Show argument = record (reading body_limit (λ given. IsTableIn given.input)) { is_no_document = λ given. IsNoDocumentIn given.input }
 meaning_of Fetch url = fetching url
+meaning_of Help argument = writing (λ given text. text ≡ help)
+meaning_of Version argument = writing (λ given text. text ≡ version_line (codes "edr"))
 
 -- what is asked for by words
 abbrev pub meaning_by : Option Asked → Meaning

@@ -25,6 +25,10 @@ pub enum Command {
     Show,
     /// `fetch URL`: asks the server that the URL names, and writes the table of the document that it replies.
     Fetch,
+    /// `--help`: tells how the program is used.
+    Help,
+    /// `--version`: tells the version.
+    Version,
 }
 
 // Whether a word can be the name of a file.
@@ -44,6 +48,10 @@ fn asked_alone(word: &[u8]) -> Option<(Command, &'static [u8])>
         Some((Command::Check(false), &[]))
     } else if word == b"show".as_slice() {
         Some((Command::Show, &[]))
+    } else if word == b"--help".as_slice() {
+        Some((Command::Help, &[]))
+    } else if word == b"--version".as_slice() {
+        Some((Command::Version, &[]))
     } else {
         None
     }

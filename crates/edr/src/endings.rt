@@ -8,13 +8,12 @@ ghost use Rattle.edr.specs.Saying.{status_in};
 ghost use Rattle.edr.specs.declared.endings.DocumentRefusal.TheVariants.{NotData};
 ghost use Rattle.edr.specs.declared.endings.Ending.TheVariants.{NoDocument};
 
+use crate::helping::USAGE;
 use edr_base::{Refusal, SendFault, Sink, send, settle};
 use edr_feed::FeedRefusal;
 use edr_program::{said_of_feed, tell_line};
 use itoa::Buffer;
 
-const USAGE: &[u8] =
-    b"usage: edr ask TARGET | replay FEED [--advance] | check [--summary] | make NUMBER | work NUMBER | show | fetch URL";
 
 /// Why no document is read.
 #[derive(Clone, Copy, Debug, PartialEq, Eq)]

@@ -6,6 +6,7 @@ mod checking;
 mod commands;
 mod endings;
 mod fetching;
+mod helping;
 mod making;
 mod replaying;
 mod running;

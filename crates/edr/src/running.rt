@@ -11,6 +11,7 @@ use crate::checking::check;
 use crate::commands::{Command, asked_by};
 use crate::endings::{Ending, tell};
 use crate::fetching::fetch_url;
+use crate::helping::{tell_help, tell_version};
 use crate::making::make;
 use crate::replaying::replay;
 use crate::showing::show;
@@ -71,6 +72,8 @@ fn carry_out<S: Source, K: Sink, F: Files, L: Link>(
         Some((Command::Work(number), _)) => work(alloc, number, output),
         Some((Command::Show, _)) => show(alloc, input, output),
         Some((Command::Fetch, url)) => fetch_url(alloc, url, output, link),
+        Some((Command::Help, _)) => tell_help(output),
+        Some((Command::Version, _)) => tell_version(output),
         None => Ending::Usage,
     }
 }
@@ -83,8 +86,8 @@ fn carry_out<S: Source, K: Sink, F: Files, L: Link>(
 /// editions it has; `check --summary` writes what each of them has. `make NUMBER` writes the feed that is made of the number, and
 /// takes nothing from `input`; nor does `work NUMBER`, which makes that feed in memory, reads it, and writes what its edition has and
 /// what documents it answers to four targets. `show` reads a document of CoverageJSON from `input` and writes its table. `fetch URL` connects to
-/// the server that the URL names, writes one request and flushes it, reads the reply, and writes the table of its document. The
-/// answer is the status of the program; with each but 0 one line says why on `errors`. Of files and of the link nothing is asked that the words don't ask for, and where they ask for
+/// the server that the URL names, writes one request and flushes it, reads the reply, and writes the table of its document.
+/// `--help` writes how the program is used, and `--version` its version. The answer is the status of the program; with each but 0 one line says why on `errors`. Of files and of the link nothing is asked that the words don't ask for, and where they ask for
 /// nothing there neither is touched.
 pub fn run<S: Source, K: Sink, D: Sink, F: Files, L: Link>(
     alloc: Global,

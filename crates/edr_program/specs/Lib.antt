@@ -1,4 +1,5 @@
 pub mod Lines
 pub mod Numbers
 pub mod FileReads
+pub mod Versions
 pub mod TellsLaws
