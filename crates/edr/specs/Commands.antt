@@ -28,17 +28,22 @@ numbered word next =
 abbrev pub asked_by : List (List ℕ) → Option Asked
 asked_by [] = None
 asked_by (word ∷ []) =
-    if bytes_eq word (codes "check") then asks (Check false) []
-    else if bytes_eq word (codes "show") then asks Show []
+    if bytes_eq word (codes "check") then asks (Check false false) []
+    else if bytes_eq word (codes "show") then asks (Show false) []
     else if bytes_eq word (codes "--help") then asks Help []
     else if bytes_eq word (codes "--version") then asks Version []
     else None
 asked_by (word ∷ next ∷ []) =
     if bytes_eq word (codes "ask") then asks Ask next
     else if bytes_eq word (codes "replay") && is_utf8 next then asks (Replay false) next
-    else if bytes_eq word (codes "check") && bytes_eq next (codes "--summary") then asks (Check true) []
-    else if bytes_eq word (codes "fetch") then asks Fetch next
+    else if bytes_eq word (codes "check") && bytes_eq next (codes "--summary") then asks (Check true false) []
+    else if bytes_eq word (codes "check") && bytes_eq next (codes "--why") then asks (Check false true) []
+    else if bytes_eq word (codes "show") && bytes_eq next (codes "--why") then asks (Show true) []
+    else if bytes_eq word (codes "fetch") then asks (Fetch false) next
     else option_map (λ command. record { command = command; argument = [] }) (numbered word next)
 asked_by (word ∷ next ∷ more ∷ []) =
-    if bytes_eq word (codes "replay") && is_utf8 next && bytes_eq more (codes "--advance") then asks (Replay true) next else None
+    if bytes_eq word (codes "replay") && is_utf8 next && bytes_eq more (codes "--advance") then asks (Replay true) next
+    else if bytes_eq word (codes "check") && bytes_eq next (codes "--summary") && bytes_eq more (codes "--why") then asks (Check true true) []
+    else if bytes_eq word (codes "fetch") && bytes_eq more (codes "--why") then asks (Fetch true) next
+    else None
 asked_by (word ∷ next ∷ more ∷ other ∷ words) = None

@@ -48,10 +48,10 @@ said_of (NoDocument refusal) = codes "reply: " ++ name_of refusal
 said_of ConnectFault = codes "connect fault"
 said_of OpenFault = codes "open fault"
 
--- the line of an ending: none where all was done
-abbrev pub line_of : Ending → List ℕ
-line_of Done = []
-line_of ending = said_of ending ++ codes "\n"
+-- the line of an ending, with what explains it: none where all was done
+abbrev pub line_of : Ending → List ℕ → List ℕ
+line_of Done explained = []
+line_of ending explained = said_of ending ++ (explained ++ codes "\n")
 
 -- what stands on the output where a read failed: nothing, or a beginning where a command writes before it has read all
 abbrev pub ReadFaultLeaves : Bool → (List ℕ → Type 0) → Option (List ℕ) → Option (List ℕ) → Type 0
@@ -118,8 +118,8 @@ pub record Moment : Type 0 where
   pub counts : Counts
   pub errors : ℕ  -- the count of the errors
 
--- a whole run, by what the words ask for and what it means, over what there is to read
-pub record Ends (ending : Ending) (asked : Option Asked) (meaning : Meaning) (given : Inputs) (status : ℕ) (before after : Moment) : Type 0 where
+-- a whole run, by what the words ask for and what it means, over what there is to read; `explained` is said behind its line
+pub record Ends (ending : Ending) (explained : List ℕ) (asked : Option Asked) (meaning : Meaning) (given : Inputs) (status : ℕ) (before after : Moment) : Type 0 where
   pub number : status ≡ status_of ending
   pub words : EndsByWords ending asked
   pub argument : EndsByArgument ending meaning
@@ -129,4 +129,5 @@ pub record Ends (ending : Ending) (asked : Option Asked) (meaning : Meaning) (gi
   pub output : OutputEnds ending meaning.is_early (meaning.gives given) (meaning.begins given) before.written after.written after.flushed
   pub cause : HasCause ending meaning given before.counts after.counts
   pub link : meaning.exchanges ending given before.counts.output after.counts.output before.link after.link
-  pub line : Tells (line_of ending) before.told after.told before.errors after.errors
+  pub explains : meaning.explains ending given explained
+  pub line : Tells (line_of ending explained) before.told after.told before.errors after.errors

@@ -3,6 +3,8 @@ pub mod Documents
 pub mod Commands
 pub mod Outputs
 pub mod Helps
+pub mod Explaining
+pub mod Said
 pub mod Links
 pub mod Meanings
 pub mod Ends

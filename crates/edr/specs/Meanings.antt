@@ -26,6 +26,7 @@ use Rattle.edr.specs.Outputs.{IsTextOfFeed, told, IsAnswerFrom}
 use Rattle.edr.specs.Replays.{IsReplayOf, IsReplayBegun, ReplayReads, ReplayWaits, IsServed}
 use Rattle.edr.specs.Documents.{IsTableIn, IsNoDocumentIn, IsTableHeard, IsTableBegun, IsNoReplyHeard}
 use Rattle.edr.specs.Links.{peer_of, LinkEnds}
+use Rattle.edr.specs.Explaining.{IfAsked, ExplainsFeed, ExplainsDocument, ExplainsReply}
 
 -- what there is to read, where it is told
 pub record Inputs : Type 0 where
@@ -68,6 +69,7 @@ pub record Meaning : Type 1 where
   pub is_no_feed : Inputs → FeedRefusal → Type 0
   pub refuses : Inputs → Refusal → Type 0
   pub is_no_document : Inputs → DocumentRefusal → Type 0
+  pub explains : Ending → Inputs → (text : List ℕ) → Type 0  -- what is said behind the line of an ending
 
 -- words that ask for nothing: nothing is read or written, and nothing fails
 abbrev pub nothing : Meaning
@@ -92,6 +94,7 @@ nothing = record {
   is_no_feed = λ given refusal. ⊥;
   refuses = λ given refusal. ⊥;
   is_no_document = λ given refusal. ⊥;
+  explains = λ ending given text. text ≡ [];
 }
 
 -- a command that writes a text, and reads nothing
@@ -144,8 +147,8 @@ replaying advances feed = record (writing (λ given. IsReplayOf advances (given.
 }
 
 -- one that asks the server that a URL names: it comes to its output once a reply of data was read
-abbrev pub fetching : List ℕ → Meaning
-fetching url = record (writing (λ given. IsTableHeard given.incoming)) {
+abbrev pub fetching : Bool → List ℕ → Meaning
+fetching why url = record (writing (λ given. IsTableHeard given.incoming)) {
   is_no_word = IsNone (request_of url);
   begins = λ given. IsTableBegun given.incoming;
   leaves = λ status. (status ≡ 1) ⊎ (status ≡ 3) ⊎ (status ≡ 7) ⊎ (status ≡ 8);
@@ -156,6 +159,7 @@ fetching url = record (writing (λ given. IsTableHeard given.incoming)) {
   write_failed = λ before after. Rose before.output after.output ⊎ LinkFailed before after;
   connect_failed = λ before after. Rose before.link after.link × (after.unconnected ≡ true);
   is_no_document = λ given. IsNoReplyHeard given.incoming;
+  explains = λ ending given. IfAsked why (ExplainsReply ending given.incoming);
 }
 
 -- what a command does, with the word behind it
@@ -163,12 +167,16 @@ abbrev pub meaning_of : Command → List ℕ → Meaning
 meaning_of Ask target =
     record (of_feed (λ given text. IsAnswerFrom given.input target (Ok text))) { refuses = λ given refusal. IsAnswerFrom given.input target (Err refusal) }
 meaning_of (Replay advances) feed = replaying advances feed
-meaning_of (Check summary) argument = of_feed (λ given. IsTextOfFeed (told summary) given.input)
+meaning_of (Check summary why) argument =
+    record (of_feed (λ given. IsTextOfFeed (told summary) given.input)) { explains = λ ending given. IfAsked why (ExplainsFeed ending given.input) }
 meaning_of (Make number) argument = writing (λ given text. text ≡ made number)
 meaning_of (Work number) argument =
     record (writing (λ given. IsWork number)) { is_no_feed = λ given. IsMadeNoFeed number; refuses = λ given. IsWorkRefused number }
-meaning_of Show argument = record (reading body_limit (λ given. IsTableIn given.input)) { is_no_document = λ given. IsNoDocumentIn given.input }
-meaning_of Fetch url = fetching url
+meaning_of (Show why) argument = record (reading body_limit (λ given. IsTableIn given.input)) {
+  is_no_document = λ given. IsNoDocumentIn given.input;
+  explains = λ ending given. IfAsked why (ExplainsDocument ending given.input);
+}
+meaning_of (Fetch why) url = fetching why url
 meaning_of Help argument = writing (λ given text. text ≡ help)
 meaning_of Version argument = writing (λ given text. text ≡ version_line (codes "edr"))
 

@@ -1,5 +1,5 @@
 //! The program over its objects.
-ghost use Rattle.std.specs.Prelude.{◌≡◌, false};
+ghost use Rattle.std.specs.Prelude.{◌≡◌, ℕ, List, [], false};
 ghost use Rattle.edr_base.specs.Calls.{SourceLent, SinkLent};
 ghost use Rattle.edr_fetch.specs.Exchanges.{LinkKept};
 ghost use Rattle.edr.specs.Commands.{asked_by};
@@ -27,7 +27,9 @@ fn carry_out<S: Source, K: Sink, F: Files, L: Link>(
     output: &mut K,
     files: &mut F,
     link: &mut L,
+    explained: &mut Text,
 ) -> Ending
+    requires { explained.old ≡ [] }
     ensures words { EndsByWords result (asked_by words.now) }
     ensures argument { EndsByArgument result (meaning_by (asked_by words.now)) }
     ensures output { OutputEnds result (meaning_by (asked_by words.now)).is_early
@@ -43,6 +45,8 @@ fn carry_out<S: Source, K: Sink, F: Files, L: Link>(
         (K.faults output.old) (K.faults output.new)
         (record { idle = (L.aside link.old).idle; left = L.left link.old; written = L.written link.old; flushed = L.flushed link.old; faults = L.faults link.old })
         (record { idle = (L.aside link.new).idle; left = L.left link.new; written = L.written link.new; flushed = L.flushed link.new; faults = L.faults link.new }) }
+    ensures explains { (meaning_by (asked_by words.now)).explains result
+        (record { input = S.left input.old; content = (F.aside files.old).content; incoming = (L.aside link.old).incoming }) explained.new }
     ensures unread { (meaning_by (asked_by words.now)).leaves (status_of result) → (input.new ≡ input.old) × (output.new ≡ output.old) }
     ensures untouched { (meaning_by (asked_by words.now)).takes_input ≡ false → input.new ≡ input.old }
     ensures ended { IsReadByEnd result ((meaning_by (asked_by words.now)).has_read
@@ -67,11 +71,13 @@ fn carry_out<S: Source, K: Sink, F: Files, L: Link>(
         Some((Command::Replay(advances), feed)) => replay(
             alloc, advances, feed, input, output, files,
         ),
-        Some((Command::Check(summary), _)) => check(alloc, summary, input, output),
+        Some((Command::Check(summary, why), _)) => check(
+            alloc, summary, why, input, output, explained,
+        ),
         Some((Command::Make(number), _)) => make(alloc, number, output),
         Some((Command::Work(number), _)) => work(alloc, number, output),
-        Some((Command::Show, _)) => show(alloc, input, output),
-        Some((Command::Fetch, url)) => fetch_url(alloc, url, output, link),
+        Some((Command::Show(why), _)) => show(alloc, why, input, output, explained),
+        Some((Command::Fetch(why), url)) => fetch_url(alloc, why, url, output, link, explained),
         Some((Command::Help, _)) => tell_help(output),
         Some((Command::Version, _)) => tell_version(output),
         None => Ending::Usage,
@@ -87,6 +93,7 @@ fn carry_out<S: Source, K: Sink, F: Files, L: Link>(
 /// takes nothing from `input`; nor does `work NUMBER`, which makes that feed in memory, reads it, and writes what its edition has and
 /// what documents it answers to four targets. `show` reads a document of CoverageJSON from `input` and writes its table. `fetch URL` connects to
 /// the server that the URL names, writes one request and flushes it, reads the reply, and writes the table of its document.
+/// With `--why` these three explain where there is no feed, no document or no reply of data: the first fault behind that.
 /// `--help` writes how the program is used, and `--version` its version. The answer is the status of the program; with each but 0 one line says why on `errors`. Of files and of the link nothing is asked that the words don't ask for, and where they ask for
 /// nothing there neither is touched.
 pub fn run<S: Source, K: Sink, D: Sink, F: Files, L: Link>(
@@ -98,7 +105,7 @@ pub fn run<S: Source, K: Sink, D: Sink, F: Files, L: Link>(
     files: &mut F,
     link: &mut L,
 ) -> u8
-    ensures ends { (ending : Ending) × Ends ending (asked_by words.now) (meaning_by (asked_by words.now))
+    ensures ends { (ending : Ending) × (explained : List ℕ) × Ends ending explained (asked_by words.now) (meaning_by (asked_by words.now))
         (record { input = S.left input.old; content = (F.aside files.old).content; incoming = (L.aside link.old).incoming }) result
         (record {
           left = S.left input.old;
@@ -130,7 +137,8 @@ pub fn run<S: Source, K: Sink, D: Sink, F: Files, L: Link>(
     ensures link { AskedBeside L.aside (meaning_by (asked_by words.now)).link result link.old link.new }
     ensures kept { LinkKept (L.aside link.old) (L.aside link.new) (L.faults link.old) (L.faults link.new) }
 {
-    let ending = carry_out(alloc, words, input, output, files, link);
-    tell(ending, errors);
+    let mut explained = Text::from_vec(Vec::new(alloc));
+    let ending = carry_out(alloc, words, input, output, files, link, &mut explained);
+    tell(ending, explained.bytes(), errors);
     ending.status()
 }
