@@ -53,6 +53,8 @@ fn main(rt: HostRuntime) -> ExitCode {
 #[cfg(test)]
 mod document_tests;
 #[cfg(test)]
+mod explain_tests;
+#[cfg(test)]
 mod line_tests;
 #[cfg(test)]
 mod station_tests;
