@@ -18,7 +18,7 @@ use Rattle.edr.specs.Checking.{fault_ends}
 use Rattle.edr.specs.Replays.{IsReplayOf, IsReplayBegun, AreReplies, AreBegun}
 use Rattle.edr.specs.Asking.{AnswerCause}
 use Rattle.edr.specs.Making.{MakeCause}
-use Rattle.edr.specs.Causes.{Counts, FileFailed}
+use Rattle.edr.specs.Meanings.{Counts, FileFailed}
 use Rattle.edr.specs.Ends.{OutputEnds, IsReadByEnd, AtReadFault}
 use Rattle.edr.specs.Settling.{Settles}
 use Rattle.edr.specs.Replaying.{ServeCause, ReplayCause, IsBefore, session_ends}

@@ -14,22 +14,22 @@ use Rattle.edr.specs.declared.endings.Ending.{Ending}
 use Rattle.edr.specs.declared.endings.Ending.TheVariants.{Done, Usage, NotFeed, ReadFault, WriteFault, OutOfMemory, Refused, NoDocument, ConnectFault, OpenFault}
 use Rattle.edr.specs.Ends.{said_of, line_of}
 
--- but for Done, the line is what is said and a line feed
-pub line_of-said : (ending : Ending) → ending ≢ Done → line_of ending ≡ said_of ending ++ codes "\n"
-line_of-said Done other = absurd (other refl)
-line_of-said Usage other = refl
-line_of-said (NotFeed refusal) other = refl
-line_of-said ReadFault other = refl
-line_of-said WriteFault other = refl
-line_of-said OutOfMemory other = refl
-line_of-said (Refused refusal) other = refl
-line_of-said (NoDocument refusal) other = refl
-line_of-said ConnectFault other = refl
-line_of-said OpenFault other = refl
+-- but for Done, the line is what is said, what explains it, and a line feed
+pub line_of-said : (ending : Ending) (explained : List ℕ) → ending ≢ Done → line_of ending explained ≡ said_of ending ++ (explained ++ codes "\n")
+line_of-said Done explained other = absurd (other refl)
+line_of-said Usage explained other = refl
+line_of-said (NotFeed refusal) explained other = refl
+line_of-said ReadFault explained other = refl
+line_of-said WriteFault explained other = refl
+line_of-said OutOfMemory explained other = refl
+line_of-said (Refused refusal) explained other = refl
+line_of-said (NoDocument refusal) explained other = refl
+line_of-said ConnectFault explained other = refl
+line_of-said OpenFault explained other = refl
 
 -- what is said, cut before the line of the feed that it names
-pub line_is : (front place said : List ℕ) → front ++ place ≡ said → front ++ (place ++ codes "\n") ≡ said ++ codes "\n"
-line_is front place said same = sym (append_assoc front place (codes "\n")) ∙ ap (λ list. list ++ codes "\n") same
+pub line_is : (front place said rest : List ℕ) → front ++ place ≡ said → front ++ (place ++ rest) ≡ said ++ rest
+line_is front place said rest same = sym (append_assoc front place rest) ∙ ap (λ list. list ++ rest) same
 
 -- only where a reply isn't of data is its status named
 pub status_named : (ending : Ending) (status : ℕ) → status_in ending ≡ Some status → ending ≡ NoDocument (NotData status)

@@ -6,3 +6,4 @@ pub mod AdvanceLemmas
 pub mod EndLemmas
 pub mod ShowLemmas
 pub mod WorkLemmas
+pub mod ExplainLemmas

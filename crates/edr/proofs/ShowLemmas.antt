@@ -11,12 +11,13 @@ use Rattle.edr_client.specs.Replies.{IsReply, IsNotData, IsNoDocument, IsLeft}
 use Rattle.edr_table.specs.Tables.{table_of}
 use Rattle.edr_fetch.specs.declared.fetching.FetchFault.{FetchFault}
 use Rattle.edr_fetch.specs.declared.fetching.FetchFault.TheVariants as fetches
-use Rattle.edr_fetch.specs.Exchanges.{LinkMoment, IsSent, Heard, Exchanged}
+use Rattle.edr_fetch.specs.Exchanges.{LinkMoment, IsSent, Halted, Heard, Exchanged}
 use Rattle.edr.specs.declared.endings.Ending.{Ending}
 use Rattle.edr.specs.declared.endings.Ending.TheVariants.{Done, Usage, NotFeed, ReadFault, WriteFault, OutOfMemory, Refused, NoDocument, ConnectFault, OpenFault}
 use Rattle.edr.specs.Documents.{OfInput, IsTableHeard, IsTableBegun}
-use Rattle.edr.specs.Causes.{Counts}
-use Rattle.edr.specs.Ends.{OutputEnds, LinkEnds, IsTaken, IsBroken}
+use Rattle.edr.specs.Meanings.{Counts}
+use Rattle.edr.specs.Ends.{OutputEnds}
+use Rattle.edr.specs.Links.{LinkEnds, IsTaken, IsBroken}
 use Rattle.edr.specs.Making.{MakeCause}
 use Rattle.edr.specs.Fetching.{FetchCause, fetch_ends}
 
@@ -39,7 +40,7 @@ told_map P Q None left f t = tt
 told_map P Q (Some bytes) None f t = t
 told_map P Q (Some bytes) (Some rest) f t = f bytes rest t
 
-told_some : (P : List ℕ → List ℕ → Type 0) (Q : List ℕ → Type 0) (incoming left : Option (List ℕ)) → ((bytes rest : List ℕ) → P bytes rest → Q bytes) → Told P incoming left → IfSome incoming Q
+pub told_some : (P : List ℕ → List ℕ → Type 0) (Q : List ℕ → Type 0) (incoming left : Option (List ℕ)) → ((bytes rest : List ℕ) → P bytes rest → Q bytes) → Told P incoming left → IfSome incoming Q
 told_some P Q None left f t = tt
 told_some P Q (Some bytes) None f t = absurd t
 told_some P Q (Some bytes) (Some rest) f t = f bytes rest t
@@ -99,6 +100,17 @@ fault_cause (fetches.Cov inner) url text incoming left before after counts count
     told_some (λ bytes rest. IsLeft (IsNoDocument bytes inner) rest) _ incoming left
     (λ bytes rest l. record { message = l.1.message; rest = l.0 ++ rest; is_message = l.1.is_message; status_is = l.1.status; none = l.1.none }) heard
 fault_cause fetches.OutOfMemory url text incoming left before after counts counts' exchanged heard a b c = tt
+
+-- however far it came, memory may be wanting behind it
+pub halted_anyway : (fault : FetchFault) (text : List ℕ) (incoming : Option (List ℕ)) (before after : LinkMoment) → Exchanged (Err fault) text incoming before after
+    → Halted text incoming before after
+halted_anyway fetches.ConnectFault text incoming before after exchanged = inr (inl exchanged.0)
+halted_anyway fetches.WriteFault text incoming before after exchanged = inr (inr (inl exchanged.0))
+halted_anyway fetches.ReadFault text incoming before after exchanged = inr (inr (inr exchanged.0))
+halted_anyway (fetches.BadReply place) text incoming before after exchanged = inr (inr (inr exchanged))
+halted_anyway (fetches.NotData status code) text incoming before after exchanged = inr (inr (inr exchanged))
+halted_anyway (fetches.Cov inner) text incoming before after exchanged = inr (inr (inr exchanged))
+halted_anyway fetches.OutOfMemory text incoming before after exchanged = exchanged
 
 -- where a reply breaks off
 broken_heard : (place : ℕ) (incoming left : Option (List ℕ)) → Heard (Err (fetches.BadReply place)) incoming left → IsBroken incoming left

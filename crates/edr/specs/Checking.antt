@@ -1,20 +1,13 @@
 -- How a feed is told of; for private clauses.
-use Rattle.std.specs.Prelude.{ℕ, Bool, true, false, List, ⊤, Err}
+use Rattle.std.specs.Prelude.{ℕ, List, ⊤, Err}
 use Rattle.std.specs.declared.option.Option.{Option}
 use Rattle.edr_base.specs.Outside.{Rose}
-use Rattle.edr_edition.specs.Values.{EditionValue}
 use Rattle.edr_feed.specs.Feeds.{FeedStandsIn}
 use Rattle.edr_feed.specs.declared.faults.FeedFault.{FeedFault}
 use Rattle.edr_feed.specs.declared.faults.FeedFault.TheVariants as faults
 use Rattle.edr_feed.specs.declared.refusals.FeedRefusal.TheVariants as refusals
 use Rattle.edr.specs.declared.endings.Ending.{Ending}
 use Rattle.edr.specs.declared.endings.Ending.TheVariants.{Done, NotFeed, ReadFault, WriteFault, OutOfMemory}
-use Rattle.edr.specs.Outputs.{count_line, summary_lines}
-
--- what is told of the editions: how many there are, or what each has
-abbrev pub told : Bool → List EditionValue → List ℕ
-told false editions = count_line editions
-told true editions = summary_lines editions
 
 -- how a run ends where the feed isn't read
 abbrev pub fault_ends : FeedFault → Ending

@@ -9,7 +9,7 @@ use Rattle.edr.specs.declared.endings.DocumentRefusal.TheVariants.{Cov, BadReply
 use Rattle.edr.specs.declared.endings.Ending.{Ending}
 use Rattle.edr.specs.declared.endings.Ending.TheVariants.{Done, Usage, NotFeed, ReadFault, WriteFault, OutOfMemory, Refused, NoDocument, ConnectFault, OpenFault}
 use Rattle.edr.specs.Documents.{IsNoReplyHeard}
-use Rattle.edr.specs.Causes.{Counts, LinkFailed}
+use Rattle.edr.specs.Meanings.{Counts, LinkFailed}
 
 -- how a run ends where no reply of data is read
 abbrev pub fetch_ends : FetchFault → Ending

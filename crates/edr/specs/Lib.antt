@@ -2,8 +2,11 @@ pub mod Replays
 pub mod Documents
 pub mod Commands
 pub mod Outputs
-pub mod Reading
-pub mod Causes
+pub mod Helps
+pub mod Explaining
+pub mod Said
+pub mod Links
+pub mod Meanings
 pub mod Ends
 pub mod Checking
 pub mod Asking

@@ -7,7 +7,7 @@ use Rattle.edr_serve.specs.declared.reports.SessionFault.{SessionFault}
 use Rattle.edr_serve.specs.declared.reports.SessionFault.TheVariants as faults
 use Rattle.edr.specs.declared.endings.Ending.{Ending}
 use Rattle.edr.specs.declared.endings.Ending.TheVariants.{Done, NotFeed, ReadFault, WriteFault, OutOfMemory, OpenFault}
-use Rattle.edr.specs.Causes.{Counts, FileFailed}
+use Rattle.edr.specs.Meanings.{Counts, FileFailed}
 
 -- the cause of an ending where a connection is served: a count that rose
 abbrev pub ServeCause : Ending → ℕ → ℕ → ℕ → ℕ → Type 0

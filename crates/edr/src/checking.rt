@@ -1,14 +1,16 @@
 //! Tells what a feed has.
-ghost use Rattle.std.specs.Prelude.{◌≡◌, ◌+◌, false, IfOk, OnOk, IsErrOf};
+ghost use Rattle.std.specs.Prelude.{◌≡◌, ◌+◌, [], false, IfOk, OnOk, IsErrOf};
 ghost use Rattle.std.specs.Io.KnownBytes.{IsAtEnd};
 ghost use Rattle.edr_base.specs.Outside.{Rose};
 ghost use Rattle.edr_base.specs.Calls.{SourceLent, SinkLent, ReadsAtMost, WrittenWhole, WrittenInPart, buffer_size};
 ghost use Rattle.edr_base.specs.Limits.{feed_limit};
-ghost use Rattle.edr.specs.Outputs.{IsTextOfFeed, count_line, summary_lines};
+ghost use Rattle.edr.specs.Outputs.{IsTextOfFeed, count_line, summary_lines, told};
 ghost use Rattle.edr.specs.Ends.{OutputEnds, IsReadByEnd};
-ghost use Rattle.edr.specs.Checking.{CheckCause, fault_ends, told};
+ghost use Rattle.edr.specs.Checking.{CheckCause, fault_ends};
+ghost use Rattle.edr.specs.Explaining.{IfAsked, ExplainsFeed};
 
 use crate::endings::Ending;
+use crate::explaining::explain_feed;
 use edr_base::{OutOfMemory, SendFault, Sink, Source, Text, send, settle};
 use edr_edition::Edition;
 use edr_feed::{FeedFault, read_feed, summary};
@@ -69,16 +71,22 @@ pub fn put<K: Sink>(output: &mut K, text: &[u8]) -> Result<(), SendFault>
     settle(output)
 }
 
-/// Reads the feed on the input, and writes how many editions it has, or what each of them has.
+/// Reads the feed on the input, and writes how many editions it has, or what each of them has. Where there is none, and that is
+/// asked for, it is explained why.
+#[tactic(auto, using(crate::proofs::ExplainLemmas::if_asked, crate::proofs::ExplainLemmas::feed_is_explained))]
 pub fn check<S: Source, K: Sink>(
     alloc: Global,
     summary: bool,
+    why: bool,
     input: &mut S,
     output: &mut K,
+    explained: &mut Text,
 ) -> Ending
+    requires { explained.old ≡ [] }
     ensures output { OutputEnds result false (IsTextOfFeed (told summary) (S.left input.old)) (IsTextOfFeed (told summary) (S.left input.old))
         (K.written output.old) (K.written output.new) (K.flushed output.new) }
     ensures cause { CheckCause result (S.left input.old) (S.faults input.old) (S.faults input.new) (K.faults output.old) (K.faults output.new) }
+    ensures explains { IfAsked why (ExplainsFeed result (S.left input.old)) explained.new }
     ensures ended { IsReadByEnd result (IsAtEnd (S.left input.new)) }
     ensures read { ReadsAtMost (feed_limit + buffer_size) (S.left input.old) (S.left input.new) }
     ensures input { SourceLent (S.aside input.old) (S.aside input.new) (S.faults input.old) (S.faults input.new) }
@@ -86,7 +94,12 @@ pub fn check<S: Source, K: Sink>(
 {
     let feed = match read_feed(alloc, input) {
         Ok(feed) => feed,
-        Err(fault) => return ending_of(&fault),
+        Err(fault) => {
+            if explain_feed(alloc, why, &fault, explained).is_err() {
+                return Ending::OutOfMemory;
+            }
+            return ending_of(&fault);
+        }
     };
     let Ok(text) = told(alloc, summary, feed.editions.items()) else {
         return Ending::OutOfMemory;

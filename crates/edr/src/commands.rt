@@ -12,22 +12,25 @@ use edr_program::number_of;
 pub enum Command {
     /// `ask TARGET`: answers a target from the last edition of the feed on the input.
     Ask,
-    /// `replay FEED`: serves the input as one connection, from the first edition of the feed in a file.
-    Replay,
-    /// `replay FEED --advance`: the same, with the feed's next edition before each request but the first.
-    ReplayAdvance,
-    /// `check`: tells how many editions the feed on the input has.
-    Check,
-    /// `check --summary`: tells what each edition of the feed on the input has.
-    CheckSummary,
+    /// `replay FEED`: serves the input as one connection, from the first edition of the feed in a file; true of
+    /// `replay FEED --advance`, where each request but the first has the feed's next edition.
+    Replay(bool),
+    /// `check`: tells how many editions the feed on the input has; true first of `--summary`, which tells what each of them has,
+    /// and then of `--why`, which explains where there is none.
+    Check(bool, bool),
     /// `make NUMBER`: writes the feed that is made of this number.
     Make(u64),
     /// `work NUMBER`: makes the feed of this number and reads it, and tells of its edition and of the answers to four targets.
     Work(u64),
-    /// `show`: writes the table of the document on the input.
-    Show,
-    /// `fetch URL`: asks the server that the URL names, and writes the table of the document that it replies.
-    Fetch,
+    /// `show`: writes the table of the document on the input; true of `--why`, which explains where there is none.
+    Show(bool),
+    /// `fetch URL`: asks the server that the URL names, and writes the table of the document that it replies; true of `--why`,
+    /// which explains where there is none.
+    Fetch(bool),
+    /// `--help`: tells how the program is used.
+    Help,
+    /// `--version`: tells the version.
+    Version,
 }
 
 // Whether a word can be the name of a file.
@@ -44,9 +47,13 @@ fn asked_alone(word: &[u8]) -> Option<(Command, &'static [u8])>
     ensures named { IfSome result (λ asked. IsNamed asked.0 asked.1.now) }
 {
     if word == b"check".as_slice() {
-        Some((Command::Check, &[]))
+        Some((Command::Check(false, false), &[]))
     } else if word == b"show".as_slice() {
-        Some((Command::Show, &[]))
+        Some((Command::Show(false), &[]))
+    } else if word == b"--help".as_slice() {
+        Some((Command::Help, &[]))
+    } else if word == b"--version".as_slice() {
+        Some((Command::Version, &[]))
     } else {
         None
     }
@@ -74,11 +81,15 @@ fn asked_with<'a>(word: &[u8], next: &'a [u8]) -> Option<(Command, &'a [u8])>
     if word == b"ask".as_slice() {
         Some((Command::Ask, next))
     } else if word == b"replay".as_slice() && is_name(next) {
-        Some((Command::Replay, next))
+        Some((Command::Replay(false), next))
     } else if word == b"check".as_slice() && next == b"--summary".as_slice() {
-        Some((Command::CheckSummary, &[]))
+        Some((Command::Check(true, false), &[]))
+    } else if word == b"check".as_slice() && next == b"--why".as_slice() {
+        Some((Command::Check(false, true), &[]))
+    } else if word == b"show".as_slice() && next == b"--why".as_slice() {
+        Some((Command::Show(true), &[]))
     } else if word == b"fetch".as_slice() {
-        Some((Command::Fetch, next))
+        Some((Command::Fetch(false), next))
     } else {
         let command = numbered(word, next)?;
         Some((command, &[]))
@@ -91,7 +102,14 @@ fn asked_of_three<'a>(word: &[u8], next: &'a [u8], more: &[u8]) -> Option<(Comma
     ensures named { IfSome result (λ asked. IsNamed asked.0 asked.1.now) }
 {
     if word == b"replay".as_slice() && is_name(next) && more == b"--advance".as_slice() {
-        Some((Command::ReplayAdvance, next))
+        Some((Command::Replay(true), next))
+    } else if word == b"check".as_slice()
+        && next == b"--summary".as_slice()
+        && more == b"--why".as_slice()
+    {
+        Some((Command::Check(true, true), &[]))
+    } else if word == b"fetch".as_slice() && more == b"--why".as_slice() {
+        Some((Command::Fetch(true), next))
     } else {
         None
     }

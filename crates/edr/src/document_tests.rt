@@ -6,13 +6,13 @@ use std::alloc::Global;
 use std::test::Fail;
 
 // A coverage of one point with the value 10, which rows write as `$`.
-const POINT: &str =
+pub(crate) const POINT: &str =
     "{\"domain\":{\"axes\":{\"t\":{\"values\":[\"2024-01-01T00:00:00Z\"]},\"x\":{\"values\":[0]},\"y\":{\"values\":[0]}},\"domainType\":\"Point\",\"referencing\":[{\"coordinates\":[\"x\",\"y\"],\"system\":{\"type\":\"ProjectedCRS\"}}],\"type\":\"Domain\"},\"parameters\":{\"temp\":{\"observedProperty\":{\"label\":{\"en\":\"Temperature\"}},\"type\":\"Parameter\"}},\"ranges\":{\"temp\":{\"dataType\":\"integer\",\"type\":\"NdArray\",\"values\":[10]}},\"type\":\"Coverage\"}";
 
 const TABLE: &[u8] = b"temp\t2024-01-01T00:00:00Z\t-\t0\t0\t10\n";
 
 // A row with a bar for each CR LF, as bytes.
-fn bytes_of(alloc: Global, row: &str) -> Result<Vec<u8>, OutOfMemory> {
+pub(crate) fn bytes_of(alloc: Global, row: &str) -> Result<Vec<u8>, OutOfMemory> {
     let mut bytes = Vec::new(alloc);
     for byte in row.bytes() {
         match byte {
@@ -60,14 +60,15 @@ fn documents_are_shown(rt: HostRuntime) -> Result<(), Fail> {
     Ok(())
 }
 
-// What is fetched from a peer that gives these bytes: the status, what is written on the output, the errors and the link.
-fn fetched(
+// What is fetched by these words from a peer that gives these bytes: the status, what is written on the output, the errors and the
+// link.
+pub(crate) fn fetched(
     alloc: Global,
-    url: &[u8],
+    words: &[&[u8]],
     incoming: Vec<u8>,
     fails: &[u64],
 ) -> Result<(u8, MemorySink, MemorySink, MemoryLink), OutOfMemory> {
-    let words = words_of(alloc, &[b"fetch", url])?;
+    let words = words_of(alloc, words)?;
     let mut input = MemorySource::of(Vec::new(alloc), 1, Vec::new(alloc));
     let mut output = MemorySink::of(alloc, 100, Vec::new(alloc));
     let mut errors = MemorySink::of(alloc, 100, Vec::new(alloc));
@@ -125,7 +126,7 @@ fn urls_are_fetched(rt: HostRuntime) -> Result<(), Fail> {
         let (number, incoming) = failing(front);
         let (status, output, errors, link) = fetched(
             alloc,
-            b"http://user@a:8080/b?c#d",
+            &[b"fetch", b"http://user@a:8080/b?c#d"],
             bytes_of(alloc, incoming)?,
             &[number],
         )?;
@@ -162,7 +163,7 @@ fn other_words_are_no_urls(rt: HostRuntime) -> Result<(), Fail> {
     ] {
         let (status, output, errors, link) = fetched(
             alloc,
-            word,
+            &[b"fetch", word],
             bytes_of(alloc, "HTTP/1.1 200 OK||$")?,
             &[1],
         )?;

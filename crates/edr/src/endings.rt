@@ -8,13 +8,11 @@ ghost use Rattle.edr.specs.Saying.{status_in};
 ghost use Rattle.edr.specs.declared.endings.DocumentRefusal.TheVariants.{NotData};
 ghost use Rattle.edr.specs.declared.endings.Ending.TheVariants.{NoDocument};
 
+use crate::helping::USAGE;
 use edr_base::{Refusal, SendFault, Sink, send, settle};
 use edr_feed::FeedRefusal;
-use edr_program::{said_of_feed, tell_line};
+use edr_program::{said_of_feed, tell_explained};
 use itoa::Buffer;
-
-const USAGE: &[u8] =
-    b"usage: edr ask TARGET | replay FEED [--advance] | check [--summary] | make NUMBER | work NUMBER | show | fetch URL";
 
 /// Why no document is read.
 #[derive(Clone, Copy, Debug, PartialEq, Eq)]
@@ -130,32 +128,32 @@ pub fn settled<K: Sink>(output: &mut K) -> Ending
 }
 
 // Writes the line that names the status of a reply.
-fn tell_status<D: Sink>(errors: &mut D, status: u16)
-    ensures line { Tells (line_of (NoDocument (NotData status))) (D.written errors.old) (D.written errors.new) (D.faults errors.old) (D.faults errors.new) }
+fn tell_status<D: Sink>(errors: &mut D, status: u16, explained: &[u8])
+    ensures line { Tells (line_of (NoDocument (NotData status)) explained.now) (D.written errors.old) (D.written errors.new) (D.faults errors.old) (D.faults errors.new) }
     ensures lent { SinkLent (D.beside errors.old) (D.beside errors.new) (D.faults errors.old) (D.faults errors.new) }
 {
     match send(errors, b"reply: NotData ") {
         Ok(()) => {
             let mut buffer = Buffer::new();
-            tell_line(errors, buffer.format(status).as_bytes(), None);
+            tell_explained(errors, buffer.format(status).as_bytes(), None, explained);
         }
         Err(_) => {}
     }
 }
 
-/// Writes the line of an ending on the errors, where it has one. A fault of theirs changes nothing else.
-pub fn tell<D: Sink>(ending: Ending, errors: &mut D)
-    ensures line { Tells (line_of ending) (D.written errors.old) (D.written errors.new) (D.faults errors.old) (D.faults errors.new) }
+/// Writes the line of an ending on the errors, where it has one, with what explains it. A fault of theirs changes nothing else.
+pub fn tell<D: Sink>(ending: Ending, explained: &[u8], errors: &mut D)
+    ensures line { Tells (line_of ending explained.now) (D.written errors.old) (D.written errors.new) (D.faults errors.old) (D.faults errors.new) }
     ensures lent { SinkLent (D.beside errors.old) (D.beside errors.new) (D.faults errors.old) (D.faults errors.new) }
 {
     if let Ending::Done = ending {
         return;
     }
     match status_in(ending) {
-        Some(status) => tell_status(errors, status),
+        Some(status) => tell_status(errors, status, explained),
         None => {
             let (text, line) = said(ending);
-            tell_line(errors, text, line);
+            tell_explained(errors, text, line, explained);
         }
     }
 }

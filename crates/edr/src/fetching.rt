@@ -1,17 +1,18 @@
 //! Fetches URLs.
-ghost use Rattle.std.specs.Prelude.{◌≡◌, ◌⊎◌, false, IfSome, IsNone};
+ghost use Rattle.std.specs.Prelude.{◌≡◌, ◌⊎◌, [], false, IfSome, IsNone, option_map};
 ghost use Rattle.edr_base.specs.Calls.{SinkLent};
 ghost use Rattle.edr_fetch.specs.Requests.{request_of, request_text};
 ghost use Rattle.edr_fetch.specs.Exchanges.{LinkKept};
-ghost use Rattle.edr.specs.Commands.{peer_of, link_asked};
-ghost use Rattle.edr.specs.declared.commands.Command.TheVariants.{Fetch};
 ghost use Rattle.edr.specs.Documents.{IsTableHeard, IsTableBegun};
-ghost use Rattle.edr.specs.Ends.{OutputEnds, LinkEnds, AskedBeside, status_of};
+ghost use Rattle.edr.specs.Links.{peer_of, LinkEnds};
+ghost use Rattle.edr.specs.Ends.{OutputEnds, AskedBeside, status_of};
+ghost use Rattle.edr.specs.Explaining.{IfAsked, ExplainsReply};
 ghost use Rattle.edr.specs.Fetching.{FetchCause, IsBeforeOutput, fetch_ends};
 
 use crate::endings::{DocumentRefusal, Ending};
+use crate::explaining::explain_reply;
 use crate::tabling::tabled;
-use edr_base::{Link, Sink};
+use edr_base::{Link, Sink, Text};
 use edr_fetch::{FetchFault, fetch, request_of};
 use std::alloc::Global;
 
@@ -31,13 +32,18 @@ fn ending_of(fault: &FetchFault) -> Ending
 }
 
 /// Asks the server that a URL names, and writes the table of the document that it replies. A word that is no URL of the scheme
-/// http ends with `Usage`, and the link is left as it is.
+/// http ends with `Usage`, and the link is left as it is. Where there is no reply of data, and that is asked for, it is explained
+/// why.
+#[tactic(auto, using(crate::proofs::ExplainLemmas::if_asked))]
 pub fn fetch_url<K: Sink, L: Link>(
     alloc: Global,
+    why: bool,
     url: &[u8],
     output: &mut K,
     link: &mut L,
+    explained: &mut Text,
 ) -> Ending
+    requires { explained.old ≡ [] }
     ensures argument { IsNone (request_of url.now) → (result ≡ Ending.Usage) ⊎ (result ≡ Ending.OutOfMemory) }
     ensures output { OutputEnds result false (IsTableHeard (L.aside link.old).incoming) (IsTableBegun (L.aside link.old).incoming)
         (K.written output.old) (K.written output.new) (K.flushed output.new) }
@@ -48,7 +54,8 @@ pub fn fetch_url<K: Sink, L: Link>(
         (K.faults output.old) (K.faults output.new)
         (record { idle = (L.aside link.old).idle; left = L.left link.old; written = L.written link.old; flushed = L.flushed link.old; faults = L.faults link.old })
         (record { idle = (L.aside link.new).idle; left = L.left link.new; written = L.written link.new; flushed = L.flushed link.new; faults = L.faults link.new })) }
-    ensures asked { AskedBeside L.aside (link_asked Fetch url.now) (status_of result) link.old link.new }
+    ensures explains { IfAsked why (ExplainsReply result (L.aside link.old).incoming) explained.new }
+    ensures asked { AskedBeside L.aside (option_map peer_of (request_of url.now)) (status_of result) link.old link.new }
     ensures before { IsBeforeOutput result → output.new ≡ output.old }
     ensures kept { LinkKept (L.aside link.old) (L.aside link.new) (L.faults link.old) (L.faults link.new) }
     ensures lent { SinkLent (K.beside output.old) (K.beside output.new) (K.faults output.old) (K.faults output.new) }
@@ -60,6 +67,11 @@ pub fn fetch_url<K: Sink, L: Link>(
     };
     match fetch(alloc, &request, link) {
         Ok(reply) => tabled(alloc, &reply.document, output),
-        Err(fault) => ending_of(&fault),
+        Err(fault) => {
+            if explain_reply(alloc, why, &fault, explained).is_err() {
+                return Ending::OutOfMemory;
+            }
+            ending_of(&fault)
+        }
     }
 }

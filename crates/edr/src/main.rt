@@ -5,7 +5,9 @@ mod asking;
 mod checking;
 mod commands;
 mod endings;
+mod explaining;
 mod fetching;
+mod helping;
 mod making;
 mod replaying;
 mod running;
@@ -24,13 +26,13 @@ fn main(rt: HostRuntime) -> ExitCode {
     let alloc = rt.alloc();
     let mut errors = RealSink::of(rt.stderr());
     let Ok(words) = words_of(&rt, alloc) else {
-        tell(Ending::OutOfMemory, &mut errors);
+        tell(Ending::OutOfMemory, b"", &mut errors);
         return ExitCode::from(Ending::OutOfMemory.status());
     };
     let mut input = RealSource::of(rt.stdin());
     // small writes are gathered until they are flushed
     let Ok(buffered) = BufWriter::new(alloc, rt.stdout()) else {
-        tell(Ending::OutOfMemory, &mut errors);
+        tell(Ending::OutOfMemory, b"", &mut errors);
         return ExitCode::from(Ending::OutOfMemory.status());
     };
     let mut output = RealSink::of(buffered);
@@ -50,6 +52,8 @@ fn main(rt: HostRuntime) -> ExitCode {
 
 #[cfg(test)]
 mod document_tests;
+#[cfg(test)]
+mod explain_tests;
 #[cfg(test)]
 mod line_tests;
 #[cfg(test)]

@@ -1,18 +1,17 @@
 //! The program over its objects.
-ghost use Rattle.std.specs.Prelude.{◌≡◌, false};
+ghost use Rattle.std.specs.Prelude.{◌≡◌, ℕ, List, [], false};
 ghost use Rattle.edr_base.specs.Calls.{SourceLent, SinkLent};
 ghost use Rattle.edr_fetch.specs.Exchanges.{LinkKept};
-ghost use Rattle.edr.specs.Commands.{asked_by, is_early, is_input_used, of_files, of_link};
-ghost use Rattle.edr.specs.Outputs.{IsOutput, IsBegun};
-ghost use Rattle.edr.specs.Reading.{IsRead, ReadsBy, IsUnread, WaitsFor, FileBy};
-ghost use Rattle.edr.specs.Causes.{HasCause};
-ghost use Rattle.edr.specs.Ends.{Ends, EndsByWords, EndsByArgument, OutputEnds, IsReadByEnd, AtReadFault, AskedBeside, LinkBy, status_of};
+ghost use Rattle.edr.specs.Commands.{asked_by};
+ghost use Rattle.edr.specs.Meanings.{meaning_by};
+ghost use Rattle.edr.specs.Ends.{Ends, EndsByWords, EndsByArgument, OutputEnds, HasCause, IsReadByEnd, AtReadFault, AskedBeside, status_of};
 
 use crate::asking::ask;
 use crate::checking::check;
 use crate::commands::{Command, asked_by};
 use crate::endings::{Ending, tell};
 use crate::fetching::fetch_url;
+use crate::helping::{tell_help, tell_version};
 use crate::making::make;
 use crate::replaying::replay;
 use crate::showing::show;
@@ -28,43 +27,59 @@ fn carry_out<S: Source, K: Sink, F: Files, L: Link>(
     output: &mut K,
     files: &mut F,
     link: &mut L,
+    explained: &mut Text,
 ) -> Ending
+    requires { explained.old ≡ [] }
     ensures words { EndsByWords result (asked_by words.now) }
-    ensures argument { EndsByArgument result (asked_by words.now) }
-    ensures output { OutputEnds result (is_early (asked_by words.now))
-        (IsOutput (asked_by words.now) (record { input = S.left input.old; content = (F.aside files.old).content; incoming = (L.aside link.old).incoming }))
-        (IsBegun (asked_by words.now) (record { input = S.left input.old; content = (F.aside files.old).content; incoming = (L.aside link.old).incoming }))
+    ensures argument { EndsByArgument result (meaning_by (asked_by words.now)) }
+    ensures output { OutputEnds result (meaning_by (asked_by words.now)).is_early
+        ((meaning_by (asked_by words.now)).gives (record { input = S.left input.old; content = (F.aside files.old).content; incoming = (L.aside link.old).incoming }))
+        ((meaning_by (asked_by words.now)).begins (record { input = S.left input.old; content = (F.aside files.old).content; incoming = (L.aside link.old).incoming }))
         (K.written output.old) (K.written output.new) (K.flushed output.new) }
-    ensures cause { HasCause result (asked_by words.now)
+    ensures cause { HasCause result (meaning_by (asked_by words.now))
         (record { input = S.left input.old; content = (F.aside files.old).content; incoming = (L.aside link.old).incoming })
         (record { input = S.faults input.old; output = K.faults output.old; files = F.faults files.old; link = L.faults link.old; closed = (F.aside files.old).idle; unconnected = (L.aside link.old).idle })
         (record { input = S.faults input.new; output = K.faults output.new; files = F.faults files.new; link = L.faults link.new; closed = (F.aside files.new).idle; unconnected = (L.aside link.new).idle }) }
-    ensures exchange { LinkBy (asked_by words.now) result (L.aside link.old).incoming (K.faults output.old) (K.faults output.new)
+    ensures exchange { (meaning_by (asked_by words.now)).exchanges result
+        (record { input = S.left input.old; content = (F.aside files.old).content; incoming = (L.aside link.old).incoming })
+        (K.faults output.old) (K.faults output.new)
         (record { idle = (L.aside link.old).idle; left = L.left link.old; written = L.written link.old; flushed = L.flushed link.old; faults = L.faults link.old })
         (record { idle = (L.aside link.new).idle; left = L.left link.new; written = L.written link.new; flushed = L.flushed link.new; faults = L.faults link.new }) }
-    ensures unread { IsUnread (asked_by words.now) (status_of result) → (input.new ≡ input.old) × (output.new ≡ output.old) }
-    ensures untouched { is_input_used (asked_by words.now) ≡ false → input.new ≡ input.old }
-    ensures ended { IsReadByEnd result (IsRead (asked_by words.now) (S.left input.old) (S.left input.new)) }
-    ensures waits { AtReadFault result (WaitsFor (asked_by words.now) (F.aside files.old).content (S.left input.old) (S.left input.new)
-        (K.written output.old) (K.written output.new) (K.flushed output.new)) }
-    ensures read { ReadsBy (asked_by words.now) (F.aside files.old).content (S.left input.old) (S.left input.new) (K.written output.old) (K.written output.new) }
+    ensures explains { (meaning_by (asked_by words.now)).explains result
+        (record { input = S.left input.old; content = (F.aside files.old).content; incoming = (L.aside link.old).incoming }) explained.new }
+    ensures unread { (meaning_by (asked_by words.now)).leaves (status_of result) → (input.new ≡ input.old) × (output.new ≡ output.old) }
+    ensures untouched { (meaning_by (asked_by words.now)).takes_input ≡ false → input.new ≡ input.old }
+    ensures ended { IsReadByEnd result ((meaning_by (asked_by words.now)).has_read
+        (record { input = S.left input.old; content = (F.aside files.old).content; incoming = (L.aside link.old).incoming }) (S.left input.new)) }
+    ensures waits { AtReadFault result ((meaning_by (asked_by words.now)).waits
+        (record { input = S.left input.old; content = (F.aside files.old).content; incoming = (L.aside link.old).incoming })
+        (S.left input.new) (K.written output.old) (K.written output.new) (K.flushed output.new)) }
+    ensures read { (meaning_by (asked_by words.now)).reads
+        (record { input = S.left input.old; content = (F.aside files.old).content; incoming = (L.aside link.old).incoming })
+        (S.left input.new) (K.written output.old) (K.written output.new) }
     ensures input { SourceLent (S.aside input.old) (S.aside input.new) (S.faults input.old) (S.faults input.new) }
     ensures lent { SinkLent (K.beside output.old) (K.beside output.new) (K.faults output.old) (K.faults output.new) }
-    ensures file { FileBy (asked_by words.now) (F.aside files.old).content (F.aside files.new).idle (F.left files.new) }
-    ensures files { AskedBeside F.aside (of_files (asked_by words.now)) (status_of result) files.old files.new }
-    ensures link { AskedBeside L.aside (of_link (asked_by words.now)) (status_of result) link.old link.new }
+    ensures file { (meaning_by (asked_by words.now)).file
+        (record { input = S.left input.old; content = (F.aside files.old).content; incoming = (L.aside link.old).incoming })
+        (F.aside files.new).idle (F.left files.new) }
+    ensures files { AskedBeside F.aside (meaning_by (asked_by words.now)).files (status_of result) files.old files.new }
+    ensures link { AskedBeside L.aside (meaning_by (asked_by words.now)).link (status_of result) link.old link.new }
     ensures kept { LinkKept (L.aside link.old) (L.aside link.new) (L.faults link.old) (L.faults link.new) }
 {
     match asked_by(words) {
         Some((Command::Ask, target)) => ask(alloc, target, input, output),
-        Some((Command::Replay, feed)) => replay(alloc, false, feed, input, output, files),
-        Some((Command::ReplayAdvance, feed)) => replay(alloc, true, feed, input, output, files),
-        Some((Command::Check, _)) => check(alloc, false, input, output),
-        Some((Command::CheckSummary, _)) => check(alloc, true, input, output),
+        Some((Command::Replay(advances), feed)) => replay(
+            alloc, advances, feed, input, output, files,
+        ),
+        Some((Command::Check(summary, why), _)) => check(
+            alloc, summary, why, input, output, explained,
+        ),
         Some((Command::Make(number), _)) => make(alloc, number, output),
         Some((Command::Work(number), _)) => work(alloc, number, output),
-        Some((Command::Show, _)) => show(alloc, input, output),
-        Some((Command::Fetch, url)) => fetch_url(alloc, url, output, link),
+        Some((Command::Show(why), _)) => show(alloc, why, input, output, explained),
+        Some((Command::Fetch(why), url)) => fetch_url(alloc, why, url, output, link, explained),
+        Some((Command::Help, _)) => tell_help(output),
+        Some((Command::Version, _)) => tell_version(output),
         None => Ending::Usage,
     }
 }
@@ -77,8 +92,9 @@ fn carry_out<S: Source, K: Sink, F: Files, L: Link>(
 /// editions it has; `check --summary` writes what each of them has. `make NUMBER` writes the feed that is made of the number, and
 /// takes nothing from `input`; nor does `work NUMBER`, which makes that feed in memory, reads it, and writes what its edition has and
 /// what documents it answers to four targets. `show` reads a document of CoverageJSON from `input` and writes its table. `fetch URL` connects to
-/// the server that the URL names, writes one request and flushes it, reads the reply, and writes the table of its document. The
-/// answer is the status of the program; with each but 0 one line says why on `errors`. Of files and of the link nothing is asked that the words don't ask for, and where they ask for
+/// the server that the URL names, writes one request and flushes it, reads the reply, and writes the table of its document.
+/// With `--why` these three explain where there is no feed, no document or no reply of data: the first fault behind that.
+/// `--help` writes how the program is used, and `--version` its version. The answer is the status of the program; with each but 0 one line says why on `errors`. Of files and of the link nothing is asked that the words don't ask for, and where they ask for
 /// nothing there neither is touched.
 pub fn run<S: Source, K: Sink, D: Sink, F: Files, L: Link>(
     alloc: Global,
@@ -89,7 +105,8 @@ pub fn run<S: Source, K: Sink, D: Sink, F: Files, L: Link>(
     files: &mut F,
     link: &mut L,
 ) -> u8
-    ensures ends { (ending : Ending) × Ends ending (asked_by words.now) (F.aside files.old).content (L.aside link.old).incoming result
+    ensures ends { (ending : Ending) × (explained : List ℕ) × Ends ending explained (asked_by words.now) (meaning_by (asked_by words.now))
+        (record { input = S.left input.old; content = (F.aside files.old).content; incoming = (L.aside link.old).incoming }) result
         (record {
           left = S.left input.old;
           written = K.written output.old;
@@ -108,17 +125,20 @@ pub fn run<S: Source, K: Sink, D: Sink, F: Files, L: Link>(
           counts = record { input = S.faults input.new; output = K.faults output.new; files = F.faults files.new; link = L.faults link.new; closed = (F.aside files.new).idle; unconnected = (L.aside link.new).idle };
           errors = D.faults errors.new;
         }) }
-    ensures unread { IsUnread (asked_by words.now) result → (input.new ≡ input.old) × (output.new ≡ output.old) }
-    ensures untouched { is_input_used (asked_by words.now) ≡ false → input.new ≡ input.old }
+    ensures unread { (meaning_by (asked_by words.now)).leaves result → (input.new ≡ input.old) × (output.new ≡ output.old) }
+    ensures untouched { (meaning_by (asked_by words.now)).takes_input ≡ false → input.new ≡ input.old }
     ensures input { SourceLent (S.aside input.old) (S.aside input.new) (S.faults input.old) (S.faults input.new) }
     ensures output { SinkLent (K.beside output.old) (K.beside output.new) (K.faults output.old) (K.faults output.new) }
     ensures errors { SinkLent (D.beside errors.old) (D.beside errors.new) (D.faults errors.old) (D.faults errors.new) }
-    ensures file { FileBy (asked_by words.now) (F.aside files.old).content (F.aside files.new).idle (F.left files.new) }
-    ensures files { AskedBeside F.aside (of_files (asked_by words.now)) result files.old files.new }
-    ensures link { AskedBeside L.aside (of_link (asked_by words.now)) result link.old link.new }
+    ensures file { (meaning_by (asked_by words.now)).file
+        (record { input = S.left input.old; content = (F.aside files.old).content; incoming = (L.aside link.old).incoming })
+        (F.aside files.new).idle (F.left files.new) }
+    ensures files { AskedBeside F.aside (meaning_by (asked_by words.now)).files result files.old files.new }
+    ensures link { AskedBeside L.aside (meaning_by (asked_by words.now)).link result link.old link.new }
     ensures kept { LinkKept (L.aside link.old) (L.aside link.new) (L.faults link.old) (L.faults link.new) }
 {
-    let ending = carry_out(alloc, words, input, output, files, link);
-    tell(ending, errors);
+    let mut explained = Text::from_vec(Vec::new(alloc));
+    let ending = carry_out(alloc, words, input, output, files, link, &mut explained);
+    tell(ending, explained.bytes(), errors);
     ending.status()
 }

@@ -6,7 +6,7 @@ mod numbers;
 mod versions;
 mod words;
 
-pub use lines::{said_of_feed, tell_line};
+pub use lines::{said_of_feed, send_both, tell_explained, tell_line};
 pub use numbers::number_of;
 pub use versions::send_version;
 pub use words::words_of;

@@ -23,8 +23,8 @@ pub fn said_of_feed(refusal: FeedRefusal) -> (&'static [u8], Option<usize>)
     }
 }
 
-// Writes one text and then another.
-pub(crate) fn send_both<D: Sink>(sink: &mut D, first: &[u8], second: &[u8]) -> Result<(), SendFault>
+/// Writes one text and then another.
+pub fn send_both<D: Sink>(sink: &mut D, first: &[u8], second: &[u8]) -> Result<(), SendFault>
     ensures bytes { Writes result (first.now ++ second.now) (D.written sink.old) (D.written sink.new) }
     ensures lent { SinkLent (D.beside sink.old) (D.beside sink.new) (D.faults sink.old) (D.faults sink.new) }
     ensures cause { IsErrOf result SendFault.WriteFault → Rose (D.faults sink.old) (D.faults sink.new) }
@@ -48,24 +48,39 @@ fn send_place<D: Sink>(sink: &mut D, line: Option<usize>) -> Result<(), SendFaul
     }
 }
 
-// Writes the line of the feed that is named, where there is one, and a line feed.
-fn send_end<D: Sink>(sink: &mut D, line: Option<usize>) -> Result<(), SendFault>
-    ensures bytes { Writes result (place_of line ++ codes "\n") (D.written sink.old) (D.written sink.new) }
+// Writes the line of the feed that is named, where there is one, a text behind it, and a line feed.
+fn send_end<D: Sink>(sink: &mut D, line: Option<usize>, behind: &[u8]) -> Result<(), SendFault>
+    ensures bytes { Writes result (place_of line ++ (behind.now ++ codes "\n")) (D.written sink.old) (D.written sink.new) }
     ensures lent { SinkLent (D.beside sink.old) (D.beside sink.new) (D.faults sink.old) (D.faults sink.new) }
     ensures cause { IsErrOf result SendFault.WriteFault → Rose (D.faults sink.old) (D.faults sink.new) }
 {
     send_place(sink, line)?;
-    send(sink, b"\n")
+    send_both(sink, behind, b"\n")
 }
 
-// Writes a text, the line of the feed that is named behind it, and a line feed.
-fn send_line<D: Sink>(sink: &mut D, text: &[u8], line: Option<usize>) -> Result<(), SendFault>
-    ensures bytes { Writes result (text.now ++ (place_of line ++ codes "\n")) (D.written sink.old) (D.written sink.new) }
+// Writes a text, the line of the feed that is named, a text behind that, and a line feed.
+fn send_line<D: Sink>(
+    sink: &mut D,
+    text: &[u8],
+    line: Option<usize>,
+    behind: &[u8],
+) -> Result<(), SendFault>
+    ensures bytes { Writes result (text.now ++ (place_of line ++ (behind.now ++ codes "\n"))) (D.written sink.old) (D.written sink.new) }
     ensures lent { SinkLent (D.beside sink.old) (D.beside sink.new) (D.faults sink.old) (D.faults sink.new) }
     ensures cause { IsErrOf result SendFault.WriteFault → Rose (D.faults sink.old) (D.faults sink.new) }
 {
     send(sink, text)?;
-    send_end(sink, line)
+    send_end(sink, line, behind)
+}
+
+/// Writes one line on the errors: a text, the line of the feed that is named, a text behind that, and a line feed. A fault of
+/// theirs changes nothing else.
+pub fn tell_explained<D: Sink>(errors: &mut D, text: &[u8], line: Option<usize>, behind: &[u8])
+    ensures line { Tells (text.now ++ (place_of line ++ (behind.now ++ codes "\n"))) (D.written errors.old) (D.written errors.new) (D.faults errors.old) (D.faults errors.new) }
+    ensures lent { SinkLent (D.beside errors.old) (D.beside errors.new) (D.faults errors.old) (D.faults errors.new) }
+{
+    let _ = send_line(errors, text, line, behind);
+    let _ = settle(errors);
 }
 
 /// Writes one line on the errors: a text, the line of the feed that is named behind it, and a line feed. A fault of theirs
@@ -74,6 +89,5 @@ pub fn tell_line<D: Sink>(errors: &mut D, text: &[u8], line: Option<usize>)
     ensures line { Tells (text.now ++ (place_of line ++ codes "\n")) (D.written errors.old) (D.written errors.new) (D.faults errors.old) (D.faults errors.new) }
     ensures lent { SinkLent (D.beside errors.old) (D.beside errors.new) (D.faults errors.old) (D.faults errors.new) }
 {
-    let _ = send_line(errors, text, line);
-    let _ = settle(errors);
+    tell_explained(errors, text, line, b"");
 }

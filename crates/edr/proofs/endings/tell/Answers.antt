@@ -1,4 +1,4 @@
-use Rattle.std.proofs.Common.{◌∙◌, sym}
+use Rattle.std.proofs.Common.{◌∙◌, ◌++◌, codes, sym}
 use Rattle.edr_program.specs.TellsLaws.{tells_nothing}
 use Rattle.edr.proofs.EndingLemmas.{line_of-said, line_is, status_named}
 use Rattle.edr.proofs.endings.tell.Goals as goal
@@ -12,5 +12,5 @@ returns-in-Some-clause-line g c =
 
 pub returns-in-None-clause-line : goal.returns-in-None-clause-line
 returns-in-None-clause-line g c =
-    let written = rw (line_is _ _ _ c.said-line.ensures) at c.tell_line.ensures.line in
-    rw (line_of-said c.args.ending c.in_default.not-Done) written
+    let written = rw (line_is _ _ _ (c.args.explained.now ++ codes "\n") c.said-line.ensures) at c.tell_explained.ensures.line in
+    rw (line_of-said c.args.ending c.args.explained.now c.in_default.not-Done) written

@@ -1,5 +1,5 @@
 use Rattle.edr_program.proofs.LineLemmas.{tells_later}
-use Rattle.edr_program.proofs.lines.tell_line.Goals as goal
+use Rattle.edr_program.proofs.lines.tell_explained.Goals as goal
 
 pub returns-clause-line : goal.returns-clause-line
 returns-clause-line g c =

@@ -1,0 +1,13 @@
+use Rattle.std.proofs.Common.{◌∙◌, ℕ, List, false, refl, codes}
+use Rattle.edr_base.specs.KnownBytes.{front_whole}
+use Rattle.edr_program.specs.Versions.{version_line}
+use Rattle.edr.proofs.EndLemmas.{settled_output}
+use Rattle.edr.proofs.helping.tell_version.Goals as goal
+
+pub returns-in-Ok-clause-output : goal.returns-in-Ok-clause-output
+returns-in-Ok-clause-output g c =
+    let text : List ℕ = version_line (codes "edr") in
+    let grew = c.settled.ensures.written ∙ c.in-Ok.ensures.bytes.whole in
+    settled_output c.settled.result false _ _ _ _ _ _ _ c.settled.ensures.settles
+    (λ settled. record { text = text; is = refl; grew = grew; settled = settled })
+    (record { text = text; is = refl; front = front_whole _ _ _ grew })
