@@ -134,7 +134,9 @@ fn first_apart(alloc: Global) -> &'static str {
 }
 
 fn random_word(seed: &mut u64) -> &'static str {
-    *seed = seed.wrapping_mul(6_364_136_223_846_793_005).wrapping_add(1_442_695_040_888_963_407);
+    *seed = seed
+        .wrapping_mul(6_364_136_223_846_793_005)
+        .wrapping_add(1_442_695_040_888_963_407);
     WORDS.lines().nth((*seed >> 33) as usize % 28).unwrap_or("")
 }
 

@@ -16,8 +16,7 @@ use edr_base::{SendFault, Sink};
 use edr_chunk::{numbers_tell_places, tiles_are_numbered};
 use edr_edition::Store;
 use edr_select::{
-    Listing, Plan, Reply, framing_stands, listing_stands, series_reply_stands,
-    stacking_stands,
+    Listing, Plan, Reply, framing_stands, listing_stands, series_reply_stands, stacking_stands,
 };
 use std::alloc::Global;
 
