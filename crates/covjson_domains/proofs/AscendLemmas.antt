@@ -1,5 +1,5 @@
 -- Ascending values, as a test finds them and as an axis has them.
-use Rattle.std.proofs.Common.{◌≡◌, inl, inr, ℕ, zero, suc, ◌-◌, ℤ, ◌<ℤ◌, int_lt, List, [], ◌∷◌, length, reverse, arith, true, false, Ok, Err, refl, add-one}
+use Rattle.std.proofs.Common.{◌≡◌, inl, inr, ℕ, zero, suc, ◌-◌, ℤ, ◌<ℤ◌, int_lt, List, [], ◌∷◌, reverse, arith, true, false, Ok, Err, refl, add-one}
 use Rattle.std.proofs.lemmas.Bool.{and_parts, and_from, cases_Bool}
 use Rattle.std.proofs.lemmas.Int.{ints}
 use Rattle.serde_json.specs.Data.{Items, no_items, item}

@@ -14,16 +14,13 @@ use Rattle.covjson_value.specs.declared.domains.CoordinateName.{CoordinateName}
 use Rattle.covjson_value.specs.declared.domains.CoordinateName.TheVariants.{T, Z, Y, X}
 use Rattle.covjson_value.specs.Domains.{coordinate_key, coordinate}
 use Rattle.covjson_checks.specs.declared.faults.CovFault.{CovFault}
-use Rattle.covjson_checks.specs.declared.faults.Member.TheVariants.{Composite}
 use Rattle.covjson_domains.specs.declared.tuples.Test.{Test}
 use Rattle.covjson_domains.specs.declared.tuples.Test.TheVariants.{Within}
 use Rattle.covjson_checks.specs.Answers.{Answer, onto}
 use Rattle.edr_base.specs.FirstThatApplies.{and_then}
-use Rattle.covjson_checks.specs.Members.{list_at}
 use Rattle.edr_json.specs.Trees.{count_items, is_text, whole_of}
 use Rattle.edr_json.specs.TreeLaws.{count_seen}
 use Rattle.covjson_domains.specs.TupleAnswers.{are_keys, is_whole_within, passes, all_pass, list_passes, tuples_pass, value_of, whole_or_zero, number_of, tuple_at, tuples_from, never_falls}
-use Rattle.edr_json.specs.AnswerLaws.{or_fault_ok}
 use Rattle.covjson_checks.specs.CheckLaws.{onto_more}
 use Rattle.covjson_domains.proofs.TupleReads.{within_tells}
 use Rattle.covjson_domains.proofs.TupleValues.{same_name}

@@ -1,6 +1,6 @@
 use Rattle.std.proofs.Common.{inl, arith}
 use Rattle.std.proofs.lemmas.Bool.Decides.{nat_tests}
-use Rattle.covjson_domains.proofs.SampleItems.{times_empty, times_some}
+use Rattle.covjson_domains.proofs.SampleItems.{times_some}
 use Rattle.covjson_domains.proofs.axes.times_in.Goals as goal
 
 pub returns-then-len-ne0 : goal.returns-then-len-ne0

@@ -1,6 +1,6 @@
 use Rattle.std.proofs.Common.{inl, arith}
 use Rattle.std.proofs.lemmas.Bool.Decides.{nat_tests}
-use Rattle.covjson_domains.proofs.SampleItems.{tuples_empty, tuples_some}
+use Rattle.covjson_domains.proofs.SampleItems.{tuples_some}
 use Rattle.covjson_domains.proofs.tuples.tuples_of_list.Goals as goal
 
 pub returns-then-len-ne0 : goal.returns-then-len-ne0

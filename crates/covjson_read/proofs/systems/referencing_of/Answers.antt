@@ -1,6 +1,4 @@
-use Rattle.std.proofs.Common.{◌≡◌, Some, inl, sym, ap, ◌∙◌}
-use Rattle.serde_json.specs.Data.{array}
-use Rattle.edr_samples.specs.Trees.{tree_view, list_view}
+use Rattle.std.proofs.Common.{inl}
 use Rattle.covjson_checks.specs.FaultLaws.{fault_answers, stops_here, stops_after}
 use Rattle.covjson_read.proofs.systems.referencing_of.Goals as goal
 

@@ -1,4 +1,3 @@
-use Rattle.std.proofs.Common.{ap}
 use Rattle.edr_json.proofs.reading.read_tree.Goals as goal
 
 pub returns-clause-none : goal.returns-clause-none
