@@ -1,28 +1,25 @@
 -- The numbers of the blocks of a reply over stations rise station by station, parameter by parameter and block by block; and what
 -- the block of a cell has.
-use Rattle.std.proofs.Common.{◌≡◌, ℕ, ◌+◌, ◌*◌, ◌/◌, ◌%◌, ◌<◌, ◌≤◌, List, ◌++◌, length, take, drop, get_or, All, Contains, ℤ, Option, None, Some, ap, sym, ◌∙◌, subst, arith, inl, inr, length-take, length-drop, get_or-take, get_or-drop}
+use Rattle.std.proofs.Common.{◌≡◌, ℕ, ◌+◌, ◌*◌, ◌/◌, ◌%◌, ◌<◌, ◌≤◌, List, length, take, drop, get_or, All, Contains, ℤ, Option, None, Some, ap, sym, ◌∙◌, subst, arith, inl, inr, length-take, length-drop, get_or-take, get_or-drop}
 use Rattle.std.specs.Prelude.{map, sum_by}
-use Rattle.std.specs.List.{flat_map, slice_range}
+use Rattle.std.specs.List.{flat_map}
 use Rattle.std.proofs.Math.Nat.{mul-le-mul_right}
 use Rattle.std.proofs.lemmas.Bool.{cases_lt}
 use Rattle.std.proofs.lemmas.Nat.{div_below, mod_below, div-add-mod'}
-use Rattle.std.proofs.lemmas.List.{take-take, take-append-drop, length-map, map-append, get_or-map, get_or_default}
-use Rattle.std.proofs.lemmas.List.Elements.{All-map, All-weaker, All-from_get_or, All-get_or}
+use Rattle.std.proofs.lemmas.List.{take-take, length-map, get_or-map, get_or_default}
+use Rattle.std.proofs.lemmas.List.Elements.{All-map, All-weaker, All-get_or}
 use Rattle.std.proofs.lemmas.List.Sums.{sum_by_more_le}
 use Rattle.edr_station.specs.Stations.{StationValue, StationsValue, values_along, nowhere}
 use Rattle.edr_axes.specs.Axes.{axis_length}
 use Rattle.edr_station.specs.Blocks.{blocks_of, StationPlace, place_at, Within, place_in_series, series_at, block_of, IsBlock}
 use Rattle.edr_edition.specs.Stores.{Held, of_grid, of_stations, HasBlock, IsBlockOf}
-use Rattle.edr_select.specs.Samples.{ascending_once}
 use Rattle.edr_select.specs.Listings.{NumbersRise}
-use Rattle.edr_select.specs.ListLaws.{all_member, map_agree_in}
-use Rattle.edr_select.specs.Series.{StationSeriesValue, series_value, series_range, block_at, cells_taken, blocks_of_range, blocks_of_coverage, place_of, IsOfStation}
+use Rattle.edr_select.specs.ListLaws.{all_member}
+use Rattle.edr_select.specs.Series.{StationSeriesValue, series_value, block_at, cells_taken, blocks_of_range, blocks_of_coverage, place_of, IsOfStation}
 use Rattle.edr_send.specs.SeriesTexts.{collection_of, blocks_in, station_of}
 use Rattle.edr_send.proofs.BandLaws.{row_above}
 use Rattle.edr_send.proofs.FrameTiles.{before_place, from_place, no_place, taken_place}
-use Rattle.edr_send.proofs.Parted.{all_flat_map, Parted, parted_next, parted_whole}
-use Rattle.edr_send.proofs.RunSteps.{drop_on}
-use Rattle.edr_send.proofs.TileSteps.{take_on}
+use Rattle.edr_send.proofs.Parted.{all_flat_map, Parted}
 
 -- ---- blocks of what is held
 

@@ -1,5 +1,5 @@
 -- Runs of cells of at most one block, of which some aren't taken.
-use Rattle.std.proofs.Common.{◌≡◌, ℕ, zero, suc, ◌+◌, ◌-◌, ◌*◌, ◌/◌, ◌%◌, ◌<◌, ◌≤◌, true, false, List, [], ◌∷◌, ◌++◌, length, take, drop, get_or, All, Contains, ℤ, Option, None, Some, refl, ap, sym, ◌∙◌, subst, arith, inl, inr, length-take, length-drop, get_or-take, get_or-drop}
+use Rattle.std.proofs.Common.{◌≡◌, ℕ, zero, suc, ◌+◌, ◌-◌, ◌*◌, ◌/◌, ◌%◌, ◌<◌, ◌≤◌, true, List, [], ◌∷◌, ◌++◌, length, take, drop, get_or, All, Contains, ℤ, Option, None, Some, refl, ap, sym, ◌∙◌, subst, arith, inl, inr, length-take, length-drop, get_or-take, get_or-drop}
 use Rattle.std.specs.Prelude.{map, option_to_list}
 use Rattle.std.specs.List.{slice_range}
 use Rattle.std.proofs.lemmas.Bool.{cases_lt, eqb-true, false≢true}

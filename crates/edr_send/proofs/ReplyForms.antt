@@ -6,7 +6,7 @@ use Rattle.std.proofs.lemmas.List.{length-map}
 use Rattle.std.proofs.lemmas.List.Elements.{All-cons, All-nil, All-head}
 use Rattle.covjson_value.specs.declared.coverages.Coverage.{Coverage}
 use Rattle.covjson_value.specs.declared.coverages.Document.{Document}
-use Rattle.covjson_value.specs.declared.coverages.Document.TheVariants.{One, Many}
+use Rattle.covjson_value.specs.declared.coverages.Document.TheVariants.{One}
 use Rattle.covjson_value.specs.Coverages.{IsValidDocument}
 use Rattle.edr_base.specs.Limits.{AreSamples}
 use Rattle.edr_chunk.specs.declared.shapes.GridShape.{GridShape}

@@ -1,7 +1,12 @@
 -- Items with numbers, which rise item by item.
-use Rattle.std.proofs.Common.{◌≡◌, ℕ, ◌+◌, ◌<◌, List, ◌++◌, length, take, drop, get_or, refl}
+use Rattle.std.proofs.Common.{◌≡◌, ℕ, ◌+◌, ◌<◌, List, ◌++◌, length, take, drop, get_or, refl, ap, ◌∙◌, Option}
+use Rattle.std.specs.Prelude.{map}
 use Rattle.std.specs.List.{flat_map}
+use Rattle.covjson_write.specs.Pieces.{values_from}
+use Rattle.edr_edition.specs.Stores.{Subject}
 use Rattle.edr_select.specs.Samples.{ascending_once}
+use Rattle.edr_select.specs.Series.{StationSeriesValue, series_range, block_at, cells_taken}
+use Rattle.edr_send.specs.SeriesTexts.{collection_of, blocks_in, station_of}
 use Rattle.edr_send.proofs.FrameTiles.{flat_take, flat_drop}
 use Rattle.edr_send.proofs.Parted.{Parted, parted_next}
 

@@ -1,5 +1,5 @@
 -- The coverages of a reply over stations are valid.
-use Rattle.std.proofs.Common.{ℕ, List, [], length, get_or, All, ℤ, Option, sym, ◌∙◌, subst, inl, inr}
+use Rattle.std.proofs.Common.{ℕ, List, [], length, get_or, All, ℤ, Option, None, Some, sym, ◌∙◌, subst, inl, inr}
 use Rattle.std.specs.Prelude.{map}
 use Rattle.std.proofs.lemmas.Bool.{cases_lt}
 use Rattle.std.proofs.lemmas.List.{length-map, get_or_past}

@@ -1,5 +1,5 @@
 -- What is sent of each form of reply; for private clauses.
-use Rattle.std.specs.Prelude.{◌≡◌, ℕ, false, true, List, [], ◌∷◌, map, All}
+use Rattle.std.specs.Prelude.{◌≡◌, ℕ, false, List, [], ◌∷◌, map, All}
 use Rattle.edr_chunk.specs.Tiles.{tiles}
 use Rattle.edr_edition.specs.Stores.{Held}
 use Rattle.edr_select.specs.Samples.{ascending_once}

@@ -1,10 +1,10 @@
 -- Replies over stations, what they are read from, and their text; for private clauses.
-use Rattle.std.specs.Prelude.{◌≡◌, ℕ, ◌/◌, ◌%◌, ◌<◌, ◌≤◌, ◌^◌, ◌++◌, ◌==◌, Bool, true, false, ℤ, List, [], length, map, All, Option, None, Some}
+use Rattle.std.specs.Prelude.{◌≡◌, ℕ, ◌/◌, ◌%◌, ◌<◌, ◌≤◌, ◌^◌, ◌==◌, Bool, true, false, ℤ, List, [], length, All, Option, None, Some}
 use Rattle.std.specs.List.{slice_index_or}
 use Rattle.edr_station.specs.Stations.{StationValue, StationsValue, station_at}
 use Rattle.edr_station.specs.Blocks.{block_length, blocks}
 use Rattle.edr_edition.specs.Stores.{Held, of_grid, of_stations, stations_of}
-use Rattle.edr_select.specs.Series.{StationSeriesValue, SeriesReplyValue, series_coverage, RiseApart, IsOfStation}
+use Rattle.edr_select.specs.Series.{StationSeriesValue, SeriesReplyValue, RiseApart, IsOfStation}
 
 -- ---- stations
 
