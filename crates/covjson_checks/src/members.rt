@@ -302,11 +302,7 @@ fn wholes_or_nulls_of(
 }
 
 // A sample, of at most that size: OutOfRange.
-fn sample_or_null(
-    sample: Option<i64>,
-    member: Member,
-    limit: u64,
-) -> Result<Option<i64>, CovFault>
+fn sample_or_null(sample: Option<i64>, member: Member, limit: u64) -> Result<Option<i64>, CovFault>
     ensures { result ≡ members.whole_or_null member limit (sample_data sample) }
 {
     if let Some(number) = sample {

@@ -222,11 +222,7 @@ fn need_sample_lengths(
 }
 
 // The lengths of these axes, each a whole number from 0: WrongType, WrongCount.
-fn need_list_lengths(
-    list: List<'_>,
-    names: &[AxisName],
-    domain: &Domain,
-) -> Result<(), CovFault>
+fn need_list_lengths(list: List<'_>, names: &[AxisName], domain: &Domain) -> Result<(), CovFault>
     requires { trees.count_items (list_view list) ≡ length names.now }
     ensures { result ≡ ranges.lengths_are (map (axes.length_of domain.now) names.now) (list_view list.entry) }
 {

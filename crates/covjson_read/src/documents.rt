@@ -38,11 +38,7 @@ fn coverages_in(
 }
 
 // The coverages of a list, in turn. Samples are none: WrongType.
-fn coverages_of(
-    alloc: Global,
-    list: List<'_>,
-    collection: &Tree,
-) -> Result<Vec<Coverage>, CovFault>
+fn coverages_of(alloc: Global, list: List<'_>, collection: &Tree) -> Result<Vec<Coverage>, CovFault>
     ensures answer { GivesUnlessMemory (λ v. v.items) result (each (coverage_in (tree_view collection.now)) (list_view list.entry)) }
     ensures valid { IfOk result (λ v. All IsValid v.items) }
 {

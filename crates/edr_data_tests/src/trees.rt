@@ -16,7 +16,7 @@ const TEXTS: &str = r#"{"a":[1,-2,null,0],"b":"text","c":{"d":true,"e":false,"f"
 {"":0,"é":1,"\u00e9":2,"a":{"a":{"a":[]}}}
 [01] [1] , ] } { "a" } { "a" : } [1,] [,1] [-] [1.] [.5] [+1] [1e] nul tru falsee
 [[[[[[[[[[[[[[[[[[[[[[[[[[[[[[[[[[[[[[[[[[[[[[[[[[[[[[[[[[[[[[[[[[[[[[[[[[[[[[[[[[[[[[[[[[[[[[[[[[[[[[[[[[[[[[[[[[[[[[[[[[[[[[[0]]]]]]]]]]]]]]]]]]]]]]]]]]]]]]]]]]]]]]]]]]]]]]]]]]]]]]]]]]]]]]]]]]]]]]]]]]]]]]]]]]]]]]]]]]]]]]]]]]]]]]]]]]]]]]]]]]]]]]]]]]]]]]]
-[[[[[[[[[[[[[[[[[[[[[[[[[[[[[[[[[[[[[[[[[[[[[[[[[[[[[[[[[[[[[[[[[[[[[[[[[[[[[[[[[[[[[[[[[[[[[[[[[[[[[[[[[[[[[[[[[[[[[[[[[[[[[[[[0]]]]]]]]]]]]]]]]]]]]]]]]]]]]]]]]]]]]]]]]]]]]]]]]]]]]]]]]]]]]]]]]]]]]]]]]]]]]]]]]]]]]]]]]]]]]]]]]]]]]]]]]]]]]]]]]]]]]]]]]]]]]]]]]
+[[[[[[[[[[[[[[[[[[[[[[[[[[[[[[[[[[[[[[[[[[[[[[[[[[[[[[[[[[[[[[[[[[[[[[[[[[[[[[[[[[[[[[[[[[[[[[[[[[[[[[[[[[[[[[[[[[[[[[[[[[[[[[[[0]]]]]]]]]]]]]]]]]]]]]]]]]]]]]]]]]]]]]]]]]]]]]]]]]]]]]]]]]]]]]]]]]]]]]]]]]]]]]]]]]]]]]]]]]]]]]]]]]]]]]]]]]]]]]]]]]]]]]]]]]]]]]]]]"#;
 
 // What random texts are made of, a word a line: items of lists, and what goes wrong between them.
 const WORDS: &str = r#"0
@@ -103,12 +103,15 @@ fn look<'a>(
 fn are_same(alloc: Global, tree: &Tree, value: &Value) -> Result<bool, AllocError> {
     let mut pairs = Vec::new(alloc);
     pairs.push((tree, value))?;
-    while let Some((tree, value)) = pairs.pop() {
+    for _ in 0..u64::MAX {
+        let Some((tree, value)) = pairs.pop() else {
+            return Ok(true);
+        };
         if !look(tree, value, &mut pairs)? {
             return Ok(false);
         }
     }
-    Ok(true)
+    Ok(false)
 }
 
 // Whether a text is read to the same data, or by neither.
@@ -134,7 +137,9 @@ fn first_apart(alloc: Global) -> &'static str {
 }
 
 fn random_word(seed: &mut u64) -> &'static str {
-    *seed = seed.wrapping_mul(6_364_136_223_846_793_005).wrapping_add(1_442_695_040_888_963_407);
+    *seed = seed
+        .wrapping_mul(6_364_136_223_846_793_005)
+        .wrapping_add(1_442_695_040_888_963_407);
     WORDS.lines().nth((*seed >> 33) as usize % 28).unwrap_or("")
 }
 

@@ -16,7 +16,7 @@ returns-in_err-only_gregorian-clause-answer c =
     let fault = c.in_err-only_gregorian.field-0.0 in
     let entries = items_view c.args.entries.now.items in
     let has_plane : is_ok (plane_in entries) ≡ true = search rules in
-    fault_answers (λ given. given) c.from_residual-in_err-only_gregorian.result fault _ c.from_residual-in_err-only_gregorian.ensures.1 
+    fault_answers (λ given. given) c.from_residual-in_err-only_gregorian.result fault _ c.from_residual-in_err-only_gregorian.ensures.1
     (stops_behind (plane_in entries) _ fault has_plane (λ plane. stops_here _ _ fault c.in_err-only_gregorian.ensures))
 
 pub returns-in_err-crs-clause-answer : goal.returns-in_err-crs-clause-answer
