@@ -230,10 +230,12 @@ impl<T: Identified + Placed> Cells<T> {
     ) -> Result<Option<&T>, OutOfMemory>
         requires spot { IsSpot spot }
         requires empty { looks.old ≡ [] }
+        ensures cells { AreCells T.spot_of self.now }
         ensures nearest { IfOk result (λ found. Nearest T.id_of T.spot_of spot (Has self.now) (option_map (λ i. i.now) found)) }
         ensures looks { IfOk result (λ found. MatchOption found (looks.new ≡ []) (λ item. AreLooks (distances spot self.now) (distance_of T.id_of T.spot_of spot item.now) looks.new)) }
         ensures kept { OnErr result (looks.new ≡ looks.old) }
     {
+        self.stand();
         let mut numbers = Vec::new(alloc);
         let found = self.search(&spot, &mut numbers)?;
         *looks = Looks::of(numbers);
