@@ -178,25 +178,25 @@ answered_first first others editions x y rs es ns cs p q s e =
     ap (λ w. output rs w) read ∙ ap (λ (w : List EditionValue). replayed false w rs) (sym p)
 
 replies_first : (first : EditionValue) (others editions : List EditionValue) (input left : Option (List ℕ)) (x y : State) (report : SessionReport)
-    → editions ≡ first ∷ others → x.seen ≡ first ∷ [] → Some y.seen ≡ Some x.seen → Session input left x y report
+    → editions ≡ first ∷ others → x.seen ≡ first ∷ [] → Some y.seen ≡ Some x.seen → Session request_limit input left x y report
     → (text : List ℕ) × AreReplies false editions input text × (y.written ≡ append_known x.written text)
 replies_first first others editions input left x y report p q s e =
     (output e.requests e.editions, record { requests = e.requests; all = e.all; text_is = answered_first first others editions x y e.requests e.editions report.editions report.reads p q (same_shelf y.seen x.seen s) e.answered }, e.answered.bytes)
 
 -- in the midst of a session that broke off the shelf stood so too
-between_first : (first : EditionValue) (input left : Option (List ℕ)) (x y : State) → Some y.seen ≡ Some x.seen → (e : Broken input left x y) → e.between.seen ≡ x.seen
+between_first : (first : EditionValue) (input left : Option (List ℕ)) (x y : State) → Some y.seen ≡ Some x.seen → (e : Broken request_limit input left x y) → e.between.seen ≡ x.seen
 between_first first input left x y s e =
     same_between x.seen e.between.seen (uses_begin x.seen e.editions e.between.seen e.answered.uses)
     (subst (λ (z : List EditionValue). BeginsSeen e.between.seen z) (same_shelf y.seen x.seen s) (uses_begin e.between.seen e.broke_off.editions y.seen e.broke_off.uses))
 
 whole_before : (first : EditionValue) (others editions : List EditionValue) (input left : Option (List ℕ)) (x y : State)
-    → editions ≡ first ∷ others → x.seen ≡ first ∷ [] → Some y.seen ≡ Some x.seen → (e : Broken input left x y) → e.between.written ≡ append_known x.written (replayed false editions e.requests)
+    → editions ≡ first ∷ others → x.seen ≡ first ∷ [] → Some y.seen ≡ Some x.seen → (e : Broken request_limit input left x y) → e.between.written ≡ append_known x.written (replayed false editions e.requests)
 whole_before first others editions input left x y p q s e =
     e.answered.bytes
     ∙ ap (append_known x.written) (answered_first first others editions x e.between e.requests e.editions _ _ p q (between_first first input left x y s e) e.answered)
 
 pub begun_first : OutputGoesOn → (first : EditionValue) (others editions : List EditionValue) (input left : Option (List ℕ)) (x y : State)
-    → editions ≡ first ∷ others → x.seen ≡ first ∷ [] → Some y.seen ≡ Some x.seen → Broken input left x y
+    → editions ≡ first ∷ others → x.seen ≡ first ∷ [] → Some y.seen ≡ Some x.seen → Broken request_limit input left x y
     → WrittenInPart (AreBegun false editions input) x.written y.written
 begun_first law first others editions input left x y p q s e =
     let requests = e.requests ++ e.last in
@@ -219,14 +219,14 @@ begun_first law first others editions input left x y p q s e =
 -- ---- the same of the ends of a run
 
 pub whole_first : (first : EditionValue) (others editions : List EditionValue) (input left : Option (List ℕ)) (x y : State) (report : SessionReport) (new : Option (List ℕ)) (flushed : Option ℕ)
-    → editions ≡ first ∷ others → x.seen ≡ first ∷ [] → Some y.seen ≡ Some x.seen → Session input left x y report → new ≡ y.written → IsFlushed new flushed
+    → editions ≡ first ∷ others → x.seen ≡ first ∷ [] → Some y.seen ≡ Some x.seen → Session request_limit input left x y report → new ≡ y.written → IsFlushed new flushed
     → WrittenWhole (AreReplies false editions input) x.written new flushed
 whole_first first others editions input left x y report new flushed p q s e same settled =
     let text = replies_first first others editions input left x y report p q s e in
     record { text = text.0; is = text.1; grew = same ∙ text.2; settled = settled }
 
 pub part_first : (first : EditionValue) (others editions : List EditionValue) (input left : Option (List ℕ)) (x y : State) (report : SessionReport) (new : Option (List ℕ))
-    → editions ≡ first ∷ others → x.seen ≡ first ∷ [] → Some y.seen ≡ Some x.seen → Session input left x y report → new ≡ y.written
+    → editions ≡ first ∷ others → x.seen ≡ first ∷ [] → Some y.seen ≡ Some x.seen → Session request_limit input left x y report → new ≡ y.written
     → WrittenInPart (AreBegun false editions input) x.written new
 part_first first others editions input left x y report new p q s e same =
     let text = replies_first first others editions input left x y report p q s e in
@@ -240,13 +240,13 @@ at_end (Some input) (Some left) b t = t
 
 -- ---- how far the input was read
 
-pub served_first : (input left : Option (List ℕ)) (x y : State) (report : SessionReport) → Session input left x y report → IsBehind input left
+pub served_first : (input left : Option (List ℕ)) (x y : State) (report : SessionReport) → Session request_limit input left x y report → IsBehind input left
     → (report.end ≡ EndOfInput → Told (λ bytes rest. rest ≡ []) input left) → IsServed input left
 served_first input left x y report e behind far =
     record { requests = e.requests; all = e.all; ahead = subst (λ (end : End). Told (λ bytes others. ReadsAhead (AtMost (most_behind (Some end))) request_limit e.requests bytes others) input left) e.end e.ahead; ended = λ ends. at_end input left behind (far (e.end ∙ ends)) }
 
 pub read_all : (first : EditionValue) (others editions : List EditionValue) (input left : Option (List ℕ)) (x y : State) (report : SessionReport) (new : Option (List ℕ))
-    → editions ≡ first ∷ others → x.seen ≡ first ∷ [] → Some y.seen ≡ Some x.seen → Session input left x y report → new ≡ y.written
+    → editions ≡ first ∷ others → x.seen ≡ first ∷ [] → Some y.seen ≡ Some x.seen → Session request_limit input left x y report → new ≡ y.written
     → IsReadFor false editions input left x.written new
 read_all first others editions input left x y report new p q s e same = record {
   requests = e.requests;
@@ -257,7 +257,7 @@ read_all first others editions input left x y report new p q s e same = record {
 }
 
 pub read_some : (first : EditionValue) (others editions : List EditionValue) (input left : Option (List ℕ)) (x y : State)
-    → editions ≡ first ∷ others → x.seen ≡ first ∷ [] → Some y.seen ≡ Some x.seen → Broken input left x y
+    → editions ≡ first ∷ others → x.seen ≡ first ∷ [] → Some y.seen ≡ Some x.seen → Broken request_limit input left x y
     → IsReadFor false editions input left x.written y.written
 read_some first others editions input left x y p q s e = record {
   requests = e.requests;
@@ -269,7 +269,7 @@ read_some first others editions input left x y p q s e = record {
 
 -- a read failed
 pub waits_first : (first : EditionValue) (others editions : List EditionValue) (input left : Option (List ℕ)) (x y : State) (flushed : Option ℕ)
-    → editions ≡ first ∷ others → x.seen ≡ first ∷ [] → Some y.seen ≡ Some x.seen → sessions.Waits input left x y → (y.written ≡ x.written) ⊎ IsFlushed y.written flushed
+    → editions ≡ first ∷ others → x.seen ≡ first ∷ [] → Some y.seen ≡ Some x.seen → sessions.Waits request_limit input left x y → (y.written ≡ x.written) ⊎ IsFlushed y.written flushed
     → Waits false editions input left x.written y.written flushed
 waits_first first others editions input left x y flushed p q s e settled = record {
   requests = e.requests;

@@ -6,7 +6,7 @@ use edr_base::{MemorySink, MemorySource};
 use edr_edition::SteppedShelf;
 use edr_feed::read_feed;
 use edr_make::make_feed;
-use edr_serve::serve_session;
+use edr_serve::{REQUEST_LIMIT, serve_session};
 use std::alloc::Global;
 use std::test::Fail;
 
@@ -82,7 +82,7 @@ fn lines_open_what_they_select(rt: HostRuntime) -> Result<(), Fail> {
     let mut shelf = SteppedShelf::of(alloc, feed.editions.into_vec())?;
     let mut input = MemorySource::of(Vec::from_slice(alloc, LINES)?, 4096, Vec::new(alloc));
     let mut output = MemorySink::of(alloc, 4096, Vec::new(alloc));
-    let report = serve_session(alloc, &mut input, &mut output, &mut shelf).expect(
+    let report = serve_session(alloc, &mut input, &mut output, &mut shelf, REQUEST_LIMIT).expect(
         &rt,
         "a whole session",
     );

@@ -56,7 +56,7 @@ fn served_from_first<S: Source, K: Sink>(
     let Ok(mut shelf) = LocalShelf::of(alloc, first) else {
         return Ending::OutOfMemory;
     };
-    match serve_session(alloc, input, output, &mut shelf) {
+    match serve_session(alloc, input, output, &mut shelf, REQUEST_LIMIT) {
         Ok(_) => settled(output),
         Err(fault) => broken(fault),
     }
@@ -105,7 +105,8 @@ fn served_advancing<S: Source, K: Sink>(
     let mut inbox = Inbox::new(alloc);
     let mut turn: u32 = 1;
     'requests: while turn <= REQUEST_LIMIT {
-        match serve_one(alloc, input, output, &mut shelf, &mut inbox, turn) {
+        let turns = REQUEST_LIMIT + 1 - turn;
+        match serve_one(alloc, input, output, &mut shelf, &mut inbox, turns) {
             Ok(report) => match report.end {
                 Some(_) => return settled(output),
                 None => {}

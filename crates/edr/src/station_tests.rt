@@ -5,7 +5,7 @@ use edr_base::{MemorySink, MemorySource};
 use edr_edition::SteppedShelf;
 use edr_feed::read_feed;
 use edr_make::make_feed;
-use edr_serve::serve_session;
+use edr_serve::{REQUEST_LIMIT, serve_session};
 use std::test::Fail;
 
 // A mast: two parameters at two times and two levels, of which one value of each is missing.
@@ -119,7 +119,7 @@ fn made_feeds_open_what_is_selected(rt: HostRuntime) -> Result<(), Fail> {
     input.extend_from_slice(BOXES)?;
     let mut input = MemorySource::of(input, 4096, Vec::new(alloc));
     let mut output = MemorySink::of(alloc, 4096, Vec::new(alloc));
-    let report = serve_session(alloc, &mut input, &mut output, &mut shelf).expect(
+    let report = serve_session(alloc, &mut input, &mut output, &mut shelf, REQUEST_LIMIT).expect(
         &rt,
         "a whole session",
     );

@@ -5,7 +5,7 @@ use edr_base::{MemoryFiles, MemoryLink, MemorySink, MemorySource, OutOfMemory, T
 use edr_edition::SteppedShelf;
 use edr_feed::read_feed;
 use edr_make::make_feed;
-use edr_serve::{End, serve_session};
+use edr_serve::{End, REQUEST_LIMIT, serve_session};
 use std::alloc::Global;
 use std::test::Fail;
 
@@ -398,7 +398,7 @@ fn requests_find_ascending_editions(rt: HostRuntime) -> Result<(), Fail> {
     let mut shelf = SteppedShelf::of(alloc, feed.editions.into_vec())?;
     let mut input = MemorySource::of(Vec::from_slice(alloc, THREE)?, 4096, Vec::new(alloc));
     let mut output = MemorySink::of(alloc, 4096, Vec::new(alloc));
-    let report = serve_session(alloc, &mut input, &mut output, &mut shelf).expect(
+    let report = serve_session(alloc, &mut input, &mut output, &mut shelf, REQUEST_LIMIT).expect(
         &rt,
         "a whole session",
     );

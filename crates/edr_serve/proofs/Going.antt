@@ -13,7 +13,7 @@ use Rattle.edr_serve.specs.declared.ends.End.{End}
 use Rattle.edr_serve.specs.declared.ends.End.TheVariants.{EndOfInput}
 use Rattle.edr_serve.specs.declared.reports.OneReport.{OneReport}
 use Rattle.edr_serve.specs.declared.reports.SessionReport.{SessionReport}
-use Rattle.edr_serve.specs.Requests.{Request, IsFirstRequest, Requests, Begun, session_end, request_limit}
+use Rattle.edr_serve.specs.Requests.{Request, IsFirstRequest, Requests, Begun, session_end}
 use Rattle.edr_serve.specs.Replies.{readers, number_of, output, opened}
 use Rattle.edr_serve.specs.Sessions.{State, state, last_number, Answered, BrokeOff, Session, Broken, Waits, BrokenAtOne, AtMost, most_behind, ReadsAhead, chunks_in, Exchanged, Served}
 use Rattle.edr_serve.specs.AheadLaws.{HeldBehind, held_on, held_none, held_read, held_end, ahead_of, held_behind}
@@ -100,54 +100,54 @@ at_end n (Some b) (Some c) t = t.0
 -- ---- in the midst of a session
 
 -- some requests were answered, and what is known of the rest is known of all
-pub record Going (turns : ℕ) (rest behind : Option (List ℕ)) (before now : State) (numbers : List ℕ) (chunks : List (List ℕ)) : Type 0 where
+pub record Going (most turns : ℕ) (rest behind : Option (List ℕ)) (before now : State) (numbers : List ℕ) (chunks : List (List ℕ)) : Type 0 where
   pub done : List Request
   pub editions : List EditionValue
-  pub goes : (rs : List Request) → IfSome behind (λ bytes. Requests turns bytes rs) → IfSome rest (λ bytes. Requests request_limit bytes (done ++ rs))
-  pub begins : (rs : List Request) → IfSome behind (λ bytes. Begun turns bytes rs) → IfSome rest (λ bytes. Begun request_limit bytes (done ++ rs))
-  pub ahead : (rs : List Request) (held : List ℕ) (left : Option (List ℕ)) → HeldBehind turns rs held behind left → HeldBehind request_limit (done ++ rs) held rest left
+  pub goes : (rs : List Request) → IfSome behind (λ bytes. Requests turns bytes rs) → IfSome rest (λ bytes. Requests most bytes (done ++ rs))
+  pub begins : (rs : List Request) → IfSome behind (λ bytes. Begun turns bytes rs) → IfSome rest (λ bytes. Begun most bytes (done ++ rs))
+  pub ahead : (rs : List Request) (held : List ℕ) (left : Option (List ℕ)) → HeldBehind turns rs held behind left → HeldBehind most (done ++ rs) held rest left
   pub ends : (rs : List Request) → session_end (done ++ rs) ≡ session_end rs
-  pub count : turns + length done ≡ request_limit
+  pub count : turns + length done ≡ most
   pub answered : Answered done before now editions numbers chunks
 
-pub going_start : (rest : Option (List ℕ)) (a : State) → Going 1000 rest rest a a [] []
-going_start rest a = record {
+pub going_start : (most : ℕ) (rest : Option (List ℕ)) (a : State) → Going most most rest rest a a [] []
+going_start most rest a = record {
   done = [];
   editions = [];
   goes = λ rs k. k;
   begins = λ rs k. k;
   ahead = λ rs held left t. t;
   ends = λ rs. refl;
-  count = refl;
+  count = omega arith;
   answered = answered_none a;
 }
 
 snoc : (done : List Request) (r : Request) (rs : List Request) → (done ++ r ∷ []) ++ rs ≡ done ++ r ∷ rs
 snoc done r rs = append_assoc done (r ∷ []) rs
 
-going_more : (n : ℕ) (rest b c : Option (List ℕ)) (x y z : State) (ns : List ℕ) (cs : List (List ℕ)) (report : OneReport)
-    → 1 ≤ n → Going n rest b x y ns cs → Exchanged n b c y z report → report.end ≡ None
-    → Going (n - 1) rest c x z (ns ++ option_to_list report.edition) (cs ++ chunks_in report)
-going_more n rest b c x y z ns cs report some g e none =
+going_more : (most n : ℕ) (rest b c : Option (List ℕ)) (x y z : State) (ns : List ℕ) (cs : List (List ℕ)) (report : OneReport)
+    → 1 ≤ n → Going most n rest b x y ns cs → Exchanged n b c y z report → report.end ≡ None
+    → Going most (n - 1) rest c x z (ns ++ option_to_list report.edition) (cs ++ chunks_in report)
+going_more most n rest b c x y z ns cs report some g e none =
     let r = e.request in
     let still : r.end ≡ None = sym e.replied.end ∙ none in
     record {
       done = g.done ++ r ∷ [];
       editions = g.editions ++ e.replied.editions;
-      goes = λ rs k. subst (λ (z : List Request). IfSome rest (λ bytes. Requests request_limit bytes z)) (sym (snoc g.done r rs)) (g.goes (r ∷ rs) (goes_on n b c r rs e.first still k));
-      begins = λ rs k. subst (λ (z : List Request). IfSome rest (λ bytes. Begun request_limit bytes z)) (sym (snoc g.done r rs)) (g.begins (r ∷ rs) (begins_on n b c r rs e.first still k));
-      ahead = λ rs held left t. subst (λ (z : List Request). HeldBehind request_limit z held rest left) (sym (snoc g.done r rs)) (g.ahead (r ∷ rs) held left (held_on n b c left r rs held e.first t));
+      goes = λ rs k. subst (λ (z : List Request). IfSome rest (λ bytes. Requests most bytes z)) (sym (snoc g.done r rs)) (g.goes (r ∷ rs) (goes_on n b c r rs e.first still k));
+      begins = λ rs k. subst (λ (z : List Request). IfSome rest (λ bytes. Begun most bytes z)) (sym (snoc g.done r rs)) (g.begins (r ∷ rs) (begins_on n b c r rs e.first still k));
+      ahead = λ rs held left t. subst (λ (z : List Request). HeldBehind most z held rest left) (sym (snoc g.done r rs)) (g.ahead (r ∷ rs) held left (held_on n b c left r rs held e.first t));
       ends = λ rs. ap session_end (snoc g.done r rs) ∙ (g.ends (r ∷ rs) ∙ ap (λ (o : Option End). unwrap_or o (session_end rs)) still);
       count = omega (arith, g.count, length-append g.done (r ∷ []), some);
       answered = answered_on g.done (r ∷ []) x y z g.editions e.replied.editions ns (option_to_list report.edition) cs (chunks_in report) g.answered e.replied.answered;
     }
 
 -- a session that a request ended
-going_last : (n : ℕ) (held : List ℕ) (rest b c left : Option (List ℕ)) (x y z : State) (ns : List ℕ) (cs : List (List ℕ)) (one : OneReport) (end : End) (report : SessionReport)
-    → Going n rest b x y ns cs → Exchanged n b c y z one → HeldBehind (n - 1) [] held c left → length held ≤ most_behind (Some report.end) → one.end ≡ Some end
-    → report.requests + n ≡ 1001 → report.editions ≡ ns ++ option_to_list one.edition → report.reads ≡ cs ++ chunks_in one → report.end ≡ end
-    → Session rest left x z report
-going_last n held rest b c left x y z ns cs one end report g e ahead few ends count numbers chunks end_is =
+going_last : (most n : ℕ) (held : List ℕ) (rest b c left : Option (List ℕ)) (x y z : State) (ns : List ℕ) (cs : List (List ℕ)) (one : OneReport) (end : End) (report : SessionReport)
+    → Going most n rest b x y ns cs → Exchanged n b c y z one → HeldBehind (n - 1) [] held c left → length held ≤ most_behind (Some report.end) → one.end ≡ Some end
+    → report.requests + n ≡ most + 1 → report.editions ≡ ns ++ option_to_list one.edition → report.reads ≡ cs ++ chunks_in one → report.end ≡ end
+    → Session most rest left x z report
+going_last most n held rest b c left x y z ns cs one end report g e ahead few ends count numbers chunks end_is =
     let r = e.request in
     let closed : r.end ≡ Some end = sym e.replied.end ∙ ends in
     let all = answered_on g.done (r ∷ []) x y z g.editions e.replied.editions ns (option_to_list one.edition) cs (chunks_in one) g.answered e.replied.answered in
@@ -155,7 +155,7 @@ going_last n held rest b c left x y z ns cs one end report g e ahead few ends co
       requests = g.done ++ r ∷ [];
       editions = g.editions ++ e.replied.editions;
       all = g.goes (r ∷ []) (closes_with n b c r end e.first closed);
-      ahead = ahead_of (AtMost (most_behind (Some report.end))) request_limit (g.done ++ r ∷ []) held rest left few (g.ahead (r ∷ []) held left (held_on n b c left r [] held e.first ahead));
+      ahead = ahead_of (AtMost (most_behind (Some report.end))) most (g.done ++ r ∷ []) held rest left few (g.ahead (r ∷ []) held left (held_on n b c left r [] held e.first ahead));
       answered = subst (λ (ds : List (List ℕ)). Answered (g.done ++ r ∷ []) x z (g.editions ++ e.replied.editions) report.editions ds) (sym chunks)
           (subst (λ (ms : List ℕ). Answered (g.done ++ r ∷ []) x z (g.editions ++ e.replied.editions) ms (cs ++ chunks_in one)) (sym numbers) all);
       count = omega (arith, count, g.count, length-append g.done (r ∷ []));
@@ -163,23 +163,23 @@ going_last n held rest b c left x y z ns cs one end report g e ahead few ends co
     }
 
 -- behind those that were answered
-ahead_done : (IsSo : List ℕ → Type 0) (n : ℕ) (held : List ℕ) (rest b left : Option (List ℕ)) (x y : State) (ns : List ℕ) (cs : List (List ℕ)) (g : Going n rest b x y ns cs) → IsSo held → HeldBehind n [] held b left
-    → Told (λ bytes others. ReadsAhead IsSo request_limit g.done bytes others) rest left
-ahead_done IsSo n held rest b left x y ns cs g is ahead =
-    ahead_of IsSo request_limit g.done held rest left is (subst (λ (z : List Request). HeldBehind request_limit z held rest left) (append-nil g.done) (g.ahead [] held left ahead))
+ahead_done : (IsSo : List ℕ → Type 0) (most n : ℕ) (held : List ℕ) (rest b left : Option (List ℕ)) (x y : State) (ns : List ℕ) (cs : List (List ℕ)) (g : Going most n rest b x y ns cs) → IsSo held → HeldBehind n [] held b left
+    → Told (λ bytes others. ReadsAhead IsSo most g.done bytes others) rest left
+ahead_done IsSo most n held rest b left x y ns cs g is ahead =
+    ahead_of IsSo most g.done held rest left is (subst (λ (z : List Request). HeldBehind most z held rest left) (append-nil g.done) (g.ahead [] held left ahead))
 
-begun_done : (n : ℕ) (rest b : Option (List ℕ)) (x y : State) (ns : List ℕ) (cs : List (List ℕ)) (g : Going n rest b x y ns cs) → IfSome rest (λ bytes. Begun request_limit bytes g.done)
-begun_done n rest b x y ns cs g = subst (λ (z : List Request). IfSome rest (λ bytes. Begun request_limit bytes z)) (append-nil g.done) (g.begins [] (begun_none n b))
+begun_done : (most n : ℕ) (rest b : Option (List ℕ)) (x y : State) (ns : List ℕ) (cs : List (List ℕ)) (g : Going most n rest b x y ns cs) → IfSome rest (λ bytes. Begun most bytes g.done)
+begun_done most n rest b x y ns cs g = subst (λ (z : List Request). IfSome rest (λ bytes. Begun most bytes z)) (append-nil g.done) (g.begins [] (begun_none n b))
 
 -- a session whose rest is empty
-going_stop : (n : ℕ) (rest b c left : Option (List ℕ)) (x y : State) (ns : List ℕ) (cs : List (List ℕ)) (report : SessionReport)
-    → Going n rest b x y ns cs → Told (λ u v. (u ≡ []) × (v ≡ [])) b c → HeldBehind n [] [] b left → report.requests + n ≡ 1000 → report.editions ≡ ns → report.reads ≡ cs → report.end ≡ EndOfInput → Session rest left x y report
-going_stop n rest b c left x y ns cs report g e ahead count numbers chunks end_is = record {
+going_stop : (most n : ℕ) (rest b c left : Option (List ℕ)) (x y : State) (ns : List ℕ) (cs : List (List ℕ)) (report : SessionReport)
+    → Going most n rest b x y ns cs → Told (λ u v. (u ≡ []) × (v ≡ [])) b c → HeldBehind n [] [] b left → report.requests + n ≡ most → report.editions ≡ ns → report.reads ≡ cs → report.end ≡ EndOfInput → Session most rest left x y report
+going_stop most n rest b c left x y ns cs report g e ahead count numbers chunks end_is = record {
   requests = g.done;
   editions = g.editions;
-  all = subst (λ (z : List Request). IfSome rest (λ bytes. Requests request_limit bytes z)) (append-nil g.done) (g.goes [] (at_end n b c e));
-  ahead = subst (λ (end : End). Told (λ bytes others. ReadsAhead (AtMost (most_behind (Some end))) request_limit g.done bytes others) rest left) (sym end_is)
-      (ahead_done (AtMost 0) n [] rest b left x y ns cs g (omega arith) ahead);
+  all = subst (λ (z : List Request). IfSome rest (λ bytes. Requests most bytes z)) (append-nil g.done) (g.goes [] (at_end n b c e));
+  ahead = subst (λ (end : End). Told (λ bytes others. ReadsAhead (AtMost (most_behind (Some end))) most g.done bytes others) rest left) (sym end_is)
+      (ahead_done (AtMost 0) most n [] rest b left x y ns cs g (omega arith) ahead);
   answered = subst (λ (ds : List (List ℕ)). Answered g.done x y g.editions report.editions ds) (sym chunks) (subst (λ (ms : List ℕ). Answered g.done x y g.editions ms cs) (sym numbers) g.answered);
   count = omega (arith, count, g.count);
   end = end_is ∙ sym (ap session_end (sym (append-nil g.done)) ∙ g.ends []);
@@ -188,14 +188,14 @@ going_stop n rest b c left x y ns cs report g e ahead count numbers chunks end_i
 -- ---- the steps of the loop
 
 -- one request wasn't served
-pub fault_broken : (n m : ℕ) (rest b left : Option (List ℕ)) (x y z : State) (ns : List ℕ) (cs : List (List ℕ)) → m ≤ most_behind None → ReadsAtMost (most_held m) b left
-    → Going n rest b x y ns cs → BrokenAtOne n b y z → Broken rest left x z
-fault_broken n m rest b left x y z ns cs few read g e = record {
+pub fault_broken : (most n m : ℕ) (rest b left : Option (List ℕ)) (x y z : State) (ns : List ℕ) (cs : List (List ℕ)) → m ≤ most_behind None → ReadsAtMost (most_held m) b left
+    → Going most n rest b x y ns cs → BrokenAtOne n b y z → Broken most rest left x z
+fault_broken most n m rest b left x y z ns cs few read g e = record {
   requests = g.done;
   last = e.requests;
   one = e.one;
   begun = g.begins e.requests e.begun;
-  ahead = ahead_done (AtMost (most_held 0)) n read.bytes rest b left x y ns cs g (omega (arith, few, read.within)) (held_read (most_held m) n b left read);
+  ahead = ahead_done (AtMost (most_held 0)) most n read.bytes rest b left x y ns cs g (omega (arith, few, read.within)) (held_read (most_held m) n b left read);
   editions = g.editions;
   between = y;
   answered = answered_as g.done x y g.editions ns cs g.answered;
@@ -203,13 +203,13 @@ fault_broken n m rest b left x y z ns cs few read g e = record {
 }
 
 -- nothing was begun behind those that were answered
-done_broken : (n : ℕ) (held : List ℕ) (rest b left : Option (List ℕ)) (x y : State) (ns : List ℕ) (cs : List (List ℕ)) → length held ≤ most_held 0 → HeldBehind n [] held b left → Going n rest b x y ns cs → Broken rest left x y
-done_broken n held rest b left x y ns cs few ahead g = record {
+done_broken : (most n : ℕ) (held : List ℕ) (rest b left : Option (List ℕ)) (x y : State) (ns : List ℕ) (cs : List (List ℕ)) → length held ≤ most_held 0 → HeldBehind n [] held b left → Going most n rest b x y ns cs → Broken most rest left x y
+done_broken most n held rest b left x y ns cs few ahead g = record {
   requests = g.done;
   last = [];
   one = omega arith;
   begun = g.begins [] (begun_none n b);
-  ahead = ahead_done (AtMost (most_held 0)) n held rest b left x y ns cs g few ahead;
+  ahead = ahead_done (AtMost (most_held 0)) most n held rest b left x y ns cs g few ahead;
   editions = g.editions;
   between = y;
   answered = answered_as g.done x y g.editions ns cs g.answered;
@@ -221,29 +221,29 @@ pub state_same : {K E : Type 0} (written : K → Option (List ℕ)) (seen : E �
 state_same written seen taken k l e f p q = ap (λ x. state (written x) (seen e) (taken e)) p ∙ ap (λ y. state (written l) (seen y) (taken y)) q
 
 -- a read failed
-pub read_waits : (n m : ℕ) (held held' : List ℕ) (rest left left' : Option (List ℕ)) (x y z : State) (ns : List ℕ) (cs : List (List ℕ)) → m ≤ most_behind None → length held' ≤ most_held m → HasNoHead held'
-    → prepend_known held' left' ≡ prepend_known held left → z ≡ y → Going n rest (prepend_known held left) x y ns cs → Waits rest left' x z
-read_waits n m held held' rest left left' x y z ns cs few more none again same g =
+pub read_waits : (most n m : ℕ) (held held' : List ℕ) (rest left left' : Option (List ℕ)) (x y z : State) (ns : List ℕ) (cs : List (List ℕ)) → m ≤ most_behind None → length held' ≤ most_held m → HasNoHead held'
+    → prepend_known held' left' ≡ prepend_known held left → z ≡ y → Going most n rest (prepend_known held left) x y ns cs → Waits most rest left' x z
+read_waits most n m held held' rest left left' x y z ns cs few more none again same g =
     let b = prepend_known held left in
     let P : List ℕ → Type 0 = λ bytes. AtMost (most_held 0) bytes × HasNoHead bytes in
     let within : length held' ≤ most_held 0 = omega (arith, few, more) in
     record {
       requests = g.done;
-      begun = begun_done n rest b x y ns cs g;
+      begun = begun_done most n rest b x y ns cs g;
       open_ = ap session_end (sym (append-nil g.done)) ∙ g.ends [];
-      ahead = ahead_done P n held' rest b left' x y ns cs g (within, none) (subst (λ (w : Option (List ℕ)). HeldBehind n [] held' w left') again (held_none n held' left'));
+      ahead = ahead_done P most n held' rest b left' x y ns cs g (within, none) (subst (λ (w : Option (List ℕ)). HeldBehind n [] held' w left') again (held_none n held' left'));
       editions = g.editions;
       answered = subst (λ (w : State). Answered g.done x w g.editions (map number_of g.editions) (opened g.done g.editions)) (sym same) (answered_as g.done x y g.editions ns cs g.answered);
     }
 
 -- a request was served, but what is reported of it couldn't be kept
-pub kept_broken : (n m : ℕ) (held : List ℕ) (rest b left : Option (List ℕ)) (x y z : State) (ns : List ℕ) (cs : List (List ℕ)) (report : OneReport)
+pub kept_broken : (most n m : ℕ) (held : List ℕ) (rest b left : Option (List ℕ)) (x y z : State) (ns : List ℕ) (cs : List (List ℕ)) (report : OneReport)
     → m ≤ most_behind None → length held ≤ most_held m → ReadsAtMost (most_held m) b left
-    → Going n rest b x y ns cs → Served n b (prepend_known held left) y z report → Broken rest left x z
+    → Going most n rest b x y ns cs → Served n b (prepend_known held left) y z report → Broken most rest left x z
 unfolding done_broken
-kept_broken n m held rest b left x y z ns cs report few more read g (inl e) =
-    subst (λ (w : State). Broken rest left x w) (sym e.same) (done_broken n read.bytes rest b left x y ns cs (omega (arith, few, read.within)) (held_read (most_held m) n b left read) g)
-kept_broken n m held rest b left x y z ns cs report few more read g (inr e) =
+kept_broken most n m held rest b left x y z ns cs report few more read g (inl e) =
+    subst (λ (w : State). Broken most rest left x w) (sym e.same) (done_broken most n read.bytes rest b left x y ns cs (omega (arith, few, read.within)) (held_read (most_held m) n b left read) g)
+kept_broken most n m held rest b left x y z ns cs report few more read g (inr e) =
     let r = e.request in
     let within : length held ≤ most_held 0 = omega (arith, few, more) in
     let all = answered_on g.done (r ∷ []) x y z g.editions e.replied.editions ns (option_to_list report.edition) cs (chunks_in report) g.answered e.replied.answered in
@@ -251,9 +251,9 @@ kept_broken n m held rest b left x y z ns cs report few more read g (inr e) =
       requests = g.done ++ r ∷ [];
       last = [];
       one = omega arith;
-      begun = subst (λ (w : List Request). IfSome rest (λ bytes. Begun request_limit bytes w)) (sym (append-nil (g.done ++ r ∷ [])))
+      begun = subst (λ (w : List Request). IfSome rest (λ bytes. Begun most bytes w)) (sym (append-nil (g.done ++ r ∷ [])))
           (g.begins (r ∷ []) (begun_one n r b (prepend_known held left) e.first));
-      ahead = ahead_of (AtMost (most_held 0)) request_limit (g.done ++ r ∷ []) held rest left within
+      ahead = ahead_of (AtMost (most_held 0)) most (g.done ++ r ∷ []) held rest left within
           (g.ahead (r ∷ []) held left (held_on n b (prepend_known held left) left r [] held e.first (held_none (n - 1) held left)));
       editions = g.editions ++ e.replied.editions;
       between = z;
@@ -262,46 +262,46 @@ kept_broken n m held rest b left x y z ns cs report few more read g (inr e) =
     }
 
 -- more requests than the limit
-pub limit_broken : (n : ℕ) (held : List ℕ) (rest left : Option (List ℕ)) (x y : State) (ns : List ℕ) (cs : List (List ℕ)) → length held ≤ most_behind None → Going n rest (prepend_known held left) x y ns cs
-    → Broken rest left x y
-limit_broken n held rest left x y ns cs few g =
-    done_broken n held rest (prepend_known held left) left x y ns cs (omega (arith, few)) (held_none n held left) g
+pub limit_broken : (most n : ℕ) (held : List ℕ) (rest left : Option (List ℕ)) (x y : State) (ns : List ℕ) (cs : List (List ℕ)) → length held ≤ most_behind None → Going most n rest (prepend_known held left) x y ns cs
+    → Broken most rest left x y
+limit_broken most n held rest left x y ns cs few g =
+    done_broken most n held rest (prepend_known held left) left x y ns cs (omega (arith, few)) (held_none n held left) g
 
 -- the session goes on
-pub session_goes : (n m : ℕ) (rest b c : Option (List ℕ)) (x y z : State) (ns ms : List ℕ) (cs ds : List (List ℕ)) (report : OneReport)
+pub session_goes : (most n m : ℕ) (rest b c : Option (List ℕ)) (x y z : State) (ns ms : List ℕ) (cs ds : List (List ℕ)) (report : OneReport)
     → report.end ≡ None → 1 ≤ n → m ≡ n - 1 → ms ≡ ns ++ option_to_list report.edition → ds ≡ cs ++ chunks_in report
-    → Going n rest b x y ns cs → Served n b c y z report → Going m rest c x z ms ds
-session_goes n m rest b c x y z ns ms cs ds report none some fewer numbers chunks g (inl e) = absurd (cc (none, ap (λ (o : OneReport). o.end) e.report_is))
-session_goes n m rest b c x y z ns ms cs ds report none some fewer numbers chunks g (inr e) =
-    subst (λ (k : ℕ). Going k rest c x z ms ds) (sym fewer)
-    (subst (λ (w : List (List ℕ)). Going (n - 1) rest c x z ms w) (sym chunks)
-    (subst (λ (w : List ℕ). Going (n - 1) rest c x z w (cs ++ chunks_in report)) (sym numbers) (going_more n rest b c x y z ns cs report some g e none)))
+    → Going most n rest b x y ns cs → Served n b c y z report → Going most m rest c x z ms ds
+session_goes most n m rest b c x y z ns ms cs ds report none some fewer numbers chunks g (inl e) = absurd (cc (none, ap (λ (o : OneReport). o.end) e.report_is))
+session_goes most n m rest b c x y z ns ms cs ds report none some fewer numbers chunks g (inr e) =
+    subst (λ (k : ℕ). Going most k rest c x z ms ds) (sym fewer)
+    (subst (λ (w : List (List ℕ)). Going most (n - 1) rest c x z ms w) (sym chunks)
+    (subst (λ (w : List ℕ). Going most (n - 1) rest c x z w (cs ++ chunks_in report)) (sym numbers) (going_more most n rest b c x y z ns cs report some g e none)))
 
 -- it is over
-pub session_ends : (n turn m : ℕ) (held : List ℕ) (rest b left : Option (List ℕ)) (x y z : State) (ns : List ℕ) (cs : List (List ℕ)) (one : OneReport) (end : End) (report : SessionReport)
-    → one.end ≡ Some end → turn + n ≡ 1001 → (end ≡ EndOfInput → report.requests ≡ turn - 1) → (end ≢ EndOfInput → report.requests ≡ turn) → 1 ≤ turn
+pub session_ends : (most n before m : ℕ) (held : List ℕ) (rest b left : Option (List ℕ)) (x y z : State) (ns : List ℕ) (cs : List (List ℕ)) (one : OneReport) (end : End) (report : SessionReport)
+    → one.end ≡ Some end → before + n ≡ most → (end ≡ EndOfInput → report.requests ≡ before) → (end ≢ EndOfInput → report.requests ≡ before + 1)
     → report.editions ≡ ns ++ option_to_list one.edition → report.reads ≡ cs ++ chunks_in one → report.end ≡ end
     → m ≤ most_behind None → length held ≤ max m (most_behind one.end)
-    → Going n rest b x y ns cs → Served n b (prepend_known held left) y z one → Session rest left x z report
-session_ends n turn m held rest b left x y z ns cs one end report ends sum at_end closed some numbers chunks end_is few more g (inl e) =
+    → Going most n rest b x y ns cs → Served n b (prepend_known held left) y z one → Session most rest left x z report
+session_ends most n before m held rest b left x y z ns cs one end report ends sum at_end closed numbers chunks end_is few more g (inl e) =
     let told : Some EndOfInput ≡ Some end = sym (ap (λ (o : OneReport). o.end) e.report_is) ∙ ends in
     let last : end ≡ EndOfInput = cc in
-    let count : report.requests ≡ turn - 1 = at_end last in
+    let count : report.requests ≡ before = at_end last in
     let edition : one.edition ≡ None = ap (λ (o : OneReport). o.edition) e.report_is in
     let none : option_to_list one.edition ≡ [] = ap option_to_list edition in
     let unread : chunks_in one ≡ [] = ap (λ (o : OneReport). chunks_in o) e.report_is in
-    subst (λ (w : State). Session rest left x w report) (sym e.same)
-    (going_stop n rest b (prepend_known held left) left x y ns cs report g e.at_end (held_end n held b left e.at_end) (omega (arith, count, sum, some)) (numbers ∙ ap (λ w. ns ++ w) none ∙ append-nil ns) (chunks ∙ ap (λ w. cs ++ w) unread ∙ append-nil cs) (end_is ∙ last))
-session_ends n turn m held rest b left x y z ns cs one end report ends sum at_end closed some numbers chunks end_is few more g (inr e) =
+    subst (λ (w : State). Session most rest left x w report) (sym e.same)
+    (going_stop most n rest b (prepend_known held left) left x y ns cs report g e.at_end (held_end n held b left e.at_end) (omega (arith, count, sum)) (numbers ∙ ap (λ w. ns ++ w) none ∙ append-nil ns) (chunks ∙ ap (λ w. cs ++ w) unread ∙ append-nil cs) (end_is ∙ last))
+session_ends most n before m held rest b left x y z ns cs one end report ends sum at_end closed numbers chunks end_is few more g (inr e) =
     let other : end ≢ EndOfInput = λ same. e.ends (ends ∙ ap Some same) in
-    let count : report.requests ≡ turn = closed other in
+    let count : report.requests ≡ before + 1 = closed other in
     let within : length held ≤ most_behind (Some report.end) = subst (λ (o : End). length held ≤ most_behind (Some o)) (sym end_is) (held_behind m held one.end end e.ends ends few more) in
-    going_last n held rest b (prepend_known held left) left x y z ns cs one end report g e (held_none (n - 1) held left) within ends (omega (arith, count, sum)) numbers chunks end_is
+    going_last most n held rest b (prepend_known held left) left x y z ns cs one end report g e (held_none (n - 1) held left) within ends (omega (arith, count, sum)) numbers chunks end_is
 
 -- ---- what is left of the source
 
-pub going_begins : (rest behind : Option (List ℕ)) (a : State) → behind ≡ prepend_known [] rest → Going 1000 rest behind a a [] []
-going_begins rest behind a e = subst (λ (z : Option (List ℕ)). Going 1000 rest z a a [] []) (prepend_nothing rest ∙ sym e) (going_start rest a)
+pub going_begins : (most : ℕ) (rest behind : Option (List ℕ)) (a : State) → behind ≡ prepend_known [] rest → Going most most rest behind a a [] []
+going_begins most rest behind a e = subst (λ (z : Option (List ℕ)). Going most most rest z a a [] []) (prepend_nothing rest ∙ sym e) (going_start most rest a)
 
 pub behind_begins : (rest behind : Option (List ℕ)) → behind ≡ prepend_known [] rest → IsBehind rest behind
 behind_begins rest behind e = ([], prepend_nothing rest ∙ (sym e ∙ prepend_nothing behind))

@@ -11,7 +11,7 @@ use Rattle.edr_http.specs.Checks.{Refuses, is_head, says_close}
 use Rattle.edr_serve.specs.declared.ends.End.{End}
 use Rattle.edr_serve.specs.declared.ends.End.TheVariants.{EndOfInput, ClosedByPeer, ClosedByRefusal, RequestLimit}
 
--- a session has so many requests at most
+-- a session may be given so many requests at most
 abbrev pub request_limit : ℕ
 request_limit = 1_000
 

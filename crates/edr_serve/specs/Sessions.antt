@@ -10,7 +10,7 @@ use Rattle.edr_serve.specs.declared.ends.End.{End}
 use Rattle.edr_serve.specs.declared.ends.End.TheVariants.{EndOfInput, ClosedByPeer, ClosedByRefusal, RequestLimit}
 use Rattle.edr_serve.specs.declared.reports.OneReport.{OneReport}
 use Rattle.edr_serve.specs.declared.reports.SessionReport.{SessionReport}
-use Rattle.edr_serve.specs.Requests.{Request, IsFirstRequest, AreFirst, Requests, Begun, session_end, request_limit}
+use Rattle.edr_serve.specs.Requests.{Request, IsFirstRequest, AreFirst, Requests, Begun, session_end}
 use Rattle.edr_serve.specs.Replies.{readers, number_of, output, opened}
 
 -- what answering changes: the bytes that are written, the editions seen, and the numbers of those taken
@@ -62,7 +62,8 @@ pub record BrokeOff (requests : List Request) (before after : State) : Type 0 wh
   pub order : NeverFall (last_number before.seen) (map number_of editions) (last_number after.seen)
   pub taken : TakenGrew before.taken after.taken (map number_of editions)
 
--- ---- a session; `rest` is what is still to come, and `left` what the source still has of it when the session is over
+-- ---- a session of so many turns at most; `rest` is what is still to come, and `left` what the source still has of it when the
+-- session is over
 
 -- so much is read at most behind the requests of a session that ends so, or goes on: nothing at the end of the input, less than
 -- one block behind a head, and less than a head and one block where there is no head
@@ -84,33 +85,33 @@ pub record ReadsAhead (IsSo : List ℕ → Type 0) (turns : ℕ) (requests : Lis
   pub is : IsSo held
 
 -- all requests of the rest were answered
-pub record Session (rest left : Option (List ℕ)) (before after : State) (report : SessionReport) : Type 0 where
+pub record Session (turns : ℕ) (rest left : Option (List ℕ)) (before after : State) (report : SessionReport) : Type 0 where
   pub requests : List Request
-  pub all : IfSome rest (λ bytes. Requests request_limit bytes requests)
-  pub ahead : Told (λ bytes others. ReadsAhead (AtMost (most_behind (Some report.end))) request_limit requests bytes others) rest left
+  pub all : IfSome rest (λ bytes. Requests turns bytes requests)
+  pub ahead : Told (λ bytes others. ReadsAhead (AtMost (most_behind (Some report.end))) turns requests bytes others) rest left
   pub editions : List EditionValue
   pub answered : Answered requests before after editions report.editions report.reads
   pub count : report.requests ≡ length requests
   pub end : report.end ≡ session_end requests
 
 -- a fault came: some of them were answered, and behind those one was begun, or none
-pub record Broken (rest left : Option (List ℕ)) (before after : State) : Type 0 where
+pub record Broken (turns : ℕ) (rest left : Option (List ℕ)) (before after : State) : Type 0 where
   pub requests : List Request
   pub last : List Request
   pub one : length last ≤ 1
-  pub begun : IfSome rest (λ bytes. Begun request_limit bytes (requests ++ last))
-  pub ahead : Told (λ bytes others. ReadsAhead (AtMost (most_held 0)) request_limit requests bytes others) rest left
+  pub begun : IfSome rest (λ bytes. Begun turns bytes (requests ++ last))
+  pub ahead : Told (λ bytes others. ReadsAhead (AtMost (most_held 0)) turns requests bytes others) rest left
   pub editions : List EditionValue
   pub between : State
   pub answered : Answered requests before between editions (map number_of editions) (opened requests editions)
   pub broke_off : BrokeOff last between after
 
 -- a read failed: all requests that had come were answered, none of them ends the session, and no head was read behind them
-pub record Waits (rest left : Option (List ℕ)) (before after : State) : Type 0 where
+pub record Waits (turns : ℕ) (rest left : Option (List ℕ)) (before after : State) : Type 0 where
   pub requests : List Request
-  pub begun : IfSome rest (λ bytes. Begun request_limit bytes requests)
+  pub begun : IfSome rest (λ bytes. Begun turns bytes requests)
   pub open_ : session_end requests ≡ EndOfInput
-  pub ahead : Told (λ bytes others. ReadsAhead (λ held. AtMost (most_held 0) held × HasNoHead held) request_limit requests bytes others) rest left
+  pub ahead : Told (λ bytes others. ReadsAhead (λ held. AtMost (most_held 0) held × HasNoHead held) turns requests bytes others) rest left
   pub editions : List EditionValue
   pub answered : Answered requests before after editions (map number_of editions) (opened requests editions)
 

@@ -1,8 +1,9 @@
 //! Connections that are accepted, and what became of them.
-ghost use Rattle.std.specs.Prelude.{◌≡◌, ◌⊎◌, [], IfOk, OnOk, OnErr, IsErrOf};
+ghost use Rattle.std.specs.Prelude.{◌≡◌, ◌⊎◌, ◌≤◌, [], IfOk, OnOk, OnErr, IsErrOf};
 ghost use Rattle.edr_base.specs.Outside.{Rose};
 ghost use Rattle.edr_base.specs.Calls.{SourceLent, SinkLent, IsFlushed};
 ghost use Rattle.edr_http.specs.Heads.{Told, IsBehind};
+ghost use Rattle.edr_serve.specs.Requests.{request_limit};
 ghost use Rattle.edr_serve.specs.Sessions.{state, Session, Broken, Waits};
 ghost use Rattle.edr_serve.specs.Connections.{source_of, sink_of, served_source, served_sink, outcome_of};
 
@@ -54,18 +55,20 @@ impl<S, K> Served<S, K> {
     }
 }
 
-/// Serves a connection: one session over its source and its sink, from this shelf. What comes of it says all that
-/// `serve_session` says, and nothing else is read, written or taken.
+/// Serves a connection: one session over its source and its sink, from this shelf, with so many requests at most. What comes
+/// of it says all that `serve_session` says, and nothing else is read, written or taken.
 pub fn serve_connection<S: Source + Drop, K: Sink + Drop, E: Editions>(
     alloc: Global,
     connection: Connection<S, K>,
     shelf: &mut E,
+    requests: u32,
 ) -> Served<S, K>
-    ensures done { IfOk (outcome_of result) (λ report. Session (S.left (source_of connection)) (S.left (served_source result))
+    requires { (1 ≤ requests) × (requests ≤ request_limit) }
+    ensures done { IfOk (outcome_of result) (λ report. Session requests (S.left (source_of connection)) (S.left (served_source result))
         (state (K.written (sink_of connection)) (E.seen shelf.old) (E.taken shelf.old)) (state (K.written (served_sink result)) (E.seen shelf.new) (E.taken shelf.new)) report) }
-    ensures fault { OnErr (outcome_of result) (Broken (S.left (source_of connection)) (S.left (served_source result))
+    ensures fault { OnErr (outcome_of result) (Broken requests (S.left (source_of connection)) (S.left (served_source result))
         (state (K.written (sink_of connection)) (E.seen shelf.old) (E.taken shelf.old)) (state (K.written (served_sink result)) (E.seen shelf.new) (E.taken shelf.new))) }
-    ensures waits { IsErrOf (outcome_of result) SessionFault.ReadFault → Waits (S.left (source_of connection)) (S.left (served_source result))
+    ensures waits { IsErrOf (outcome_of result) SessionFault.ReadFault → Waits requests (S.left (source_of connection)) (S.left (served_source result))
         (state (K.written (sink_of connection)) (E.seen shelf.old) (E.taken shelf.old)) (state (K.written (served_sink result)) (E.seen shelf.new) (E.taken shelf.new)) }
     ensures stock { E.stock shelf.new ≡ E.stock shelf.old }
     ensures behind { IsBehind (S.left (source_of connection)) (S.left (served_source result)) }
@@ -88,7 +91,7 @@ pub fn serve_connection<S: Source + Drop, K: Sink + Drop, E: Editions>(
         mut source,
         mut sink,
     } = connection;
-    let outcome = serve_session(alloc, &mut source, &mut sink, shelf);
+    let outcome = serve_session(alloc, &mut source, &mut sink, shelf, requests);
     Served {
         source,
         sink,

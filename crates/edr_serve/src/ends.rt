@@ -9,6 +9,6 @@ pub enum End {
     ClosedByPeer,
     /// The last head was refused, with the refusal of this number, from 1 to 4: what follows it can't be told from it.
     ClosedByRefusal(u8),
-    /// A session answers no more requests than 1,000.
+    /// The session answered as many requests as it may.
     RequestLimit,
 }

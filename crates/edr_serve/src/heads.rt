@@ -1,16 +1,14 @@
 //! The reply to one head.
-ghost use Rattle.std.specs.Prelude.{◌≡◌, ◌≢◌, ◌+◌, ◌-◌, ◌≤◌, [], ◌∷◌, None, Some, Ok, Err, is_some, IfOk, OnOk, OnErr, IsErrOf};
+ghost use Rattle.std.specs.Prelude.{◌≡◌, ◌≢◌, [], ◌∷◌, None, Some, Ok, Err, is_some, IfOk, OnOk, OnErr, IsErrOf};
 ghost use Rattle.edr_base.specs.Outside.{Rose};
 ghost use Rattle.edr_base.specs.Calls.{SinkLent, Writes, IsFlushed};
 ghost use Rattle.edr_http.specs.Replies.{reply_text, refusal_body};
 ghost use Rattle.edr_serve.specs.Requests as requests;
-ghost use Rattle.edr_serve.specs.Requests.{request_limit};
 ghost use Rattle.edr_serve.specs.Replies.{body_from, chunks_from};
 ghost use Rattle.edr_serve.specs.Sessions.{state, IsReplied, BrokeOff};
 ghost use Rattle.edr_serve.specs.Serving.{HeadReplied, HeadBroken};
 
 use crate::ends::End;
-use crate::limits::REQUEST_LIMIT;
 use crate::replying::reply_page;
 use crate::reports::OneReport;
 use edr_base::{Refusal, SendFault, Sink, settle};
@@ -20,32 +18,30 @@ use edr_http::{Head, check_head, write_refusal};
 use edr_query::{Page, TargetFault, read_target};
 use std::alloc::Global;
 
-// The end with a request, by whether the peer closes and by its turn.
-fn end_by_turns(turn: u32, close: bool) -> Option<End>
-    requires { turn ≤ request_limit }
-    ensures is { result ≡ requests.end_by_turns (request_limit + 1 - turn) close }
+// The end with a request, by whether the peer closes and by the turns that are left, its own among them.
+fn end_by_turns(turns: u32, close: bool) -> Option<End>
+    ensures is { result ≡ requests.end_by_turns turns close }
     ensures going { result ≢ Some End.EndOfInput }
 {
     if close {
         return Some(End::ClosedByPeer);
     }
-    if turn == REQUEST_LIMIT {
+    if turns == 1 {
         return Some(End::RequestLimit);
     }
     None
 }
 
 // The end with a request that is refused.
-fn end_refused(turn: u32, close: bool, refusal: Refusal) -> Option<End>
-    requires { turn ≤ request_limit }
-    ensures is { result ≡ requests.end_of (request_limit + 1 - turn) close (Err refusal) }
+fn end_refused(turns: u32, close: bool, refusal: Refusal) -> Option<End>
+    ensures is { result ≡ requests.end_of turns close (Err refusal) }
     ensures going { result ≢ Some End.EndOfInput }
 {
     let number = refusal.number();
     if number <= 4 {
         return Some(End::ClosedByRefusal(number));
     }
-    end_by_turns(turn, close)
+    end_by_turns(turns, close)
 }
 
 /// Writes the reply that refuses a request from no edition, and flushes.
@@ -125,12 +121,11 @@ pub(crate) fn answer_head<K: Sink, E: Editions>(
     sink: &mut K,
     shelf: &mut E,
     head: &Head,
-    turn: u32,
+    turns: u32,
 ) -> Result<OneReport, SendFault>
-    requires { turn ≤ request_limit }
-    ensures done { IfOk result (λ report. HeadReplied (request_limit + 1 - turn) head.now
+    ensures done { IfOk result (λ report. HeadReplied turns head.now
         (state (K.written sink.old) (E.seen shelf.old) (E.taken shelf.old)) (state (K.written sink.new) (E.seen shelf.new) (E.taken shelf.new)) report) }
-    ensures broke { OnErr result (HeadBroken (request_limit + 1 - turn) head.now
+    ensures broke { OnErr result (HeadBroken turns head.now
         (state (K.written sink.old) (E.seen shelf.old) (E.taken shelf.old)) (state (K.written sink.new) (E.seen shelf.new) (E.taken shelf.new))) }
     ensures stock { E.stock shelf.new ≡ E.stock shelf.old }
     ensures going { IfOk result (λ report. report.end ≢ Some End.EndOfInput) }
@@ -140,16 +135,16 @@ pub(crate) fn answer_head<K: Sink, E: Editions>(
 {
     let ask = check_head(head);
     if let Some(refusal) = ask.refusal {
-        let end = end_refused(turn, ask.close, refusal);
+        let end = end_refused(turns, ask.close, refusal);
         return refuse(alloc, sink, refusal, ask.is_head, end);
     }
     match read_target(alloc, head.target.bytes()) {
         Ok(page) => {
-            let end = end_by_turns(turn, ask.close);
+            let end = end_by_turns(turns, ask.close);
             answer_page(alloc, sink, shelf, page, ask.is_head, end)
         }
         Err(TargetFault::Refused(refusal)) => {
-            let end = end_refused(turn, ask.close, refusal);
+            let end = end_refused(turns, ask.close, refusal);
             refuse(alloc, sink, refusal, ask.is_head, end)
         }
         Err(TargetFault::OutOfMemory) => Err(SendFault::OutOfMemory),

@@ -1,4 +1,4 @@
 //! The limit of a session.
 
-/// A session has at most so many requests; the reply to the last closes the connection.
+/// A session may be given at most so many requests; the reply to the last of those that it is given closes the connection.
 pub const REQUEST_LIMIT: u32 = 1_000;

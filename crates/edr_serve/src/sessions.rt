@@ -9,7 +9,6 @@ ghost use Rattle.edr_serve.specs.Sessions.{state, chunks_in, most_behind, Served
 
 use crate::ends::End;
 use crate::heads::{answer_head, refuse};
-use crate::limits::REQUEST_LIMIT;
 use crate::reports::{OneReport, SessionFault, SessionReport};
 use edr_base::{Items, OutOfMemory, Sink, Source};
 use edr_chunk::Reads;
@@ -17,8 +16,8 @@ use edr_edition::Editions;
 use edr_http::{HeadOutcome, Inbox, read_head};
 use std::alloc::Global;
 
-/// Serves one request of a connection: reads its head, and writes the reply and flushes it. `turn` is its number in the
-/// session, from 1 to `REQUEST_LIMIT`; a reply to the last closes the connection.
+/// Serves one request of a connection: reads its head, and writes the reply and flushes it. `turns` is how many
+/// the connection may still have, this one among them; a reply to the last closes the connection.
 ///
 /// A request for a page is answered from the newest edition of the shelf, which it takes once, and any other request from
 /// none. Where the input is at its end, nothing is written or taken. It puts no edition on the shelf. Nothing is read where
@@ -36,13 +35,13 @@ pub fn serve_one<S: Source, K: Sink, E: Editions>(
     sink: &mut K,
     shelf: &mut E,
     inbox: &mut Inbox,
-    turn: u32,
+    turns: u32,
 ) -> Result<OneReport, SessionFault>
-    requires { (1 ≤ turn) × (turn ≤ request_limit) }
-    ensures done { IfOk result (λ report. Served (request_limit + 1 - turn)
+    requires { 1 ≤ turns }
+    ensures done { IfOk result (λ report. Served turns
         (prepend_known inbox.old (S.left source.old)) (prepend_known inbox.new (S.left source.new))
         (state (K.written sink.old) (E.seen shelf.old) (E.taken shelf.old)) (state (K.written sink.new) (E.seen shelf.new) (E.taken shelf.new)) report) }
-    ensures fault { OnErr result (BrokenAtOne (request_limit + 1 - turn) (prepend_known inbox.old (S.left source.old))
+    ensures fault { OnErr result (BrokenAtOne turns (prepend_known inbox.old (S.left source.old))
         (state (K.written sink.old) (E.seen shelf.old) (E.taken shelf.old)) (state (K.written sink.new) (E.seen shelf.new) (E.taken shelf.new))) }
     ensures stock { E.stock shelf.new ≡ E.stock shelf.old }
     ensures behind { IsBehind (prepend_known inbox.old (S.left source.old)) (prepend_known inbox.new (S.left source.new)) }
@@ -63,7 +62,7 @@ pub fn serve_one<S: Source, K: Sink, E: Editions>(
     ensures write { IsErrOf result SessionFault.WriteFault → Rose (K.faults sink.old) (K.faults sink.new) }
 {
     match read_head(alloc, source, inbox)? {
-        HeadOutcome::Got(head) => Ok(answer_head(alloc, sink, shelf, &head, turn)?),
+        HeadOutcome::Got(head) => Ok(answer_head(alloc, sink, shelf, &head, turns)?),
         HeadOutcome::EndOfInput => Ok(OneReport {
             edition: None,
             reads: Reads::new(alloc),
@@ -93,21 +92,22 @@ fn keep(
     Ok(())
 }
 
-// How many replies were written, where the session ended at a turn.
-fn replies(turn: u32, end: End) -> u32
-    requires { 1 ≤ turn }
-    ensures at_end { end ≡ End.EndOfInput → result ≡ turn - 1 }
-    ensures closed { end ≢ End.EndOfInput → result ≡ turn }
+// How many replies were written, where the session ended behind so many requests.
+fn replies(before: u32, end: End) -> u32
+    requires { before ≤ request_limit }
+    ensures at_end { end ≡ End.EndOfInput → result ≡ before }
+    ensures closed { end ≢ End.EndOfInput → result ≡ before + 1 }
 {
     match end {
-        End::EndOfInput => turn - 1,
-        End::ClosedByPeer => turn,
-        End::ClosedByRefusal(_) => turn,
-        End::RequestLimit => turn,
+        End::EndOfInput => before,
+        End::ClosedByPeer => before + 1,
+        End::ClosedByRefusal(_) => before + 1,
+        End::RequestLimit => before + 1,
     }
 }
 
-/// Serves the requests of a connection, in their order, until one ends the session or the input is at its end.
+/// Serves the requests of a connection, in their order, until one ends the session or the input is at its end. `requests` is how
+/// many the connection may have, from 1 to `REQUEST_LIMIT`; the reply to the last closes it.
 ///
 /// Each request for a page is answered from one edition, the newest when its turn comes, and every reply is flushed. It puts no
 /// edition on the shelf. With `Ok` less than 4,096 bytes were read behind the request that ended the session, or where no head
@@ -122,12 +122,14 @@ pub fn serve_session<S: Source, K: Sink, E: Editions>(
     source: &mut S,
     sink: &mut K,
     shelf: &mut E,
+    requests: u32,
 ) -> Result<SessionReport, SessionFault>
-    ensures done { IfOk result (λ report. Session (S.left source.old) (S.left source.new)
+    requires { (1 ≤ requests) × (requests ≤ request_limit) }
+    ensures done { IfOk result (λ report. Session requests (S.left source.old) (S.left source.new)
         (state (K.written sink.old) (E.seen shelf.old) (E.taken shelf.old)) (state (K.written sink.new) (E.seen shelf.new) (E.taken shelf.new)) report) }
-    ensures fault { OnErr result (Broken (S.left source.old) (S.left source.new)
+    ensures fault { OnErr result (Broken requests (S.left source.old) (S.left source.new)
         (state (K.written sink.old) (E.seen shelf.old) (E.taken shelf.old)) (state (K.written sink.new) (E.seen shelf.new) (E.taken shelf.new))) }
-    ensures waits { IsErrOf result SessionFault.ReadFault → Waits (S.left source.old) (S.left source.new)
+    ensures waits { IsErrOf result SessionFault.ReadFault → Waits requests (S.left source.old) (S.left source.new)
         (state (K.written sink.old) (E.seen shelf.old) (E.taken shelf.old)) (state (K.written sink.new) (E.seen shelf.new) (E.taken shelf.new)) }
     ensures stock { E.stock shelf.new ≡ E.stock shelf.old }
     ensures behind { IsBehind (S.left source.old) (S.left source.new) }
@@ -142,9 +144,9 @@ pub fn serve_session<S: Source, K: Sink, E: Editions>(
     let mut inbox = Inbox::new(alloc);
     let mut editions = Vec::new(alloc);
     let mut reads = Vec::new(alloc);
-    let mut turn: u32 = 1;
-    'requests: while turn <= REQUEST_LIMIT {
-        let report = serve_one(alloc, source, sink, shelf, &mut inbox, turn)?;
+    let mut turns = requests;
+    'requests: while turns > 0 {
+        let report = serve_one(alloc, source, sink, shelf, &mut inbox, turns)?;
         let OneReport {
             edition,
             reads: opened,
@@ -154,7 +156,7 @@ pub fn serve_session<S: Source, K: Sink, E: Editions>(
         match end {
             Some(end) => {
                 return Ok(SessionReport {
-                    requests: replies(turn, end),
+                    requests: replies(requests - turns, end),
                     editions: Items::of(editions),
                     reads: Items::of(reads),
                     end,
@@ -162,7 +164,7 @@ pub fn serve_session<S: Source, K: Sink, E: Editions>(
             }
             None => {}
         }
-        turn += 1;
+        turns -= 1;
     }
     Err(SessionFault::OutOfMemory)
 }

@@ -1,4 +1,4 @@
-use Rattle.std.proofs.Common.{◌-◌, ap, rules}
+use Rattle.std.proofs.Common.{ap, rules}
 use Rattle.edr_serve.proofs.OneReply.{on_err}
 use Rattle.edr_serve.proofs.OneRequest.{served_head, served_refused, broken_head, broken_bad, head_lost, head_ahead, head_short}
 use Rattle.edr_serve.proofs.sessions.serve_one.Goals as goal
@@ -9,7 +9,7 @@ returns-in_err-head-clause-none g c read = c.in_err-head.ensures.none (search ru
 pub returns-in_err-answer_head-in-Got-clause-fault : goal.returns-in_err-answer_head-in-Got-clause-fault
 returns-in_err-answer_head-in-Got-clause-fault g c =
     let found = rw c.in-Got.is at c.in_ok-head.ensures.done in
-    on_err c.from_residual-in_err-answer_head-in-Got.result _ (broken_head (1001 - c.args.turn) c.in-Got.head _ _ _ _ c.in_err-answer_head-in-Got.ensures.broke found)
+    on_err c.from_residual-in_err-answer_head-in-Got.result _ (broken_head c.args.turns c.in-Got.head _ _ _ _ c.in_err-answer_head-in-Got.ensures.broke found)
 
 pub returns-in_err-answer_head-in-Got-clause-lost : goal.returns-in_err-answer_head-in-Got-clause-lost
 returns-in_err-answer_head-in-Got-clause-lost g c =
@@ -25,13 +25,13 @@ returns-in_err-answer_head-in-Got-clause-ahead g c =
 pub returns-in_err-refuse-in-Refused-clause-fault : goal.returns-in_err-refuse-in-Refused-clause-fault
 returns-in_err-refuse-in-Refused-clause-fault g c =
     let found = rw c.in-Refused.is at c.in_ok-head.ensures.done in
-    on_err c.from_residual-in_err-refuse-in-Refused.result _ (broken_bad (1001 - c.args.turn) c.in-Refused.refusal _ _ _ _ _ _ found.0 found.1 c.in_err-refuse-in-Refused.ensures.bytes.front)
+    on_err c.from_residual-in_err-refuse-in-Refused.result _ (broken_bad c.args.turns c.in-Refused.refusal _ _ _ _ _ _ found.0 found.1 c.in_err-refuse-in-Refused.ensures.bytes.front)
 
 pub returns-in_ok-answer_head-in-Got-clause-done : goal.returns-in_ok-answer_head-in-Got-clause-done
 returns-in_ok-answer_head-in-Got-clause-done g c =
     let found = rw c.in-Got.is at c.in_ok-head.ensures.done in
     let answered = c.in_ok-answer_head-in-Got.ensures in
-    served_head (1001 - c.args.turn) c.in-Got.head _ _ _ _ c.in_ok-answer_head-in-Got.field-0 answered.done answered.going found
+    served_head c.args.turns c.in-Got.head _ _ _ _ c.in_ok-answer_head-in-Got.field-0 answered.done answered.going found
 
 pub returns-in_ok-answer_head-in-Got-clause-short : goal.returns-in_ok-answer_head-in-Got-clause-short
 returns-in_ok-answer_head-in-Got-clause-short g c =
@@ -47,4 +47,4 @@ pub returns-in_ok-refuse-in-Refused-clause-done : goal.returns-in_ok-refuse-in-R
 returns-in_ok-refuse-in-Refused-clause-done g c =
     let found = rw c.in-Refused.is at c.in_ok-head.ensures.done in
     let refused = c.in_ok-refuse-in-Refused.ensures in
-    served_refused (1001 - c.args.turn) c.in-Refused.refusal _ _ _ _ _ _ c.in_ok-refuse-in-Refused.field-0 found.0 found.1 refused.bytes.whole refused.report
+    served_refused c.args.turns c.in-Refused.refusal _ _ _ _ _ _ c.in_ok-refuse-in-Refused.field-0 found.0 found.1 refused.bytes.whole refused.report

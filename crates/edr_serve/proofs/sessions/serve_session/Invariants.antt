@@ -1,4 +1,4 @@
-use Rattle.std.proofs.Common.{◌≡◌, ◌≤◌, ◌-◌, ◌⊎◌, None, length}
+use Rattle.std.proofs.Common.{◌≡◌, ◌≤◌, ◌⊎◌, None, length}
 use Rattle.std.specs.Io.KnownBytes.{prepend_known}
 use Rattle.edr_base.specs.Calls.{SinkLent, SourceLent, IsFlushed}
 use Rattle.edr_http.specs.Heads.{IsBehind}
@@ -9,8 +9,8 @@ use Rattle.edr_serve.proofs.sessions.serve_session.Given as goal
 abbrev pub invariant-requests : goal.invariant-requests
 invariant-requests g l =
     record {
-      turn_in : (1 ≤ l.turn) × (l.turn ≤ 1001);
-      going : Going (1001 - l.turn) (g.S.Source.left l.fn.source) (prepend_known l.inbox (g.S.Source.left l.source))
+      turns_in : l.turns ≤ l.fn.requests;
+      going : Going l.fn.requests l.turns (g.S.Source.left l.fn.source) (prepend_known l.inbox (g.S.Source.left l.source))
           (state (g.K.Sink.written l.fn.sink) (g.E.Editions.seen l.fn.shelf) (g.E.Editions.taken l.fn.shelf))
           (state (g.K.Sink.written l.sink) (g.E.Editions.seen l.shelf) (g.E.Editions.taken l.shelf))
           l.editions.items l.reads.items;
@@ -23,4 +23,4 @@ invariant-requests g l =
     }
 
 abbrev pub decreases-requests : goal.decreases-requests
-decreases-requests g l = 1001 - l.turn
+decreases-requests g l = l.turns
