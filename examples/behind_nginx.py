@@ -4,9 +4,9 @@
     behind_nginx.py in PORT     once the daemon at PORT has come to the newest edition of the daemons that are in
     behind_nginx.py out PORT    and waits until nginx has no connection to it any more, for 60 seconds at most
 
-It changes the file that nginx.conf includes, and has nginx read it. A daemon begins at the first edition of its feed, so one that
-was started again is let in when it is as far as the others: start daemons with `--every 0`, which publishes all editions of the
-feed at once, and add new editions at the end of the feed, so that their numbers go on. Then a restart is
+It changes the file that nginx.conf includes, and has nginx read it. One that was started again is let
+in when it is as far as the others: start daemons with `--last`, which serves the last edition of the feed from the start, and add
+new editions at the end of the feed, so that their numbers go on. Then a restart is
 
     behind_nginx.py out 8081; (stop the daemon at 8081, start it again); behind_nginx.py in 8081
 

@@ -70,7 +70,7 @@ class Server:
 
 
 def edrd(feed, workers=WORKERS):
-    return Server(lambda port: [EDRD, feed, "--port", str(port), "--workers", str(workers)])
+    return Server(lambda port: [EDRD, feed, "--port", str(port), "--workers", str(workers), "--requests", "1000"])
 
 
 def read_reply(connection, held=b""):

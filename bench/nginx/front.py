@@ -39,7 +39,8 @@ class Daemon:
 
     def __init__(self, feed, workers=WORKERS, every=0, port=None, log=None):
         self.port = port or daemon.free_port()
-        words = [daemon.EDRD, feed, "--port", str(self.port), "--workers", str(workers), "--every", str(every)]
+        words = [daemon.EDRD, feed, "--port", str(self.port), "--workers", str(workers), "--every", str(every),
+                 "--requests", "1000"]
         self.process = subprocess.Popen(words, stdin=subprocess.DEVNULL, stdout=log, stderr=log)
 
     def wait(self):
