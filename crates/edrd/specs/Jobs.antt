@@ -2,7 +2,7 @@
 use Rattle.std.specs.Prelude.{◌≡◌, ℕ, ◌+◌, ◌≤◌, Bool, true, not}
 use Rattle.edr_base.specs.Outside.{Rose}
 use Rattle.edrd.specs.Limits.{accept_limit}
-use Rattle.edrd.specs.declared.working.Serving.{Serving}
+use Rattle.edrd.specs.declared.jobs.Serving.{Serving}
 
 -- a job served until no more connections came, or an accept failed, and counted what it did
 module _ {A : Type 0} (given finished faulted faults : A → ℕ) (over : A → Bool) where

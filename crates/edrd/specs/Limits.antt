@@ -26,6 +26,10 @@ idle_limit = 86_400
 abbrev pub default_idle : ℕ
 default_idle = 30
 
+-- the requests of a connection
+abbrev pub default_requests : ℕ
+default_requests = 100
+
 -- the connections of each worker that words ask for
 abbrev pub connection_limit : ℕ
 connection_limit = 1_000_000

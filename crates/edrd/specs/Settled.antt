@@ -1,5 +1,6 @@
 -- What is so of all that words ask for; for private clauses.
 use Rattle.std.specs.Prelude.{◌≤◌, ⊤, IsUtf8}
+use Rattle.edr_serve.specs.Requests.{request_limit}
 use Rattle.edrd.specs.Limits.{worker_limit}
 use Rattle.edrd.specs.declared.words.Settings.{Settings}
 use Rattle.edrd.specs.declared.words.Asked.{Asked}
@@ -8,6 +9,8 @@ use Rattle.edrd.specs.declared.words.Asked.TheVariants.{Nothing, Help, Version, 
 pub record IsWithin (settings : Settings) : Type 0 where
   pub some : 1 ≤ settings.workers
   pub few : settings.workers ≤ worker_limit
+  pub asked : 1 ≤ settings.requests
+  pub bounded : settings.requests ≤ request_limit
   pub named : IsUtf8 settings.feed
 
 abbrev pub AreWithin : Asked → Type 0

@@ -10,12 +10,13 @@ use Rattle.clap.specs.Simple.{matches_of}
 use Rattle.clap.specs.Faults.{fault_of}
 use Rattle.clap.specs.declared.builder.action.ArgAction.TheVariants.{SetTrue}
 use Rattle.edr_program.specs.Numbers.{is_number}
-use Rattle.edrd.specs.Limits.{port_limit, worker_limit, default_workers, pause_limit, default_pause, idle_limit, default_idle, connection_limit, endless}
+use Rattle.edr_serve.specs.Requests.{request_limit}
+use Rattle.edrd.specs.Limits.{port_limit, worker_limit, default_workers, pause_limit, default_pause, idle_limit, default_idle, default_requests, connection_limit, endless}
 use Rattle.edrd.specs.declared.words.Settings.{Settings}
 use Rattle.edrd.specs.declared.words.Asked.{Asked}
 use Rattle.edrd.specs.declared.words.Asked.TheVariants.{Nothing, Help, Version, Serve}
 
--- ---- the command: one positional argument, the feed, five options of one value each, and a flag
+-- ---- the command: one positional argument, the feed, six options of one value each, and a flag
 
 abbrev pub feed_rule : Rule
 feed_rule = record (new_rule (codes "feed")) { required = true }
@@ -33,10 +34,13 @@ flag_rule name = record (new_rule name) { long = Some name; action = Some SetTru
 abbrev pub bare_command : App
 bare_command = with_rule (with_rule (new_app (codes "edrd")) feed_rule) port_rule
 
+-- with how it serves
+abbrev pub serving_command : App
+serving_command =
+    with_rule (with_rule (with_rule bare_command (option_rule (codes "workers"))) (option_rule (codes "every"))) (option_rule (codes "connections"))
+
 abbrev pub command : App
-command =
-    with_rule (with_rule (with_rule (with_rule (with_rule bare_command (option_rule (codes "workers"))) (option_rule (codes "every")))
-    (option_rule (codes "connections"))) (option_rule (codes "idle"))) (flag_rule (codes "last"))
+command = with_rule (with_rule (with_rule serving_command (option_rule (codes "idle"))) (option_rule (codes "requests"))) (flag_rule (codes "last"))
 
 -- the words behind the name of the program
 abbrev pub all_words : List (List ℕ) → List (List ℕ)
@@ -67,7 +71,9 @@ settings_in rows =
     option_and_then (λ w.
     option_and_then (λ e.
     option_and_then (λ c.
-    option_map (λ i. record { feed = f; port = p; workers = w; every = e; connections = c; idle = i; last = is_true (first_of (codes "last") rows) })
+    option_and_then (λ i.
+    option_map (λ r. record { feed = f; port = p; workers = w; every = e; connections = c; idle = i; requests = r; last = is_true (first_of (codes "last") rows) })
+    (number_or default_requests 1 request_limit (first_of (codes "requests") rows)))
     (number_or default_idle 1 idle_limit (first_of (codes "idle") rows)))
     (number_or endless 0 connection_limit (first_of (codes "connections") rows)))
     (number_or default_pause 0 pause_limit (first_of (codes "every") rows)))

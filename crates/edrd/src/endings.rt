@@ -10,7 +10,7 @@ use edr_program::{said_of_feed, tell_line};
 
 /// The usage line.
 pub const USAGE: &[u8] =
-    b"usage: edrd FEED --port P [--workers W] [--every S] [--connections C] [--idle I] [--last]";
+    b"usage: edrd FEED --port P [--workers W] [--every S] [--connections C] [--idle I] [--requests R] [--last]";
 
 /// How a run ends, by its cause.
 #[derive(Clone, Copy, Debug, PartialEq, Eq)]

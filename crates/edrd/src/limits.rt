@@ -21,6 +21,9 @@ pub const IDLE_LIMIT: u64 = 86_400;
 /// So long may it be idle where the words leave it out, in seconds.
 pub const DEFAULT_IDLE: u64 = 30;
 
+/// So many requests may a connection have where the words leave their number out.
+pub const DEFAULT_REQUESTS: u64 = 100;
+
 /// The words ask for at most so many connections of each worker.
 pub const CONNECTION_LIMIT: u64 = 1_000_000;
 

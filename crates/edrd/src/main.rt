@@ -8,6 +8,7 @@ mod doors;
 mod endings;
 mod feeding;
 mod gate;
+mod jobs;
 mod limits;
 mod patience;
 mod publishing;

@@ -21,15 +21,18 @@ const POSITION: &[u8] =
 // were closed, how many connections were answered, the errors, and the standard output, whose line feeds are `;`. `bind` are
 // doors that refuse to open, `told` is the first write of the errors, `said` that of the standard output, `peer` a connection
 // whose reply can't be sent, `turns` a gate that lets all editions pass and doors through which nothing comes, and a number that
-// call of the files. Else two connections come through the first door, and one through the second, and the gate lets none pass.
+// call of the files. Else two connections come through the first door, and one through the second, and the gate lets none pass. A reply to the last
+// request that a connection may have is another one.
 const RUNS: &str = "\
-nothing => 1 0 0 0 usage: edrd FEED --port P [--workers W] [--every S] [--connections C] [--idle I] [--last];
-nothing feed => 1 0 0 0 usage: edrd FEED --port P [--workers W] [--every S] [--connections C] [--idle I] [--last];
-nothing feed|--port|0|--workers|65 => 1 0 0 0 usage: edrd FEED --port P [--workers W] [--every S] [--connections C] [--idle I] [--last];
-nothing ?|--port|0 => 1 0 0 0 usage: edrd FEED --port P [--workers W] [--every S] [--connections C] [--idle I] [--last];
+nothing => 1 0 0 0 usage: edrd FEED --port P [--workers W] [--every S] [--connections C] [--idle I] [--requests R] [--last];
+nothing feed => 1 0 0 0 usage: edrd FEED --port P [--workers W] [--every S] [--connections C] [--idle I] [--requests R] [--last];
+nothing feed|--port|0|--workers|65 => 1 0 0 0 usage: edrd FEED --port P [--workers W] [--every S] [--connections C] [--idle I] [--requests R] [--last];
+nothing ?|--port|0 => 1 0 0 0 usage: edrd FEED --port P [--workers W] [--every S] [--connections C] [--idle I] [--requests R] [--last];
 told feed => 1 0 0 0 
 nothing feed|--port|0|--workers|1 => 0 60 1 2 listening on 127.0.0.1:50000;edition 1;connections 2, faults 0;
 nothing feed|--port|8080|--every|5 => 0 5 2 3 listening on 127.0.0.1:8080;edition 1;connections 3, faults 0;
+nothing feed|--port|0|--requests|1 => 0 60 2 0 listening on 127.0.0.1:50000;edition 1;connections 3, faults 0;
+nothing feed|--port|0|--requests|2 => 0 60 2 3 listening on 127.0.0.1:50000;edition 1;connections 3, faults 0;
 nothing three|--port|0|--every|0 => 0 0 2 3 listening on 127.0.0.1:50000;edition 1;connections 3, faults 0;
 turns three|--port|0 => 0 60 2 0 listening on 127.0.0.1:50000;edition 1;edition 2;edition 3;connections 0, faults 0;
 turns three|--port|0|--last => 0 60 2 0 listening on 127.0.0.1:50000;edition 3;connections 0, faults 0;
@@ -53,7 +56,7 @@ nothing broken|--port|0 => 2 0 0 0 feed: NotJson line 2;
 nothing empty|--port|0 => 2 0 0 0 feed: NothingPublished;
 bind feed|--port|8080|--every|5 => 10 5 0 0 bind fault;bind fault 8080;
 bind broken|--port|0 => 2 0 0 0 feed: NotJson line 2;
-nothing --help => 0 0 0 0 usage: edrd FEED --port P [--workers W] [--every S] [--connections C] [--idle I] [--last];  --port P         the port of 127.0.0.1, 0 to 65535; 0 lets the system choose one;  --workers W      connections that are served at once, 1 to 64; else 2;  --every S        seconds before each further edition is served, 0 to 86400; else 60;  --connections C  connections that each worker serves, up to 1000000; else 0, no end of them;  --idle I         seconds that a connection may be idle, 1 to 86400; else 30;  --last           serves the last edition of the feed from the start;  --help           writes these lines, where it stands alone;  --version        writes the version, where it stands alone;
+nothing --help => 0 0 0 0 usage: edrd FEED --port P [--workers W] [--every S] [--connections C] [--idle I] [--requests R] [--last];  --port P         the port of 127.0.0.1, 0 to 65535; 0 lets the system choose one;  --workers W      connections that are served at once, 1 to 64; else 2;  --every S        seconds before each further edition is served, 0 to 86400; else 60;  --connections C  connections that each worker serves, up to 1000000; else 0, no end of them;  --idle I         seconds that a connection may be idle, 1 to 86400; else 30;  --requests R     requests that a connection may have, 1 to 1000; else 100;  --last           serves the last edition of the feed from the start;  --help           writes these lines, where it stands alone;  --version        writes the version, where it stands alone;
 ";
 
 // A file of a name.

@@ -3,6 +3,7 @@ ghost use Rattle.std.specs.Prelude.{◌≡◌, ◌⊎◌, ◌≤◌, ◌+◌, �
 ghost use Rattle.edr_base.specs.Calls.{SinkLent};
 ghost use Rattle.edr_base.specs.Limits.{count_limit};
 ghost use Rattle.edr_edition.specs.Shelves.{IsLog};
+ghost use Rattle.edr_serve.specs.Requests.{request_limit};
 ghost use Rattle.edrd.specs.Limits.{worker_limit};
 ghost use Rattle.edrd.specs.Words as spelled;
 ghost use Rattle.edrd.specs.Closing.{MayClose};
@@ -94,6 +95,7 @@ fn serve_through<R: Threads + Wait + Sync, B: Doors, G: Gate + Send + Drop, O: S
     output: &mut O,
 ) -> (Ending, Option<G>)
     requires few { (1 ≤ settings.now.workers) × (settings.now.workers ≤ worker_limit) }
+    requires requests { (1 ≤ settings.now.requests) × (settings.now.requests ≤ request_limit) }
     requires shelves { vec_len shelves ≡ settings.now.workers }
     requires own { All (λ shelf. shelf.origin ≡ publisher.origin) shelves.items }
     requires log { IsFirst first publisher.log }
@@ -128,7 +130,10 @@ fn serve_through<R: Threads + Wait + Sync, B: Doors, G: Gate + Send + Drop, O: S
     say_number(output, b"listening on 127.0.0.1:", u64::from(doors.port()));
     say_behind(output, behind);
     say_number(output, b"edition ", first);
-    match serve_connections(rt, alloc, publisher, rest, shelves, acceptors, gate, output) {
+    let requests = settings.requests;
+    match serve_connections(
+        rt, alloc, publisher, rest, shelves, acceptors, requests, gate, output,
+    ) {
         Ok(report) => (Ending::Done, Some(finish(rt, report, doors, output))),
         Err(OutOfMemory) => (Ending::OutOfMemory, None),
     }
@@ -146,6 +151,7 @@ fn serve<R: Threads + Wait + Sync, B: Doors, G: Gate + Send + Drop, O: Sink + Se
     output: &mut O,
 ) -> (Ending, Option<G>)
     requires few { (1 ≤ settings.now.workers) × (settings.now.workers ≤ worker_limit) }
+    requires requests { (1 ≤ settings.now.requests) × (settings.now.requests ≤ request_limit) }
     requires log { IsLog feed.editions }
     requires gate { G.shut gate ≡ false }
     ensures cause { (lines : List (List ℕ)) × SaysAll lines (output_state O.written O.flushed O.faults output.old) (output_state O.written O.flushed O.faults output.new) × ServeCause result.0 settings.now
@@ -185,6 +191,7 @@ fn serve_file<R: Threads + Wait + Sync, F: Files, B: Doors, G: Gate + Send + Dro
     output: &mut O,
 ) -> (Ending, Option<G>)
     requires few { (1 ≤ settings.now.workers) × (settings.now.workers ≤ worker_limit) }
+    requires requests { (1 ≤ settings.now.requests) × (settings.now.requests ≤ request_limit) }
     requires named { IsUtf8 settings.now.feed }
     requires gate { G.shut gate ≡ false }
     ensures cause { (lines : List (List ℕ)) × SaysAll lines (output_state O.written O.flushed O.faults output.old) (output_state O.written O.flushed O.faults output.new) × HasCause result.0 settings.now

@@ -2,16 +2,18 @@
 ghost use Rattle.std.specs.Prelude.{◌≡◌, ◌⊎◌, ◌≤◌, ◌<◌, ◌+◌, ◌*◌, ◌++◌, ℕ, map, sum_by, count_by, take, length, vec_len, slice_index_or, true, false, All, IfOk, MatchResult};
 ghost use Rattle.std.specs.Vec.Iter.{into_iter_items, into_iter_len};
 ghost use Rattle.edr_base.specs.Calls.{SinkLent};
+ghost use Rattle.edr_serve.specs.Requests.{request_limit};
 ghost use Rattle.edrd.specs.Limits.{worker_limit, accept_limit};
 ghost use Rattle.edrd.specs.Saying.{edition_line, output_state, SaysAll};
 ghost use Rattle.edrd.specs.Serving.{Continues, HasEnded, is_left};
 ghost use Rattle.edrd.specs.Jobs.{HasServed, acceptor_of, sessions_of, faults_of, has_failed};
-ghost use Rattle.edrd.specs.declared.working.Serving.{Serving};
+ghost use Rattle.edrd.specs.declared.jobs.Serving.{Serving};
 
 use crate::accept::Accept;
 use crate::gate::Gate;
+use crate::jobs::Serving;
 use crate::publishing::{Publishing, publish_all};
-use crate::working::{Serving, work_all};
+use crate::working::work_all;
 use edr_base::{OutOfMemory, Sink};
 use edr_edition::{Edition, editions_cross_threads};
 use edr_share::{Publisher, SharedShelf, shelves_cross_threads};
@@ -36,13 +38,15 @@ pub struct ServeReport<A, G> {
     pub publisher: Publisher,
 }
 
-// A job for each acceptor, with a shelf of its own.
+// A job for each acceptor, with a shelf of its own; each connection may have so many requests.
 fn jobs_of<A: Accept + Drop>(
     alloc: Global,
     acceptors: Vec<A>,
     shelves: Vec<SharedShelf>,
+    requests: u32,
 ) -> Result<Vec<Serving<A>>, OutOfMemory>
-    requires { vec_len shelves ≡ vec_len acceptors }
+    requires shelves { vec_len shelves ≡ vec_len acceptors }
+    requires requests { (1 ≤ requests) × (requests ≤ request_limit) }
     ensures { IfOk result (λ jobs. map acceptor_of jobs.items ≡ acceptors.items) }
 {
     let mut jobs = Vec::new(alloc);
@@ -55,6 +59,7 @@ fn jobs_of<A: Accept + Drop>(
         jobs.push(Serving {
             acceptor,
             shelf,
+            requests,
             sessions: 0,
             session_faults: 0,
             failed: false,
@@ -168,7 +173,7 @@ fn served<R: Threads + Wait + Sync, A: Accept + Send + Drop, G: Gate + Send, O: 
 
 /// Serves all connections of the acceptors, each acceptor in a thread of its own from a shelf of its own, and publishes the
 /// editions beside that, one at each turn of the gate. Each connection that is handed out is served by one session and
-/// handed back, whatever its session comes to; each edition that is published is said on the output, whose faults change nothing
+/// handed back, whatever its session comes to, and has so many requests at most; each edition that is published is said on the output, whose faults change nothing
 /// else; an acceptor ends where no more come or an accept fails. It waits as long as
 /// connections may come.
 ///
@@ -186,6 +191,7 @@ pub fn serve_connections<
     rest: Vec<Edition>,
     shelves: Vec<SharedShelf>,
     acceptors: Vec<A>,
+    requests: u32,
     gate: G,
     output: &mut O,
 ) -> Result<ServeReport<A, G>, OutOfMemory>
@@ -193,6 +199,7 @@ pub fn serve_connections<
     requires shelves { vec_len shelves ≡ vec_len acceptors }
     requires own { All (λ shelf. shelf.origin ≡ publisher.origin) shelves.items }
     requires open_ { All (λ acceptor. A.over acceptor ≡ false) acceptors.items }
+    requires requests { (1 ≤ requests) × (requests ≤ request_limit) }
     requires numbers { Continues publisher.log rest.items }
     requires gate { G.shut gate ≡ false }
     ensures count { IfOk result (λ report. vec_len report.acceptors ≡ vec_len acceptors) }
@@ -210,7 +217,7 @@ pub fn serve_connections<
         (λ _. (published : ℕ) × SaysAll (map edition_line (take published rest.items)) (output_state O.written O.flushed O.faults output.old) (output_state O.written O.flushed O.faults output.new)) }
     ensures output { SinkLent (O.beside output.old) (O.beside output.new) (O.faults output.old) (O.faults output.new) }
 {
-    let Ok(jobs) = jobs_of(alloc, acceptors, shelves) else {
+    let Ok(jobs) = jobs_of(alloc, acceptors, shelves, requests) else {
         publisher.end(rt);
         return Err(OutOfMemory);
     };

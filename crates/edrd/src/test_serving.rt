@@ -70,6 +70,7 @@ pub(crate) fn serve_feed<R: Threads + Wait + Sync, A: Accept + Send + Drop, G: G
         editions,
         shelves,
         acceptors,
+        100,
         gate,
         &mut output,
     )?;

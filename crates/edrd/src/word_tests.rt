@@ -5,12 +5,12 @@ use edr_base::{OutOfMemory, Text};
 use std::alloc::{AllocError, Global};
 use std::rt::HostRuntime;
 
-// A line for each row of words, between bars: what is asked for, as feed, port, workers, every, connections and idle, and whether
+// A line for each row of words, between bars: what is asked for, as feed, port, workers, every, connections, idle and requests, and whether
 // the last edition alone is served. A `?` stands
 // for a byte that UTF-8 hasn't.
 const WORDS: &str = "\
-feed|--port|0 => feed 0 2 60 0 30
-feed|--port|65535 => feed 65535 2 60 0 30
+feed|--port|0 => feed 0 2 60 0 30 100
+feed|--port|65535 => feed 65535 2 60 0 30 100
 feed|--port|65536 => none
 feed|--port|80|--port|80 => none
 feed => none
@@ -18,29 +18,29 @@ feed => none
  => none
 feed|other|--port|80 => none
 feed|--port => none
-feed|--port|80|--workers|1 => feed 80 1 60 0 30
-feed|--port|80|--workers|64 => feed 80 64 60 0 30
+feed|--port|80|--workers|1 => feed 80 1 60 0 30 100
+feed|--port|80|--workers|64 => feed 80 64 60 0 30 100
 feed|--port|80|--workers|0 => none
 feed|--port|80|--workers|65 => none
-feed|--port|80|--every|0 => feed 80 2 0 0 30
-feed|--port|80|--every|86400 => feed 80 2 86400 0 30
+feed|--port|80|--every|0 => feed 80 2 0 0 30 100
+feed|--port|80|--every|86400 => feed 80 2 86400 0 30 100
 feed|--port|80|--every|86401 => none
-feed|--port|80|--connections|0 => feed 80 2 60 0 30
-feed|--port|80|--connections|1000000 => feed 80 2 60 1000000 30
+feed|--port|80|--connections|0 => feed 80 2 60 0 30 100
+feed|--port|80|--connections|1000000 => feed 80 2 60 1000000 30 100
 feed|--port|80|--connections|1000001 => none
-feed|--port|80|--idle|1 => feed 80 2 60 0 1
-feed|--port|80|--idle|86400 => feed 80 2 60 0 86400
+feed|--port|80|--idle|1 => feed 80 2 60 0 1 100
+feed|--port|80|--idle|86400 => feed 80 2 60 0 86400 100
 feed|--port|80|--idle|0 => none
 feed|--port|80|--idle|86401 => none
-feed|--port=80 => feed 80 2 60 0 30
-feed|--port=80|--workers=3|--every=4|--connections=5 => feed 80 3 4 5 30
+feed|--port=80 => feed 80 2 60 0 30 100
+feed|--port=80|--workers=3|--every=4|--connections=5 => feed 80 3 4 5 30 100
 feed|--port|-1 => none
 feed|--port|+80 => none
 feed|--port|8 0 => none
 feed|--port| => none
 feed|--port= => none
 feed|--port|0x50 => none
-feed|--port|00000000000000000080 => feed 80 2 60 0 30
+feed|--port|00000000000000000080 => feed 80 2 60 0 30 100
 feed|--port|000000000000000000080 => none
 feed|--port|99999999999999999999 => none
 feed|--port|80|--help => none
@@ -50,13 +50,17 @@ feed|--port|80|-p => none
 feed|--por|80 => none
 f?|--port|80 => none
 feed|--port|? => none
---port|80|--workers|3|feed => feed 80 3 60 0 30
---connections|7|--every|5|--port|80|feed => feed 80 2 5 7 30
---port|80|--|feed => feed 80 2 60 0 30
---port|80|--|--feed => --feed 80 2 60 0 30
+--port|80|--workers|3|feed => feed 80 3 60 0 30 100
+--connections|7|--every|5|--port|80|feed => feed 80 2 5 7 30 100
+--port|80|--|feed => feed 80 2 60 0 30 100
+--port|80|--|--feed => --feed 80 2 60 0 30 100
 feed|--|--port|80 => none
-feed|--port|80|--last => feed 80 2 60 0 30 last
---last|--port|80|--idle|9|feed => feed 80 2 60 0 9 last
+feed|--port|80|--requests|1 => feed 80 2 60 0 30 1
+feed|--port|80|--requests=1000 => feed 80 2 60 0 30 1000
+feed|--port|80|--requests|0 => none
+feed|--port|80|--requests|1001 => none
+feed|--port|80|--last => feed 80 2 60 0 30 100 last
+--last|--port|80|--idle|9|feed => feed 80 2 60 0 9 100 last
 feed|--port|80|--last|--last => none
 feed|--port|80|--last=true => none
 feed|--port|80|--last|true => none
@@ -94,8 +98,8 @@ fn line_of(alloc: Global, settings: &Settings) -> Result<String, AllocError> {
     let feed = str::from_utf8(settings.feed.bytes()).unwrap_or("?");
     let (port, workers) = (settings.port, settings.workers);
     let (every, connections, idle) = (settings.every, settings.connections, settings.idle);
-    let last = if settings.last { " last" } else { "" };
-    format!(in alloc; "{feed} {port} {workers} {every} {connections} {idle}{last}")
+    let (requests, last) = (settings.requests, if settings.last { " last" } else { "" });
+    format!(in alloc; "{feed} {port} {workers} {every} {connections} {idle} {requests}{last}")
 }
 
 // Whether a row of words asks for this.

@@ -8,13 +8,14 @@ ghost use Rattle.edrd.specs.Words.{all_words, asked_of};
 ghost use Rattle.edrd.specs.Settled.{AreWithin, IsWithin, TakesMemory};
 
 use crate::limits::{
-    CONNECTION_LIMIT, DEFAULT_IDLE, DEFAULT_PAUSE, DEFAULT_WORKERS, ENDLESS, IDLE_LIMIT,
-    PAUSE_LIMIT, PORT_LIMIT, WORKER_LIMIT,
+    CONNECTION_LIMIT, DEFAULT_IDLE, DEFAULT_PAUSE, DEFAULT_REQUESTS, DEFAULT_WORKERS, ENDLESS,
+    IDLE_LIMIT, PAUSE_LIMIT, PORT_LIMIT, WORKER_LIMIT,
 };
 use clap::error::ErrorKind;
 use clap::{Arg, ArgAction, ArgMatches, Command, Error};
 use edr_base::{OutOfMemory, Text};
 use edr_program::number_of;
+use edr_serve::REQUEST_LIMIT;
 use std::alloc::{AllocError, Global};
 
 /// How the words ask the daemon to serve.
@@ -30,6 +31,8 @@ pub struct Settings {
     pub connections: u64,
     /// How many seconds a connection may be idle, before the first byte of a head.
     pub idle: u32,
+    /// How many requests a connection may have.
+    pub requests: u32,
     /// Whether the last edition alone is served.
     pub last: bool,
 }
@@ -72,15 +75,23 @@ fn bare_command<'a>(alloc: Global) -> Result<Command<'a>, AllocError>
         .arg(Arg::new(alloc, "port").long("port").required(true))
 }
 
-// The command.
-fn command<'a>(alloc: Global) -> Result<Command<'a>, AllocError>
-    ensures { IfOk result (λ command. app_of command ≡ spelled.command) }
+// The command with how it serves.
+fn serving_command<'a>(alloc: Global) -> Result<Command<'a>, AllocError>
+    ensures { IfOk result (λ command. app_of command ≡ spelled.serving_command) }
 {
     bare_command(alloc)?
         .arg(Arg::new(alloc, "workers").long("workers"))?
         .arg(Arg::new(alloc, "every").long("every"))?
-        .arg(Arg::new(alloc, "connections").long("connections"))?
+        .arg(Arg::new(alloc, "connections").long("connections"))
+}
+
+// The command.
+fn command<'a>(alloc: Global) -> Result<Command<'a>, AllocError>
+    ensures { IfOk result (λ command. app_of command ≡ spelled.command) }
+{
+    serving_command(alloc)?
         .arg(Arg::new(alloc, "idle").long("idle"))?
+        .arg(Arg::new(alloc, "requests").long("requests"))?
         .arg(
             Arg::new(alloc, "last")
                 .long("last")
@@ -154,6 +165,11 @@ fn settings_in(alloc: Global, matches: &ArgMatches<'_>) -> Result<Option<Setting
     let Some(idle) = number_or(DEFAULT_IDLE, 1, IDLE_LIMIT, text_in(matches, "idle")) else {
         return Ok(None);
     };
+    let requests = text_in(matches, "requests");
+    let most = u64::from(REQUEST_LIMIT);
+    let Some(requests) = number_or(DEFAULT_REQUESTS, 1, most, requests) else {
+        return Ok(None);
+    };
     Ok(Some(Settings {
         feed: Text::of(alloc, feed.as_bytes())?,
         port: port as u16,
@@ -161,6 +177,7 @@ fn settings_in(alloc: Global, matches: &ArgMatches<'_>) -> Result<Option<Setting
         every: every as u32,
         connections,
         idle: idle as u32,
+        requests: requests as u32,
         last: is_true(text_in(matches, "last")),
     }))
 }

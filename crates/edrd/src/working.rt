@@ -1,29 +1,17 @@
-//! The jobs that serve.
+//! The work of the jobs that serve.
 ghost use Rattle.std.specs.Prelude.{◌<◌, ℕ, length, slice_index_or};
 ghost use Rattle.edrd.specs.Jobs.{HasServed};
-ghost use Rattle.edrd.specs.declared.working.Serving.{Serving};
+ghost use Rattle.edrd.specs.declared.jobs.Serving.{Serving};
 
 use crate::accept::Accept;
+use crate::jobs::Serving;
 use edr_base::Failed;
 use edr_serve::serve_connection;
-use edr_share::{SharedShelf, shelves_cross_threads};
+use edr_share::shelves_cross_threads;
 use std::alloc::Global;
 use std::sync::Wait;
 use std::thread;
 use std::thread::Threads;
-
-/// What serves the connections of one acceptor, from one shelf.
-#[derive(Drop)]
-pub struct Serving<A> {
-    pub acceptor: A,
-    pub shelf: SharedShelf,
-    /// How many connections it served.
-    pub sessions: u64,
-    /// How many of them ended with a fault of their session.
-    pub session_faults: u64,
-    /// Whether an accept failed.
-    pub failed: bool,
-}
 
 // Serves the connections, one after another, until no more come or an accept fails.
 fn work<R: Wait, A: Accept>(rt: &R, alloc: Global, job: &mut Serving<A>)
@@ -35,7 +23,7 @@ fn work<R: Wait, A: Accept>(rt: &R, alloc: Global, job: &mut Serving<A>)
     'connections: for _ in rt.forever() {
         match job.acceptor.accept() {
             Ok(Some(connection)) => {
-                let served = serve_connection(alloc, connection, &mut job.shelf);
+                let served = serve_connection(alloc, connection, &mut job.shelf, job.requests);
                 let is_fault = served.outcome().is_err();
                 job.acceptor.finish(served);
                 sessions += 1;
