@@ -13,7 +13,8 @@ use edr_program::send_version;
 use itoa::Buffer;
 
 // The end of the usage line, and the lines behind it.
-const OPTIONS: &[u8] = b"\n  --port P         the port of 127.0.0.1, 0 to 65535; 0 lets the system choose one\n  --workers W      connections that are served at once, 1 to 64; else 2\n  --every S        seconds before each further edition is served, 0 to 86400; else 60\n  --connections C  connections that each worker serves, up to 1000000; else 0, no end of them\n  --idle I         seconds that a connection may be idle, 1 to 86400; else 30\n  --requests R     requests that a connection may have, 1 to 1000; else 100\n  --last           serves the last edition of the feed from the start\n  --help           writes these lines, where it stands alone\n  --version        writes the version, where it stands alone\n";
+const OPTIONS: &[u8] =
+    b"\n  --port P         the port of 127.0.0.1, 0 to 65535; 0 lets the system choose one\n  --workers W      connections that are served at once, 1 to 64; else 2\n  --every S        seconds before each further edition is served, 0 to 86400; else 60\n  --connections C  connections that each worker serves, up to 1000000; else 0, no end of them\n  --idle I         seconds that a connection may be idle, 1 to 86400; else 30\n  --requests R     requests that a connection may have, 1 to 1000; else 100\n  --last           serves the last edition of the feed from the start\n  --help           writes these lines, where it stands alone\n  --version        writes the version, where it stands alone\n";
 
 // Writes the digits of a number.
 fn send_digits<O: Sink>(output: &mut O, number: u64) -> Result<(), SendFault>
@@ -130,7 +131,12 @@ pub fn say_behind<O: Sink>(output: &mut O, behind: u64)
     if behind == 0 {
         return;
     }
-    let _ = send_between(output, b"feed: ", behind, b" lines after the last publish\n");
+    let _ = send_between(
+        output,
+        b"feed: ",
+        behind,
+        b" lines after the last publish\n",
+    );
 }
 
 // Writes two texts, of which the second ends the line, and flushes.
