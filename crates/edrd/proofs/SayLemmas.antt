@@ -1,10 +1,9 @@
 -- Lines that are said one after another.
-use Rattle.std.proofs.Common.{◌≡◌, ◌≢◌, ◌==◌, ◌∙◌, ◌⊎◌, ◌+◌, ◌-◌, ℕ, suc, true, false, List, [], ◌∷◌, ◌++◌, length, take, drop, map, codes, refl, sym, ap, ap₂, subst, inl, inr, arith, length-append}
-use Rattle.std.specs.Prelude.{min, Some, remove, slice_index_or}
+use Rattle.std.proofs.Common.{◌≡◌, ◌==◌, ◌∙◌, ◌⊎◌, ◌+◌, ℕ, suc, true, false, List, [], ◌∷◌, ◌++◌, length, take, drop, map, codes, refl, sym, ap, subst, inl, inr, arith}
+use Rattle.std.specs.Prelude.{min, Some}
 use Rattle.std.proofs.lemmas.List.{map-append}
 use Rattle.edr_base.specs.Limits.{count_limit}
 use Rattle.edr_edition.specs.Values.{EditionValue}
-use Rattle.edr_edition.specs.Shelves.{AreNumberedFrom}
 use Rattle.edrd.specs.Ends.{AreServed, DoorsState, GateState, doors_asked}
 use Rattle.edrd.specs.Saying.{OutputState, Says, SaysAll, number_line, edition_line, count_line, behind_line, behind_lines, serving_lines}
 use Rattle.edrd.specs.Serving.{Continues}
@@ -81,31 +80,7 @@ are_served settings before after log rest gate ended first port behind k a b m c
     by (inl all) = inl (let long : length (log ++ rest) ≡ suc (length rest) = ap (λ (l : List EditionValue). length (l ++ rest)) is.1 in omega (arith, all, long))
     by (inr shut) = inr shut
 
--- the first of a feed's editions, or the last alone
-pub all_served : (editions rest : List EditionValue) (first : EditionValue) → editions ≢ [] → first ≡ slice_index_or editions 0 first
-    → rest ≡ remove editions 0 → first ∷ rest ≡ editions
-all_served [] rest first some is left = absurd (some refl)
-all_served (e ∷ editions) rest first some is left = let same : first ≡ e = is in ap₂ (λ (x : EditionValue) (l : List EditionValue). x ∷ l) same left
-
-pub all_continue : (editions rest : List EditionValue) (first : EditionValue) → AreNumberedFrom 1 editions → first ∷ rest ≡ editions → Continues (first ∷ []) rest
-all_continue editions rest first numbered is =
-    let from = subst (AreNumberedFrom 1) (sym is) numbered in
-    let number : first.number ≡ 1 = from.0 in
-    record {
-      number = first.number;
-      ends = record { last = first; ends = ([], refl); is = refl };
-      numbered = subst (λ (n : ℕ). AreNumberedFrom (n + 1) rest) (sym number) from.1;
-    }
-
-pub last_served : (editions front : List EditionValue) (last : EditionValue) → editions ≡ front ++ last ∷ [] → last ∷ [] ≡ drop (length editions - 1) editions
-last_served editions front last is =
-    let long : length editions - 1 ≡ length front = let all : length editions ≡ length front + 1 = ap length is ∙ length-append front (last ∷ []) in omega (arith, all) in
-    sym (ap₂ (λ (n : ℕ) (l : List EditionValue). drop n l) long is ∙ drop_front front last)
-  where
-    drop_front : (front : List EditionValue) (last : EditionValue) → drop (length front) (front ++ last ∷ []) ≡ last ∷ []
-    drop_front [] last = refl
-    drop_front (e ∷ front) last = drop_front front last
-
+-- nothing goes on from the last alone
 pub last_continues : (last : EditionValue) → Continues (last ∷ []) []
 last_continues last = record { number = last.number; ends = record { last = last; ends = ([], refl); is = refl }; numbered = tt }
 

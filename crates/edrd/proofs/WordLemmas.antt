@@ -1,5 +1,5 @@
 -- What words ask for, by what the command's parse found.
-use Rattle.std.proofs.Common.{◌≡◌, ◌≢◌, ◌⊎◌, ◌∙◌, ◌&&◌, ◌+◌, ◌<◌, ℕ, Bool, Bor, true, false, if◌then◌else◌, List, [], ◌∷◌, ◌++◌, length, take, map, get_or, codes, refl, sym, ap, ap₂, subst, inl, inr}
+use Rattle.std.proofs.Common.{◌≡◌, ◌≢◌, ◌⊎◌, ◌∙◌, ◌&&◌, ◌+◌, ◌<◌, ℕ, Bool, Bor, true, false, if◌then◌else◌, List, [], ◌∷◌, ◌++◌, length, take, map, get_or, refl, sym, ap, ap₂, subst, inl, inr}
 use Rattle.std.specs.Prelude.{IsUtf8, IfOk, Result, Ok, Err}
 use Rattle.std.proofs.lemmas.List.{map-append, take_more}
 use Rattle.std.proofs.lemmas.List.Folds.{list_all_more}

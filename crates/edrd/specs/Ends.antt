@@ -1,6 +1,6 @@
 -- How a run ends: its status, what it says on the errors and on the standard output, and what became of the feed's files, of the doors, of the shelf's places and of the
 -- gate. Each table goes by the ending; a last row of any `ending` is that of all which have none of their own.
-use Rattle.std.specs.Prelude.{◌≡◌, ◌⊎◌, ℕ, ◌+◌, ◌-◌, min, Bool, true, false, ◌++◌, ⊤, codes, List, [], ◌∷◌, length, take, drop, Ok, Err, IsSome, IsSomeAnd, None, Some, option_map}
+use Rattle.std.specs.Prelude.{◌≡◌, ◌⊎◌, ℕ, ◌+◌, ◌-◌, min, Bool, true, false, ◌++◌, ⊤, codes, List, [], ◌∷◌, length, take, drop, Ok, Err, IsSome, IsSomeAnd, Some, option_map}
 use Rattle.std.specs.declared.option.Option.{Option}
 use Rattle.edr_base.specs.Outside.{Aside, Rose}
 use Rattle.edr_base.specs.Limits.{count_limit}

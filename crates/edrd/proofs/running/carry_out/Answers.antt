@@ -1,4 +1,4 @@
-use Rattle.std.proofs.Common.{◌∙◌, [], ◌∷◌, ◌++◌, refl, sym, inl, rules, codes}
+use Rattle.std.proofs.Common.{◌∙◌, [], ◌∷◌, ◌++◌, refl, sym, inl, codes}
 use Rattle.edr_program.specs.Versions.{version_line}
 use Rattle.edrd.specs.Helps.{help}
 use Rattle.edrd.specs.Shelving.{fault_lines}

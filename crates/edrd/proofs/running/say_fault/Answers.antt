@@ -1,7 +1,6 @@
 use Rattle.std.proofs.Common.{◌∙◌, [], ◌∷◌, sym, ap, rules}
 use Rattle.edrd.specs.Saying.{open_line, bind_line}
 use Rattle.edrd.specs.Shelving.{fault_lines}
-use Rattle.edrd.specs.declared.endings.Ending.TheVariants.{OpenFault, BindFault}
 use Rattle.edrd.proofs.SayLemmas.{says_alone}
 use Rattle.edrd.proofs.running.say_fault.Goals as goal
 

@@ -1,4 +1,4 @@
-use Rattle.std.proofs.Common.{◌≡◌, ◌+◌, ◌∙◌, [], refl, inl, sym, ap, arith, rules}
+use Rattle.std.proofs.Common.{◌≡◌, ◌∙◌, [], refl, inl, ap, arith, rules}
 use Rattle.edrd.proofs.RunLemmas.{sum_given}
 use Rattle.edrd.proofs.SayLemmas.{are_begun, are_served}
 use Rattle.edrd.proofs.running.serve_through.Goals as goal
