@@ -27,6 +27,8 @@ pub enum Command {
     /// `fetch URL`: asks the server that the URL names, and writes the table of the document that it replies; true of `--why`,
     /// which explains where there is none.
     Fetch(bool),
+    /// `export TARGET`: answers a target from the last edition of the feed on the input, with the table of the values.
+    Export,
     /// `--help`: tells how the program is used.
     Help,
     /// `--version`: tells the version.
@@ -90,6 +92,8 @@ fn asked_with<'a>(word: &[u8], next: &'a [u8]) -> Option<(Command, &'a [u8])>
         Some((Command::Show(true), &[]))
     } else if word == b"fetch".as_slice() {
         Some((Command::Fetch(false), next))
+    } else if word == b"export".as_slice() {
+        Some((Command::Export, next))
     } else {
         let command = numbered(word, next)?;
         Some((command, &[]))
