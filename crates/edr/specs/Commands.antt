@@ -5,7 +5,7 @@ use Rattle.std.specs.Str.{is_utf8}
 use Rattle.std.specs.Str.Parse.{digits_value}
 use Rattle.edr_program.specs.Numbers.{is_number}
 use Rattle.edr.specs.declared.commands.Command.{Command}
-use Rattle.edr.specs.declared.commands.Command.TheVariants.{Ask, Replay, Check, Make, Work, Show, Fetch, Export, Help, Version}
+use Rattle.edr.specs.declared.commands.Command.TheVariants.{Ask, Replay, Check, Make, Work, Show, Fetch, Import, Export, Help, Version}
 
 -- a command, and the word behind it that it goes by, where it has one
 pub record Asked : Type 0 where
@@ -30,6 +30,7 @@ asked_by [] = None
 asked_by (word ∷ []) =
     if bytes_eq word (codes "check") then asks (Check false false) []
     else if bytes_eq word (codes "show") then asks (Show false) []
+    else if bytes_eq word (codes "import") then asks Import []
     else if bytes_eq word (codes "--help") then asks Help []
     else if bytes_eq word (codes "--version") then asks Version []
     else None

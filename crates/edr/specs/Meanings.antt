@@ -20,8 +20,11 @@ use Rattle.edr_fetch.specs.Exchanges.{LinkMoment}
 use Rattle.edr_program.specs.FileReads.{IsFileRead}
 use Rattle.edr_program.specs.Versions.{version_line}
 use Rattle.edr.specs.declared.commands.Command.{Command}
-use Rattle.edr.specs.declared.commands.Command.TheVariants.{Ask, Replay, Check, Make, Work, Show, Fetch, Export, Help, Version}
+use Rattle.edr.specs.declared.commands.Command.TheVariants.{Ask, Replay, Check, Make, Work, Show, Fetch, Import, Export, Help, Version}
 use Rattle.edr.specs.declared.endings.Ending.{Ending}
+use Rattle.edr_import.specs.Limits.{table_limit}
+use Rattle.edr.specs.Tables.{IsFeedOfTable, IsNoTableIn}
+use Rattle.edr.specs.declared.endings.ImportRefusal.{ImportRefusal}
 use Rattle.edr.specs.declared.endings.DocumentRefusal.{DocumentRefusal}
 use Rattle.edr.specs.Commands.{Asked}
 use Rattle.edr.specs.Helps.{help}
@@ -72,6 +75,7 @@ pub record Meaning : Type 1 where
   pub is_no_feed : Inputs → FeedRefusal → Type 0
   pub refuses : Inputs → Refusal → Type 0
   pub is_no_document : Inputs → DocumentRefusal → Type 0
+  pub is_no_table : Inputs → ImportRefusal → Type 0
   pub explains : Ending → Inputs → (text : List ℕ) → Type 0  -- what is said behind the line of an ending
 
 -- words that ask for nothing: nothing is read or written, and nothing fails
@@ -97,6 +101,7 @@ nothing = record {
   is_no_feed = λ given refusal. ⊥;
   refuses = λ given refusal. ⊥;
   is_no_document = λ given refusal. ⊥;
+  is_no_table = λ given refusal. ⊥;
   explains = λ ending given text. text ≡ [];
 }
 
@@ -185,6 +190,7 @@ meaning_of (Show why) argument = record (reading body_limit (λ given. IsTableIn
   explains = λ ending given. IfAsked why (ExplainsDocument ending given.input);
 }
 meaning_of (Fetch why) url = fetching why url
+meaning_of Import argument = record (reading table_limit (λ given. IsFeedOfTable given.input)) { is_no_table = λ given. IsNoTableIn given.input }
 meaning_of Export target = answering IsTableTo target
 meaning_of Help argument = writing (λ given text. text ≡ help)
 meaning_of Version argument = writing (λ given text. text ≡ version_line (codes "edr"))

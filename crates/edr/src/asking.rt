@@ -85,7 +85,13 @@ pub fn ask<S: Source, K: Sink>(
     ensures lent { SinkLent (K.beside output.old) (K.beside output.new) (K.faults output.old) (K.faults output.new) }
 {
     match read_feed(alloc, input) {
-        Ok(feed) => answered(alloc, as_table, target, last_of(feed.editions.items()), output),
+        Ok(feed) => answered(
+            alloc,
+            as_table,
+            target,
+            last_of(feed.editions.items()),
+            output,
+        ),
         Err(fault) => ending_of(&fault),
     }
 }

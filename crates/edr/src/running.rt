@@ -12,6 +12,7 @@ use crate::commands::{Command, asked_by};
 use crate::endings::{Ending, tell};
 use crate::fetching::fetch_url;
 use crate::helping::{tell_help, tell_version};
+use crate::importing::import;
 use crate::making::make;
 use crate::replaying::replay;
 use crate::showing::show;
@@ -78,6 +79,7 @@ fn carry_out<S: Source, K: Sink, F: Files, L: Link>(
         Some((Command::Work(number), _)) => work(alloc, number, output),
         Some((Command::Show(why), _)) => show(alloc, why, input, output, explained),
         Some((Command::Fetch(why), url)) => fetch_url(alloc, why, url, output, link, explained),
+        Some((Command::Import, _)) => import(alloc, input, output),
         Some((Command::Export, target)) => ask(alloc, true, target, input, output),
         Some((Command::Help, _)) => tell_help(output),
         Some((Command::Version, _)) => tell_version(output),
