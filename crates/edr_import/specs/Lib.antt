@@ -1,0 +1,10 @@
+pub mod Limits
+pub mod Faults
+pub mod Lines
+pub mod Tables
+pub mod Imports
+pub mod Sorting
+pub mod Times
+pub mod Sites
+pub mod Stations
+pub mod Importing
