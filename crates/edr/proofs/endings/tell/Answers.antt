@@ -1,4 +1,4 @@
-use Rattle.std.proofs.Common.{◌≡◌, ◌∙◌, ◌++◌, codes, sym}
+use Rattle.std.proofs.Common.{◌∙◌, ◌++◌, codes, sym}
 use Rattle.edr_program.specs.TellsLaws.{tells_nothing}
 use Rattle.edr.proofs.EndingLemmas.{line_of-said, line_is, feed_named}
 use Rattle.edr.proofs.endings.tell.Goals as goal

@@ -1,6 +1,5 @@
-use Rattle.std.proofs.Common.{◌++◌, codes, List, ℕ, subst}
+use Rattle.std.proofs.Common.{◌++◌, codes}
 use Rattle.std.specs.Fmt.{decimal}
-use Rattle.edr_program.specs.Lines.{Tells}
 use Rattle.edr.proofs.EndingLemmas.{line_is}
 use Rattle.edr.proofs.endings.tell_said.Goals as goal
 
