@@ -1,5 +1,5 @@
 -- How a run ends that imports a table.
-use Rattle.std.proofs.Common.{◌≡◌, ℕ, ◌≤◌, List, length, Result, Ok, Err}
+use Rattle.std.proofs.Common.{ℕ, ◌≤◌, List, length, Result}
 use Rattle.std.specs.declared.option.Option.{Option}
 use Rattle.edr_base.specs.Calls.{ReadsAll}
 use Rattle.edr_import.specs.declared.refusals.TableRefusal.{TableRefusal}
