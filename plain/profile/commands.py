@@ -21,7 +21,7 @@ from plain.profile.http.sessions import serve
 from plain.profile.large_run import work_text
 from plain.profile.names import is_utf8
 
-USAGE = "usage: edr ask TARGET | replay FEED [--advance] | check [--summary] [--why] | make NUMBER | work NUMBER | show [--why] | fetch URL [--why] | --help | --version"
+USAGE = "usage: edr ask TARGET | replay FEED [--advance] | check [--summary] [--why] | make NUMBER | work NUMBER | show [--why] | fetch URL [--why] | import | export TARGET | --help | --version"
 
 Read = Callable[[], bytes]  # gives all that there is; raises OSError
 Connect = Callable[[str, int], Link]  # to a host, at a port; raises OSError

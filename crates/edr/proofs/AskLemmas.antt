@@ -2,7 +2,7 @@
 use Rattle.std.proofs.Common.{inl, inr, ℕ, false, List}
 use Rattle.std.specs.declared.option.Option.{Option}
 use Rattle.edr.specs.declared.endings.Ending.{Ending}
-use Rattle.edr.specs.declared.endings.Ending.TheVariants.{Done, Usage, NotFeed, ReadFault, WriteFault, OutOfMemory, Refused, NoDocument, ConnectFault, OpenFault}
+use Rattle.edr.specs.declared.endings.Ending.TheVariants.{Done, Usage, NotFeed, ReadFault, WriteFault, OutOfMemory, Refused, NoDocument, ConnectFault, OpenFault, NoTable}
 use Rattle.edr.specs.Ends.{OutputEnds}
 
 -- what is written is also a text of another kind, and what is begun one of a third
@@ -19,6 +19,7 @@ ends_as (Refused refusal) P Q R old new flushed h k o = o
 ends_as (NoDocument refusal) P Q R old new flushed h k o = o
 ends_as ConnectFault P Q R old new flushed h k o = o
 ends_as OpenFault P Q R old new flushed h k o = o
+ends_as (NoTable refusal) P Q R old new flushed h k o = o
 
 pub ends_with : (ending : Ending) (P Q : List ℕ → Type 0) (old new : Option (List ℕ)) (flushed : Option ℕ)
     → ((text : List ℕ) → P text → Q text) → OutputEnds ending false P P old new flushed → OutputEnds ending false Q Q old new flushed

@@ -13,7 +13,7 @@ use Rattle.edr_feed.specs.declared.faults.FeedFault.TheVariants as feeds
 use Rattle.edr_serve.specs.declared.reports.SessionFault.{SessionFault}
 use Rattle.edr_serve.specs.declared.reports.SessionFault.TheVariants as faults
 use Rattle.edr.specs.declared.endings.Ending.{Ending}
-use Rattle.edr.specs.declared.endings.Ending.TheVariants.{Done, Usage, NotFeed, ReadFault, WriteFault, OutOfMemory, Refused, NoDocument, ConnectFault, OpenFault}
+use Rattle.edr.specs.declared.endings.Ending.TheVariants.{Done, Usage, NotFeed, ReadFault, WriteFault, OutOfMemory, Refused, NoDocument, ConnectFault, OpenFault, NoTable}
 use Rattle.edr.specs.Checking.{fault_ends}
 use Rattle.edr.specs.Replays.{IsReplayOf, IsReplayBegun, AreReplies, AreBegun}
 use Rattle.edr.specs.Asking.{AnswerCause}
@@ -61,6 +61,7 @@ settled_output (Refused refusal) early before after Whole Begun old new flushed 
 settled_output (NoDocument refusal) early before after Whole Begun old new flushed s whole part = absurd s
 settled_output ConnectFault early before after Whole Begun old new flushed s whole part = absurd s
 settled_output OpenFault early before after Whole Begun old new flushed s whole part = absurd s
+settled_output (NoTable refusal) early before after Whole Begun old new flushed s whole part = absurd s
 
 pub rose_earlier : (first before after : ℕ) → first ≤ before → Rose before after → Rose first after
 rose_earlier first before after h x = omega (arith, h, x)
@@ -76,6 +77,7 @@ settled_cause (Refused refusal) r r' first before after new flushed h s = s
 settled_cause (NoDocument refusal) r r' first before after new flushed h s = s
 settled_cause ConnectFault r r' first before after new flushed h s = s
 settled_cause OpenFault r r' first before after new flushed h s = s
+settled_cause (NoTable refusal) r r' first before after new flushed h s = s
 
 pub settled_answer : (ending : Ending) (IsThe : Result (List ℕ) Refusal → Type 0) (first before after : ℕ) (new : Option (List ℕ)) (flushed : Option ℕ) → first ≤ before
     → Settles ending before after new flushed → AnswerCause ending IsThe first after
@@ -89,6 +91,7 @@ settled_answer (Refused refusal) IsThe first before after new flushed h s = absu
 settled_answer (NoDocument refusal) IsThe first before after new flushed h s = absurd s
 settled_answer ConnectFault IsThe first before after new flushed h s = s
 settled_answer OpenFault IsThe first before after new flushed h s = s
+settled_answer (NoTable refusal) IsThe first before after new flushed h s = s
 
 pub settled_make : (ending : Ending) (first before after : ℕ) (new : Option (List ℕ)) (flushed : Option ℕ) → first ≤ before → Settles ending before after new flushed → MakeCause ending first after
 settled_make Done first before after new flushed h s = tt
@@ -101,6 +104,7 @@ settled_make (Refused refusal) first before after new flushed h s = s
 settled_make (NoDocument refusal) first before after new flushed h s = s
 settled_make ConnectFault first before after new flushed h s = s
 settled_make OpenFault first before after new flushed h s = s
+settled_make (NoTable refusal) first before after new flushed h s = s
 
 pub settled_begun : (ending : Ending) (before after : ℕ) (new : Option (List ℕ)) (flushed : Option ℕ) → Settles ending before after new flushed → ¬ (IsBefore ending)
 settled_begun Done before after new flushed s x = x
@@ -113,6 +117,7 @@ settled_begun (Refused refusal) before after new flushed s x = x
 settled_begun (NoDocument refusal) before after new flushed s x = x
 settled_begun ConnectFault before after new flushed s x = s
 settled_begun OpenFault before after new flushed s x = s
+settled_begun (NoTable refusal) before after new flushed s x = s
 
 pub read_so_far : (ending : Ending) (Far : Type 0) → Far → IsReadByEnd ending Far
 read_so_far Done Far x = x
@@ -125,6 +130,7 @@ read_so_far (Refused refusal) Far x = tt
 read_so_far (NoDocument refusal) Far x = tt
 read_so_far ConnectFault Far x = tt
 read_so_far OpenFault Far x = tt
+read_so_far (NoTable refusal) Far x = tt
 
 -- ---- a read failed
 
@@ -144,6 +150,7 @@ settled_waits (Refused refusal) before after new flushed So s = tt
 settled_waits (NoDocument refusal) before after new flushed So s = tt
 settled_waits ConnectFault before after new flushed So s = tt
 settled_waits OpenFault before after new flushed So s = tt
+settled_waits (NoTable refusal) before after new flushed So s = tt
 
 pub waits_more : (ending : Ending) (So More : Type 0) → (So → More) → AtReadFault ending So → AtReadFault ending More
 waits_more Done So More f x = tt
@@ -156,6 +163,7 @@ waits_more (Refused refusal) So More f x = tt
 waits_more (NoDocument refusal) So More f x = tt
 waits_more ConnectFault So More f x = tt
 waits_more OpenFault So More f x = tt
+waits_more (NoTable refusal) So More f x = tt
 
 pub waits_any : (ending : Ending) (So : Type 0) → So → AtReadFault ending So
 waits_any Done So x = tt
@@ -168,6 +176,7 @@ waits_any (Refused refusal) So x = tt
 waits_any (NoDocument refusal) So x = tt
 waits_any ConnectFault So x = tt
 waits_any OpenFault So x = tt
+waits_any (NoTable refusal) So x = tt
 
 -- ---- the feed in the file
 
@@ -197,6 +206,7 @@ replay_output (Refused refusal) advances editions content left input old new flu
 replay_output (NoDocument refusal) advances editions content left input old new flushed h x o = o
 replay_output ConnectFault advances editions content left input old new flushed h x o = o
 replay_output OpenFault advances editions content left input old new flushed h x o = o
+replay_output (NoTable refusal) advances editions content left input old new flushed h x o = o
 
 -- the file is no feed, or a read of it failed
 pub fault_cause : (fault : FeedFault) (content left : Option (List ℕ)) (before after : Counts) → IfSome content (λ told. left ≡ Some told)

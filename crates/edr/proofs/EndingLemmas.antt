@@ -8,11 +8,11 @@ use Rattle.edr_base.specs.KnownBytes.{writes_on, writes_stop}
 use Rattle.edr_base.specs.declared.sending.SendFault.{SendFault}
 use Rattle.edr_base.specs.declared.sending.SendFault.TheVariants as sends
 use Rattle.edr_program.specs.Lines.{Tells}
-use Rattle.edr.specs.declared.endings.DocumentRefusal.TheVariants.{TooLong, Cov, BadReply, NotData}
-use Rattle.edr.specs.Saying.{status_in}
 use Rattle.edr.specs.declared.endings.Ending.{Ending}
-use Rattle.edr.specs.declared.endings.Ending.TheVariants.{Done, Usage, NotFeed, ReadFault, WriteFault, OutOfMemory, Refused, NoDocument, ConnectFault, OpenFault}
+use Rattle.edr.specs.declared.endings.Ending.TheVariants.{Done, Usage, NotFeed, ReadFault, WriteFault, OutOfMemory, Refused, NoDocument, ConnectFault, OpenFault, NoTable}
+use Rattle.edr_feed.specs.declared.refusals.FeedRefusal.{FeedRefusal}
 use Rattle.edr.specs.Ends.{said_of, line_of}
+use Rattle.edr.specs.Naming.{feed_in}
 
 -- but for Done, the line is what is said, what explains it, and a line feed
 pub line_of-said : (ending : Ending) (explained : List ℕ) → ending ≢ Done → line_of ending explained ≡ said_of ending ++ (explained ++ codes "\n")
@@ -26,26 +26,25 @@ line_of-said (Refused refusal) explained other = refl
 line_of-said (NoDocument refusal) explained other = refl
 line_of-said ConnectFault explained other = refl
 line_of-said OpenFault explained other = refl
+line_of-said (NoTable refusal) explained other = refl
 
 -- what is said, cut before the line of the feed that it names
 pub line_is : (front place said rest : List ℕ) → front ++ place ≡ said → front ++ (place ++ rest) ≡ said ++ rest
 line_is front place said rest same = sym (append_assoc front place rest) ∙ ap (λ list. list ++ rest) same
 
--- only where a reply isn't of data is its status named
-pub status_named : (ending : Ending) (status : ℕ) → status_in ending ≡ Some status → ending ≡ NoDocument (NotData status)
-status_named Done status e = absurd cc
-status_named Usage status e = absurd cc
-status_named (NotFeed refusal) status e = absurd cc
-status_named ReadFault status e = absurd cc
-status_named WriteFault status e = absurd cc
-status_named OutOfMemory status e = absurd cc
-status_named (Refused refusal) status e = absurd cc
-status_named (NoDocument TooLong) status e = absurd cc
-status_named (NoDocument Cov) status e = absurd cc
-status_named (NoDocument BadReply) status e = absurd cc
-status_named (NoDocument (NotData found)) status e = cc
-status_named ConnectFault status e = absurd cc
-status_named OpenFault status e = absurd cc
+-- only where a feed is refused is its refusal named
+pub feed_named : (ending : Ending) (refusal : FeedRefusal) → feed_in ending ≡ Some refusal → ending ≡ NotFeed refusal
+feed_named Done refusal e = absurd cc
+feed_named Usage refusal e = absurd cc
+feed_named (NotFeed found) refusal e = cc
+feed_named ReadFault refusal e = absurd cc
+feed_named WriteFault refusal e = absurd cc
+feed_named OutOfMemory refusal e = absurd cc
+feed_named (Refused found) refusal e = absurd cc
+feed_named (NoDocument found) refusal e = absurd cc
+feed_named ConnectFault refusal e = absurd cc
+feed_named OpenFault refusal e = absurd cc
+feed_named (NoTable found) refusal e = absurd cc
 
 -- the first part of a line wasn't written whole
 pub told_stop : (fault : SendFault) (front rest : List ℕ) (old new : Option (List ℕ)) (before after : ℕ) → Front front old new

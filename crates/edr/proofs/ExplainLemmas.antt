@@ -1,25 +1,21 @@
 -- What is said of a fault explains the ending.
-use Rattle.std.proofs.Common.{◌≡◌, ℕ, Bool, true, false, List, [], ◌++◌, Err, None, Some, IfSome}
+use Rattle.std.proofs.Common.{◌≡◌, ℕ, Bool, true, false, List, [], ◌++◌, Err, None, Some}
 use Rattle.std.specs.declared.option.Option.{Option}
-use Rattle.std.specs.Prelude.{⊤}
 use Rattle.covjson_checks.specs.declared.faults.CovFault.{CovFault}
 use Rattle.covjson_read.specs.Rows.{DocumentRows}
-use Rattle.edr_base.specs.Calls.{ReadsAll, ReadsAtMost}
+use Rattle.edr_base.specs.Calls.{ReadsAll}
 use Rattle.edr_feed.specs.Feeds.{InnerStandsIn}
 use Rattle.edr_feed.specs.declared.faults.FeedFault.{FeedFault}
 use Rattle.edr_feed.specs.declared.faults.FeedFault.TheVariants as feeds
-use Rattle.edr_reply.specs.BrokenParts.{IsFirstBreak}
-use Rattle.edr_client.specs.Replies.{Hears, IsNotData, IsNoDocument, IsLeft}
-use Rattle.edr_client.specs.declared.replies.ReplyFault.TheVariants as replies
+use Rattle.edr_client.specs.Replies.{IsNotData, IsNoDocument, IsLeft}
 use Rattle.edr_fetch.specs.declared.fetching.FetchFault.{FetchFault}
 use Rattle.edr_fetch.specs.declared.fetching.FetchFault.TheVariants as fetches
 use Rattle.edr_fetch.specs.Exchanges.{Heard}
-use Rattle.edr.specs.declared.endings.Ending.{Ending}
 use Rattle.edr.specs.declared.endings.Ending.TheVariants.{NoDocument}
 use Rattle.edr.specs.declared.endings.DocumentRefusal.TheVariants.{Cov}
 use Rattle.edr.specs.Checking.{fault_ends}
 use Rattle.edr.specs.Fetching.{fetch_ends}
-use Rattle.edr.specs.Explaining.{IfAsked, ExplainsFeed, ExplainsDocument, ExplainsReply, cov_said}
+use Rattle.edr.specs.Explaining.{IfAsked, ExplainsFeed, ExplainsDocument, ExplainsReply}
 use Rattle.edr.specs.Said.{document_said, feed_explained, reply_explained}
 use Rattle.edr.proofs.ShowLemmas.{of_all, told_some}
 

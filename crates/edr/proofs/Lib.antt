@@ -7,3 +7,4 @@ pub mod EndLemmas
 pub mod ShowLemmas
 pub mod WorkLemmas
 pub mod ExplainLemmas
+pub mod ImportLemmas

@@ -13,7 +13,7 @@ use Rattle.edr_fetch.specs.declared.fetching.FetchFault.{FetchFault}
 use Rattle.edr_fetch.specs.declared.fetching.FetchFault.TheVariants as fetches
 use Rattle.edr_fetch.specs.Exchanges.{LinkMoment, IsSent, Halted, Heard, Exchanged}
 use Rattle.edr.specs.declared.endings.Ending.{Ending}
-use Rattle.edr.specs.declared.endings.Ending.TheVariants.{Done, Usage, NotFeed, ReadFault, WriteFault, OutOfMemory, Refused, NoDocument, ConnectFault, OpenFault}
+use Rattle.edr.specs.declared.endings.Ending.TheVariants.{Done, Usage, NotFeed, ReadFault, WriteFault, OutOfMemory, Refused, NoDocument, ConnectFault, OpenFault, NoTable}
 use Rattle.edr.specs.Documents.{OfInput, IsTableHeard, IsTableBegun}
 use Rattle.edr.specs.Meanings.{Counts}
 use Rattle.edr.specs.Ends.{OutputEnds}
@@ -70,6 +70,7 @@ table_link (Refused refusal) text incoming output output' before after cause sen
 table_link (NoDocument refusal) text incoming output output' before after cause sent taken = absurd cause
 table_link ConnectFault text incoming output output' before after cause sent taken = absurd cause
 table_link OpenFault text incoming output output' before after cause sent taken = cause
+table_link (NoTable refusal) text incoming output output' before after cause sent taken = cause
 
 -- ---- no reply of data was read
 

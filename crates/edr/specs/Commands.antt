@@ -5,7 +5,7 @@ use Rattle.std.specs.Str.{is_utf8}
 use Rattle.std.specs.Str.Parse.{digits_value}
 use Rattle.edr_program.specs.Numbers.{is_number}
 use Rattle.edr.specs.declared.commands.Command.{Command}
-use Rattle.edr.specs.declared.commands.Command.TheVariants.{Ask, Replay, Check, Make, Work, Show, Fetch, Help, Version}
+use Rattle.edr.specs.declared.commands.Command.TheVariants.{Ask, Replay, Check, Make, Work, Show, Fetch, Import, Export, Help, Version}
 
 -- a command, and the word behind it that it goes by, where it has one
 pub record Asked : Type 0 where
@@ -30,6 +30,7 @@ asked_by [] = None
 asked_by (word ∷ []) =
     if bytes_eq word (codes "check") then asks (Check false false) []
     else if bytes_eq word (codes "show") then asks (Show false) []
+    else if bytes_eq word (codes "import") then asks Import []
     else if bytes_eq word (codes "--help") then asks Help []
     else if bytes_eq word (codes "--version") then asks Version []
     else None
@@ -40,6 +41,7 @@ asked_by (word ∷ next ∷ []) =
     else if bytes_eq word (codes "check") && bytes_eq next (codes "--why") then asks (Check false true) []
     else if bytes_eq word (codes "show") && bytes_eq next (codes "--why") then asks (Show true) []
     else if bytes_eq word (codes "fetch") then asks (Fetch false) next
+    else if bytes_eq word (codes "export") then asks Export next
     else option_map (λ command. record { command = command; argument = [] }) (numbered word next)
 asked_by (word ∷ next ∷ more ∷ []) =
     if bytes_eq word (codes "replay") && is_utf8 next && bytes_eq more (codes "--advance") then asks (Replay true) next

@@ -9,7 +9,11 @@ use Rattle.edr_base.specs.Calls.{WrittenWhole, WrittenInPart}
 use Rattle.edr_fetch.specs.Exchanges.{LinkMoment}
 use Rattle.edr_program.specs.Lines.{feed_said, Tells}
 use Rattle.edr.specs.declared.endings.Ending.{Ending}
-use Rattle.edr.specs.declared.endings.Ending.TheVariants.{Done, Usage, NotFeed, ReadFault, WriteFault, OutOfMemory, Refused, NoDocument, ConnectFault, OpenFault}
+use Rattle.edr.specs.declared.endings.Ending.TheVariants.{Done, Usage, NotFeed, ReadFault, WriteFault, OutOfMemory, Refused, NoDocument, ConnectFault, OpenFault, NoTable}
+use Rattle.edr_import.specs.declared.refusals.TableRefusal.{TableRefusal}
+use Rattle.edr_import.specs.declared.refusals.TableRefusal.TheVariants.{NotHeader, BadRecord, BadField, PlaceDiffers, SameSample, NoRecords, TooManyParameters, TooManySamples}
+use Rattle.edr.specs.declared.endings.ImportRefusal.{ImportRefusal}
+use Rattle.edr.specs.declared.endings.ImportRefusal.TheVariants as imports
 use Rattle.edr.specs.declared.endings.DocumentRefusal.{DocumentRefusal}
 use Rattle.edr.specs.declared.endings.DocumentRefusal.TheVariants.{TooLong, Cov, BadReply, NotData}
 use Rattle.edr.specs.Commands.{Asked}
@@ -27,6 +31,7 @@ status_of (Refused refusal) = 6
 status_of (NoDocument refusal) = 7
 status_of ConnectFault = 8
 status_of OpenFault = 9
+status_of (NoTable refusal) = 11
 
 -- the name of why no document is read, and the status of a reply
 abbrev pub name_of : DocumentRefusal → List ℕ
@@ -34,6 +39,21 @@ name_of TooLong = codes "TooLong"
 name_of Cov = codes "Cov"
 name_of BadReply = codes "BadReply"
 name_of (NotData status) = codes "NotData " ++ decimal status
+
+-- the name of why a table makes no feed, and the number of a record
+abbrev pub table_name : TableRefusal → List ℕ
+table_name NotHeader = codes "NotHeader"
+table_name (BadRecord number) = codes "BadRecord record " ++ decimal number
+table_name (BadField number column) = codes "BadField record " ++ decimal number
+table_name (PlaceDiffers number) = codes "PlaceDiffers record " ++ decimal number
+table_name (SameSample number) = codes "SameSample record " ++ decimal number
+table_name NoRecords = codes "NoRecords"
+table_name (TooManyParameters count) = codes "TooManyParameters"
+table_name (TooManySamples count) = codes "TooManySamples"
+
+abbrev pub import_name : ImportRefusal → List ℕ
+import_name imports.TooLong = codes "TooLong"
+import_name (imports.Refused refusal) = table_name refusal
 
 -- what is said on errors
 abbrev pub said_of : Ending → List ℕ
@@ -47,6 +67,7 @@ said_of (Refused refusal) = body_of refusal
 said_of (NoDocument refusal) = codes "reply: " ++ name_of refusal
 said_of ConnectFault = codes "connect fault"
 said_of OpenFault = codes "open fault"
+said_of (NoTable refusal) = codes "table: " ++ import_name refusal
 
 -- the line of an ending, with what explains it: none where all was done
 abbrev pub line_of : Ending → List ℕ → List ℕ
@@ -86,6 +107,7 @@ HasCause (Refused refusal) meaning given before after = meaning.refuses given re
 HasCause (NoDocument refusal) meaning given before after = meaning.is_no_document given refusal
 HasCause ConnectFault meaning given before after = meaning.connect_failed before after
 HasCause OpenFault meaning given before after = meaning.open_failed before after
+HasCause (NoTable refusal) meaning given before after = meaning.is_no_table given refusal
 
 -- where all was done, the input was read so far
 abbrev pub IsReadByEnd : Ending → Type 0 → Type 0

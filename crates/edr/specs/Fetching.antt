@@ -7,7 +7,7 @@ use Rattle.edr_fetch.specs.declared.fetching.FetchFault.{FetchFault}
 use Rattle.edr_fetch.specs.declared.fetching.FetchFault.TheVariants as fetches
 use Rattle.edr.specs.declared.endings.DocumentRefusal.TheVariants.{Cov, BadReply, NotData}
 use Rattle.edr.specs.declared.endings.Ending.{Ending}
-use Rattle.edr.specs.declared.endings.Ending.TheVariants.{Done, Usage, NotFeed, ReadFault, WriteFault, OutOfMemory, Refused, NoDocument, ConnectFault, OpenFault}
+use Rattle.edr.specs.declared.endings.Ending.TheVariants.{Done, Usage, NotFeed, ReadFault, WriteFault, OutOfMemory, Refused, NoDocument, ConnectFault, OpenFault, NoTable}
 use Rattle.edr.specs.Documents.{IsNoReplyHeard}
 use Rattle.edr.specs.Meanings.{Counts, LinkFailed}
 
@@ -44,3 +44,4 @@ IsBeforeOutput (Refused refusal) = ⊤
 IsBeforeOutput (NoDocument refusal) = ⊤
 IsBeforeOutput ConnectFault = ⊤
 IsBeforeOutput OpenFault = ⊤
+IsBeforeOutput (NoTable refusal) = ⊤

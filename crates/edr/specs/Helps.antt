@@ -3,7 +3,7 @@ use Rattle.std.specs.Prelude.{ℕ, List, ◌++◌, codes}
 
 -- the usage line, without its line feed
 abbrev pub usage : List ℕ
-usage = codes "usage: edr ask TARGET | replay FEED [--advance] | check [--summary] [--why] | make NUMBER | work NUMBER | show [--why] | fetch URL [--why] | --help | --version"
+usage = codes "usage: edr ask TARGET | replay FEED [--advance] | check [--summary] [--why] | make NUMBER | work NUMBER | show [--why] | fetch URL [--why] | import | export TARGET | --help | --version"
 
 -- a line for each command
 abbrev pub command_lines : List ℕ
@@ -15,6 +15,8 @@ command_lines =
     ++ codes "work NUMBER                 make that feed, read it, and tell of its edition and of four answers\n"
     ++ codes "show                        write the table of the document of CoverageJSON on standard input\n"
     ++ codes "fetch URL                   ask the server of the URL, and write the table of the document in its reply\n"
+    ++ codes "import                      write the feed of the table of observations on standard input\n"
+    ++ codes "export TARGET               write the values that the last edition of the feed on standard input answers, as a table\n"
     ++ codes "--why                       with check, show and fetch: say too why there is no feed, document or reply\n"
     ++ codes "--help                      write this\n"
     ++ codes "--version                   write the version\n"

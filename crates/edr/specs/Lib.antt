@@ -3,6 +3,7 @@ pub mod Documents
 pub mod Commands
 pub mod Outputs
 pub mod Helps
+pub mod Tables
 pub mod Explaining
 pub mod Said
 pub mod Links
@@ -15,6 +16,6 @@ pub mod Making
 pub mod Working
 pub mod Showing
 pub mod Fetching
-pub mod Saying
 pub mod Naming
+pub mod Importing
 pub mod Settling

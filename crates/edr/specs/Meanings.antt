@@ -1,6 +1,6 @@
 -- What each command does: one record for each, with what it reads, writes and asks for, and how it can end. One more command is one
 -- more record, and a row of `meaning_of`.
-use Rattle.std.specs.Prelude.{◌≡◌, ◌⊎◌, ℕ, ◌+◌, Bool, true, false, codes, List, [], ◌∷◌, IsNone, ⊤, Ok, Err, None, Some, option_map, IfSome}
+use Rattle.std.specs.Prelude.{◌≡◌, ◌⊎◌, ℕ, ◌+◌, Bool, true, false, codes, List, [], ◌∷◌, IsNone, ⊤, Result, Ok, Err, None, Some, option_map, IfSome}
 use Rattle.std.specs.declared.option.Option.{Option}
 use Rattle.std.specs.Io.KnownBytes.{IsAtEnd}
 use Rattle.edr_base.specs.declared.refusals.Refusal.{Refusal}
@@ -9,6 +9,9 @@ use Rattle.edr_base.specs.Limits.{feed_limit}
 use Rattle.edr_base.specs.Calls.{ReadsAtMost, buffer_size}
 use Rattle.edr_feed.specs.Feeds.{FeedStandsIn}
 use Rattle.edr_feed.specs.declared.refusals.FeedRefusal.{FeedRefusal}
+use Rattle.edr_edition.specs.Values.{EditionValue}
+use Rattle.edr_describe.specs.Answers.{IsAnswerTo}
+use Rattle.edr_export.specs.Exports.{IsTableTo}
 use Rattle.edr_make.specs.Made.{made}
 use Rattle.edr_work.specs.Working.{IsWork, IsMadeNoFeed, IsWorkRefused}
 use Rattle.edr_reply.specs.Messages.{body_limit}
@@ -17,8 +20,11 @@ use Rattle.edr_fetch.specs.Exchanges.{LinkMoment}
 use Rattle.edr_program.specs.FileReads.{IsFileRead}
 use Rattle.edr_program.specs.Versions.{version_line}
 use Rattle.edr.specs.declared.commands.Command.{Command}
-use Rattle.edr.specs.declared.commands.Command.TheVariants.{Ask, Replay, Check, Make, Work, Show, Fetch, Help, Version}
+use Rattle.edr.specs.declared.commands.Command.TheVariants.{Ask, Replay, Check, Make, Work, Show, Fetch, Import, Export, Help, Version}
 use Rattle.edr.specs.declared.endings.Ending.{Ending}
+use Rattle.edr_import.specs.Limits.{table_limit}
+use Rattle.edr.specs.Tables.{IsFeedOfTable, IsNoTableIn}
+use Rattle.edr.specs.declared.endings.ImportRefusal.{ImportRefusal}
 use Rattle.edr.specs.declared.endings.DocumentRefusal.{DocumentRefusal}
 use Rattle.edr.specs.Commands.{Asked}
 use Rattle.edr.specs.Helps.{help}
@@ -69,6 +75,7 @@ pub record Meaning : Type 1 where
   pub is_no_feed : Inputs → FeedRefusal → Type 0
   pub refuses : Inputs → Refusal → Type 0
   pub is_no_document : Inputs → DocumentRefusal → Type 0
+  pub is_no_table : Inputs → ImportRefusal → Type 0
   pub explains : Ending → Inputs → (text : List ℕ) → Type 0  -- what is said behind the line of an ending
 
 -- words that ask for nothing: nothing is read or written, and nothing fails
@@ -94,6 +101,7 @@ nothing = record {
   is_no_feed = λ given refusal. ⊥;
   refuses = λ given refusal. ⊥;
   is_no_document = λ given refusal. ⊥;
+  is_no_table = λ given refusal. ⊥;
   explains = λ ending given text. text ≡ [];
 }
 
@@ -120,6 +128,12 @@ reading most Gives = record (writing Gives) {
 -- one that reads a feed
 abbrev pub of_feed : (Inputs → List ℕ → Type 0) → Meaning
 of_feed Gives = record (reading feed_limit Gives) { is_no_feed = λ given refusal. FeedStandsIn given.input (Err refusal) }
+
+-- one that writes what the last edition of the feed answers to a target, as IsThe says
+abbrev pub answering : (EditionValue → List ℕ → Result (List ℕ) Refusal → Type 0) → List ℕ → Meaning
+answering IsThe target = record (of_feed (λ given text. IsAnswerFrom IsThe given.input target (Ok text))) {
+  refuses = λ given refusal. IsAnswerFrom IsThe given.input target (Err refusal);
+}
 
 -- a file was opened, and a read of it failed
 abbrev pub FileFailed : Counts → Counts → Type 0
@@ -164,8 +178,7 @@ fetching why url = record (writing (λ given. IsTableHeard given.incoming)) {
 
 -- what a command does, with the word behind it
 abbrev pub meaning_of : Command → List ℕ → Meaning
-meaning_of Ask target =
-    record (of_feed (λ given text. IsAnswerFrom given.input target (Ok text))) { refuses = λ given refusal. IsAnswerFrom given.input target (Err refusal) }
+meaning_of Ask target = answering IsAnswerTo target
 meaning_of (Replay advances) feed = replaying advances feed
 meaning_of (Check summary why) argument =
     record (of_feed (λ given. IsTextOfFeed (told summary) given.input)) { explains = λ ending given. IfAsked why (ExplainsFeed ending given.input) }
@@ -177,6 +190,8 @@ meaning_of (Show why) argument = record (reading body_limit (λ given. IsTableIn
   explains = λ ending given. IfAsked why (ExplainsDocument ending given.input);
 }
 meaning_of (Fetch why) url = fetching why url
+meaning_of Import argument = record (reading table_limit (λ given. IsFeedOfTable given.input)) { is_no_table = λ given. IsNoTableIn given.input }
+meaning_of Export target = answering IsTableTo target
 meaning_of Help argument = writing (λ given text. text ≡ help)
 meaning_of Version argument = writing (λ given text. text ≡ version_line (codes "edr"))
 

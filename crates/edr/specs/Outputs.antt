@@ -8,7 +8,6 @@ use Rattle.edr_edition.specs.Values.{EditionValue}
 use Rattle.edr_edition.specs.Shelves.{EndsWith}
 use Rattle.edr_feed.specs.Feeds.{FeedStandsIn}
 use Rattle.edr_feed.specs.Summaries.{summary_line}
-use Rattle.edr_describe.specs.Answers.{IsAnswerTo}
 
 -- the line that tells how many editions there are
 abbrev pub count_line : List EditionValue → List ℕ
@@ -27,10 +26,10 @@ told true editions = summary_lines editions
 abbrev pub IsTextOfFeed : (List EditionValue → List ℕ) → Option (List ℕ) → List ℕ → Type 0
 IsTextOfFeed text_of input text = (editions : List EditionValue) × FeedStandsIn input (Ok editions) × (text ≡ text_of editions)
 
--- the input is a feed, and this the answer of its last edition to the target
-pub record IsAnswerFrom (input : Option (List ℕ)) (target : List ℕ) (answer : Result (List ℕ) Refusal) : Type 0 where
+-- the input is a feed, and this what its last edition answers to the target, as IsThe says
+pub record IsAnswerFrom (IsThe : EditionValue → List ℕ → Result (List ℕ) Refusal → Type 0) (input : Option (List ℕ)) (target : List ℕ) (answer : Result (List ℕ) Refusal) : Type 0 where
   pub editions : List EditionValue
   pub feed : FeedStandsIn input (Ok editions)
   pub edition : EditionValue
   pub last : EndsWith editions edition
-  pub answered : IsAnswerTo edition target answer
+  pub answered : IsThe edition target answer

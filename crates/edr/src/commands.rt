@@ -27,6 +27,10 @@ pub enum Command {
     /// `fetch URL`: asks the server that the URL names, and writes the table of the document that it replies; true of `--why`,
     /// which explains where there is none.
     Fetch(bool),
+    /// `import`: writes the feed of the table on the input.
+    Import,
+    /// `export TARGET`: answers a target from the last edition of the feed on the input, with the table of the values.
+    Export,
     /// `--help`: tells how the program is used.
     Help,
     /// `--version`: tells the version.
@@ -50,6 +54,8 @@ fn asked_alone(word: &[u8]) -> Option<(Command, &'static [u8])>
         Some((Command::Check(false, false), &[]))
     } else if word == b"show".as_slice() {
         Some((Command::Show(false), &[]))
+    } else if word == b"import".as_slice() {
+        Some((Command::Import, &[]))
     } else if word == b"--help".as_slice() {
         Some((Command::Help, &[]))
     } else if word == b"--version".as_slice() {
@@ -90,6 +96,8 @@ fn asked_with<'a>(word: &[u8], next: &'a [u8]) -> Option<(Command, &'a [u8])>
         Some((Command::Show(true), &[]))
     } else if word == b"fetch".as_slice() {
         Some((Command::Fetch(false), next))
+    } else if word == b"export".as_slice() {
+        Some((Command::Export, next))
     } else {
         let command = numbered(word, next)?;
         Some((command, &[]))

@@ -13,11 +13,11 @@ use edr_program::{send_both, send_version};
 
 /// The usage line, without its line feed.
 pub const USAGE: &[u8] =
-    b"usage: edr ask TARGET | replay FEED [--advance] | check [--summary] [--why] | make NUMBER | work NUMBER | show [--why] | fetch URL [--why] | --help | --version";
+    b"usage: edr ask TARGET | replay FEED [--advance] | check [--summary] [--why] | make NUMBER | work NUMBER | show [--why] | fetch URL [--why] | import | export TARGET | --help | --version";
 
 // The end of the usage line, and a line for each command.
 const COMMAND_LINES: &[u8] =
-    b"\nask TARGET                  answer the target from the last edition of the feed on standard input\nreplay FEED [--advance]     serve standard input as a connection, from the editions of the feed in the file\ncheck [--summary]           tell how many editions the feed on standard input has, or what each has\nmake NUMBER                 write the feed that is made of the number\nwork NUMBER                 make that feed, read it, and tell of its edition and of four answers\nshow                        write the table of the document of CoverageJSON on standard input\nfetch URL                   ask the server of the URL, and write the table of the document in its reply\n--why                       with check, show and fetch: say too why there is no feed, document or reply\n--help                      write this\n--version                   write the version\n";
+    b"\nask TARGET                  answer the target from the last edition of the feed on standard input\nreplay FEED [--advance]     serve standard input as a connection, from the editions of the feed in the file\ncheck [--summary]           tell how many editions the feed on standard input has, or what each has\nmake NUMBER                 write the feed that is made of the number\nwork NUMBER                 make that feed, read it, and tell of its edition and of four answers\nshow                        write the table of the document of CoverageJSON on standard input\nfetch URL                   ask the server of the URL, and write the table of the document in its reply\nimport                      write the feed of the table of observations on standard input\nexport TARGET               write the values that the last edition of the feed on standard input answers, as a table\n--why                       with check, show and fetch: say too why there is no feed, document or reply\n--help                      write this\n--version                   write the version\n";
 
 // Writes how the program is used.
 fn send_help<K: Sink>(sink: &mut K) -> Result<(), SendFault>

@@ -8,6 +8,7 @@ mod endings;
 mod explaining;
 mod fetching;
 mod helping;
+mod importing;
 mod making;
 mod replaying;
 mod running;
@@ -58,6 +59,8 @@ mod explain_tests;
 mod line_tests;
 #[cfg(test)]
 mod station_tests;
+#[cfg(test)]
+mod table_tests;
 #[cfg(test)]
 mod tests;
 #[cfg(test)]

@@ -12,6 +12,7 @@ use crate::commands::{Command, asked_by};
 use crate::endings::{Ending, tell};
 use crate::fetching::fetch_url;
 use crate::helping::{tell_help, tell_version};
+use crate::importing::import;
 use crate::making::make;
 use crate::replaying::replay;
 use crate::showing::show;
@@ -67,7 +68,7 @@ fn carry_out<S: Source, K: Sink, F: Files, L: Link>(
     ensures kept { LinkKept (L.aside link.old) (L.aside link.new) (L.faults link.old) (L.faults link.new) }
 {
     match asked_by(words) {
-        Some((Command::Ask, target)) => ask(alloc, target, input, output),
+        Some((Command::Ask, target)) => ask(alloc, false, target, input, output),
         Some((Command::Replay(advances), feed)) => replay(
             alloc, advances, feed, input, output, files,
         ),
@@ -78,6 +79,8 @@ fn carry_out<S: Source, K: Sink, F: Files, L: Link>(
         Some((Command::Work(number), _)) => work(alloc, number, output),
         Some((Command::Show(why), _)) => show(alloc, why, input, output, explained),
         Some((Command::Fetch(why), url)) => fetch_url(alloc, why, url, output, link, explained),
+        Some((Command::Import, _)) => import(alloc, input, output),
+        Some((Command::Export, target)) => ask(alloc, true, target, input, output),
         Some((Command::Help, _)) => tell_help(output),
         Some((Command::Version, _)) => tell_version(output),
         None => Ending::Usage,

@@ -63,7 +63,7 @@ const SEVERAL_REPLIES: &[u8] =
     b"HTTP/1.1 200 OK\r\nContent-Type: application/json\r\nX-Edr-Edition: 1\r\nTransfer-Encoding: chunked\r\n\r\n11\r\n{\"conformsTo\":[]}\r\n0\r\n\r\nHTTP/1.1 200 OK\r\nContent-Type: application/json\r\nX-Edr-Edition: 2\r\nTransfer-Encoding: chunked\r\n\r\nHTTP/1.1 404 Not Found\r\nContent-Type: application/json\r\nX-Edr-Edition: 2\r\nTransfer-Encoding: chunked\r\n\r\n20\r\n{\"code\":\"NoSamples\",\"number\":25}\r\n0\r\n\r\nHTTP/1.1 405 Method Not Allowed\r\nContent-Type: application/json\r\nAllow: GET, HEAD\r\nTransfer-Encoding: chunked\r\n\r\n26\r\n{\"code\":\"MethodNotOffered\",\"number\":5}\r\n0\r\n\r\nHTTP/1.1 400 Bad Request\r\nContent-Type: application/json\r\nTransfer-Encoding: chunked\r\nConnection: close\r\n\r\n1d\r\n{\"code\":\"BadHead\",\"number\":1}\r\n0\r\n\r\n";
 
 const USAGE: &[u8] =
-    b"usage: edr ask TARGET | replay FEED [--advance] | check [--summary] [--why] | make NUMBER | work NUMBER | show [--why] | fetch URL [--why] | --help | --version\n";
+    b"usage: edr ask TARGET | replay FEED [--advance] | check [--summary] [--why] | make NUMBER | work NUMBER | show [--why] | fetch URL [--why] | import | export TARGET | --help | --version\n";
 
 // What is run, and what has to come of it.
 #[derive(Drop)]
