@@ -13,7 +13,7 @@ const FAULTS: &str = "\
 integer > float = UnsupportedRange float
 integer > two words = UnsupportedRange
 ProjectedCRS > GeographicCRS = UnsupportedSystem GeographicCRS
-2024-01-01T00:00:00Z > 2024-01-01 = BadTime 0
+2024-01-01T00:00:00Z > 2024-02-30T00:00:00Z = BadTime 0
 Point > Polygon = UnsupportedDomain Polygon
 \"ranges\" > \"other\" = Missing ranges
 ";
