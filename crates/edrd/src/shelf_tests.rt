@@ -97,7 +97,9 @@ impl Reading {
 }
 
 // Publishes one edition more, and says whether it did.
-fn publish_next<R: Wait>(rt: &R, alloc: Global, publisher: &mut Publisher) -> bool {
+fn publish_next<R: Wait>(rt: &R, alloc: Global, publisher: &mut Publisher) -> bool
+    ensures { publisher.new.origin ≡ publisher.old.origin }
+{
     match publisher.tell().number().checked_add(1) {
         Some(number) => publisher.publish(rt, alloc, empty(number)).is_ok(),
         None => false,
