@@ -15,7 +15,7 @@ README_LINES = 150
 SENTENCE_WORDS = 40
 PAST = re.compile(
     r"\b(by now|until now|no longer|not any more|was widened|since that run|used to be|formerly|previously|as before|than before|"
-    r"was renamed|has become|earlier version)\b|\bbefore[.;:]",
+    r"was renamed|has become|earlier version|once took|has left|since these figures)\b",
     re.IGNORECASE,
 )
 
