@@ -1,4 +1,4 @@
-"""Tries clients that exist against the daemon, over the sample feed; `docs/CLIENTS.md` has the table of what came of it.
+"""Tries clients that exist against the daemon, over the sample feed; `bench/daemon/CLIENTS.md` has the table of what came of it.
 
     python3 tools/test_clients.py
     EDRD=crates/edrd/out/edrd EDR=crates/edr/out/edr python3 tools/test_clients.py

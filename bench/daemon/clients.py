@@ -3,7 +3,8 @@
 it is by itself, and directly also with a hint, which is at most as many connections as workers, or one for each request. A reply counts
 where its body is the one wanted; siege, ab and wrk look at the status alone. A case ends after 20 seconds, or others by `--seconds`.
 
-It prints the table of docs/CLIENTS.md, and what isn't installed. It needs nginx and the built programs. Run it from anywhere:
+It writes CLIENTS.md, with what isn't installed; where only some are named it prints their rows. It needs nginx and the built
+programs. Run it from anywhere:
 bench/daemon/clients.py [--seconds S] [NAME ..]"""
 import argparse
 import collections
@@ -17,8 +18,10 @@ import time
 
 HERE = os.path.dirname(os.path.abspath(__file__))
 sys.path.insert(0, os.path.join(HERE, "..", "nginx"))
+sys.path.insert(0, os.path.join(HERE, ".."))
 import feeds  # noqa: E402
 from front import Client, Daemon, Front, needs  # noqa: E402
+from pages import Page  # noqa: E402
 
 PROGRAMS = os.path.join(HERE, "programs")
 WORKERS = 8
@@ -160,10 +163,11 @@ def tried(program, feed, body, front, has_hint, seconds):
             direct.stop()
 
 
-def table(folder, feed, front, names, seconds):
-    """Prints a row for each client that is installed, and gives the names of the others."""
+def table(page, folder, feed, front, names, seconds):
+    """Adds a row for each client that is installed, and gives the names of the others."""
     body, missing = Client(front.port).ask(feeds.NOW, "Connection: close\r\n").body, []
-    print(f"| client | asks | directly, {WORKERS} workers | the hint | directly with the hint | behind nginx, two daemons of 64 workers |\n|---|---|---|---|---|---|")
+    page.add(f"| client | asks | directly, {WORKERS} workers | the hint | directly with the hint | behind nginx |")
+    page.add("|---|---|---|---|---|---|")
     for name, asks, hint, find in CLIENTS:
         if names and name not in names:
             continue
@@ -172,7 +176,7 @@ def table(folder, feed, front, names, seconds):
             missing.append(name)
             continue
         plain, hinted, behind = tried(program, feed, body, front, hint is not None, seconds)
-        print(f"| {name} | {asks} | {plain} | {hint or ''} | {hinted} | {behind} |", flush=True)
+        page.add(f"| {name} | {asks} | {plain} | {hint or ''} | {hinted} | {behind} |")
     return missing
 
 
@@ -182,18 +186,21 @@ def main():
     words.add_argument("names", nargs="*", help="of clients as the table has them; else all")
     words.add_argument("--seconds", type=float, default=20, help="after which a case ends")
     words = words.parse_args()
+    page = Page(os.path.join(HERE, "CLIENTS.md"))
     with tempfile.TemporaryDirectory() as folder:
         os.chmod(folder, 0o755)
         feed = feeds.write(os.path.join(folder, "feed"), 1, has_field=False)
         daemons = [Daemon(feed).wait(), Daemon(feed).wait()]
         front = Front(folder, [it.port for it in daemons])
         try:
-            missing = table(folder, feed, front, words.names, words.seconds)
+            missing = table(page, folder, feed, front, words.names, words.seconds)
         finally:
             for it in (front, *daemons):
                 it.stop()
     if missing:
-        print(f"\nnot installed, and left out: {', '.join(missing)}")
+        page.add(f"\nNot installed, and left out: {', '.join(missing)}.")
+    if not words.names:
+        page.write()
 
 
 if __name__ == "__main__":

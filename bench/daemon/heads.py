@@ -1,5 +1,5 @@
 #!/usr/bin/env python3
-"""Sends the heads of `head_cases.py` to `edrd`, directly and through nginx by `examples/nginx.conf`, and prints a table of what each
+"""Sends the heads of `head_cases.py` to `edrd`, directly and through nginx by `examples/nginx.conf`, and writes the tables of HEADS.md: what each
 gets. Behind each head a further request stands on the same connection, and another client asks behind it, over the same connection
 from nginx to the daemon. Between nginx and the daemon stands a relay that counts requests and replies.
 
@@ -18,8 +18,10 @@ import threading
 HERE = os.path.dirname(os.path.abspath(__file__))
 TOP = os.path.join(HERE, "..", "..")
 sys.path.insert(0, os.path.join(TOP, "bench", "nginx"))
+sys.path.insert(0, os.path.join(TOP, "bench"))
 from front import Daemon, Front, daemon, needs  # noqa: E402
 from head_cases import FOLLOWER, GROUPS  # noqa: E402
+from pages import Page  # noqa: E402
 
 GRID = os.path.join(TOP, "examples", "grid.json")
 QUIET = 0.3
@@ -137,7 +139,7 @@ def replayed(data):
     return subprocess.run([daemon.EDR, "replay", GRID], input=data, capture_output=True, check=True).stdout
 
 
-def trial(case, direct, front, relay):
+def trial(page, case, direct, front, relay):
     """The row of a case, and its faults."""
     data, found, cells = case.data + FOLLOWER, [], []
     for port in (direct, front):
@@ -153,19 +155,19 @@ def trial(case, direct, front, relay):
     held, _ = exchange(front, FOLLOWER)
     if replies(held, False) != ["next 200"] or relay.counts() != (1, 1):
         found.append(f"another client gets {held[:100]!r}")
-    print(f"| {case.name} | {cells[0]} | {cells[1]} | {handed} |", flush=True)
+    page.add(f"| {case.name} | {cells[0]} | {cells[1]} | {handed} |")
     return [f"{case.name}: {it}" for it in found]
 
 
-def table(direct, front, relay):
+def table(page, direct, front, relay):
     """The tables of all groups, and their faults."""
     faults = []
     for name, cases in GROUPS.items():
-        print(f"\n### {name}\n\n| head | directly | behind nginx | handed to the daemon |\n|---|---|---|---|")
+        page.add(f"\n### {name}\n\n| head | directly | behind nginx | handed to the daemon |\n|---|---|---|---|")
         for case in cases:
-            faults += trial(case, direct, front, relay)
+            faults += trial(page, case, direct, front, relay)
     count = sum(map(len, GROUPS.values()))
-    print(f"\n{count} heads over {relay.connections} connections from nginx to the daemon; {len(faults)} faults")
+    page.add(f"\n{count} heads over {relay.connections} connections from nginx to the daemon; {len(faults)} faults")
     return faults
 
 
@@ -200,29 +202,31 @@ def outcome(send, port, size):
         return type(error).__name__
 
 
-def bodies(direct, front):
+def bodies(page, direct, front):
     """What clients see that send large bodies."""
-    print(f"\n### Large bodies\n\n| POST, {TRIES} times | bytes | directly | behind nginx |\n|---|---|---|---|")
+    page.add(f"\n### Large bodies\n\n| POST, {TRIES} times | bytes | directly | behind nginx |\n|---|---|---|---|")
     for name, send in (("a socket that sends, and then reads", by_socket), ("http.client of python3", by_library), ("curl", by_curl)):
         for size in (1_000, 100_000, 1_000_000):
             cells = []
             for port in (direct, front):
                 got = [outcome(send, port, size) for _ in range(TRIES)]
                 cells.append(", ".join(f"{got.count(it)} of {it}" for it in sorted(set(got))))
-            print(f"| {name} | {size:,} | {cells[0]} | {cells[1]} |", flush=True)
+            page.add(f"| {name} | {size:,} | {cells[0]} | {cells[1]} |")
 
 
 def main():
     needs()
+    page = Page(os.path.join(HERE, "HEADS.md"))
     with tempfile.TemporaryDirectory() as folder:
         os.chmod(folder, 0o755)
         served = Daemon(GRID).wait()
         relay = Relay(served.port)
         front = Front(folder, [relay.port], [("worker_processes 2", "worker_processes 1")])
-        faults = table(served.port, front.port, relay)
-        bodies(served.port, front.port)
+        faults = table(page, served.port, front.port, relay)
+        bodies(page, served.port, front.port)
         front.stop()
         served.stop()
+    page.write()
     for it in faults:
         print(it, file=sys.stderr)
     sys.exit(1 if faults else 0)

@@ -1,8 +1,8 @@
 #!/usr/bin/env python3
 """Measures how many workers a service needs: so many clients ask one daemon at once, ten times a second each, over a connection
 that they keep or over one for each request, directly and behind nginx by `examples/nginx.conf`, with `keepalive` a quarter of the
-workers. It prints the slowest reply of each, and how many clients got none. It needs nginx and the built programs. Run it from
-anywhere: bench/nginx/workers.py [seconds of each load]"""
+workers. It writes WORKERS.md: the slowest reply of each, and how many clients got none. It needs nginx and the built programs.
+Run it from anywhere: bench/nginx/workers.py [seconds of each load]"""
 import os
 import random
 import sys
@@ -11,7 +11,10 @@ import threading
 import time
 
 import feeds
-from front import Client, Cut, Daemon, Front, needs
+from front import HERE, Client, Cut, Daemon, Front, needs
+
+sys.path.insert(0, os.path.join(HERE, ".."))
+from pages import Page  # noqa: E402
 
 WORKERS = (2, 8, 32, 64)
 CLIENTS = (8, 32, 64, 128)
@@ -52,7 +55,7 @@ def load(port, count, fields, seconds):
     for it in askers:
         it.join()
     none, slowest = sum(it.replies == 0 for it in askers), max(it.slowest for it in askers)
-    return f"{none} clients got none in {seconds} s" if none else f"{slowest:.3f}"
+    return f"{none} clients none" if none else f"{slowest:.3f}"
 
 
 def keepalive(workers):
@@ -82,14 +85,16 @@ def row(folder, feed, workers, clients, seconds):
 def main():
     needs()
     seconds = int(sys.argv[1]) if len(sys.argv) > 1 else 10
+    page = Page(os.path.join(HERE, "WORKERS.md"))
     with tempfile.TemporaryDirectory() as folder:
         os.chmod(folder, 0o755)
         feed = feeds.write(os.path.join(folder, "feed"), 1, has_field=False)
-        print("| clients at once | workers | each request its connection | connections kept | behind nginx, each its own | behind nginx, kept |")
-        print("|---|---|---|---|---|---|")
+        page.add(f"| clients at once, {seconds} s | workers | each request its connection | connections kept | behind nginx, each its own | behind nginx, kept |")
+        page.add("|---|---|---|---|---|---|")
         for clients in CLIENTS:
             for workers in WORKERS:
-                print(f"| {clients} | {workers} | {' | '.join(row(folder, feed, workers, clients, seconds))} |", flush=True)
+                page.add(f"| {clients} | {workers} | {' | '.join(row(folder, feed, workers, clients, seconds))} |")
+    page.write()
 
 
 if __name__ == "__main__":
