@@ -1,6 +1,7 @@
 #!/usr/bin/env python3
 """Runs the gate, `rt ci`, with what it prints, and says before its last line how much processor time each crate took. Where the whole
-gate passed, the programs of release/ are compared with those that it built, and it fails where one differs.
+gate passed, the programs of release/ are compared with those that it built, and memory is refused to them at a sample of their requests
+for it (`bench/refused_memory`); it fails where one differs or ends wrongly.
 
 A crate is proved for the libraries above it (`proof`), with its tests (`tests`), and once more as the base over which its edits
 are tried (`base`); then each edit is checked over that (`edits`), and programs are compiled (`programs`). The time of a process is
@@ -23,6 +24,7 @@ import time
 
 KINDS = ["proof", "tests", "base", "edits", "programs"]
 TICKS = os.sysconf("SC_CLK_TCK")
+REFUSED_MEMORY = ["timeout", "900", sys.executable, "bench/refused_memory/run.py", "--sample", "3"]
 
 
 def kind_of(words, folder, bases):
@@ -128,7 +130,7 @@ def main():
     tell(seconds, begun)
     sys.stdout.flush()
     if status == 0 and not names:
-        status = subprocess.run(["release/compare"]).returncode
+        status = subprocess.run(["release/compare"]).returncode or subprocess.run(REFUSED_MEMORY).returncode
     print(line, end="")
     sys.exit(status)
 
