@@ -1,7 +1,7 @@
 #!/usr/bin/env python3
 """Tries what `examples/nginx.conf` says of clients that aren't alike: browsers, monitors, slow ones, too many at once, those behind
-another server, and daemons that are gone or held up. A line for each, with what was found. It needs nginx and the built programs.
-Run it from anywhere: bench/nginx/checks.py"""
+another server, and daemons that are gone or held up. It writes CHECKS.md: a line for each, with what was found. It needs nginx and
+the built programs. Run it from anywhere: bench/nginx/checks.py"""
 import os
 import socket
 import sys
@@ -10,14 +10,18 @@ import threading
 import time
 
 import feeds
-from front import Client, Daemon, Front, needs
+from front import HERE, Client, Daemon, Front, needs
+
+sys.path.insert(0, os.path.join(HERE, ".."))
+from pages import Page  # noqa: E402
 
 GZIP = "Accept-Encoding: gzip\r\n"
 FAULTS = []
+PAGE = Page(os.path.join(HERE, "CHECKS.md"))
 
 
 def tell(what, found, is_wanted):
-    print(f"| {what} | {found} | {'yes' if is_wanted else 'NO'} |", flush=True)
+    PAGE.add(f"| {what} | {found} | {'yes' if is_wanted else 'NO'} |")
     if not is_wanted:
         FAULTS.append(what)
 
@@ -182,7 +186,7 @@ def main():
         feed = feeds.write(os.path.join(folder, "feed"), 1)
         daemons = [Daemon(feed).wait(), Daemon(feed).wait()]
         front = Front(folder, [it.port for it in daemons])
-        print("| tried | found | as wanted |\n|---|---|---|")
+        PAGE.add("| tried | found | as wanted |\n|---|---|---|")
         for check in (browsers, bodies, heads, slow_clients, long_connection):
             check(front)
         front.stop()
@@ -192,6 +196,7 @@ def main():
         for it in daemons:
             it.stop()
         gone(folder, feed)
+    PAGE.write()
     sys.exit(1 if FAULTS else 0)
 
 
