@@ -44,6 +44,7 @@ mod RefusalRows
 mod MaskReach
 mod PolygonReach
 mod MaskBits
+mod TallRows
 mod MaskSizes
 mod MaskSteps
 mod FrameMasks

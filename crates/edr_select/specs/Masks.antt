@@ -12,7 +12,7 @@ use Rattle.edr_axes.specs.Axes.{value_at}
 use Rattle.edr_geometry.specs.Planar as plane
 use Rattle.edr_geometry.specs.Planar.{in_disc, in_polygons}
 use Rattle.edr_geometry.specs.Limits.{IsSpot, IsPlacedPolygon}
-use Rattle.edr_geometry.specs.Masks.{row_of}
+use Rattle.edr_geometry.specs.Masks.{row_of, column_of}
 use Rattle.edr_edition.specs.Values.{InstanceValue}
 use Rattle.edr_query.specs.declared.shapes.Shape.{Shape}
 use Rattle.edr_query.specs.declared.shapes.Shape.TheVariants as at
@@ -195,6 +195,10 @@ pub record IsTakenRow (i : InstanceValue) (shape : Shape) (y : ℕ) (ends : RowE
 -- the truth values of a row
 abbrev pub bits_at : InstanceValue → Shape → ColumnsValue → ℕ → List Bool
 bits_at i shape columns y = row_of (takes_spot shape) (value_at i.ys y) columns.xs
+
+-- for each of some columns which of its nodes are taken
+abbrev pub AreTall : InstanceValue → Shape → ColumnsValue → List (List Bool) → Type 0
+AreTall i shape columns masks = masks ≡ map (λ x. column_of (takes_spot shape) x i.ys) columns.xs
 
 -- the box of one row
 abbrev pub mask_of_row : ColumnsValue → ℕ → RowEnds → List Bool → MaskValue

@@ -33,6 +33,7 @@ mod sizes;
 mod stacks;
 mod steps;
 mod taken_frames;
+mod tall_masks;
 
 pub use checks::{has_levels_asked, has_other_crs};
 pub use choices::levels_of_query;

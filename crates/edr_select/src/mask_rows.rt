@@ -1,12 +1,12 @@
 //! Which nodes of a row a disc, some polygons or a box takes.
-ghost use Rattle.std.specs.Prelude.{◌≡◌, ◌<◌, ◌≤◌, ◌+◌, ◌++◌, length, All, IfOk, OnOk, MatchOption};
+ghost use Rattle.std.specs.Prelude.{◌≡◌, ◌<◌, ◌≤◌, ◌+◌, ◌++◌, false, length, map, slice_index_or, All, IfOk, OnOk, MatchOption};
 ghost use Rattle.edr_axes.specs.Axes.{value_at};
 ghost use Rattle.edr_base.specs.Limits.{node_limit, IsCoordinate};
 ghost use Rattle.edr_base.specs.Boxes.{in_box};
 ghost use Rattle.edr_edition.specs.Instances.{HasGrid};
 ghost use Rattle.edr_geometry.specs.Masks.{row_of, spot_at, IsSet, NoneSet};
 ghost use Rattle.edr_query.specs.Queries.{IsShape};
-ghost use Rattle.edr_select.specs.Masks.{IsArea, LiesInColumns, NoneIn, IsTakenRow, bits_at, takes_spot};
+ghost use Rattle.edr_select.specs.Masks.{AreTall, IsArea, LiesInColumns, NoneIn, IsTakenRow, bits_at, takes_spot};
 
 use crate::grid_ranges::Columns;
 use crate::reaches::{centre_of, polygons_of};
@@ -120,6 +120,41 @@ fn add_bits(
     }
 }
 
+// Adds the truth values of a row, one of each column.
+fn add_across(bits: &mut Vec<bool>, tall: &[RowMask], y: usize) -> Result<(), OutOfMemory>
+    requires { All (λ mask. y < length mask) tall.now }
+    ensures { OnOk result (bits.new.items ≡ bits.old.items ++ map (λ mask. slice_index_or mask y false) tall.now) }
+{
+    for mask in tall {
+        bits.push(mask.is_set(y))?;
+    }
+    Ok(())
+}
+
+// Adds the truth values of the nodes of some columns in a row: those of the columns where there are some, and else the row's own.
+fn add_taken(
+    alloc: Global,
+    bits: &mut Vec<bool>,
+    instance: &GridInstance,
+    shape: &Shape,
+    columns: &Columns,
+    tall: &[RowMask],
+    y: usize,
+) -> Result<(), OutOfMemory>
+    requires instance { HasGrid instance.now }
+    requires area { IsArea shape.now }
+    requires shape { IsShape shape.now }
+    requires columns { LiesInColumns instance.now shape.now columns.now }
+    requires tall { 0 < length tall.now → AreTall instance.now shape.now columns.now tall.now }
+    requires inside { y < length instance.now.ys }
+    ensures { OnOk result (bits.new.items ≡ bits.old.items ++ bits_at instance.now shape.now columns.now y) }
+{
+    if tall.is_empty() {
+        return add_bits(alloc, bits, shape, instance.ys().value(y), &columns.xs);
+    }
+    add_across(bits, tall, y)
+}
+
 // The first column that is taken, or None where none is.
 fn first_taken(bits: &[bool]) -> Option<usize>
     ensures { MatchOption result (NoneSet bits.now 0 (length bits.now)) (λ column. IsSet bits.now column × NoneSet bits.now 0 column) }
@@ -154,18 +189,20 @@ pub(crate) fn add_row(
     instance: &GridInstance,
     shape: &Shape,
     columns: &Columns,
+    tall: &[RowMask],
     y: usize,
 ) -> Result<Option<RowEnds>, OutOfMemory>
     requires instance { HasGrid instance.now }
     requires area { IsArea shape.now }
     requires shape { IsShape shape.now }
     requires columns { LiesInColumns instance.now shape.now columns.now }
+    requires tall { 0 < length tall.now → AreTall instance.now shape.now columns.now tall.now }
     requires inside { y < length instance.now.ys }
     ensures added { OnOk result (bits.new.items ≡ bits.old.items ++ bits_at instance.now shape.now columns.now y) }
     ensures found { IfOk result (λ found. MatchOption found (NoneIn instance.now shape.now y (y + 1)) (λ ends. IsTakenRow instance.now shape.now y ends)) }
 {
     let start = bits.len();
-    add_bits(alloc, bits, shape, instance.ys().value(y), &columns.xs)?;
+    add_taken(alloc, bits, instance, shape, columns, tall, y)?;
     let row = &bits[start..];
     let Some(first) = first_taken(row) else {
         return Ok(None);

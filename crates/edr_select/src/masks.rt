@@ -3,12 +3,14 @@ ghost use Rattle.std.specs.Prelude.{◌≡◌, ◌+◌, ◌*◌, ◌<◌, ◌≤
 ghost use Rattle.edr_base.specs.Limits.{node_limit};
 ghost use Rattle.edr_edition.specs.Instances.{HasGrid};
 ghost use Rattle.edr_query.specs.Queries.{IsShape};
-ghost use Rattle.edr_select.specs.Masks.{IsArea, NoneTaken, IsMask, NoneIn, LiesInRows, LiesInColumns, IsMaskBefore, mask_of_row, with_row, right_of};
+ghost use Rattle.edr_select.specs.Masks.{AreTall, IsArea, NoneTaken, IsMask, NoneIn, LiesInRows, LiesInColumns, IsMaskBefore, mask_of_row, with_row, right_of};
 
 use crate::grid_ranges::{Columns, ranges_of};
 use crate::mask_rows::{RowEnds, add_row};
+use crate::tall_masks::tall_masks;
 use edr_base::OutOfMemory;
 use edr_edition::GridInstance;
+use edr_geometry::RowMask;
 use edr_query::Shape;
 use std::alloc::Global;
 use std::marker::Model;
@@ -83,6 +85,7 @@ fn first_row(
     instance: &GridInstance,
     shape: &Shape,
     columns: &Columns,
+    tall: &[RowMask],
     from: usize,
     end: usize,
 ) -> Result<Option<Mask>, OutOfMemory>
@@ -90,6 +93,7 @@ fn first_row(
     requires area { IsArea shape.now }
     requires shape { IsShape shape.now }
     requires columns { LiesInColumns instance.now shape.now columns.now }
+    requires tall { 0 < length tall.now → AreTall instance.now shape.now columns.now tall.now }
     requires ordered { from ≤ end }
     requires inside { end ≤ length instance.now.ys }
     requires before { NoneIn instance.now shape.now 0 from }
@@ -97,7 +101,7 @@ fn first_row(
 {
     let mut bits = Vec::with_capacity(alloc, (end - from) * columns.xs.len())?;
     for y in from..end {
-        if let Some(ends) = add_row(alloc, &mut bits, instance, shape, columns, y)? {
+        if let Some(ends) = add_row(alloc, &mut bits, instance, shape, columns, tall, y)? {
             return Ok(Some(Mask::of_row(columns, y, ends, bits)));
         }
         bits.clear();
@@ -112,6 +116,7 @@ fn add_rows(
     instance: &GridInstance,
     shape: &Shape,
     columns: &Columns,
+    tall: &[RowMask],
     from: usize,
     end: usize,
 ) -> Result<(), OutOfMemory>
@@ -119,13 +124,14 @@ fn add_rows(
     requires area { IsArea shape.now }
     requires shape { IsShape shape.now }
     requires columns { LiesInColumns instance.now shape.now columns.now }
+    requires tall { 0 < length tall.now → AreTall instance.now shape.now columns.now tall.now }
     requires ordered { from ≤ end }
     requires inside { end ≤ length instance.now.ys }
     requires mask { IsMaskBefore instance.now shape.now columns.now from mask.old }
     ensures { OnOk result (IsMaskBefore instance.now shape.now columns.now end mask.new) }
 {
     for y in from..end {
-        if let Some(ends) = add_row(alloc, &mut mask.bits, instance, shape, columns, y)? {
+        if let Some(ends) = add_row(alloc, &mut mask.bits, instance, shape, columns, tall, y)? {
             mask.reach_row(y, ends);
         }
     }
@@ -148,11 +154,12 @@ fn mask_over(
     requires rows { LiesInRows instance.now shape.now from end }
     ensures { IfOk result (λ found. MatchOption found (NoneTaken instance.now shape.now) (λ mask. IsMask instance.now shape.now mask)) }
 {
-    let Some(mut mask) = first_row(alloc, instance, shape, columns, from, end)? else {
+    let tall = tall_masks(alloc, instance, shape, columns, end - from)?;
+    let Some(mut mask) = first_row(alloc, instance, shape, columns, &tall, from, end)? else {
         return Ok(None);
     };
     let next = mask.row as usize + 1;
-    add_rows(alloc, &mut mask, instance, shape, columns, next, end)?;
+    add_rows(alloc, &mut mask, instance, shape, columns, &tall, next, end)?;
     mask.bits.truncate(mask.rows as usize * mask.width as usize);
     Ok(Some(mask))
 }
