@@ -1,18 +1,20 @@
 -- Halves of wholes, and bands about two numbers.
-use Rattle.std.proofs.Common.{◌≡◌, ℕ, Option, None, Some, cond, to_z, of_z, w64, ap₂, ◌<◌, ◌≤◌, arith, Bool, true, false, refl, ap, subst, sym, ◌∙◌, inl, inr, List, length, count_by, ℤ, pos, ◌+ℤ◌, ◌-ℤ◌, ◌*ℤ◌, ◌<ℤ◌, ◌≤ℤ◌, int_lt, int_le, max, nat_lt}
-use Rattle.std.specs.Prelude.{◌&&◌, ◌||◌, nat_le}
+use Rattle.std.proofs.Common.{◌≡◌, ℕ, Option, None, Some, cond, to_z, of_z, w64, ap₂, ◌<◌, ◌≤◌, arith, ◌+◌, Bool, true, false, not, refl, ap, subst, sym, ◌∙◌, List, length, ℤ, pos, ◌+ℤ◌, ◌-ℤ◌, ◌*ℤ◌, ◌<ℤ◌, ◌≤ℤ◌, int_lt, int_le}
+use Rattle.std.specs.Prelude.{◌&&◌, ◌||◌}
 use Rattle.std.specs.Int.{int_min, int_max}
 use Rattle.std.specs.Int.RustNames.{unsigned_abs, int_div}
-use Rattle.std.proofs.lemmas.Bool.{cases_lt, and_left, and_parts, and_from, le-leb, lt-leb, lt-ltb, le-ltb}
+use Rattle.std.proofs.lemmas.Bool.{and_left, and_right, and_parts, and_from}
 use Rattle.std.proofs.lemmas.Int.{ints, by_lt_z}
 use Rattle.jiff_core.proofs.SignedLemmas.{signed_arith, one_part, back_small}
+use Rattle.edr_axes.specs.Axes.{value_at, IsAscending}
+use Rattle.edr_axes.specs.AxisLaws.{ascending_at_most}
 use Rattle.edr_geometry.specs.Planar.{is_among}
 use Rattle.edr_base.specs.Limits.{IsCoordinate, IsMetres}
 use Rattle.edr_base.specs.Boxes.{is_between}
 use Rattle.edr_corridor.specs.declared.bands.Band.{Band}
 use Rattle.edr_corridor.specs.declared.segment.Segment.{Segment}
 use Rattle.edr_corridor.specs.Segments.{within_half, takes_height}
-use Rattle.edr_corridor.specs.Parts.{IsAbout, has_level, has_height}
+use Rattle.edr_corridor.specs.Parts.{IsAbout, band_has, has_level, has_height}
 
 -- ---- comparisons
 
@@ -21,6 +23,10 @@ from_yes a b h = grind (arith, ints)
 
 from_no : (a b : ℤ) → b <ℤ a → int_le a b ≡ false
 from_no a b h = grind (arith, ints)
+
+pub of_not : (b : Bool) → not b ≡ true → b ≡ false
+of_not true h = cc
+of_not false h = refl
 
 -- ---- numbers come back from their bits as they were
 
@@ -154,6 +160,22 @@ module _ (end whole v : ℤ) (end_in : IsCoordinate end) (whole_in : IsMetres wh
 
   pub greatest_is : int_le v (read (read end +ℤ read (int_div (read whole) (pos 2)))) ≡ int_le (pos 2 *ℤ v) (pos 2 *ℤ end +ℤ whole)
   greatest_is = rw (end_back, whole_back, half_back, greatest_back) to_half
+
+-- ---- ascending values that begin above a band, or end below it
+
+pub all_above : (band : Band) (values : List ℤ) → IsAscending values → int_le (pos 2 *ℤ value_at values 0) (pos 2 *ℤ band.high +ℤ band.whole) ≡ false
+    → (place : ℕ) → place < length values → band_has band (value_at values place) ≡ false
+all_above band values ascend over place inside =
+    let rises = ascending_at_most values ascend 0 place (omega arith) inside in
+    and_right (int_le (pos 2 *ℤ band.low -ℤ band.whole) (pos 2 *ℤ value_at values place)) (int_le (pos 2 *ℤ value_at values place) (pos 2 *ℤ band.high +ℤ band.whole))
+    (from_no (pos 2 *ℤ value_at values place) (pos 2 *ℤ band.high +ℤ band.whole) (omega (arith, signed_arith, rises, over)))
+
+pub all_below : (band : Band) (values : List ℤ) (last : ℕ) → IsAscending values → last + 1 ≡ length values → int_le (pos 2 *ℤ band.low -ℤ band.whole) (pos 2 *ℤ value_at values last) ≡ false
+    → (place : ℕ) → place < length values → band_has band (value_at values place) ≡ false
+all_below band values last ascend is under place inside =
+    let rises = ascending_at_most values ascend place last (omega (arith, is, inside)) (omega (arith, is)) in
+    and_left (int_le (pos 2 *ℤ band.low -ℤ band.whole) (pos 2 *ℤ value_at values place)) (int_le (pos 2 *ℤ value_at values place) (pos 2 *ℤ band.high +ℤ band.whole))
+    (from_no (pos 2 *ℤ band.low -ℤ band.whole) (pos 2 *ℤ value_at values place) (omega (arith, signed_arith, rises, under)))
 
 -- ---- the levels of a segment
 

@@ -3,3 +3,4 @@ pub mod Near
 pub mod Halves
 pub mod Lines
 pub mod NearNodes
+pub mod Added

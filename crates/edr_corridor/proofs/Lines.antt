@@ -18,7 +18,7 @@ use Rattle.edr_corridor.specs.BoxLaws.{is_about, BoxesAreWanted, CorridorsAreCut
 -- ---- one segment of many
 
 -- the segment of a number goes from the position of that number to the next
-ends_at : (test : Position → Position → Bool) (line : List Position) (number : ℕ) (d : Position) → suc number < length line → at_segment test line number ≡ test (get_or line number d) (get_or line (suc number) d)
+pub ends_at : (test : Position → Position → Bool) (line : List Position) (number : ℕ) (d : Position) → suc number < length line → at_segment test line number ≡ test (get_or line number d) (get_or line (suc number) d)
 ends_at test [] number d h = absurd (omega arith)
 ends_at test (p ∷ []) number d h = absurd (omega arith)
 ends_at test (p ∷ (q ∷ line)) zero d h = refl

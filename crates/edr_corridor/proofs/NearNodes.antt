@@ -1,7 +1,7 @@
 -- Rectangles of the nodes of a plane near a segment, line by line.
-use Rattle.std.proofs.Common.{◌≡◌, ℕ, ◌+◌, ◌-◌, ◌<◌, ◌≤◌, arith, Bool, true, false, refl, ap, ap₂, sym, subst, ◌∙◌, inl, inr, eqb, List, [], ◌∷◌, ◌++◌, length, ℤ, pos, ◌≤ℤ◌, nat_lt}
+use Rattle.std.proofs.Common.{◌≡◌, ℕ, ◌+◌, ◌<◌, ◌≤◌, arith, Bool, true, false, refl, ap, ap₂, sym, subst, ◌∙◌, inl, inr, eqb, List, [], ◌∷◌, ◌++◌, length, ℤ, nat_lt}
 use Rattle.std.specs.Prelude.{◌&&◌, ◌||◌, nat_le}
-use Rattle.std.specs.List.{All, list_any}
+use Rattle.std.specs.List.{All}
 use Rattle.std.proofs.Math.Bool.{or-false, and-false}
 use Rattle.std.proofs.lemmas.Bool.{cases_lt, cases_eq, and_left, and_right, eq-eqb, ne_eqb, le-leb, lt-leb, lt-ltb, le-ltb}
 use Rattle.std.proofs.lemmas.Bool.Decides.{nat_tests}
@@ -12,16 +12,15 @@ use Rattle.edr_base.specs.Limits.{IsMetres}
 use Rattle.edr_axes.specs.Axes.{value_at}
 use Rattle.edr_geometry.specs.Masks.{spot_at}
 use Rattle.edr_geometry.specs.Planar.{spot_of, near_segment}
-use Rattle.edr_geometry.specs.Ranges.{StripValue, NearIsExchanged, lies_in, lies_in_some, exchanged, IsRange, AreRanges}
+use Rattle.edr_geometry.specs.Ranges.{StripValue, NearIsExchanged, lies_in, lies_in_some, exchanged, IsRange}
 use Rattle.edr_geometry.specs.declared.strips.NearRanges.{NearRanges}
 use Rattle.edr_corridor.specs.declared.bands.Band.{Band}
 use Rattle.edr_corridor.specs.declared.boxes.Rectangle.{Rectangle}
 use Rattle.edr_corridor.specs.declared.segment.Segment.{Segment}
 use Rattle.edr_corridor.specs.Segments.{within_half}
 use Rattle.edr_corridor.specs.Boxes.{have_place, IsWithin}
-use Rattle.edr_corridor.specs.Parts.{IsAbout, IsSegment, HasPlaces, HaveSpots, HaveMore, HaveNear, AreNear, AreAlong, band_has, has_along, have_along, has_spot, near_x, near_y, rectangle_along}
+use Rattle.edr_corridor.specs.Parts.{IsAbout, HasPlaces, HaveSpots, HaveMore, HaveNear, AreNear, AreAlong, band_has, has_along, have_along, has_spot, near_x, near_y, rectangle_along}
 use Rattle.edr_corridor.proofs.Near.{far_row, far_column, near_within}
-use Rattle.edr_corridor.proofs.Halves.{distance_back, read}
 
 -- ---- ranges
 

@@ -8,7 +8,7 @@ use Rattle.edr_geometry.specs.Ranges.{lies_in}
 use Rattle.edr_corridor.specs.declared.boxes.Rectangle.{Rectangle}
 use Rattle.edr_corridor.specs.declared.boxes.SegmentBox.{SegmentBox}
 use Rattle.edr_corridor.specs.Values.{SegmentsValue}
-use Rattle.edr_corridor.specs.Segments.{within_half, segment_takes, at_segment, wants}
+use Rattle.edr_corridor.specs.Segments.{within_half, segment_takes, at_segment, first_takes, wants}
 
 -- the values of the axes of a grid: times, levels where there are any, y and x
 pub record GridAxes : Type 0 where
@@ -35,6 +35,12 @@ takes_node s axes t z y x = segment_takes s true true (Some (value_at axes.ts t)
 -- one and the same segment takes time, level and place of that node
 abbrev pub wants_node : SegmentsValue → GridAxes → ℕ → ℕ → ℕ → ℕ → Bool
 wants_node s axes t z y x = wants s (value_at axes.ts t) (level_at axes.zs z) (spot_at (value_at axes.ys y) (value_at axes.xs x))
+
+-- what the segment of a number takes at some y and x, one before it takes too
+abbrev pub AddsNothing : SegmentsValue → ℕ → List ℤ → List ℤ → Type 0
+AddsNothing s number ys xs = (t z : Option ℤ) (y x : ℕ) → y < length ys → x < length xs
+    → at_segment (segment_takes s true true t z (spot_at (value_at ys y) (value_at xs x))) s.line number ≡ true
+    → first_takes (segment_takes s true true t z (spot_at (value_at ys y) (value_at xs x))) s.line number ≡ true
 
 -- ---- boxes
 

@@ -1,5 +1,5 @@
 -- For private clauses: one segment, the numbers about its ends, and the rectangles of the nodes near it.
-use Rattle.std.specs.Prelude.{◌≡◌, ℕ, ◌+◌, ◌<◌, ◌≤◌, ℤ, pos, ◌+ℤ◌, ◌-ℤ◌, ◌*ℤ◌, int_le, ◌==◌, Bool, true, false, ◌&&◌, ◌||◌, List, length, Option, None, Some, is_some, IsSome, IfSome}
+use Rattle.std.specs.Prelude.{◌≡◌, ℕ, ◌+◌, ◌<◌, ℤ, pos, ◌+ℤ◌, ◌-ℤ◌, ◌*ℤ◌, int_le, ◌==◌, Bool, true, false, ◌&&◌, ◌||◌, List, length, Option, None, Some, is_some, IsSome, IfSome}
 use Rattle.std.specs.List.{All, list_any}
 use Rattle.edr_base.specs.declared.places.Position.{Position}
 use Rattle.edr_wkt.specs.Faults.{IsInRange}
@@ -71,6 +71,10 @@ has_height segment z = takes_height segment.rule.has_z z segment.start.z segment
 
 abbrev pub has_spot : Segment → ℤ → ℤ → Bool
 has_spot segment y x = near_segment (spot_at y x) (spot_of segment.start) (spot_of segment.end) segment.rule.width
+
+-- no place of some y and x is near the segment
+abbrev pub HasNone : Segment → List ℤ → List ℤ → Type 0
+HasNone segment ys xs = (y x : ℕ) → y < length ys → x < length xs → has_spot segment (value_at ys y) (value_at xs x) ≡ false
 
 -- the segment of a number, under the rule of its line
 pub record IsSegmentAt (s : SegmentsValue) (number : ℕ) (segment : Segment) : Type 0 where

@@ -1,5 +1,6 @@
 -- What the segments of a line take in a corridor: one and the same segment takes time, level and place together (OGC 19-086r6, section 8).
 use Rattle.std.specs.Prelude.{ℕ, zero, suc, ℤ, pos, ◌+ℤ◌, ◌-ℤ◌, ◌*ℤ◌, int_le, Bool, true, false, ◌&&◌, ◌||◌, List, [], ◌∷◌, Option, None, Some}
+use Rattle.std.specs.List.{list_any, range_with_len}
 use Rattle.edr_base.specs.declared.places.Position.{Position}
 use Rattle.edr_base.specs.declared.places.Spot.{Spot}
 use Rattle.edr_geometry.specs.Planar.{spot_of, is_among, near_segment}
@@ -43,6 +44,10 @@ at_segment test [] number = false
 at_segment test (p ∷ []) number = false
 at_segment test (p ∷ (q ∷ positions)) zero = test p q
 at_segment test (p ∷ (q ∷ positions)) (suc number) = at_segment test (q ∷ positions) number
+
+-- one of the first segments, so many, passes a test
+abbrev pub first_takes : (Position → Position → Bool) → List Position → ℕ → Bool
+first_takes test line count = list_any (at_segment test line) (range_with_len 0 count)
 
 -- one and the same segment takes time, level and place
 abbrev pub in_corridor : SegmentsValue → Bool → Bool → Option ℤ → Option ℤ → Spot → Bool

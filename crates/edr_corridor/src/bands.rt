@@ -1,5 +1,6 @@
 //! Numbers about a range, and their places on an axis.
-ghost use Rattle.std.specs.Prelude.{◌≡◌, ◌≤◌, ◌<◌, ◌+◌, ◌/◌, ℕ, ℤ, pos, ◌-ℤ◌, ◌+ℤ◌, ◌*ℤ◌, int_le, length};
+ghost use Rattle.std.specs.Prelude.{◌≡◌, ◌≤◌, ◌<◌, ◌+◌, ◌/◌, ℕ, true, false, ℤ, pos, ◌-ℤ◌, ◌+ℤ◌, ◌*ℤ◌, int_le, length};
+ghost use Rattle.std.specs.List.{All};
 ghost use Rattle.std.specs.Int.RustNames.{unsigned_abs};
 ghost use Rattle.edr_axes.specs.Axes.{value_at};
 ghost use Rattle.edr_base.specs.Limits.{IsCoordinate, IsMetres, coordinate_limit, distance_limit};
@@ -76,6 +77,16 @@ impl Band {
         ensures greatest { (v : ℤ) → int_le v result ≡ int_le (pos 2 *ℤ v) (pos 2 *ℤ self.now.high +ℤ self.now.whole) }
     {
         self.high + self.whole / 2
+    }
+
+    /// Whether an axis has none of it, as all values are too high, or too low.
+    pub fn misses(&self, axis: &Axis) -> bool
+        requires band { IsBand self.now }
+        requires axis_in { All IsCoordinate axis.now }
+        ensures { result ≡ true → (place : ℕ) → place < length axis.now → band_has self.now (value_at axis.now place) ≡ false }
+    {
+        axis.values();
+        !self.is_to(axis.value(0)) || !self.is_from(axis.value(axis.len() - 1))
     }
 
     /// The places, from 0, of the values of an axis that it has: the first, and the one behind the last.

@@ -5,6 +5,7 @@ mod bands;
 mod boxes;
 mod laws;
 mod rectangles;
+mod repeats;
 mod segment;
 mod segments;
 

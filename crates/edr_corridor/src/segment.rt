@@ -1,12 +1,14 @@
 //! One segment of a line: the times, levels and places that it takes.
 ghost use Rattle.std.specs.Prelude.{◌≡◌, ◌≤◌, ◌<◌, ◌&&◌, ℕ, ℤ, Option, Some, None, true, IfSome, IsSome, length, option_map};
+ghost use Rattle.std.specs.List.{All};
+ghost use Rattle.edr_base.specs.Limits.{IsCoordinate};
 ghost use Rattle.edr_base.specs.declared.places.Spot.{Spot};
 ghost use Rattle.edr_axes.specs.Axes.{value_at, axis_length};
 ghost use Rattle.edr_geometry.specs.Planar as plane;
 ghost use Rattle.edr_geometry.specs.Ranges.{lies_in};
 ghost use Rattle.edr_geometry.specs.Limits.{IsSpot};
 ghost use Rattle.edr_corridor.specs.Boxes.{level_at};
-ghost use Rattle.edr_corridor.specs.Parts.{IsSegment, IsPlacedNode, IsBand, IsAbout, needs_level, has_level, has_time, has_height, has_spot};
+ghost use Rattle.edr_corridor.specs.Parts.{HasNone, IsSegment, IsPlacedNode, IsBand, IsAbout, needs_level, has_level, has_time, has_height, has_spot};
 
 use crate::bands::Band;
 use edr_axes::Axis;
@@ -150,5 +152,15 @@ impl Segment {
         ensures has { IsAbout result self.now.start.x self.now.end.x self.now.rule.width }
     {
         Band::about(self.start.x, self.end.x, self.rule.width)
+    }
+
+    /// Whether no place of some y and x is near it, as all y, or all x, are more than half the width away.
+    pub fn misses(&self, ys: &Axis, xs: &Axis) -> bool
+        requires segment { IsSegment self.now }
+        requires ys_in { All IsCoordinate ys.now }
+        requires xs_in { All IsCoordinate xs.now }
+        ensures { result ≡ true → HasNone self.now ys.now xs.now }
+    {
+        self.columns().misses(xs) || self.rows().misses(ys)
     }
 }

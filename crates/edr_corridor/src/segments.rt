@@ -1,16 +1,17 @@
 //! The segments of a line.
-ghost use Rattle.std.specs.Prelude.{◌≡◌, ◌+◌, ◌<◌, ◌≤◌, ◌&&◌, nat_lt, None, true, length, option_map, IfOk, IfSome, IsSome};
+ghost use Rattle.std.specs.Prelude.{◌≡◌, ◌+◌, ◌<◌, ◌≤◌, ◌&&◌, nat_lt, None, true, false, length, option_map, IfOk, IfSome, IsSome};
 ghost use Rattle.std.specs.List.{All};
 ghost use Rattle.edr_wkt.specs.Faults.{IsInRange};
 ghost use Rattle.edr_base.specs.Limits.{IsCoordinate, IsMetres};
 ghost use Rattle.edr_geometry.specs.Masks.{spot_at};
 ghost use Rattle.edr_corridor.specs.Values.{needs_level};
 ghost use Rattle.edr_corridor.specs.Segments as segments;
-ghost use Rattle.edr_corridor.specs.Boxes.{TakesNodes, LiesOn, LiesNear};
+ghost use Rattle.edr_corridor.specs.Boxes.{AddsNothing, TakesNodes, LiesOn, LiesNear};
 ghost use Rattle.edr_corridor.specs.Parts.{IsSegment, IsSegmentAt};
 
 use crate::boxes::SegmentBox;
 use crate::rectangles::rectangles_where;
+use crate::repeats::repeats_of;
 use crate::segment::{Node, Rule, Segment};
 use edr_axes::Axis;
 use edr_base::{OutOfMemory, Position, Spot};
@@ -25,6 +26,8 @@ use std::marker::Model;
 #[derive(Debug, Drop)]
 pub struct Segments {
     line: Vec<Position>,
+    // For each segment whether it is the same as one before.
+    repeats: Vec<bool>,
     rule: Rule,
 }
 
@@ -44,6 +47,8 @@ impl Model for Segments {
       height = s.rule.height;
     } };
 
+    ghost use Rattle.edr_corridor.specs.Repeats.{AreRepeats};
+
     ghost invariant = { λ s. IsSegments (record {
       line = s.line.items;
       has_z = s.rule.has_z;
@@ -51,7 +56,7 @@ impl Model for Segments {
       width = s.rule.width;
       level = s.rule.level;
       height = s.rule.height;
-    }) };
+    }) × AreRepeats s.line.items s.repeats.items };
 }
 
 // Whether two ranges have places.
@@ -86,6 +91,7 @@ impl Segments {
     {
         Ok(Segments {
             line: Vec::from_slice(alloc, line)?,
+            repeats: repeats_of(alloc, line)?,
             rule: Rule {
                 has_z,
                 has_m,
@@ -137,6 +143,18 @@ impl Segments {
             }
         }
         false
+    }
+
+    /// Whether the segment of a number, from 0, may take places of some y and x that none before it takes. It takes no memory.
+    ///
+    /// It may not where it is the same as one before, and where all y, or all x, are more than half the width away from it.
+    pub fn adds(&self, number: usize, ys: &Axis, xs: &Axis) -> bool
+        requires inside { number + 1 < length self.now.line }
+        requires ys_in { All IsCoordinate ys.now }
+        requires xs_in { All IsCoordinate xs.now }
+        ensures { result ≡ false → AddsNothing self.now number ys.now xs.now }
+    {
+        !self.repeats[number] && !self.segment(number).misses(ys, xs)
     }
 
     /// What the segment of a number, from 0, takes of the nodes of a grid, or want of memory.

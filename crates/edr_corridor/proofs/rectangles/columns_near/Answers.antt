@@ -1,6 +1,6 @@
-use Rattle.std.proofs.Common.{◌≡◌, ◌∙◌, ap, ap₂}
+use Rattle.std.proofs.Common.{◌∙◌, ap, ap₂}
 use Rattle.edr_base.specs.declared.places.Spot.{Spot}
-use Rattle.edr_geometry.specs.Ranges.{StripValue, exchanged}
+use Rattle.edr_geometry.specs.Ranges.{exchanged}
 use Rattle.edr_corridor.proofs.Halves.{distance_back}
 use Rattle.edr_corridor.proofs.NearNodes.{columns_spots}
 use Rattle.edr_corridor.proofs.rectangles.columns_near.Goals as goal

@@ -1,4 +1,4 @@
-use Rattle.std.proofs.Common.{◌≡◌, ◌∙◌, ◌<◌, ◌≤◌, ℕ, ℤ, pos, ap, sym, subst, length, arith, to_z, of_z, w64}
+use Rattle.std.proofs.Common.{◌≡◌, ◌∙◌, ◌<◌, ℕ, pos, ap, sym, subst, length, arith, to_z, of_z, w64}
 use Rattle.edr_axes.specs.Axes.{value_at}
 use Rattle.edr_base.specs.Limits.{IsCoordinate}
 use Rattle.edr_geometry.specs.Masks.{spot_at}

@@ -1,12 +1,11 @@
-use Rattle.std.proofs.Common.{◌≡◌, ◌∙◌, ◌<◌, ℤ, pos, ap, ap₂, sym, subst, true, false, [], ◌∷◌, ◌++◌, List, All, length, rules, arith, to_z, of_z, w64}
+use Rattle.std.proofs.Common.{◌≡◌, ◌∙◌, ◌<◌, pos, ap, ap₂, sym, subst, [], ◌∷◌, ◌++◌, List, All, length, arith}
 use Rattle.std.proofs.lemmas.List.Elements.{All-nil}
 use Rattle.edr_axes.specs.Axes.{value_at}
 use Rattle.edr_base.specs.Limits.{IsCoordinate}
-use Rattle.edr_geometry.specs.Limits.{IsSpot}
 use Rattle.edr_geometry.specs.Planar.{spot_of, near_segment}
 use Rattle.edr_geometry.specs.Masks.{spot_at}
 use Rattle.edr_corridor.specs.Boxes.{IsWithin}
-use Rattle.edr_corridor.specs.Parts.{HaveSpots, has_spot}
+use Rattle.edr_corridor.specs.Parts.{has_spot}
 use Rattle.edr_corridor.specs.declared.boxes.Rectangle.{Rectangle}
 use Rattle.edr_corridor.proofs.Halves.{coordinate_back}
 use Rattle.edr_corridor.proofs.NearNodes.{node_spots, no_spots, node_within}

@@ -1,6 +1,5 @@
-use Rattle.std.proofs.Common.{◌≡◌, ◌∙◌, ap, ap₂}
+use Rattle.std.proofs.Common.{◌∙◌, ap, ap₂}
 use Rattle.edr_base.specs.declared.places.Spot.{Spot}
-use Rattle.edr_geometry.specs.Ranges.{StripValue}
 use Rattle.edr_corridor.proofs.Halves.{distance_back}
 use Rattle.edr_corridor.proofs.NearNodes.{rows_spots}
 use Rattle.edr_corridor.proofs.rectangles.rows_near.Goals as goal
