@@ -13,6 +13,6 @@ mod squares;
 mod trees;
 
 pub use collections::Cells;
-pub use laws::nearest_is_one;
+pub use laws::{cells_cross_threads, nearest_is_one};
 pub use looks::Looks;
 pub use placed::Placed;
