@@ -19,7 +19,7 @@ use Rattle.serde_json.specs.Read.{read, max_depth, number_of, of_json, of_items,
 use Rattle.serde_json.specs.Written.{outline, items_outline, members_outline, compact_text, items_text, members_text, comma_if, number_text}
 use Rattle.serde_json.proofs.Texts.{print-outline}
 use Rattle.serde_json.proofs.Numbers.{number_of-decimal, number_of-negative}
-use Rattle.covjson_value.proofs.PlainJson.{IsWhole, AreAbove, IsPlain, ArePlain, IsOrdered}
+use Rattle.covjson_value.specs.Plain.{IsWhole, AreAbove, IsPlain, ArePlain, IsOrdered}
 
 -- ---- members that were read, and those that follow
 

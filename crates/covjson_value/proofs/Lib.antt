@@ -9,7 +9,6 @@ pub mod AxesGathered
 pub mod AxisValues
 pub mod NamedParts
 pub mod SampleRows
-pub mod PlainJson
 pub mod JsonBack
 pub mod AxisLengths
 pub mod Within

@@ -10,7 +10,7 @@ use Rattle.json.proofs.Printed.Utf8.{are_ascii, IsUtf8-are_ascii}
 use Rattle.serde_json.specs.Data.{Data, string, array, object, Items, no_items, item, Members, no_members, member, depth, items_depth, members_depth}
 use Rattle.serde_json.specs.View.{items_of}
 use Rattle.covjson_value.specs.Trees.{member_if, item_if, array_of, array_if_some, members_in_order, integer}
-use Rattle.covjson_value.proofs.PlainJson.{AreAbove, IsPlain, ArePlain, IsOrdered}
+use Rattle.covjson_value.specs.Plain.{AreAbove, IsPlain, ArePlain, IsOrdered}
 
 -- plain, and no deeper than n
 pub record IsWithin (n : ℕ) (d : Data) : Type 0 where

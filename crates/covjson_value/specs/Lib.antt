@@ -5,6 +5,7 @@ pub mod Trees
 pub mod Puts
 pub mod Samples
 pub mod Laws
+pub mod Plain
 pub mod AxisNames
 pub mod MemberLaws
 pub mod RegularLaws

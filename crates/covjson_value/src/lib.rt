@@ -21,7 +21,8 @@ pub use coverages::{Coverage, Document, NdArray, Parameter, Referencing};
 pub use domain_types::{DomainType, type_by_name};
 pub use domains::{CoordinateName, Domain};
 pub use laws::{
-    document_texts_read_back, texts_read_back, texts_tell_coverages, texts_tell_documents,
+    coverages_are_plain, document_texts_read_back, plain_texts_read_back, texts_read_back,
+    texts_tell_coverages, texts_tell_documents,
 };
 pub use leaves::{only_member, put_given, put_text, text_of, time_tree};
 pub use parameter_trees::parameters_tree;
