@@ -10,6 +10,7 @@ from plain.profile import limits
 from plain.profile.answers.target import answer
 from plain.profile.coverage_json.read import CoverageFault, read_document
 from plain.profile.coverage_json.tables import write_table
+from plain.profile.explained import explained
 from plain.profile.feeds.collections import Collections
 from plain.profile.feeds.lines import FeedFault, read_feed
 from plain.profile.feeds.made import made_feed
@@ -42,12 +43,15 @@ def _ended(status: int, line: str) -> Ending:
 
 def run(words: list[bytes], read_input: Read, open_file: Callable[[bytes], Read], connect: Connect = Link) -> Ending:
     """What the program does for its words. The input is read, a file opened, and a peer connected to, where the words ask for it."""
+    explains = len(words) > 1 and words[0] in (b"check", b"show", b"fetch") and words[-1] == b"--why"
+    if explains:
+        words = words[:-1]
     if words == [b"check"]:
-        return _of_feed(read_input(), lambda editions: Ending(0, count_line(editions).encode("utf-8")))
+        return _of_feed(read_input(), explains, lambda editions: Ending(0, count_line(editions).encode("utf-8")))
     if words == [b"check", b"--summary"]:
-        return _of_feed(read_input(), lambda editions: Ending(0, summary_lines(editions).encode("utf-8")))
+        return _of_feed(read_input(), explains, lambda editions: Ending(0, summary_lines(editions).encode("utf-8")))
     if len(words) == 2 and words[0] == b"ask":
-        return _of_feed(read_input(), lambda editions: _answered(words[1], editions[-1]))
+        return _of_feed(read_input(), False, lambda editions: _answered(words[1], editions[-1]))
     if words[:1] == [b"replay"] and len(words) > 1 and words[2:] in ([], [b"--advance"]) and is_utf8(words[1]):
         return _of_file(words[1], open_file, lambda feed: _replayed(feed, len(words) > 2, read_input))
     if len(words) == 2 and words[0] == b"make" and _is_number(words[1]):
@@ -55,9 +59,9 @@ def run(words: list[bytes], read_input: Read, open_file: Callable[[bytes], Read]
     if len(words) == 2 and words[0] == b"work" and _is_number(words[1]):
         return Ending(0, work_text(int(words[1])).encode("utf-8"))
     if words == [b"show"]:
-        return _of_read(read_input, _shown)
+        return _of_read(read_input, lambda text: _shown(text, explains))
     if len(words) == 2 and words[0] == b"fetch" and (url := read_url(words[1])):
-        return _fetched(url, connect)
+        return _fetched(url, connect, explains)
     return _ended(1, USAGE)
 
 
@@ -86,15 +90,16 @@ def _of_read(read: Read, ending_of: Callable[[bytes], Ending]) -> Ending:
 
 def _replayed(feed: bytes, advances: bool, read_input: Read) -> Ending:
     """The replies to the input; each request finds the first edition, or with `advances` the next one."""
-    return _of_feed(feed, lambda editions: Ending(0, serve(read_input(), editions if advances else editions[:1]).output()))
+    return _of_feed(feed, False, lambda editions: Ending(0, serve(read_input(), editions if advances else editions[:1]).output()))
 
 
-def _of_feed(feed: bytes, ending_of) -> Ending:
-    """How it ends with the editions of a feed, or with the feed's fault."""
+def _of_feed(feed: bytes, explains: bool, ending_of) -> Ending:
+    """How it ends with the editions of a feed, or with the feed's fault, which is explained where that is asked for."""
     try:
         return ending_of(read_feed(feed))
     except FeedFault as fault:
-        return _ended(2, f"feed: {fault.name}" + (f" line {fault.line}" if fault.line else ""))
+        line = f"feed: {fault.name}" + (f" line {fault.line}" if fault.line else "")
+        return _ended(2, line + (explained(fault.inner) if explains else ""))
 
 
 def _answered(target: bytes, edition: Collections) -> Ending:
@@ -102,17 +107,17 @@ def _answered(target: bytes, edition: Collections) -> Ending:
     return Ending(0, found.text.encode("utf-8")) if found.status == 200 else _ended(6, found.text)
 
 
-def _shown(text: bytes) -> Ending:
+def _shown(text: bytes, explains: bool) -> Ending:
     """The table of a document."""
     if len(text) > limits.BODY_BYTES:
         return _ended(7, "reply: TooLong")
     try:
         return Ending(0, write_table(read_document(text)).encode("utf-8"))
-    except CoverageFault:
-        return _ended(7, "reply: Cov")
+    except CoverageFault as fault:
+        return _ended(7, "reply: Cov" + (explained(fault) if explains else ""))
 
 
-def _fetched(url: Url, connect: Connect) -> Ending:
+def _fetched(url: Url, connect: Connect, explains: bool) -> Ending:
     """The table of the document that a peer replies."""
     try:
         link = connect(*url.peer())
@@ -124,22 +129,22 @@ def _fetched(url: Url, connect: Connect) -> Ending:
         link.close()
         return _ended(4, "write fault")
     try:
-        return _of_reply(link)
+        return _of_reply(link, explains)
     except OSError:
         return _ended(3, "read fault")
     finally:
         link.close()
 
 
-def _of_reply(link: Link) -> Ending:
+def _of_reply(link: Link, explains: bool) -> Ending:
     try:
         return Ending(0, write_table(read_reply(link.pieces()).document).encode("utf-8"))
-    except BadReply:
-        return _ended(7, "reply: BadReply")
-    except NotData as found:
-        return _ended(7, f"reply: NotData {found.status}")
-    except CoverageFault:
-        return _ended(7, "reply: Cov")
+    except BadReply as fault:
+        return _ended(7, "reply: BadReply" + (explained(fault) if explains else ""))
+    except NotData as fault:
+        return _ended(7, f"reply: NotData {fault.status}" + (explained(fault) if explains else ""))
+    except CoverageFault as fault:
+        return _ended(7, "reply: Cov" + (explained(fault) if explains else ""))
 
 
 def real_file(name: bytes) -> Read:

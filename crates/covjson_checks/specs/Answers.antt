@@ -1,5 +1,5 @@
 -- The answer to a tree: what it stands for, or the first check that it fails.
-use Rattle.std.specs.Prelude.{Result, Ok, List, [], ◌∷◌, ◌++◌}
+use Rattle.std.specs.Prelude.{ℕ, suc, Result, Ok, List, [], ◌∷◌, ◌++◌}
 use Rattle.serde_json.specs.Data.{Data, Items, no_items, item}
 use Rattle.edr_base.specs.FirstThatApplies as first
 use Rattle.edr_base.specs.FirstThatApplies.{and_then, IsAnswer, IsAnswerUnless}
@@ -13,6 +13,11 @@ Answer T = first.Answer CovFault T
 abbrev pub each : {V : Type 0} → (Data → Answer V) → Items → Answer (List V)
 each answer_of no_items = Ok []
 each answer_of (item d ds) = and_then (answer_of d) (λ v. and_then (each answer_of ds) (λ vs. Ok (v ∷ vs)))
+
+-- an answer for each item of a list, by the place that it has there, from that place on
+abbrev pub each_from : {V : Type 0} → (ℕ → Data → Answer V) → ℕ → Items → Answer (List V)
+each_from answer_at place no_items = Ok []
+each_from answer_at place (item d ds) = and_then (answer_at place d) (λ v. and_then (each_from answer_at (suc place) ds) (λ vs. Ok (v ∷ vs)))
 
 -- the answer's list, after what was found before
 abbrev pub onto : {T : Type 0} → List T → Answer (List T) → Answer (List T)

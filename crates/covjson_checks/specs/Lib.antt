@@ -6,6 +6,7 @@ pub mod AxisNameLaws
 pub mod RowLaws
 pub mod Places
 pub mod PlaceLaws
+pub mod EachRows
 pub mod TextFaults
 pub mod FaultLaws
 pub mod ItemTests

@@ -5,7 +5,7 @@ use Rattle.serde_json.specs.Data.{Data, Items, no_items, item, Members, Num}
 use Rattle.serde_json.specs.Find.{get, as_object, as_array, as_number, as_str, as_null, as_integer}
 use Rattle.covjson_checks.specs.declared.faults.Member.{Member}
 use Rattle.covjson_checks.specs.declared.faults.CovFault.{CovFault}
-use Rattle.covjson_checks.specs.declared.faults.CovFault.TheVariants.{Missing, WrongType, NotWhole, OutOfRange}
+use Rattle.covjson_checks.specs.declared.faults.CovFault.TheVariants.{Missing, WrongType, NotWhole, OutOfRangeAt}
 use Rattle.covjson_checks.specs.declared.members.Wanted.{Wanted}
 use Rattle.covjson_checks.specs.declared.members.Wanted.TheVariants.{Texts, Numbers, Wholes, Naturals, NumbersOrNulls, WholesOrNulls}
 use Rattle.covjson_checks.specs.Answers.{Answer}
@@ -48,16 +48,16 @@ held_whole m n = or_fault (as_integer n) (NotWhole m)
 abbrev pub is_within : ℕ → ℤ → Bool
 is_within limit value = nat_le (unsigned_abs value) limit
 
--- a number, held whole, of at most that size
-abbrev pub whole_within : Member → ℕ → Data → Answer ℤ
-whole_within m limit d =
+-- a number at a place, held whole, of at most that size
+abbrev pub whole_within : Member → ℕ → ℕ → Data → Answer ℤ
+whole_within m limit place d =
     and_then (number_at m d) (λ n.
     and_then (held_whole m n) (λ z.
-    if is_within limit z then Ok z else Err (OutOfRange m)))
+    if is_within limit z then Ok z else Err (OutOfRangeAt m place)))
 
 -- the same, where null stands for an absent number
-abbrev pub whole_or_null : Member → ℕ → Data → Answer (Option ℤ)
-whole_or_null m limit d = if is_some (as_null d) then Ok None else and_then (whole_within m limit d) (λ z. Ok (Some z))
+abbrev pub whole_or_null : Member → ℕ → ℕ → Data → Answer (Option ℤ)
+whole_or_null m limit place d = if is_some (as_null d) then Ok None else and_then (whole_within m limit place d) (λ z. Ok (Some z))
 
 -- the item is what is wanted
 abbrev pub is_wanted : Wanted → Data → Bool

@@ -1,10 +1,11 @@
 -- Laws of items of a list, by their places.
-use Rattle.std.proofs.Common.{◌≡◌, ℕ, zero, suc, ◌<◌, Bool, true, ◌&&◌, Decides, Some, refl, sym, ◌∙◌, subst, arith}
-use Rattle.std.proofs.lemmas.Bool.{and_parts, and_from}
+use Rattle.std.proofs.Common.{◌≡◌, if◌then◌else◌, ℕ, zero, suc, ◌<◌, List, [], ◌∷◌, All, Bool, true, false, ◌&&◌, Decides, Some, refl, sym, ap, ◌∙◌, subst, arith}
+use Rattle.std.proofs.lemmas.Bool.{true≢false, and_parts, and_from}
+use Rattle.std.proofs.lemmas.List.Elements.{All-nil, All-cons, All-head, All-tail}
 use Rattle.serde_json.specs.Data.{Data, Items, no_items, item}
 use Rattle.edr_base.specs.FirstLaws.{least_rank}
-use Rattle.edr_json.specs.Trees.{item_at}
-use Rattle.covjson_checks.specs.Places.{IsAmong, EachItem, IsSoAt, IsFirstItem}
+use Rattle.edr_json.specs.Trees.{item_at, EachStands}
+use Rattle.covjson_checks.specs.Places.{IsAmong, EachItem, IsSoAt, IsFirstItem, HasValue, failing_place}
 
 -- ---- each item
 
@@ -90,3 +91,60 @@ first_place Is items one other a b = least_rank (λ place. place) (IsSoAt Is ite
 -- the first that isn't so is one of the items
 pub first_among : (Is : Data → Type 0) (items : Items) (first : Data) → IsFirstItem Is items first → IsAmong first items
 first_among Is items first at = (at.place, at.here)
+
+-- ---- the first item that doesn't pass a test
+
+-- the first item that isn't so, at the place that the test gives
+abbrev pub FirstFailing : (Data → Type 0) → (Data → Bool) → Items → Type 0
+FirstFailing Is test ds = (d : Data) × (first : IsFirstItem (λ other. ¬ (Is other)) ds d) × (first.place ≡ failing_place test ds)
+
+-- it is the first of all, or the first of the others
+failing_by : (Is : Data → Type 0) (test : Data → Bool) (d : Data) (ds : Items) → Decides (test d) (Is d) → (b : Bool) → test d ≡ b → (b ≡ true → FirstFailing Is test ds) → FirstFailing Is test (item d ds)
+failing_by Is test d ds one true passes later =
+    let next = later refl in
+    let not : ¬ (¬ (Is d)) = λ no_more. no_more (one.0 passes) in (
+      next.0,
+      first_later (λ other. ¬ (Is other)) d ds next.0 not next.1,
+      first_later_place (λ other. ¬ (Is other)) d ds next.0 not next.1 ∙ ap suc next.2 ∙ ap (λ (b : Bool). if b then suc (failing_place test ds) else zero) (sym passes),
+    )
+failing_by Is test d ds one false fails later =
+    let not : ¬ (Is d) = λ is. true≢false (sym (one.1 is) ∙ fails) in (
+      d,
+      first_here (λ other. ¬ (Is other)) d ds not,
+      first_here_place (λ other. ¬ (Is other)) d ds not ∙ ap (λ (b : Bool). if b then suc (failing_place test ds) else zero) (sym fails),
+    )
+
+-- where not all pass, there is one
+pub first_failing : (Is : Data → Type 0) (test : Data → Bool) (all : Items → Bool) → all no_items ≡ true → ((d : Data) (ds : Items) → all (item d ds) ≡ (test d && all ds))
+    → ((d : Data) → Decides (test d) (Is d)) → (ds : Items) → all ds ≡ false → FirstFailing Is test ds
+first_failing Is test all none more one no_items fails = absurd (true≢false (sym none ∙ fails))
+first_failing Is test all none more one (item d ds) fails =
+    failing_by Is test d ds (one d) (test d) refl (λ passes.
+    first_failing Is test all none more one ds (ap (λ (b : Bool). b && all ds) (sym passes) ∙ sym (more d ds) ∙ fails))
+
+-- ---- the values of the items
+
+-- where each item has a value that is so, all values are so for which they stand
+pub values_all : {V : Type 0} (R : Data → V → Type 0) (P : V → Type 0) → ((d : Data) (v w : V) → R d v → R d w → v ≡ w)
+    → (ds : Items) (vs : List V) → EachStands R ds vs → EachItem (HasValue R P) ds → All P vs
+values_all R P one no_items [] stand have = All-nil P
+values_all R P one no_items (v ∷ vs) stand have = absurd stand
+values_all R P one (item d ds) [] stand have = absurd stand
+values_all R P one (item d ds) (v ∷ vs) stand have =
+    let here = each_head (HasValue R P) d ds have in
+    All-cons P v vs (subst P (one d here.0 v here.1 stand.0) here.2) (values_all R P one ds vs stand.1 (each_tail (HasValue R P) d ds have))
+
+-- and where all values are so, each item has one
+pub values_each : {V : Type 0} (R : Data → V → Type 0) (P : V → Type 0) (ds : Items) (vs : List V) → EachStands R ds vs → All P vs → EachItem (HasValue R P) ds
+values_each R P no_items [] stand all = each_none (HasValue R P)
+values_each R P no_items (v ∷ vs) stand all = absurd stand
+values_each R P (item d ds) [] stand all = absurd stand
+values_each R P (item d ds) (v ∷ vs) stand all =
+    each_more (HasValue R P) d ds (v, stand.0, All-head P v vs all) (values_each R P ds vs stand.1 (All-tail P v vs all))
+
+-- each of items that stand for values has one
+pub values_had : {V : Type 0} (R : Data → V → Type 0) (ds : Items) (vs : List V) → EachStands R ds vs → EachItem (λ d. (v : V) × R d v) ds
+values_had {V} R no_items [] stand = each_none (λ d. (v : V) × R d v)
+values_had R no_items (v ∷ vs) stand = absurd stand
+values_had R (item d ds) [] stand = absurd stand
+values_had {V} R (item d ds) (v ∷ vs) stand = each_more (λ other. (w : V) × R other w) d ds (v, stand.0) (values_had R ds vs stand.1)

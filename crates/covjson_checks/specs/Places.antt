@@ -1,6 +1,6 @@
 -- Items of a list, by their places.
-use Rattle.std.specs.Prelude.{◌≡◌, ℕ, Some}
-use Rattle.serde_json.specs.Data.{Data, Items}
+use Rattle.std.specs.Prelude.{◌≡◌, ◌⊎◌, ℕ, zero, suc, Bool, if◌then◌else◌, Some, Result, Err}
+use Rattle.serde_json.specs.Data.{Data, Items, no_items, item}
 use Rattle.edr_base.specs.FirstThatApplies.{IsFirstPlace}
 use Rattle.edr_json.specs.Trees.{item_at}
 
@@ -25,3 +25,17 @@ pub record IsFirstItem (Is : Data → Type 0) (items : Items) (datum : Data) : T
   pub place : ℕ
   pub here : item_at items place ≡ Some datum
   pub first : IsFirstPlace (IsSoAt Is items) place
+
+-- the datum stands for a value that is so
+abbrev pub HasValue : {V : Type 0} → (Data → V → Type 0) → (V → Type 0) → Data → Type 0
+HasValue {V} StandsFor Is d = (value : V) × StandsFor d value × Is value
+
+-- a row over the items of a list: each is so, and the next rows follow; or the fault is that of the first place whose item isn't
+abbrev pub CheckEach : {F T : Type 0} → (Data → Type 0) → (ℕ → F) → Items → (Result T F → Type 0) → Result T F → Type 0
+CheckEach Is fault items Next answer =
+    (EachItem Is items × Next answer) ⊎ ((d : Data) × (first : IsFirstItem (λ other. ¬ (Is other)) items d) × (answer ≡ Err (fault first.place)))
+
+-- the place of the first item that doesn't pass a test, and how many items there are where each does
+abbrev pub failing_place : (Data → Bool) → Items → ℕ
+failing_place test no_items = zero
+failing_place test (item d ds) = if test d then suc (failing_place test ds) else zero

@@ -69,8 +69,11 @@ pub enum CovFault {
     UnsupportedRange(Text),
     /// A number that isn't held as a whole number.
     NotWhole(Member),
-    /// A whole number beyond its limit.
+    /// A whole number of a spanned axis beyond its limit.
     OutOfRange(Member),
+    /// The place, from 0, of the first item of a list that has a whole number beyond its limit: of a sample, of a coordinate, or of
+    /// a tuple.
+    OutOfRangeAt(Member, usize),
     /// The place, from 0, of a text that is no time.
     BadTime(usize),
     /// An axis whose values neither ascend nor descend.

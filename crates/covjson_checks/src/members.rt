@@ -4,7 +4,7 @@ ghost use Rattle.serde_json.specs.View.{items_of, number_view};
 ghost use Rattle.edr_samples.specs.Tokens.{sample_data};
 ghost use Rattle.edr_samples.specs.Trees.{tree_view, items_view, list_view, members_view};
 ghost use Rattle.serde_json.specs.Find.{get};
-ghost use Rattle.covjson_checks.specs.Answers.{GivesAnswer, GivesUnlessMemory, each};
+ghost use Rattle.covjson_checks.specs.Answers.{GivesAnswer, GivesUnlessMemory, each_from};
 ghost use Rattle.edr_base.specs.FirstThatApplies.{or_fault};
 ghost use Rattle.covjson_checks.specs.Members as members;
 
@@ -111,30 +111,35 @@ pub fn is_within(value: i128, limit: u64) -> bool
     value.unsigned_abs() <= limit as u128
 }
 
-// A whole number of at most that size: WrongType, NotWhole, OutOfRange.
-fn whole_within(tree: &Tree, member: Member, limit: u64) -> Result<i64, CovFault>
+// The whole number at a place of a list, of at most that size: WrongType, NotWhole, OutOfRangeAt.
+fn whole_within(tree: &Tree, place: usize, member: Member, limit: u64) -> Result<i64, CovFault>
     requires { limit < 2 ^ 63 }
-    ensures { result ≡ members.whole_within member limit (tree_view tree.now) }
+    ensures { result ≡ members.whole_within member limit place (tree_view tree.now) }
 {
     let number = number_at(tree, member)?;
     let Some(whole) = number.as_i128() else {
         return Err(CovFault::NotWhole(member));
     };
     if !is_within(whole, limit) {
-        return Err(CovFault::OutOfRange(member));
+        return Err(CovFault::OutOfRangeAt(member, place));
     }
     Ok(whole as i64)
 }
 
 // The same, where null stands for an absent number.
-fn whole_or_null(tree: &Tree, member: Member, limit: u64) -> Result<Option<i64>, CovFault>
+fn whole_or_null(
+    tree: &Tree,
+    place: usize,
+    member: Member,
+    limit: u64,
+) -> Result<Option<i64>, CovFault>
     requires { limit < 2 ^ 63 }
-    ensures { result ≡ members.whole_or_null member limit (tree_view tree.now) }
+    ensures { result ≡ members.whole_or_null member limit place (tree_view tree.now) }
 {
     if tree.is_null() {
         return Ok(None);
     }
-    let whole = whole_within(tree, member, limit)?;
+    let whole = whole_within(tree, place, member, limit)?;
     Ok(Some(whole))
 }
 
@@ -227,25 +232,30 @@ fn wholes_of(
     limit: u64,
 ) -> Result<Vec<i64>, CovFault>
     requires { limit < 2 ^ 63 }
-    ensures { GivesUnlessMemory (λ v. v.items) result (each (members.whole_within member limit) (items_view items.now.items)) }
+    ensures { GivesUnlessMemory (λ v. v.items) result (each_from (members.whole_within member limit) 0 (items_view items.now.items)) }
 {
     let mut found = Vec::with_capacity(alloc, items.len())?;
-    for item in items {
-        let whole = whole_within(item, member, limit)?;
+    for (place, item) in items.iter().enumerate() {
+        let whole = whole_within(item, place, member, limit)?;
         found.push(whole)?;
     }
     Ok(found)
 }
 
-// The number of a sample, of at most that size: WrongType, OutOfRange.
-fn sample_within(sample: Option<i64>, member: Member, limit: u64) -> Result<i64, CovFault>
-    ensures { result ≡ members.whole_within member limit (sample_data sample) }
+// The number of the sample at a place, of at most that size: WrongType, OutOfRangeAt.
+fn sample_within(
+    sample: Option<i64>,
+    place: usize,
+    member: Member,
+    limit: u64,
+) -> Result<i64, CovFault>
+    ensures { result ≡ members.whole_within member limit place (sample_data sample) }
 {
     let Some(number) = sample else {
         return Err(CovFault::WrongType(member));
     };
     if !is_within(number as i128, limit) {
-        return Err(CovFault::OutOfRange(member));
+        return Err(CovFault::OutOfRangeAt(member, place));
     }
     Ok(number)
 }
@@ -257,17 +267,17 @@ fn wholes_of_samples(
     member: Member,
     limit: u64,
 ) -> Result<Vec<i64>, CovFault>
-    ensures { GivesUnlessMemory (λ v. v.items) result (each (members.whole_within member limit) (items_of (map sample_data samples.now))) }
+    ensures { GivesUnlessMemory (λ v. v.items) result (each_from (members.whole_within member limit) 0 (items_of (map sample_data samples.now))) }
 {
     let mut found = Vec::with_capacity(alloc, samples.len())?;
     for place in 0..samples.len() {
-        let whole = sample_within(samples.get(place), member, limit)?;
+        let whole = sample_within(samples.get(place), place, member, limit)?;
         found.push(whole)?;
     }
     Ok(found)
 }
 
-/// The whole numbers of a list, in one vector.
+/// The whole numbers of a list, in one vector: WrongType, NotWhole or OutOfRangeAt of the first item that is none of that size.
 pub fn wholes(
     alloc: Global,
     list: List<'_>,
@@ -275,7 +285,7 @@ pub fn wholes(
     limit: u64,
 ) -> Result<Vec<i64>, CovFault>
     requires { limit < 2 ^ 63 }
-    ensures { GivesUnlessMemory (λ v. v.items) result (each (members.whole_within member limit) (list_view list.entry)) }
+    ensures { GivesUnlessMemory (λ v. v.items) result (each_from (members.whole_within member limit) 0 (list_view list.entry)) }
 {
     match list {
         List::Samples(samples) => wholes_of_samples(alloc, samples, member, limit),
@@ -291,23 +301,28 @@ fn wholes_or_nulls_of(
     limit: u64,
 ) -> Result<Vec<Option<i64>>, CovFault>
     requires { limit < 2 ^ 63 }
-    ensures { GivesUnlessMemory (λ v. v.items) result (each (members.whole_or_null member limit) (items_view items.now.items)) }
+    ensures { GivesUnlessMemory (λ v. v.items) result (each_from (members.whole_or_null member limit) 0 (items_view items.now.items)) }
 {
     let mut found = Vec::with_capacity(alloc, items.len())?;
-    for item in items {
-        let whole = whole_or_null(item, member, limit)?;
+    for (place, item) in items.iter().enumerate() {
+        let whole = whole_or_null(item, place, member, limit)?;
         found.push(whole)?;
     }
     Ok(found)
 }
 
-// A sample, of at most that size: OutOfRange.
-fn sample_or_null(sample: Option<i64>, member: Member, limit: u64) -> Result<Option<i64>, CovFault>
-    ensures { result ≡ members.whole_or_null member limit (sample_data sample) }
+// The sample at a place, of at most that size: OutOfRangeAt.
+fn sample_or_null(
+    sample: Option<i64>,
+    place: usize,
+    member: Member,
+    limit: u64,
+) -> Result<Option<i64>, CovFault>
+    ensures { result ≡ members.whole_or_null member limit place (sample_data sample) }
 {
     if let Some(number) = sample {
         if !is_within(number as i128, limit) {
-            return Err(CovFault::OutOfRange(member));
+            return Err(CovFault::OutOfRangeAt(member, place));
         }
     }
     Ok(sample)
@@ -320,17 +335,18 @@ fn samples_within(
     member: Member,
     limit: u64,
 ) -> Result<Vec<Option<i64>>, CovFault>
-    ensures { GivesUnlessMemory (λ v. v.items) result (each (members.whole_or_null member limit) (items_of (map sample_data samples.now))) }
+    ensures { GivesUnlessMemory (λ v. v.items) result (each_from (members.whole_or_null member limit) 0 (items_of (map sample_data samples.now))) }
 {
     let mut found = Vec::with_capacity(alloc, samples.len())?;
     for place in 0..samples.len() {
-        let sample = sample_or_null(samples.get(place), member, limit)?;
+        let sample = sample_or_null(samples.get(place), place, member, limit)?;
         found.push(sample)?;
     }
     Ok(found)
 }
 
-/// The whole numbers and nulls of a list, in one vector.
+/// The whole numbers and nulls of a list, in one vector: WrongType, NotWhole or OutOfRangeAt of the first item that is none of that
+/// size.
 pub fn wholes_or_nulls(
     alloc: Global,
     list: List<'_>,
@@ -338,7 +354,7 @@ pub fn wholes_or_nulls(
     limit: u64,
 ) -> Result<Vec<Option<i64>>, CovFault>
     requires { limit < 2 ^ 63 }
-    ensures { GivesUnlessMemory (λ v. v.items) result (each (members.whole_or_null member limit) (list_view list.entry)) }
+    ensures { GivesUnlessMemory (λ v. v.items) result (each_from (members.whole_or_null member limit) 0 (list_view list.entry)) }
 {
     match list {
         List::Samples(samples) => samples_within(alloc, samples, member, limit),

@@ -17,7 +17,7 @@ use Rattle.edr_json.specs.Trees.{whole_of, EachStands, StandsForWhole}
 use Rattle.covjson_domains.specs.Axes.{StandsForTime, ListsValues}
 use Rattle.covjson_domains.specs.AxisAnswers.{has_some, value_items, coordinates, time_at, times_from, axis_times}
 use Rattle.edr_json.specs.AnswerLaws.{and_then_ok, or_fault_ok, check_ok, and_then_given, or_fault_given, check_given, some_is}
-use Rattle.covjson_checks.specs.CheckLaws.{list_ok, text_ok, each_stands, each_all, whole_within_stands, object_given, whole_within_given, each_given, first_given, all_wanted_given}
+use Rattle.covjson_checks.specs.CheckLaws.{list_ok, text_ok, from_stands, from_all, whole_within_stands, object_given, whole_within_given, from_given, first_given, all_wanted_given}
 use Rattle.edr_json.specs.TreeLaws.{whole_is_number}
 
 -- ---- the items
@@ -60,9 +60,9 @@ coordinates_stand m axis vs h =
     let w = and_then_ok (need_each Wholes (NotWhole m) a.0) _ vs b.2 in
     let f = whole_within m coordinate_limit in
     let items = value_items_stand m axis a.0 a.1 in
-    let stand = each_stands f StandsForWhole (λ d v e. (whole_within_stands m coordinate_limit d v e).0) a.0 vs w.2 in (
+    let stand = from_stands f StandsForWhole (λ place d v e. (whole_within_stands m coordinate_limit place d v e).0) 0 a.0 vs w.2 in (
       record { items = a.0; list = items.0; values_stand = stand },
-      each_all f IsCoordinate (λ d v e. (whole_within_stands m coordinate_limit d v e).1) a.0 vs w.2,
+      from_all f IsCoordinate (λ place d v e. (whole_within_stands m coordinate_limit place d v e).1) 0 a.0 vs w.2,
       stand_some StandsForWhole a.0 vs stand items.1,
     )
 
@@ -82,7 +82,7 @@ coordinates_given m axis vs lists within some =
     and_then_given (value_items m axis) _ ds _ (value_items_given m axis ds lists.list (some_stand StandsForWhole ds vs stand some))
     (and_then_given (need_each Numbers (WrongType m) ds) _ tt _ (check_given (all_wanted Numbers ds) _ (all_wanted_given Numbers StandsForWhole number_wanted ds vs stand))
     (and_then_given (need_each Wholes (NotWhole m) ds) _ tt _ (check_given (all_wanted Wholes ds) _ (all_wanted_given Wholes StandsForWhole whole_wanted ds vs stand))
-    (each_given (whole_within m coordinate_limit) StandsForWhole IsCoordinate (whole_within_given m coordinate_limit) ds vs stand within)))
+    (from_given (whole_within m coordinate_limit) StandsForWhole IsCoordinate (whole_within_given m coordinate_limit) 0 ds vs stand within)))
 
 -- ---- times
 

@@ -1,10 +1,9 @@
 -- Rows of axes have the computed answer, and no other.
 use Rattle.std.specs.Prelude.{not, is_some, option_and_then, ◌==◌, ◌||◌, ◌&&◌, ⊤, int_le, int_div, unsigned_abs}
-use Rattle.std.proofs.Common.{◌≡◌, ◌⊎◌, if◌then◌else◌, ℕ, zero, suc, ◌+◌, ◌-◌, ◌<◌, ℤ, pos, negsuc, ◌-ℤ◌, ◌*ℤ◌, List, [], ◌∷◌, length, reverse, All, Bool, true, false, Decides, Option, Some, None, Ok, Err, inl, inr, refl, sym, ap, ap₂, ◌∙◌, subst, arith, codes}
-use Rattle.std.proofs.lemmas.Bool.{false≢true, true≢false, eqb-true, eq-eqb, leb-true, le-leb, and_parts, and_from, cond-true, cond-false}
+use Rattle.std.proofs.Common.{◌≡◌, if◌then◌else◌, ℕ, zero, suc, ◌-◌, ◌<◌, ℤ, pos, negsuc, ◌-ℤ◌, ◌*ℤ◌, List, [], ◌∷◌, length, reverse, All, Bool, true, false, Decides, Option, Some, None, Ok, Err, inl, inr, refl, sym, ap, ap₂, ◌∙◌, subst, arith, codes}
+use Rattle.std.proofs.lemmas.Bool.{false≢true, true≢false, eqb-true, eq-eqb, leb-true, le-leb, and_parts, and_from}
 use Rattle.std.proofs.lemmas.Int.{ints}
 use Rattle.std.proofs.lemmas.List.{length-reverse}
-use Rattle.std.proofs.lemmas.List.Elements.{All-nil, All-cons, All-head, All-tail}
 use Rattle.serde_json.specs.Data.{Data, null, boolean, number, string, array, object, Items, no_items, item, Members, Num}
 use Rattle.serde_json.specs.Find.{get, as_object, as_array, as_number, as_str, as_integer}
 use Rattle.edr_base.specs.FirstThatApplies.{Check, Find, Gives, and_then, or_fault, check, With}
@@ -18,19 +17,20 @@ use Rattle.covjson_value.specs.declared.domains.CoordinateName.TheVariants.{T, Z
 use Rattle.covjson_checks.specs.declared.faults.Member.{Member}
 use Rattle.covjson_checks.specs.declared.faults.Member.TheVariants.{T as TimeAxis}
 use Rattle.covjson_checks.specs.declared.faults.CovFault.{CovFault}
-use Rattle.covjson_checks.specs.declared.faults.CovFault.TheVariants.{Missing, WrongType, NotWhole, OutOfRange, BadTime, NotMonotonic, WrongCount}
+use Rattle.covjson_checks.specs.declared.faults.CovFault.TheVariants.{Missing, WrongType, NotWhole, OutOfRange, OutOfRangeAt, BadTime, NotMonotonic, WrongCount}
 use Rattle.covjson_checks.specs.declared.members.Wanted.TheVariants.{Texts, Numbers, Wholes}
-use Rattle.covjson_checks.specs.Answers.{Answer, each}
+use Rattle.covjson_checks.specs.Answers.{Answer, each_from}
 use Rattle.covjson_checks.specs.Members.{part, object_at, list_at, number_at, held_whole, is_within, whole_within, is_wanted, all_wanted}
-use Rattle.covjson_checks.specs.CheckLaws.{first_given, all_wanted_given}
-use Rattle.covjson_checks.specs.Places.{EachItem, IsFirstItem}
-use Rattle.covjson_checks.specs.PlaceLaws.{each_none, each_more, each_head, each_tail, each_decides, first_is, first_here, first_here_place, first_later, first_later_place, first_place, first_among}
+use Rattle.covjson_checks.specs.CheckLaws.{all_wanted_given}
+use Rattle.covjson_checks.specs.Places.{EachItem, HasValue, CheckEach}
+use Rattle.covjson_checks.specs.PlaceLaws.{each_decides, values_had}
+use Rattle.covjson_checks.specs.EachRows.{Outcome, check_each_answers, Found, outcome}
 use Rattle.covjson_checks.specs.RowLaws.{HaveAnswer, Finds, option_finds, find_answers, check_answers, then_within, check_within, gives_answers, told, and_then_assoc, ok_fault, option_fault, check_fault, then_fault}
 use Rattle.covjson_domains.specs.declared.axes.ReadAxis.{ReadAxis}
 use Rattle.covjson_domains.specs.declared.domain_types.Presence.{Presence}
 use Rattle.covjson_domains.specs.DomainTypes.{member_of, IsNeeded, IsSingle}
 use Rattle.covjson_domains.specs.Axes.{StandsForTime, HasWhole, IsRegular}
-use Rattle.covjson_domains.specs.RowWords.{CheckEach, IfFound}
+use Rattle.covjson_domains.specs.RowWords.{IfFound}
 use Rattle.covjson_domains.specs.AxisRows.{HasItems, IsTimeText, TimeRows, ListRows, HasNumber, HasWholeSteps, IsSpan, SpanRows, ListedRows, NumberRows, ValueRows, IsMonotonic, AxisRows}
 use Rattle.covjson_domains.specs.TypeAnswers.{is_needed, is_single, left_out}
 use Rattle.covjson_domains.specs.AxisAnswers.{has_some, value_items, coordinates, time_at, times_from, axis_times, number_in, has_whole_steps, is_span_within, regular, spanned, axis_numbers, axis_values, ascends, in_direction, need_count, axis_if}
@@ -53,72 +53,6 @@ with_answers Is Next value answer is unique has = record {
   follows = (value, is, has.follows);
   only = λ other h. has.only other (subst (λ v. Next v other) (unique h.0 h.1) h.2);
 }
-
--- what is found of each item, or the first place at which there is nothing
-abbrev pub Outcome : {V : Type 0} → (Data → V → Type 0) → (Data → Type 0) → Items → ℕ → Answer (List V) → Type 0
-Outcome {V} R Is ds place answer =
-    ((vs : List V) × (answer ≡ Ok vs) × EachStands R ds vs × EachItem Is ds)
-    ⊎ ((d : Data) × (first : IsFirstItem (λ other. ¬ (Is other)) ds d) × (answer ≡ Err (BadTime (place + first.place))))
-
--- that outcome is the answer of a row over each item
-pub check_each_answers : {V T : Type 0} (R : Data → V → Type 0) (Is : Data → Type 0) (ds : Items) (Next : Answer T → Type 0) (answer : Answer (List V)) (next : List V → Answer T)
-    → Outcome R Is ds 0 answer → ((vs : List V) → EachStands R ds vs → HaveAnswer Next (next vs)) → HaveAnswer (CheckEach Is BadTime ds Next) (and_then answer next)
-check_each_answers R Is ds Next answer next (inl h) rows =
-    let vs = h.0 in
-    let has = rows vs h.2 in
-    let given : HaveAnswer (CheckEach Is BadTime ds Next) (next vs) = record {
-      follows = inl (h.3, has.follows);
-      only = λ other k. elim k [
-        | inl w ↦ has.only other w.1
-        | inr w ↦ absurd (first_is (λ e. ¬ (Is e)) ds w.0 w.1 (h.3 w.0 (first_among (λ e. ¬ (Is e)) ds w.0 w.1)))
-      ];
-    } in
-    subst (λ a. HaveAnswer (CheckEach Is BadTime ds Next) (and_then a next)) (sym h.1) given
-check_each_answers {V} {T} R Is ds Next answer next (inr h) rows =
-    let first = h.1 in
-    let at : 0 + first.place ≡ first.place = omega arith in
-    let fault : ℕ → Answer T = λ place. Err (BadTime place) in
-    let given : HaveAnswer (CheckEach Is BadTime ds Next) (fault (0 + first.place)) = record {
-      follows = inr (h.0, first, ap fault at);
-      only = λ other k. elim k [
-        | inl w ↦ absurd (first_is (λ e. ¬ (Is e)) ds h.0 first (w.0 h.0 (first_among (λ e. ¬ (Is e)) ds h.0 first)))
-        | inr w ↦ w.2 ∙ ap fault (first_place (λ e. ¬ (Is e)) ds w.0 h.0 w.1 first ∙ sym at)
-      ];
-    } in
-    subst (λ a. HaveAnswer (CheckEach Is BadTime ds Next) (and_then a next)) (sym h.2) given
-
--- a value is found of an item, or there is none and its place is the fault
-abbrev pub Found : {V : Type 0} → (Data → V → Type 0) → (Data → Type 0) → ℕ → Data → Answer V → Type 0
-Found {V} R Is place d answer = ((v : V) × (answer ≡ Ok v) × R d v × Is d) ⊎ ((¬ (Is d)) × (answer ≡ Err (BadTime place)))
-
--- items in turn, each with its place
-module _ {V : Type 0} (step : ℕ → Data → Answer V) (run : ℕ → Items → Answer (List V)) (Had Is : Data → Type 0) (R : Data → V → Type 0)
-    (none : (place : ℕ) → run place no_items ≡ Ok [])
-    (more : (place : ℕ) (d : Data) (ds : Items) → run place (item d ds) ≡ and_then (step place d) (λ v. and_then (run (suc place) ds) (λ vs. Ok (v ∷ vs))))
-    (one : (place : ℕ) (d : Data) → Had d → Found R Is place d (step place d)) where
-  -- an item of which a value is found, before the others
-  after : (place : ℕ) (d : Data) (ds : Items) → (v : V) × (step place d ≡ Ok v) × R d v × Is d → Outcome R Is ds (suc place) (run (suc place) ds) → Outcome R Is (item d ds) place (run place (item d ds))
-  after place d ds h (inl w) =
-      inl (h.0 ∷ w.0, more place d ds ∙ and_then_given (step place d) _ h.0 _ h.1 (and_then_given (run (suc place) ds) _ w.0 _ w.1 refl), (h.2, w.2), each_more Is d ds h.3 w.3)
-  after place d ds h (inr w) =
-      let not : ¬ (¬ (Is d)) = λ no_more. no_more h.3 in
-      let later = first_later (λ other. ¬ (Is other)) d ds w.0 not w.1 in
-      let at : suc place + w.1.place ≡ place + later.place = omega (arith, first_later_place (λ other. ¬ (Is other)) d ds w.0 not w.1) in
-      let fault : ℕ → Answer (List V) = λ p. Err (BadTime p) in
-      inr (w.0, later, more place d ds ∙ and_then_given (step place d) _ h.0 _ h.1 (ap (λ (a : Answer (List V)). and_then a (λ vs. Ok (h.0 ∷ vs))) w.2 ∙ ap fault at))
-
-  -- an item, before the others
-  either_way : (place : ℕ) (d : Data) (ds : Items) → Found R Is place d (step place d) → Outcome R Is ds (suc place) (run (suc place) ds) → Outcome R Is (item d ds) place (run place (item d ds))
-  either_way place d ds (inl h) later = after place d ds h later
-  either_way place d ds (inr h) later =
-      let first = first_here (λ other. ¬ (Is other)) d ds h.0 in
-      let at : place ≡ place + first.place = omega (arith, first_here_place (λ other. ¬ (Is other)) d ds h.0) in
-      let fault : ℕ → Answer (List V) = λ p. Err (BadTime p) in
-      inr (d, first, more place d ds ∙ ap (λ (a : Answer V). and_then a (λ v. and_then (run (suc place) ds) (λ vs. Ok (v ∷ vs)))) h.1 ∙ ap fault at)
-
-  pub outcome : (place : ℕ) (ds : Items) → EachItem Had ds → Outcome R Is ds place (run place ds)
-  outcome place no_items had = inl ([], none place, tt, each_none Is)
-  outcome place (item d ds) had = either_way place d ds (one place d (each_head Had d ds had)) (outcome (suc place) ds (each_tail Had d ds had))
 
 -- ---- what stands is one
 
@@ -198,7 +132,7 @@ texts_decide : (ds : Items) → Decides (all_wanted Texts ds) (EachItem IsText d
 texts_decide ds = each_decides IsText (is_wanted Texts) (all_wanted Texts) refl (λ d es. refl) text_decides ds
 
 -- the time of a text is found, or there is none
-pub time_by : InstantsAreRead → (m : Member) (place : ℕ) (d : Data) (text : List ℕ) → d ≡ string text → (o : Option ℤ) → instant_of text ≡ o → Found StandsForTime IsTimeText place d (time_at m place d)
+pub time_by : InstantsAreRead → (m : Member) (place : ℕ) (d : Data) (text : List ℕ) → d ≡ string text → (o : Option ℤ) → instant_of text ≡ o → Found BadTime StandsForTime IsTimeText place d (time_at m place d)
 time_by instants m place d text is None none =
     inr (
       (λ h.
@@ -213,9 +147,9 @@ time_by instants m place d text is (Some t) some =
     inl (t, rw (is, some) refl, stands, (t, stands))
 
 -- each of a list
-pub times_outcome : InstantsAreRead → (ds : Items) → EachItem IsText ds → Outcome StandsForTime IsTimeText ds 0 (times_from 0 ds)
+pub times_outcome : InstantsAreRead → (ds : Items) → EachItem IsText ds → Outcome BadTime StandsForTime IsTimeText ds 0 (times_from 0 ds)
 times_outcome instants ds texts =
-    outcome (time_at TimeAxis) times_from IsText IsTimeText StandsForTime (λ place. refl) (λ place d es. refl)
+    outcome BadTime (time_at TimeAxis) times_from IsText IsTimeText StandsForTime (λ place. refl) (λ place d es. refl)
     (λ place d text. time_by instants TimeAxis place d text.0 text.1 (instant_of text.0) refl) 0 ds texts
 
 -- what follows of an answer without a check is the answer
@@ -230,7 +164,7 @@ time_rows instants axis =
     find_answers (HasItems axis) (WrongType TimeAxis) _ (value_items TimeAxis axis) _ (items_found TimeAxis axis) (λ ds has.
     check_answers (EachItem IsText ds) (WrongType TimeAxis) _ (all_wanted Texts ds) _ (texts_decide ds) (λ texts.
     subst (HaveAnswer (CheckEach IsTimeText BadTime ds (With (EachStands StandsForTime ds) Gives))) (only_then (times_from 0 ds))
-    (check_each_answers StandsForTime IsTimeText ds (With (EachStands StandsForTime ds) Gives) (times_from 0 ds) (λ ts. Ok ts) (times_outcome instants ds texts) (λ ts stand.
+    (check_each_answers BadTime StandsForTime IsTimeText ds (With (EachStands StandsForTime ds) Gives) (times_from 0 ds) (λ ts. Ok ts) (times_outcome instants ds texts) (λ ts stand.
     with_answers (EachStands StandsForTime ds) Gives ts (Ok ts) stand (λ other also. each_one StandsForTime (time_one instants) ds other ts also stand) (gives_answers ts))))))
 
 -- ---- listed numbers
@@ -262,67 +196,58 @@ wholes_there (item d ds) h =
     let later = wholes_there ds parts.1 in
     (here.0 ∷ later.0, (here.1, later.1))
 
+-- the whole number of an item is within the limit, or its place is the fault
+whole_by : (m : Member) (place : ℕ) (d : Data) (v : ℤ) → whole_of d ≡ Some v → (b : Bool) → is_within coordinate_limit v ≡ b
+    → Found (OutOfRangeAt m) StandsForWhole (HasValue StandsForWhole IsCoordinate) place d (if b then Ok v else Err (OutOfRangeAt m place))
+whole_by m place d v stands true within = inl (v, refl, stands, (v, stands, leb-true (unsigned_abs v) coordinate_limit within))
+whole_by m place d v stands false beyond =
+    inr (
+      (λ has.
+          let within : is_within coordinate_limit v ≡ true = le-leb (unsigned_abs v) coordinate_limit (subst IsCoordinate (whole_one d has.0 v has.1 stands) has.2) in
+          true≢false (sym within ∙ beyond)),
+      refl,
+    )
+
 -- one by one, a whole number is tested
-whole_tested : (m : Member) (limit : ℕ) (d : Data) (v : ℤ) → whole_of d ≡ Some v → whole_within m limit d ≡ (if is_within limit v then Ok v else Err (OutOfRange m))
-whole_tested m limit null v h = cc
-whole_tested m limit (boolean b) v h = cc
-whole_tested m limit (number n) v h = rw h refl
-whole_tested m limit (string s) v h = cc
-whole_tested m limit (array ds) v h = cc
-whole_tested m limit (object ms) v h = cc
+whole_tested : (m : Member) (place : ℕ) (d : Data) (v : ℤ) → whole_of d ≡ Some v
+    → whole_within m coordinate_limit place d ≡ (if is_within coordinate_limit v then Ok v else Err (OutOfRangeAt m place))
+whole_tested m place null v h = cc
+whole_tested m place (boolean b) v h = cc
+whole_tested m place (number n) v h = rw h refl
+whole_tested m place (string s) v h = cc
+whole_tested m place (array ds) v h = cc
+whole_tested m place (object ms) v h = cc
 
--- a list of whole numbers is taken, or one isn't within the limit
-abbrev Taken : Member → Items → List ℤ → Type 0
-Taken m ds vs =
-    (All IsCoordinate vs × (each (whole_within m coordinate_limit) ds ≡ Ok vs)) ⊎ ((¬ (All IsCoordinate vs)) × (each (whole_within m coordinate_limit) ds ≡ Err (OutOfRange m)))
-
--- one number, before the others
-taken_by : (m : Member) (d : Data) (ds : Items) (v : ℤ) (vs : List ℤ) → StandsForWhole d v → (b : Bool) → is_within coordinate_limit v ≡ b → Taken m ds vs → Taken m (item d ds) (v ∷ vs)
-taken_by m d ds v vs stands true within (inl h) =
-    let here : whole_within m coordinate_limit d ≡ Ok v = whole_tested m coordinate_limit d v stands ∙ cond-true _ (Ok v) (Err (OutOfRange m)) within in
-    inl (All-cons IsCoordinate v vs (leb-true (unsigned_abs v) coordinate_limit within) h.0, first_given (whole_within m coordinate_limit d) (each (whole_within m coordinate_limit) ds) v vs here h.1)
-taken_by m d ds v vs stands true within (inr h) =
-    let here : whole_within m coordinate_limit d ≡ Ok v = whole_tested m coordinate_limit d v stands ∙ cond-true _ (Ok v) (Err (OutOfRange m)) within in
-    let rest : Answer (List ℤ) → Answer (List ℤ) = λ a. and_then a (λ ws. Ok (v ∷ ws)) in
-    inr (λ all. h.0 (All-tail IsCoordinate v vs all), and_then_given (whole_within m coordinate_limit d) _ v _ here (ap rest h.1))
-taken_by m d ds v vs stands false beyond later =
-    let here : whole_within m coordinate_limit d ≡ Err (OutOfRange m) = whole_tested m coordinate_limit d v stands ∙ cond-false _ (Ok v) (Err (OutOfRange m)) beyond in
-    let rest : Answer ℤ → Answer (List ℤ) = λ a. and_then a (λ w. and_then (each (whole_within m coordinate_limit) ds) (λ ws. Ok (w ∷ ws))) in
-    inr (λ all. true≢false (sym (le-leb (unsigned_abs v) coordinate_limit (All-head IsCoordinate v vs all)) ∙ beyond), ap rest here)
-
-wholes_taken : (m : Member) (ds : Items) (vs : List ℤ) → EachStands StandsForWhole ds vs → Taken m ds vs
-wholes_taken m no_items [] stand = inl (All-nil IsCoordinate, refl)
-wholes_taken m no_items (v ∷ vs) stand = absurd stand
-wholes_taken m (item d ds) [] stand = absurd stand
-wholes_taken m (item d ds) (v ∷ vs) stand = taken_by m d ds v vs stand.0 (is_within coordinate_limit v) refl (wholes_taken m ds vs stand.1)
+whole_found_at : (m : Member) (place : ℕ) (d : Data) → (v : ℤ) × StandsForWhole d v
+    → Found (OutOfRangeAt m) StandsForWhole (HasValue StandsForWhole IsCoordinate) place d (whole_within m coordinate_limit place d)
+whole_found_at m place d has =
+    subst (Found (OutOfRangeAt m) StandsForWhole (HasValue StandsForWhole IsCoordinate) place d) (sym (whole_tested m place d has.0 has.1))
+    (whole_by m place d has.0 has.1 (is_within coordinate_limit has.0) refl)
 
 -- the row of the limit
-limit_row : (m : Member) (ds : Items) (vs : List ℤ) → Taken m ds vs → HaveAnswer (Check (All IsCoordinate vs) (OutOfRange m) (Gives vs)) (each (whole_within m coordinate_limit) ds)
-limit_row m ds vs (inl h) =
-    let given : HaveAnswer (Check (All IsCoordinate vs) (OutOfRange m) (Gives vs)) (Ok vs) = record {
-      follows = inl (h.0, refl);
-      only = λ other k. elim k [ inl w ↦ w.1 | inr w ↦ absurd (w.0 h.0) ];
-    } in
-    subst (HaveAnswer (Check (All IsCoordinate vs) (OutOfRange m) (Gives vs))) (sym h.1) given
-limit_row m ds vs (inr h) =
-    let given : HaveAnswer (Check (All IsCoordinate vs) (OutOfRange m) (Gives vs)) (Err (OutOfRange m)) = record {
-      follows = inr (h.0, refl);
-      only = λ other k. elim k [ inl w ↦ absurd (h.0 w.0) | inr w ↦ w.1 ];
-    } in
-    subst (HaveAnswer (Check (All IsCoordinate vs) (OutOfRange m) (Gives vs))) (sym h.1) given
+limit_row : (m : Member) (ds : Items) (vs : List ℤ) → EachStands StandsForWhole ds vs
+    → HaveAnswer (CheckEach (HasValue StandsForWhole IsCoordinate) (OutOfRangeAt m) ds (Gives vs)) (each_from (whole_within m coordinate_limit) 0 ds)
+limit_row m ds vs stand =
+    let Within = HasValue StandsForWhole IsCoordinate in
+    let run = each_from (whole_within m coordinate_limit) in
+    let found = outcome (OutOfRangeAt m) (whole_within m coordinate_limit) run (λ d. (v : ℤ) × StandsForWhole d v) Within StandsForWhole (λ place. refl) (λ place d es. refl)
+    (whole_found_at m) 0 ds (values_had StandsForWhole ds vs stand) in
+    subst (HaveAnswer (CheckEach Within (OutOfRangeAt m) ds (Gives vs))) (only_then (run 0 ds))
+    (check_each_answers (OutOfRangeAt m) StandsForWhole Within ds (Gives vs) (run 0 ds) (λ ws. Ok ws) found (λ ws also.
+    subst (λ (us : List ℤ). HaveAnswer {F = CovFault} (Gives vs) (Ok us)) (each_one StandsForWhole whole_one ds vs ws stand also) (gives_answers vs)))
 
 -- the rows of whole numbers
 abbrev WholeRows : Member → Items → Answer (List ℤ) → Type 0
-WholeRows m ds = Find (EachStands StandsForWhole ds) (NotWhole m) (λ values. Check (All IsCoordinate values) (OutOfRange m) (Gives values))
+WholeRows m ds = Find (EachStands StandsForWhole ds) (NotWhole m) (λ values. CheckEach (HasValue StandsForWhole IsCoordinate) (OutOfRangeAt m) ds (Gives values))
 
-whole_rows : (m : Member) (ds : Items) (b : Bool) → all_wanted Wholes ds ≡ b → HaveAnswer (WholeRows m ds) (and_then (check b (NotWhole m)) (λ _. each (whole_within m coordinate_limit) ds))
+whole_rows : (m : Member) (ds : Items) (b : Bool) → all_wanted Wholes ds ≡ b → HaveAnswer (WholeRows m ds) (and_then (check b (NotWhole m)) (λ _. each_from (whole_within m coordinate_limit) 0 ds))
 whole_rows m ds true all =
     let vs = wholes_there ds all in
-    let has = limit_row m ds vs.0 (wholes_taken m ds vs.0 vs.1) in
+    let has = limit_row m ds vs.0 vs.1 in
     record {
       follows = inl (vs.0, vs.1, has.follows);
       only = λ other h. elim h [
-        | inl w ↦ has.only other (subst (λ (ws : List ℤ). Check (All IsCoordinate ws) (OutOfRange m) (Gives ws) other) (each_one StandsForWhole whole_one ds w.0 vs.0 w.1 vs.1) w.2)
+        | inl w ↦ has.only other (subst (λ (ws : List ℤ). CheckEach (HasValue StandsForWhole IsCoordinate) (OutOfRangeAt m) ds (Gives ws) other) (each_one StandsForWhole whole_one ds w.0 vs.0 w.1 vs.1) w.2)
         | inr w ↦ absurd (w.0 vs.0 vs.1)
       ];
     }

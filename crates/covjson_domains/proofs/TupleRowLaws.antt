@@ -18,12 +18,14 @@ use Rattle.edr_base.specs.Limits.{IsCoordinate}
 use Rattle.covjson_value.specs.Coverages.{NeverFall}
 use Rattle.covjson_value.specs.Trees.{keys_data}
 use Rattle.covjson_checks.specs.declared.faults.Member.TheVariants.{Composite}
-use Rattle.covjson_checks.specs.declared.faults.CovFault.TheVariants.{WrongType, NotWhole, OutOfRange, BadTime, NotMonotonic}
+use Rattle.covjson_checks.specs.declared.faults.CovFault.{CovFault}
+use Rattle.covjson_checks.specs.declared.faults.CovFault.TheVariants.{WrongType, NotWhole, OutOfRangeAt, BadTime, NotMonotonic}
 use Rattle.covjson_checks.specs.Answers.{Answer}
 use Rattle.covjson_checks.specs.Members.{part, object_at, list_at}
 use Rattle.covjson_checks.specs.CheckLaws.{list_ok}
-use Rattle.covjson_checks.specs.Places.{EachItem}
-use Rattle.covjson_checks.specs.PlaceLaws.{each_decides}
+use Rattle.covjson_checks.specs.Places.{EachItem, CheckEach, failing_place}
+use Rattle.covjson_checks.specs.PlaceLaws.{each_decides, FirstFailing, first_failing}
+use Rattle.covjson_checks.specs.EachRows.{check_each_answers, Found, outcome, each_tested}
 use Rattle.covjson_checks.specs.RowLaws.{HaveAnswer, find_within, check_answers, gives_answers, told, FaultIs, option_fault, then_fault}
 use Rattle.covjson_domains.specs.declared.tuples.ReadTuples.{ReadTuples}
 use Rattle.covjson_domains.specs.declared.tuples.TupleKind.{TupleKind}
@@ -33,18 +35,17 @@ use Rattle.covjson_value.specs.declared.domain_types.DomainType.{DomainType}
 use Rattle.covjson_value.specs.declared.domain_types.DomainType.TheVariants.{Grid, Point, PointSeries, VerticalProfile, MultiPoint, Trajectory}
 use Rattle.covjson_domains.specs.Axes.{StandsForTime}
 use Rattle.covjson_domains.specs.Tuples.{EachCoordinate, StandsForTuple}
-use Rattle.covjson_domains.specs.RowWords.{CheckEach}
 use Rattle.covjson_domains.specs.AxisRows.{HasItems, IsTimeText}
 use Rattle.covjson_domains.specs.TupleRows.{AreCoordinates, HasCoordinates, IsOfForm, IsWhole, IsWithin, IsTimed, EachNamed, IsTupleOf, TupleRows}
 use Rattle.covjson_domains.specs.AxisAnswers.{value_items, time_at}
-use Rattle.covjson_domains.specs.TupleAnswers.{names_of, may_have_z, has_z_by_keys, is_whole_within, passes, all_pass, list_passes, tuples_pass, value_of, number_of, time_if, tuple_at, tuples_from, never_falls, tuples_of_items, tuples_read}
+use Rattle.covjson_domains.specs.TupleAnswers.{names_of, may_have_z, has_z_by_keys, is_whole_within, passes, all_pass, list_passes, tuples_pass, is_within_limits, value_of, number_of, time_if, tuple_at, tuples_from, never_falls, tuples_of_items, tuples_read}
 use Rattle.covjson_domains.specs.DomainAnswers.{tuple_kind}
 use Rattle.covjson_domains.proofs.TupleOrder.{key_data, keys_tell, keys_choose, keys_chosen, never_falls_tells, never_falls_given}
 use Rattle.covjson_domains.proofs.TupleNames.{Finds as FindsNames, finds_each}
 use Rattle.covjson_domains.proofs.TupleValues.{has_value, no_value}
 use Rattle.covjson_domains.proofs.TupleSteps.{tuple_stands, tuple_answers}
 use Rattle.covjson_domains.proofs.TupleLaws.{type_tells}
-use Rattle.covjson_domains.proofs.AxisRowLaws.{with_answers, Found, check_each_answers, outcome, each_one, object_answers, items_found, text_decides, number_decides, time_by}
+use Rattle.covjson_domains.proofs.AxisRowLaws.{with_answers, each_one, object_answers, items_found, text_decides, number_decides, time_by}
 
 -- ---- the tests of tuples
 
@@ -113,11 +114,16 @@ tuples_decide : (test : Test) (names : List CoordinateName) (ds : Items) → Dec
 tuples_decide test names ds =
     each_decides (IsTupleOf (asked test) names) (λ d. list_passes test names (as_array d)) (tuples_pass test names) refl (λ d es. refl) (tuple_decides test names) ds
 
+-- and one isn't within the limits where not all are
+tuple_beyond : (names : List CoordinateName) (ds : Items) → tuples_pass Within names ds ≡ false → FirstFailing (IsTupleOf IsWithin names) (is_within_limits names) ds
+tuple_beyond names ds fails =
+    first_failing (IsTupleOf IsWithin names) (is_within_limits names) (tuples_pass Within names) refl (λ d es. refl) (tuple_decides Within names) ds fails
+
 -- ---- the time of a tuple
 
 -- what is read of the value of time that a tuple has
 time_read : InstantsAreRead → (place : ℕ) (names : List CoordinateName) (ds : Items) → is_among T names ≡ true → (d : Data) → value_of T names ds ≡ Some d
-    → Found StandsForTime IsTimeText place d (time_at Composite place d)
+    → Found BadTime StandsForTime IsTimeText place d (time_at Composite place d)
     → ((time : ℤ) × (time_if place (value_of T names ds) ≡ Ok time)) ⊎ ((¬ (EachNamed IsTimed names ds)) × (time_if place (value_of T names ds) ≡ Err (BadTime place)))
 time_read instants place names ds among d found (inl h) = inl (h.0, ap (time_if place) found ∙ h.1)
 time_read instants place names ds among d found (inr h) =
@@ -164,7 +170,7 @@ tuple_of names place d ds time is read =
 -- and it is one, or its time is none
 tuple_by_time : InstantsAreRead → (names : List CoordinateName) → FindsNames names → (place : ℕ) (d : Data) (ds : Items) → d ≡ array ds → list_passes Within names (as_array d) ≡ true
     → ((time : ℤ) × (time_if place (value_of T names ds) ≡ Ok time)) ⊎ ((¬ (EachNamed IsTimed names ds)) × (time_if place (value_of T names ds) ≡ Err (BadTime place)))
-    → Found (StandsForTuple names) (IsTupleOf IsTimed names) place d (tuple_at names place d)
+    → Found BadTime (StandsForTuple names) (IsTupleOf IsTimed names) place d (tuple_at names place d)
 tuple_by_time instants names finds place d ds is pass (inl h) =
     let made = tuple_of names place d ds h.0 is h.1 in
     let stands = tuple_stands instants names finds place d made.0 pass made.1 in
@@ -180,7 +186,7 @@ tuple_by_time instants names finds place d ds is pass (inr h) =
     )
 
 tuple_found : InstantsAreRead → (names : List CoordinateName) → FindsNames names → (place : ℕ) (d : Data) → Had names d
-    → Found (StandsForTuple names) (IsTupleOf IsTimed names) place d (tuple_at names place d)
+    → Found BadTime (StandsForTuple names) (IsTupleOf IsTimed names) place d (tuple_at names place d)
 tuple_found instants names finds place d had =
     let form = had.0 in
     tuple_by_time instants names finds place d form.0 form.1 ((tuple_decides Within names d).1 had.1) (time_found instants place names form.0 form.2 (is_among T names) refl)
@@ -198,7 +204,7 @@ abbrev ItemRows : List CoordinateName → Items → Answer ⊤ → Type 0
 ItemRows names items =
     Check (EachItem (IsTupleOf IsOfForm names) items) (WrongType Composite) (
     Check (EachItem (IsTupleOf IsWhole names) items) (NotWhole Composite) (
-    Check (EachItem (IsTupleOf IsWithin names) items) (OutOfRange Composite) (
+    CheckEach (IsTupleOf IsWithin names) (OutOfRangeAt Composite) items (
     CheckEach (IsTupleOf IsTimed names) BadTime items (
     With (EachStands (StandsForTuple names) items) (λ tuples.
     Check (NeverFall (map (coordinate T) tuples)) (NotMonotonic Composite) (
@@ -219,8 +225,8 @@ order_decides tuples = (never_falls_tells (map (coordinate T) tuples), never_fal
 time_rows : InstantsAreRead → (names : List CoordinateName) → FindsNames names → (ds : Items) → EachItem (Had names) ds
     → HaveAnswer (TimeRows names ds) (and_then (tuples_from names 0 ds) (λ tuples. and_then (check (never_falls (map (coordinate T) tuples)) (NotMonotonic Composite)) (λ _. Ok tt)))
 time_rows instants names finds ds had =
-    let Found_tuples = outcome (tuple_at names) (tuples_from names) (Had names) (IsTupleOf IsTimed names) (StandsForTuple names) (λ place. refl) (λ place d es. refl) (tuple_found instants names finds) 0 ds had in
-    check_each_answers (StandsForTuple names) (IsTupleOf IsTimed names) ds _ (tuples_from names 0 ds) _ Found_tuples (λ tuples stand.
+    let Found_tuples = outcome BadTime (tuple_at names) (tuples_from names) (Had names) (IsTupleOf IsTimed names) (StandsForTuple names) (λ place. refl) (λ place d es. refl) (tuple_found instants names finds) 0 ds had in
+    check_each_answers BadTime (StandsForTuple names) (IsTupleOf IsTimed names) ds _ (tuples_from names 0 ds) _ Found_tuples (λ tuples stand.
     with_answers (EachStands (StandsForTuple names) ds) _ tuples _ stand (λ other also. each_one (StandsForTuple names) (tuple_one instants names) ds other tuples also stand)
     (check_answers (NeverFall (map (coordinate T) tuples)) (NotMonotonic Composite) (Gives tt) (never_falls (map (coordinate T) tuples)) (λ _. Ok tt) (order_decides tuples) (λ h. gives_answers tt)))
 
@@ -242,24 +248,24 @@ kept names has_z (Ok tuples) = kept_by has_z tuples (never_falls (map (coordinat
 kept names has_z (Err f) = refl
 
 -- through each test
-steps_kept : (names : List CoordinateName) (has_z : Bool) (ds : Items) (form whole within : Bool)
-    → ◌≡◌ {A = Answer ⊤} (and_then (check form (WrongType Composite)) (λ _. and_then (check whole (NotWhole Composite)) (λ _. and_then (check within (OutOfRange Composite)) (λ _.
+steps_kept : (names : List CoordinateName) (has_z : Bool) (ds : Items) (fault : CovFault) (form whole within : Bool)
+    → ◌≡◌ {A = Answer ⊤} (and_then (check form (WrongType Composite)) (λ _. and_then (check whole (NotWhole Composite)) (λ _. and_then (check within fault) (λ _.
     and_then (tuples_from names 0 ds) (λ tuples. and_then (check (never_falls (map (coordinate T) tuples)) (NotMonotonic Composite)) (λ _. Ok tt))))))
-    (told (and_then (and_then (check form (WrongType Composite)) (λ _. and_then (check whole (NotWhole Composite)) (λ _. and_then (check within (OutOfRange Composite)) (λ _.
+    (told (and_then (and_then (check form (WrongType Composite)) (λ _. and_then (check whole (NotWhole Composite)) (λ _. and_then (check within fault) (λ _.
     and_then (tuples_from names 0 ds) (λ tuples. and_then (check (never_falls (map (coordinate T) tuples)) (NotMonotonic Composite)) (λ _. Ok tuples)))))) (λ tuples. Ok (made has_z tuples))))
-steps_kept names has_z ds true true true = kept names has_z (tuples_from names 0 ds)
-steps_kept names has_z ds true true false = refl
-steps_kept names has_z ds true false within = refl
-steps_kept names has_z ds false whole within = refl
+steps_kept names has_z ds fault true true true = kept names has_z (tuples_from names 0 ds)
+steps_kept names has_z ds fault true true false = refl
+steps_kept names has_z ds fault true false within = refl
+steps_kept names has_z ds fault false whole within = refl
 
 -- the tuples of a list, as they are read
 item_rows : InstantsAreRead → (names : List CoordinateName) → FindsNames names → (has_z : Bool) (ds : Items)
     → HaveAnswer (ItemRows names ds) (told (and_then (tuples_of_items names ds) (λ tuples. Ok (made has_z tuples))))
 item_rows instants names finds has_z ds =
-    subst (HaveAnswer (ItemRows names ds)) (steps_kept names has_z ds (tuples_pass Form names ds) (tuples_pass Whole names ds) (tuples_pass Within names ds))
+    subst (HaveAnswer (ItemRows names ds)) (steps_kept names has_z ds (OutOfRangeAt Composite (failing_place (is_within_limits names) ds)) (tuples_pass Form names ds) (tuples_pass Whole names ds) (tuples_pass Within names ds))
     (check_answers (EachItem (IsTupleOf IsOfForm names) ds) (WrongType Composite) _ (tuples_pass Form names ds) _ (tuples_decide Form names ds) (λ form.
     check_answers (EachItem (IsTupleOf IsWhole names) ds) (NotWhole Composite) _ (tuples_pass Whole names ds) _ (tuples_decide Whole names ds) (λ whole.
-    check_answers (EachItem (IsTupleOf IsWithin names) ds) (OutOfRange Composite) _ (tuples_pass Within names ds) _ (tuples_decide Within names ds) (λ within.
+    each_tested (OutOfRangeAt Composite) (IsTupleOf IsWithin names) (is_within_limits names) ds _ (tuples_pass Within names ds) _ (tuples_decide Within names ds) (tuple_beyond names ds) (λ within.
     time_rows instants names finds ds (λ d among. (form d among, within d among))))))
 
 -- ---- the names of coordinates

@@ -9,15 +9,16 @@ use Rattle.covjson_value.specs.declared.domains.CoordinateName.{CoordinateName}
 use Rattle.covjson_value.specs.declared.domains.CoordinateName.TheVariants.{T, Z, Y, X}
 use Rattle.covjson_value.specs.Domains.{coordinate}
 use Rattle.covjson_value.specs.Coverages.{IsTupleValue, NeverFall}
-use Rattle.covjson_checks.specs.declared.faults.CovFault.TheVariants.{WrongType, NotWhole, OutOfRange, NotMonotonic}
+use Rattle.covjson_checks.specs.declared.faults.CovFault.TheVariants.{WrongType, NotWhole, OutOfRangeAt, NotMonotonic}
 use Rattle.covjson_checks.specs.declared.faults.Member.TheVariants.{Composite}
 use Rattle.covjson_domains.specs.declared.tuples.Test.{Test}
 use Rattle.covjson_domains.specs.declared.tuples.Test.TheVariants.{Form, Whole, Within}
 use Rattle.edr_base.specs.FirstThatApplies.{check}
 use Rattle.covjson_checks.specs.Members.{list_at}
+use Rattle.covjson_checks.specs.Places.{failing_place}
 use Rattle.edr_json.specs.Trees.{EachStands}
 use Rattle.covjson_domains.specs.Tuples.{StandsForTuple}
-use Rattle.covjson_domains.specs.TupleAnswers.{all_pass, list_passes, tuples_pass, value_of, number_of, time_if, tuple_at, tuples_from, never_falls, tuples_of_items}
+use Rattle.covjson_domains.specs.TupleAnswers.{all_pass, list_passes, tuples_pass, is_within_limits, value_of, number_of, time_if, tuple_at, tuples_from, never_falls, tuples_of_items}
 use Rattle.edr_json.specs.AnswerLaws.{and_then_ok, or_fault_ok, check_ok, and_then_given, check_given}
 use Rattle.edr_json.specs.TreeLaws.{as_array_some}
 use Rattle.covjson_checks.specs.CheckLaws.{first_given}
@@ -118,7 +119,7 @@ pub items_stand : InstantsAreRead → (names : List CoordinateName) → Finds na
 items_stand instants names finds ds tuples h =
     let f = and_then_ok (check (tuples_pass Form names ds) (WrongType Composite)) _ tuples h in
     let w = and_then_ok (check (tuples_pass Whole names ds) (NotWhole Composite)) _ tuples f.2 in
-    let l = and_then_ok (check (tuples_pass Within names ds) (OutOfRange Composite)) _ tuples w.2 in
+    let l = and_then_ok (check (tuples_pass Within names ds) (OutOfRangeAt Composite (failing_place (is_within_limits names) ds))) _ tuples w.2 in
     let t = and_then_ok (tuples_from names 0 ds) _ tuples l.2 in
     let falls = never_falls (map (coordinate T) t.0) in
     let o = and_then_ok (check falls (NotMonotonic Composite)) _ tuples t.2 in
@@ -135,6 +136,6 @@ items_answer instants names ds tuples h in_time =
     let falls = never_falls (map (coordinate T) tuples) in
     and_then_given (check (tuples_pass Form names ds) (WrongType Composite)) _ tt _ (check_given _ _ (passes Form))
     (and_then_given (check (tuples_pass Whole names ds) (NotWhole Composite)) _ tt _ (check_given _ _ (passes Whole))
-    (and_then_given (check (tuples_pass Within names ds) (OutOfRange Composite)) _ tt _ (check_given _ _ (passes Within))
+    (and_then_given (check (tuples_pass Within names ds) (OutOfRangeAt Composite (failing_place (is_within_limits names) ds))) _ tt _ (check_given _ _ (passes Within))
     (and_then_given (tuples_from names 0 ds) _ tuples _ (list_answers instants names 0 ds tuples h)
     (and_then_given (check falls (NotMonotonic Composite)) _ tt _ (check_given falls _ (never_falls_given (map (coordinate T) tuples) in_time)) refl))))

@@ -14,7 +14,7 @@ use Rattle.covjson_checks.specs.declared.faults.Member.{Member}
 use Rattle.covjson_checks.specs.declared.faults.Member.TheVariants.{T as TimeAxis, Z as LevelAxis, Y as RowAxis, X as ColumnAxis}
 use Rattle.covjson_checks.specs.declared.faults.CovFault.TheVariants.{WrongType, NotWhole, OutOfRange, BadTime, NotMonotonic, WrongCount}
 use Rattle.covjson_checks.specs.declared.members.Wanted.TheVariants.{Texts, Numbers, Wholes}
-use Rattle.covjson_checks.specs.Answers.{Answer, each}
+use Rattle.covjson_checks.specs.Answers.{Answer, each_from}
 use Rattle.edr_base.specs.FirstThatApplies.{and_then, or_fault, check}
 use Rattle.edr_axes.specs.InstantComputed.{instant_of}
 use Rattle.covjson_checks.specs.Members.{part, object_at, list_at, text_at, number_at, held_whole, is_within, whole_within, need_each}
@@ -39,7 +39,7 @@ coordinates m axis =
     and_then (value_items m axis) (λ ds.
     and_then (need_each Numbers (WrongType m) ds) (λ _.
     and_then (need_each Wholes (NotWhole m) ds) (λ _.
-    each (whole_within m coordinate_limit) ds)))
+    each_from (whole_within m coordinate_limit) 0 ds)))
 
 -- the time of a text at that place
 abbrev pub time_at : Member → ℕ → Data → Answer ℤ

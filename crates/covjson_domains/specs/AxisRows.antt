@@ -1,5 +1,5 @@
 -- The checks of an axis in their order (docs/PROFILE.md, "CoverageJSON as read"), and the answer that they lead to.
-use Rattle.std.specs.Prelude.{◌≡◌, ◌⊎◌, ℕ, ◌<◌, ℤ, pos, ◌-ℤ◌, ◌*ℤ◌, ◌≤ℤ◌, unsigned_abs, List, length, reverse, All, codes, ⊤, Option, None, Some, Result}
+use Rattle.std.specs.Prelude.{◌≡◌, ◌⊎◌, ℕ, ◌<◌, ℤ, pos, ◌-ℤ◌, ◌*ℤ◌, ◌≤ℤ◌, unsigned_abs, List, length, reverse, codes, ⊤, Option, None, Some, Result}
 use Rattle.serde_json.specs.Data.{Data, number, array, Items, Num}
 use Rattle.serde_json.specs.Find.{get}
 use Rattle.edr_base.specs.FirstThatApplies.{Check, Find, Then, Gives, With}
@@ -11,12 +11,11 @@ use Rattle.covjson_value.specs.declared.domains.CoordinateName.TheVariants.{T, Z
 use Rattle.covjson_checks.specs.declared.faults.Member.{Member}
 use Rattle.covjson_checks.specs.declared.faults.Member.TheVariants.{T as TimeAxis}
 use Rattle.covjson_checks.specs.declared.faults.CovFault.{CovFault}
-use Rattle.covjson_checks.specs.declared.faults.CovFault.TheVariants.{WrongType, NotWhole, OutOfRange, BadTime, NotMonotonic, WrongCount}
-use Rattle.covjson_checks.specs.Places.{EachItem}
+use Rattle.covjson_checks.specs.declared.faults.CovFault.TheVariants.{WrongType, NotWhole, OutOfRange, OutOfRangeAt, BadTime, NotMonotonic, WrongCount}
+use Rattle.covjson_checks.specs.Places.{EachItem, HasValue, CheckEach}
 use Rattle.covjson_domains.specs.declared.domain_types.Presence.{Presence}
 use Rattle.covjson_domains.specs.DomainTypes.{member_of, IsSingle}
 use Rattle.covjson_domains.specs.Axes.{StandsForTime, HasWhole, IsRegular}
-use Rattle.covjson_domains.specs.RowWords.{CheckEach}
 
 -- ---- listed values
 
@@ -38,13 +37,13 @@ TimeRows axis =
     CheckEach IsTimeText BadTime items (
     With (EachStands StandsForTime items) Gives))))
 
--- numbers: a list that isn't empty, each of which is whole and within the limit
+-- numbers: a list that isn't empty, each of which is whole and within the limit; the first that isn't within it has the place of the fault
 abbrev pub ListRows : Member → Data → Result (List ℤ) CovFault → Type 0
 ListRows m axis =
     Find (HasItems axis) (WrongType m) (λ items.
     Check (EachItem IsNumber items) (WrongType m) (
     Find (EachStands StandsForWhole items) (NotWhole m) (λ values.
-    Check (All IsCoordinate values) (OutOfRange m) (
+    CheckEach (HasValue StandsForWhole IsCoordinate) (OutOfRangeAt m) items (
     Gives values))))
 
 -- ---- spanned values

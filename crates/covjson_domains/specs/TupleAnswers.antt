@@ -13,10 +13,11 @@ use Rattle.covjson_domains.specs.declared.tuples.ReadTuples.{ReadTuples}
 use Rattle.covjson_domains.specs.declared.tuples.Test.{Test}
 use Rattle.covjson_domains.specs.declared.tuples.Test.TheVariants.{Form, Whole, Within}
 use Rattle.covjson_checks.specs.declared.faults.Member.TheVariants.{Composite}
-use Rattle.covjson_checks.specs.declared.faults.CovFault.TheVariants.{WrongType, NotWhole, OutOfRange, NotMonotonic}
+use Rattle.covjson_checks.specs.declared.faults.CovFault.TheVariants.{WrongType, NotWhole, OutOfRangeAt, NotMonotonic}
 use Rattle.covjson_checks.specs.Answers.{Answer}
 use Rattle.edr_base.specs.FirstThatApplies.{and_then, or_fault, check}
 use Rattle.covjson_checks.specs.Members.{part, object_at, list_at, is_within}
+use Rattle.covjson_checks.specs.Places.{failing_place}
 use Rattle.edr_json.specs.Trees.{text_or_empty, whole_of}
 use Rattle.edr_json.specs.Trees.{is_text}
 use Rattle.covjson_domains.specs.AxisAnswers.{value_items, time_at}
@@ -89,6 +90,10 @@ abbrev pub tuples_pass : Test → List CoordinateName → Items → Bool
 tuples_pass test names no_items = true
 tuples_pass test names (item d ds) = list_passes test names (as_array d) && tuples_pass test names ds
 
+-- whether a tuple is within the limits
+abbrev pub is_within_limits : List CoordinateName → Data → Bool
+is_within_limits names d = list_passes Within names (as_array d)
+
 -- ---- tuples
 
 -- the value of a coordinate of that name, where there is one
@@ -137,7 +142,7 @@ abbrev pub tuples_of_items : List CoordinateName → Items → Answer (List Posi
 tuples_of_items names ds =
     and_then (check (tuples_pass Form names ds) (WrongType Composite)) (λ _.
     and_then (check (tuples_pass Whole names ds) (NotWhole Composite)) (λ _.
-    and_then (check (tuples_pass Within names ds) (OutOfRange Composite)) (λ _.
+    and_then (check (tuples_pass Within names ds) (OutOfRangeAt Composite (failing_place (is_within_limits names) ds))) (λ _.
     and_then (tuples_from names 0 ds) (λ tuples.
     and_then (check (never_falls (map (coordinate T) tuples)) (NotMonotonic Composite)) (λ _. Ok tuples)))))
 

@@ -12,12 +12,11 @@ use Rattle.covjson_value.specs.Coverages.{NeverFall}
 use Rattle.covjson_value.specs.Trees.{keys_data}
 use Rattle.covjson_checks.specs.declared.faults.Member.TheVariants.{Composite}
 use Rattle.covjson_checks.specs.declared.faults.CovFault.{CovFault}
-use Rattle.covjson_checks.specs.declared.faults.CovFault.TheVariants.{WrongType, NotWhole, OutOfRange, BadTime, NotMonotonic}
-use Rattle.covjson_checks.specs.Places.{EachItem}
+use Rattle.covjson_checks.specs.declared.faults.CovFault.TheVariants.{WrongType, NotWhole, OutOfRangeAt, BadTime, NotMonotonic}
+use Rattle.covjson_checks.specs.Places.{EachItem, CheckEach}
 use Rattle.covjson_value.specs.declared.domain_types.DomainType.{DomainType}
 use Rattle.covjson_value.specs.declared.domain_types.DomainType.TheVariants.{Grid, Point, PointSeries, VerticalProfile, MultiPoint, Trajectory}
 use Rattle.covjson_domains.specs.Tuples.{StandsForTuple}
-use Rattle.covjson_domains.specs.RowWords.{CheckEach}
 use Rattle.covjson_domains.specs.AxisRows.{HasItems, IsTimeText}
 
 -- the coordinates of places, and of places at their times; those of a Trajectory have levels only where there is no axis of levels
@@ -78,7 +77,8 @@ IsTupleOf Is names d = (items : Items) × (d ≡ array items) × EachNamed Is na
 
 -- ---- a composite axis
 
--- a composite axis of a domain type, beside the axis of levels, where there is one
+-- a composite axis of a domain type, beside the axis of levels, where there is one; the first tuple that has a coordinate beyond its limit
+-- has the place of the fault
 abbrev pub TupleRows : DomainType → Option Data → Data → Result ⊤ CovFault → Type 0
 TupleRows kind level axis =
     Check (IsObject axis) (WrongType Composite) (
@@ -87,7 +87,7 @@ TupleRows kind level axis =
     Find (HasItems axis) (WrongType Composite) (λ items.
     Check (EachItem (IsTupleOf IsOfForm names) items) (WrongType Composite) (
     Check (EachItem (IsTupleOf IsWhole names) items) (NotWhole Composite) (
-    Check (EachItem (IsTupleOf IsWithin names) items) (OutOfRange Composite) (
+    CheckEach (IsTupleOf IsWithin names) (OutOfRangeAt Composite) items (
     CheckEach (IsTupleOf IsTimed names) BadTime items (
     With (EachStands (StandsForTuple names) items) (λ tuples.
     Check (NeverFall (map (coordinate T) tuples)) (NotMonotonic Composite) (

@@ -8,6 +8,7 @@ ghost use Rattle.serde_json.specs.Find.{as_array};
 ghost use Rattle.covjson_value.specs.declared.domains.CoordinateName.TheVariants.{T};
 ghost use Rattle.covjson_value.specs.Domains.{coordinate};
 ghost use Rattle.covjson_checks.specs.Answers.{GivesAnswer, GivesUnlessMemory};
+ghost use Rattle.covjson_checks.specs.Places.{failing_place};
 ghost use Rattle.covjson_domains.specs.TupleAnswers.{tuples_from, tuples_of_items};
 ghost use Rattle.covjson_domains.specs.TupleAnswers as tuples;
 
@@ -203,6 +204,18 @@ fn tuples_pass(test: Test, names: &[CoordinateName], items: &Vec<Tree>) -> bool
     true
 }
 
+// The place of the first tuple that isn't within the limits, and how many there are where each is.
+fn place_beyond(names: &[CoordinateName], items: &Vec<Tree>) -> usize
+    ensures { result ≡ failing_place (tuples.is_within_limits names.now) (items_view items.now.items) }
+{
+    for (place, tuple) in items.iter().enumerate() {
+        if !list_passes(Test::Within, names, tuple) {
+            return place;
+        }
+    }
+    items.len()
+}
+
 // The value of a coordinate, where the tuple has it.
 fn value_of<'a>(
     name: CoordinateName,
@@ -347,7 +360,7 @@ fn are_in_time(positions: &[Position]) -> bool
     true
 }
 
-// The tuples of these coordinates: WrongType, NotWhole, OutOfRange, BadTime, NotMonotonic.
+// The tuples of these coordinates: WrongType, NotWhole, OutOfRangeAt, BadTime, NotMonotonic.
 fn tuples_of_items(
     alloc: Global,
     names: &[CoordinateName],
@@ -362,7 +375,7 @@ fn tuples_of_items(
         return Err(CovFault::NotWhole(Member::Composite));
     }
     if !tuples_pass(Test::Within, names, items) {
-        return Err(CovFault::OutOfRange(Member::Composite));
+        return Err(CovFault::OutOfRangeAt(Member::Composite, place_beyond(names, items)));
     }
     let found = read_tuples(alloc, names, items)?;
     if !are_in_time(&found) {

@@ -1,39 +1,43 @@
 -- The values of a range: the rows of their checks, and the computed answer.
-use Rattle.std.proofs.Common.{◌≡◌, ◌==◌, inl, ℕ, ℤ, Bool, true, false, ◌&&◌, ◌||◌, if◌then◌else◌, codes, List, [], ◌∷◌, Option, Some, None, Ok, Err, refl, sym, ap, ◌∙◌, subst, unsigned_abs}
+use Rattle.std.proofs.Common.{◌≡◌, ◌==◌, inl, inr, ℕ, ℤ, Bool, true, false, true≢false, ◌||◌, if◌then◌else◌, codes, List, [], ◌∷◌, Option, Some, None, Ok, Err, refl, sym, ap, ap₂, ◌∙◌, subst, unsigned_abs}
 use Rattle.std.specs.Prelude.{IfSome, is_some}
-use Rattle.std.proofs.lemmas.Bool.{or_right, le-leb, leb-true, eqb-true, eq-eqb, and_parts, and_from}
-use Rattle.std.proofs.lemmas.List.Elements.{All-cons, All-nil, All-head, All-tail}
+use Rattle.std.proofs.lemmas.Bool.{or_right, le-leb, leb-true, eqb-true, eq-eqb}
 use Rattle.serde_json.specs.Data.{Data, null, boolean, number, string, array, object, Items, no_items, item, Num}
 use Rattle.serde_json.specs.Find.{get, as_null, as_number, as_array}
-use Rattle.edr_base.specs.FirstThatApplies.{Check, Find, Gives, and_then, check}
+use Rattle.edr_base.specs.FirstThatApplies.{Find, Gives, and_then}
 use Rattle.edr_base.specs.Limits.{sample_limit, IsSample, AreSamples, HasSample}
 use Rattle.edr_json.specs.Trees.{whole_of, count_items, EachStands}
 use Rattle.edr_json.specs.AnswerLaws.{and_then_ok}
 use Rattle.edr_json.specs.TreeLaws.{as_array_some}
 use Rattle.covjson_checks.specs.declared.faults.Member.{Member}
 use Rattle.covjson_checks.specs.declared.faults.Member.TheVariants.{Values}
-use Rattle.covjson_checks.specs.declared.faults.CovFault.TheVariants.{Missing, WrongType, NotWhole, OutOfRange, WrongCount}
+use Rattle.covjson_checks.specs.declared.faults.CovFault.{CovFault}
+use Rattle.covjson_checks.specs.declared.faults.CovFault.TheVariants.{Missing, WrongType, NotWhole, OutOfRangeAt, WrongCount}
 use Rattle.covjson_checks.specs.declared.members.Wanted.TheVariants.{NumbersOrNulls, WholesOrNulls}
-use Rattle.covjson_checks.specs.Answers.{Answer, each}
+use Rattle.covjson_checks.specs.Answers.{Answer, each_from}
 use Rattle.covjson_checks.specs.Members.{is_within, whole_within, whole_or_null, all_wanted}
-use Rattle.covjson_checks.specs.CheckLaws.{each_stands, whole_within_stands, all_wanted_given}
+use Rattle.covjson_checks.specs.CheckLaws.{from_stands, whole_within_stands, all_wanted_given}
+use Rattle.covjson_checks.specs.Places.{EachItem, HasValue, CheckEach}
+use Rattle.covjson_checks.specs.PlaceLaws.{values_had, values_all, values_each}
+use Rattle.covjson_checks.specs.EachRows.{check_each_answers, Found, outcome}
+use Rattle.covjson_checks.specs.RowLaws.{HaveAnswer, gives_answers}
 use Rattle.covjson_ranges.specs.Ranges.{StandsForSample}
 use Rattle.covjson_ranges.specs.RangeAnswers.{samples_of, samples_in}
 use Rattle.covjson_ranges.specs.RangeRows.{StandsForNumber, ValuesRows}
-use Rattle.covjson_ranges.proofs.CheckRows.{LeadTo, gives_leads, check_leads, find_leads, find_tested, row_passed}
+use Rattle.covjson_ranges.proofs.CheckRows.{LeadTo, check_leads, find_leads, find_tested, row_passed, ok_err}
 use Rattle.covjson_ranges.proofs.ShapeParts.{each_wanted}
 
 -- ---- one sample
 
 -- a whole number that was read stands there
-number_stands : (m : Member) (limit : ℕ) (d : Data) (v : Option ℤ) → and_then (whole_within m limit d) (λ z. Ok (Some z)) ≡ Ok v → StandsForSample d v
-number_stands m limit d None h =
-    let a = and_then_ok (whole_within m limit d) _ None h in
+number_stands : (m : Member) (limit place : ℕ) (d : Data) (v : Option ℤ) → and_then (whole_within m limit place d) (λ z. Ok (Some z)) ≡ Ok v → StandsForSample d v
+number_stands m limit place d None h =
+    let a = and_then_ok (whole_within m limit place d) _ None h in
     cc
-number_stands m limit d (Some z) h =
-    let a = and_then_ok (whole_within m limit d) _ (Some z) h in
+number_stands m limit place d (Some z) h =
+    let a = and_then_ok (whole_within m limit place d) _ (Some z) h in
     let same : a.0 ≡ z = cc in
-    (whole_within_stands m limit d z (a.1 ∙ ap Ok same)).0
+    (whole_within_stands m limit place d z (a.1 ∙ ap Ok same)).0
 
 -- and so does no value
 null_stands : (v : Option ℤ) → ◌≡◌ {A = Answer (Option ℤ)} (Ok None) (Ok v) → StandsForSample null v
@@ -41,13 +45,13 @@ null_stands None h = refl
 null_stands (Some z) h = cc
 
 -- the sample that was read stands there
-sample_stands : (m : Member) (limit : ℕ) (d : Data) (v : Option ℤ) → whole_or_null m limit d ≡ Ok v → StandsForSample d v
-sample_stands m limit null v h = null_stands v h
-sample_stands m limit (boolean b) v h = number_stands m limit (boolean b) v h
-sample_stands m limit (number n) v h = number_stands m limit (number n) v h
-sample_stands m limit (string s) v h = number_stands m limit (string s) v h
-sample_stands m limit (array ds) v h = number_stands m limit (array ds) v h
-sample_stands m limit (object ms) v h = number_stands m limit (object ms) v h
+sample_stands : (m : Member) (limit place : ℕ) (d : Data) (v : Option ℤ) → whole_or_null m limit place d ≡ Ok v → StandsForSample d v
+sample_stands m limit place null v h = null_stands v h
+sample_stands m limit place (boolean b) v h = number_stands m limit place (boolean b) v h
+sample_stands m limit place (number n) v h = number_stands m limit place (number n) v h
+sample_stands m limit place (string s) v h = number_stands m limit place (string s) v h
+sample_stands m limit place (array ds) v h = number_stands m limit place (array ds) v h
+sample_stands m limit place (object ms) v h = number_stands m limit place (object ms) v h
 
 -- ---- tests of items
 
@@ -95,9 +99,9 @@ sample_number (array ds) (Some z) h = cc
 sample_number (object ms) (Some z) h = cc
 
 -- items that were read one by one pass each check
-pub samples_read : (ds : Items) (values : List (Option ℤ)) → each (whole_or_null Values sample_limit) ds ≡ Ok values → samples_of ds ≡ Ok values
+pub samples_read : (ds : Items) (values : List (Option ℤ)) → each_from (whole_or_null Values sample_limit) 0 ds ≡ Ok values → samples_of ds ≡ Ok values
 samples_read ds values h =
-    let stand = each_stands (whole_or_null Values sample_limit) StandsForSample (sample_stands Values sample_limit) ds values h in
+    let stand = from_stands (whole_or_null Values sample_limit) StandsForSample (sample_stands Values sample_limit) 0 ds values h in
     let numbers = all_wanted_given NumbersOrNulls StandsForSample sample_number ds values stand in
     let wholes = all_wanted_given WholesOrNulls StandsForSample sample_wanted ds values stand in
     rw (numbers, wholes) h
@@ -109,47 +113,21 @@ abbrev is_short : ℕ → Option ℤ → Bool
 is_short limit None = true
 is_short limit (Some z) = is_within limit z
 
--- each of these is
-abbrev are_short : ℕ → List (Option ℤ) → Bool
-are_short limit [] = true
-are_short limit (v ∷ vs) = is_short limit v && are_short limit vs
-
 -- a whole number or the fault, by a test
-by_test : (m : Member) (b : Bool) (z : ℤ) → and_then {U = Option ℤ} (if b then Ok z else Err (OutOfRange m)) (λ x. Ok (Some x)) ≡ and_then (check b (OutOfRange m)) (λ _. Ok (Some z))
-by_test m true z = refl
-by_test m false z = refl
+by_test : (f : CovFault) (b : Bool) (z : ℤ) → and_then {U = Option ℤ} (if b then Ok z else Err f) (λ x. Ok (Some x)) ≡ (if b then Ok (Some z) else Err f)
+by_test f true z = refl
+by_test f false z = refl
 
 -- the answer to an item that stands for a sample
-sample_answer : (m : Member) (limit : ℕ) (d : Data) (v : Option ℤ) → StandsForSample d v → whole_or_null m limit d ≡ and_then (check (is_short limit v) (OutOfRange m)) (λ _. Ok v)
-sample_answer m limit d None h = rw h refl
-sample_answer m limit null (Some z) h = cc
-sample_answer m limit (boolean b) (Some z) h = cc
-sample_answer m limit (number n) (Some z) h = rw h (by_test m (is_within limit z) z)
-sample_answer m limit (string s) (Some z) h = cc
-sample_answer m limit (array ds) (Some z) h = cc
-sample_answer m limit (object ms) (Some z) h = cc
-
--- a value before others, by two tests
-both_tests : (m : Member) (b c : Bool) (v : Option ℤ) (vs : List (Option ℤ))
-    → and_then (and_then (check b (OutOfRange m)) (λ _. Ok v)) (λ x. and_then (and_then (check c (OutOfRange m)) (λ _. Ok vs)) (λ xs. Ok (x ∷ xs)))
-    ≡ and_then (check (b && c) (OutOfRange m)) (λ _. Ok (v ∷ vs))
-both_tests m true true v vs = refl
-both_tests m true false v vs = refl
-both_tests m false c v vs = refl
-
--- the answer to items that stand for samples
-samples_answer : (m : Member) (limit : ℕ) (ds : Items) (vs : List (Option ℤ)) → EachStands StandsForSample ds vs
-    → each (whole_or_null m limit) ds ≡ and_then (check (are_short limit vs) (OutOfRange m)) (λ _. Ok vs)
-samples_answer m limit no_items [] stand = refl
-samples_answer m limit no_items (v ∷ vs) stand = absurd stand
-samples_answer m limit (item d ds) [] stand = absurd stand
-samples_answer m limit (item d ds) (v ∷ vs) stand =
-    let first = sample_answer m limit d v stand.0 in
-    let rest = samples_answer m limit ds vs stand.1 in
-    let join : Answer (Option ℤ) → Answer (List (Option ℤ)) → Answer (List (Option ℤ)) = λ a b. and_then a (λ x. and_then b (λ xs. Ok (x ∷ xs))) in
-    ap (λ (a : Answer (Option ℤ)). join a (each (whole_or_null m limit) ds)) first
-    ∙ ap (join (and_then (check (is_short limit v) (OutOfRange m)) (λ _. Ok v))) rest
-    ∙ both_tests m (is_short limit v) (are_short limit vs) v vs
+sample_answer : (m : Member) (limit place : ℕ) (d : Data) (v : Option ℤ) → StandsForSample d v
+    → whole_or_null m limit place d ≡ (if is_short limit v then Ok v else Err (OutOfRangeAt m place))
+sample_answer m limit place d None h = rw h refl
+sample_answer m limit place null (Some z) h = cc
+sample_answer m limit place (boolean b) (Some z) h = cc
+sample_answer m limit place (number n) (Some z) h = rw h (by_test (OutOfRangeAt m place) (is_within limit z) z)
+sample_answer m limit place (string s) (Some z) h = cc
+sample_answer m limit place (array ds) (Some z) h = cc
+sample_answer m limit place (object ms) (Some z) h = cc
 
 -- a value that passes the test is a sample
 short_is : (v : Option ℤ) → is_short sample_limit v ≡ true → IfSome v IsSample
@@ -161,30 +139,69 @@ short_given : (v : Option ℤ) → IfSome v IsSample → is_short sample_limit v
 short_given None h = refl
 short_given (Some z) h = le-leb (unsigned_abs z) sample_limit h
 
--- so it is with all
-samples_are : (vs : List (Option ℤ)) → are_short sample_limit vs ≡ true → AreSamples vs
-samples_are [] h = All-nil HasSample
-samples_are (v ∷ vs) h =
-    let both = and_parts (is_short sample_limit v) (are_short sample_limit vs) h in
-    All-cons HasSample v vs (short_is v both.0) (samples_are vs both.1)
+-- an item is one sample
+null_whole : (d : Data) (z : ℤ) → d ≡ null → whole_of d ≡ Some z → ⊥
+null_whole d z h k = let e : ◌≡◌ {A = Option ℤ} None (Some z) = ap whole_of (sym h) ∙ k in cc
 
-samples_given : (vs : List (Option ℤ)) → AreSamples vs → are_short sample_limit vs ≡ true
-samples_given [] h = refl
-samples_given (v ∷ vs) h =
-    and_from (is_short sample_limit v) (are_short sample_limit vs) (short_given v (All-head HasSample v vs h)) (samples_given vs (All-tail HasSample v vs h))
+sample_one : (d : Data) (v w : Option ℤ) → StandsForSample d v → StandsForSample d w → v ≡ w
+sample_one d None None h k = refl
+sample_one d None (Some z) h k = absurd (null_whole d z h k)
+sample_one d (Some z) None h k = absurd (null_whole d z k h)
+sample_one d (Some y) (Some z) h k = sym h ∙ k
+
+-- the sample of an item is within the limit, or its place is the fault
+sample_by : (place : ℕ) (d : Data) (v : Option ℤ) → StandsForSample d v → (b : Bool) → is_short sample_limit v ≡ b
+    → Found (OutOfRangeAt Values) StandsForSample (HasValue StandsForSample HasSample) place d (if b then Ok v else Err (OutOfRangeAt Values place))
+sample_by place d v stands true short = inl (v, refl, stands, (v, stands, short_is v short))
+sample_by place d v stands false long =
+    inr (
+      (λ has.
+          let short : is_short sample_limit v ≡ true = short_given v (subst HasSample (sample_one d has.0 v has.1 stands) has.2) in
+          true≢false (sym short ∙ long)),
+      refl,
+    )
+
+sample_found : (place : ℕ) (d : Data) → (v : Option ℤ) × StandsForSample d v
+    → Found (OutOfRangeAt Values) StandsForSample (HasValue StandsForSample HasSample) place d (whole_or_null Values sample_limit place d)
+sample_found place d has =
+    subst (Found (OutOfRangeAt Values) StandsForSample (HasValue StandsForSample HasSample) place d) (sym (sample_answer Values sample_limit place d has.0 has.1))
+    (sample_by place d has.0 has.1 (is_short sample_limit has.0) refl)
 
 -- ---- the rows
 
+-- the values for which items stand are one list
+samples_one : (ds : Items) (vs ws : List (Option ℤ)) → EachStands StandsForSample ds vs → EachStands StandsForSample ds ws → vs ≡ ws
+samples_one no_items [] [] h k = refl
+samples_one no_items (v ∷ vs) ws h k = absurd h
+samples_one no_items [] (w ∷ ws) h k = absurd k
+samples_one (item d ds) [] ws h k = absurd h
+samples_one (item d ds) (v ∷ vs) [] h k = absurd k
+samples_one (item d ds) (v ∷ vs) (w ∷ ws) h k = ap₂ ◌∷◌ (sample_one d v w h.0 k.0) (samples_one ds vs ws h.1 k.1)
+
+-- what follows of an answer without a check is the answer
+only_then : {T : Type 0} (answer : Answer T) → and_then answer (λ x. Ok x) ≡ answer
+only_then (Ok x) = refl
+only_then (Err f) = refl
+
 -- the last row, of items that stand for samples
-limit_leads : (ds : Items) (vs : List (Option ℤ)) → EachStands StandsForSample ds vs
-    → LeadTo (Check (AreSamples vs) (OutOfRange Values) (Gives vs)) (each (whole_or_null Values sample_limit) ds)
+abbrev LimitRow : Items → List (Option ℤ) → Answer (List (Option ℤ)) → Type 0
+LimitRow ds vs = CheckEach (HasValue StandsForSample HasSample) (OutOfRangeAt Values) ds (Gives vs)
+
+limit_leads : (ds : Items) (vs : List (Option ℤ)) → EachStands StandsForSample ds vs → LeadTo (LimitRow ds vs) (each_from (whole_or_null Values sample_limit) 0 ds)
 limit_leads ds vs stand =
-    subst (LeadTo (Check (AreSamples vs) (OutOfRange Values) (Gives vs))) (sym (samples_answer Values sample_limit ds vs stand))
-    (check_leads (are_short sample_limit vs) (AreSamples vs) (OutOfRange Values) (Gives vs) (Ok vs) (samples_are vs) (samples_given vs) (λ h. gives_leads vs))
+    let Within = HasValue StandsForSample HasSample in
+    let run = each_from (whole_or_null Values sample_limit) in
+    let found = outcome (OutOfRangeAt Values) (whole_or_null Values sample_limit) run (λ d. (v : Option ℤ) × StandsForSample d v) Within StandsForSample (λ place. refl) (λ place d es. refl)
+    sample_found 0 ds (values_had StandsForSample ds vs stand) in
+    let has : HaveAnswer (LimitRow ds vs) (run 0 ds) =
+    subst (HaveAnswer (LimitRow ds vs)) (only_then (run 0 ds))
+    (check_each_answers (OutOfRangeAt Values) StandsForSample Within ds (Gives vs) (run 0 ds) (λ ws. Ok ws) found (λ ws also.
+    subst (λ (us : List (Option ℤ)). HaveAnswer {F = CovFault} (Gives vs) (Ok us)) (samples_one ds vs ws stand also) (gives_answers vs))) in
+    record { follows = has.follows; only = has.only }
 
 -- the rows of the items
 items_lead : (ds : Items) → LeadTo (Find (EachStands StandsForNumber ds) (WrongType Values) (λ numbers.
-    Find (EachStands StandsForSample ds) (NotWhole Values) (λ samples. Check (AreSamples samples) (OutOfRange Values) (Gives samples)))) (samples_of ds)
+    Find (EachStands StandsForSample ds) (NotWhole Values) (λ samples. LimitRow ds samples))) (samples_of ds)
 items_lead ds =
     find_tested (all_wanted NumbersOrNulls ds) (EachStands StandsForNumber ds) (WrongType Values) _ _
     (each_wanted NumbersOrNulls StandsForNumber number_some ds) (all_wanted_given NumbersOrNulls StandsForNumber number_wanted ds)
@@ -208,6 +225,11 @@ pub record HasSamples (values : Option Data) (count : ℕ) (samples : List (Opti
   pub each_stand : EachStands StandsForSample items samples
   pub short : AreSamples samples
 
+-- the row over each item is passed
+each_passed : (ds : Items) (vs samples : List (Option ℤ)) → LimitRow ds vs (Ok samples) → EachItem (HasValue StandsForSample HasSample) ds × (◌≡◌ {A = Answer (List (Option ℤ))} (Ok samples) (Ok vs))
+each_passed ds vs samples (inl h) = h
+each_passed ds vs samples (inr h) = absurd (ok_err samples _ h.2)
+
 -- the rows end in the samples that stand there
 pub values_passed : (wanted : ℕ) (values : Option Data) (samples : List (Option ℤ)) → ValuesRows wanted values (Ok samples) → HasSamples values wanted samples
 values_passed wanted values samples h =
@@ -216,17 +238,17 @@ values_passed wanted values samples h =
     let counted = row_passed samples (WrongCount Values wanted (count_items items.0)) items.2 in
     let numbers = row_passed samples (WrongType Values) counted.1 in
     let found = row_passed samples (NotWhole Values) numbers.2 in
-    let short = row_passed samples (OutOfRange Values) found.2 in
+    let short = each_passed items.0 found.0 samples found.2 in
     let same : found.0 ≡ samples = cc (short.1) in
     record {
       items = items.0;
       list = list.1 ∙ ap Some items.1;
       as_many = counted.0;
       each_stand = subst (EachStands StandsForSample items.0) same found.1;
-      short = subst AreSamples same short.0;
+      short = subst AreSamples same (values_all StandsForSample HasSample sample_one items.0 found.0 found.1 short.0);
     }
 
 pub values_pass : (wanted : ℕ) (values : Option Data) (samples : List (Option ℤ)) → HasSamples values wanted samples → ValuesRows wanted values (Ok samples)
 values_pass wanted values samples h =
     let numbers = each_wanted NumbersOrNulls StandsForNumber number_some h.items (all_wanted_given NumbersOrNulls StandsForSample sample_number h.items samples h.each_stand) in
-    inl (array h.items, h.list, inl (h.items, refl, inl (h.as_many, inl (numbers.0, numbers.1, inl (samples, h.each_stand, inl (h.short, refl))))))
+    inl (array h.items, h.list, inl (h.items, refl, inl (h.as_many, inl (numbers.0, numbers.1, inl (samples, h.each_stand, inl (values_each StandsForSample HasSample h.items samples h.each_stand h.short, refl))))))

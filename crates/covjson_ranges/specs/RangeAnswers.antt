@@ -12,7 +12,7 @@ use Rattle.covjson_checks.specs.declared.turned.ReadDomain.{ReadDomain}
 use Rattle.covjson_checks.specs.declared.faults.Member.TheVariants.{Ranges, DataType, AxisNames, Shape, Values}
 use Rattle.covjson_checks.specs.declared.faults.CovFault.TheVariants.{Missing, WrongType, UnsupportedRange, NotWhole, WrongCount}
 use Rattle.covjson_checks.specs.declared.members.Wanted.TheVariants.{Naturals, NumbersOrNulls, WholesOrNulls}
-use Rattle.covjson_checks.specs.Answers.{Answer, each}
+use Rattle.covjson_checks.specs.Answers.{Answer, each, each_from}
 use Rattle.edr_base.specs.FirstThatApplies.{and_then, or_fault, check}
 use Rattle.covjson_checks.specs.Members.{need, object_at, list_at, whole_or_null, need_each}
 use Rattle.edr_json.specs.Trees.{text_or_empty, natural_of, count_items}
@@ -87,7 +87,7 @@ abbrev pub samples_of : Items → Answer (List (Option ℤ))
 samples_of ds =
     and_then (need_each NumbersOrNulls (WrongType Values) ds) (λ _.
     and_then (need_each WholesOrNulls (NotWhole Values) ds) (λ _.
-    each (whole_or_null Values sample_limit) ds))
+    each_from (whole_or_null Values sample_limit) 0 ds))
 
 -- so many values, each a sample or null
 abbrev pub samples_in : ℕ → Data → Answer (List (Option ℤ))

@@ -3,16 +3,17 @@ use Rattle.std.specs.Prelude.{◌≡◌, ◌≢◌, ◌⊎◌, ℕ, ℤ, List, [
 use Rattle.serde_json.specs.Data.{Data, null, number, array, object, Num}
 use Rattle.serde_json.specs.Find.{get}
 use Rattle.edr_base.specs.FirstThatApplies.{IsFirstPlace, Check, Find, With, Then, Gives}
-use Rattle.edr_base.specs.Limits.{AreSamples}
+use Rattle.edr_base.specs.Limits.{HasSample}
 use Rattle.edr_json.specs.Trees.{text_or_empty, count_items, EachStands}
 use Rattle.covjson_value.specs.declared.domains.Domain.{Domain}
 use Rattle.covjson_value.specs.declared.coverages.NdArray.{NdArray}
 use Rattle.covjson_value.specs.declared.axis_names.AxisName.{AxisName}
 use Rattle.covjson_value.specs.Domains.{count_of}
 use Rattle.covjson_checks.specs.declared.faults.CovFault.{CovFault}
-use Rattle.covjson_checks.specs.declared.faults.CovFault.TheVariants.{Missing, WrongType, UnsupportedRange, NotWhole, OutOfRange, WrongCount}
+use Rattle.covjson_checks.specs.declared.faults.CovFault.TheVariants.{Missing, WrongType, UnsupportedRange, NotWhole, OutOfRangeAt, WrongCount}
 use Rattle.covjson_checks.specs.declared.faults.Member.TheVariants.{Ranges, DataType, AxisNames, Shape, Values}
 use Rattle.covjson_checks.specs.declared.turned.ReadDomain.{ReadDomain}
+use Rattle.covjson_checks.specs.Places.{HasValue, CheckEach}
 use Rattle.covjson_ranges.specs.Ranges.{StandsForSample, StandsForLength, Lists, IsNdArray, HasIntegers, length_of, AreRangeAxes, IsOnePlace, NamesStand, AreInOrder}
 
 -- it is an object of the type NdArray
@@ -54,10 +55,10 @@ abbrev pub StandsForNumber : Data → Option Num → Type 0
 StandsForNumber d None = d ≡ null
 StandsForNumber d (Some n) = d ≡ number n
 
--- values has so many items, each null or a whole number within the limit of samples
+-- values has so many items, each null or a whole number within the limit of samples; the first that isn't within it has the place of the fault
 abbrev pub ValuesRows : ℕ → Option Data → Result (List (Option ℤ)) CovFault → Type 0
 ValuesRows wanted values =
-    Find (λ list. values ≡ Some list) (Missing Values) (λ list. Find (λ items. list ≡ array items) (WrongType Values) (λ items. Check (count_items items ≡ wanted) (WrongCount Values wanted (count_items items)) (Find (EachStands StandsForNumber items) (WrongType Values) (λ _. Find (EachStands StandsForSample items) (NotWhole Values) (λ samples. Check (AreSamples samples) (OutOfRange Values) (Gives samples))))))
+    Find (λ list. values ≡ Some list) (Missing Values) (λ list. Find (λ items. list ≡ array items) (WrongType Values) (λ items. Check (count_items items ≡ wanted) (WrongCount Values wanted (count_items items)) (Find (EachStands StandsForNumber items) (WrongType Values) (λ _. Find (EachStands StandsForSample items) (NotWhole Values) (λ samples. CheckEach (HasValue StandsForSample HasSample) (OutOfRangeAt Values) items (Gives samples))))))
 
 -- the range with these samples in the domain's order
 abbrev pub GivesInOrder : ReadDomain → List AxisName → List (Option ℤ) → Result NdArray CovFault → Type 0

@@ -266,7 +266,7 @@ fn wanted_count(domain: &Domain) -> u128
     times * (levels * (rows * (columns * tuples)))
 }
 
-// The samples that items are, absent where they are null: WrongType, NotWhole, OutOfRange. They are read in one pass, and looked
+// The samples that items are, absent where they are null: WrongType, NotWhole, OutOfRangeAt. They are read in one pass, and looked
 // at in the order of the checks only where one of them is none.
 fn samples_of(alloc: Global, items: List<'_>) -> Result<Vec<Option<i64>>, CovFault>
     ensures { GivesUnlessMemory (λ v. v.items) result (ranges.samples_of (list_view items.entry)) }
@@ -316,7 +316,7 @@ fn range_read(alloc: Global, tree: &Tree, read: &ReadDomain) -> Result<NdArray, 
 ///
 /// Else the first that applies: WrongType or UnsupportedRange of the range itself, Missing or UnsupportedRange of `dataType`,
 /// Missing or WrongType of `axisNames`, Missing, WrongType or WrongCount of `shape`, and Missing, WrongType, WrongCount,
-/// NotWhole or OutOfRange of `values`; or OutOfMemory.
+/// NotWhole or OutOfRangeAt of `values`; or OutOfMemory.
 pub fn range_of(alloc: Global, tree: &Tree, read: &ReadDomain) -> Result<NdArray, CovFault>
     requires axes { HasAxes read.now.domain }
     requires tuples { HasTuples read.now.domain }

@@ -8,7 +8,7 @@ use Rattle.std.specs.List.{list_all}
 use Rattle.covjson_checks.specs.declared.faults.Member.{Member}
 use Rattle.covjson_checks.specs.declared.faults.Member.TheVariants.{Document, Kind, Coverages, Domain, DomainType, Axes, T, Z, Y, X, Composite, Referencing, Parameters, ObservedProperty, Unit as TheUnit, Ranges, DataType, AxisNames, Shape, Values}
 use Rattle.covjson_checks.specs.declared.faults.CovFault.{CovFault}
-use Rattle.covjson_checks.specs.declared.faults.CovFault.TheVariants.{NotJson, Missing, WrongType, UnsupportedDomain, UnsupportedSystem, UnsupportedRange, NotWhole, OutOfRange, BadTime, NotMonotonic, WrongCount, OutOfMemory}
+use Rattle.covjson_checks.specs.declared.faults.CovFault.TheVariants.{NotJson, Missing, WrongType, UnsupportedDomain, UnsupportedSystem, UnsupportedRange, NotWhole, OutOfRange, OutOfRangeAt, BadTime, NotMonotonic, WrongCount, OutOfMemory}
 use Rattle.covjson_read.specs.Rows.{DocumentRows}
 use Rattle.edr_draft.specs.declared.changes.ChangeFault.{ChangeFault}
 use Rattle.edr_draft.specs.declared.changes.ChangeFault.TheVariants as changes
@@ -62,6 +62,7 @@ cov_said (UnsupportedSystem name) = codes "UnsupportedSystem" ++ shown name
 cov_said (UnsupportedRange name) = codes "UnsupportedRange" ++ shown name
 cov_said (NotWhole member) = codes "NotWhole " ++ member_name member
 cov_said (OutOfRange member) = codes "OutOfRange " ++ member_name member
+cov_said (OutOfRangeAt member place) = codes "OutOfRange " ++ (member_name member ++ (codes " " ++ decimal place))
 cov_said (BadTime place) = codes "BadTime " ++ decimal place
 cov_said (NotMonotonic member) = codes "NotMonotonic " ++ member_name member
 cov_said (WrongCount member wanted found) =

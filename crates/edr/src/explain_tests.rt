@@ -7,7 +7,7 @@ use std::test::Fail;
 
 // What stands in the coverage of one point, what is put in its place, and what is said then.
 const FAULTS: &str = "\
-[10] > [9007199254740992] = OutOfRange values
+[10] > [9007199254740992] = OutOfRange values 0
 [10] > [10,11] = WrongCount values 1 2
 [10] > [1.5] = NotWhole values
 integer > float = UnsupportedRange float

@@ -110,6 +110,15 @@ fn of_member(alloc: Global, name: &[u8], member: Member) -> Result<Text, OutOfMe
     joined(alloc, name, member_name(member))
 }
 
+// The place in a list of what is out of range there.
+fn out_of_range(alloc: Global, member: Member, place: usize) -> Result<Text, OutOfMemory>
+    ensures { IfOk result (λ said. said ≡ cov_said (CovFault.OutOfRangeAt member place)) }
+{
+    let behind = numbered(alloc, b" ", place as u128)?;
+    let named = joined(alloc, member_name(member), behind.bytes())?;
+    joined(alloc, b"OutOfRange ", named.bytes())
+}
+
 // The counts of a member, one behind the other.
 fn counts_behind(alloc: Global, wanted: u128, found: u128) -> Result<Text, OutOfMemory>
     ensures { IfOk result (λ said. said ≡ codes " " ++ (decimal wanted ++ (codes " " ++ decimal found))) }
@@ -146,6 +155,7 @@ fn cov_said(alloc: Global, fault: &CovFault) -> Result<Text, OutOfMemory>
         CovFault::UnsupportedRange(name) => named(alloc, b"UnsupportedRange", name.bytes()),
         CovFault::NotWhole(member) => of_member(alloc, b"NotWhole ", *member),
         CovFault::OutOfRange(member) => of_member(alloc, b"OutOfRange ", *member),
+        CovFault::OutOfRangeAt(member, place) => out_of_range(alloc, *member, *place),
         CovFault::BadTime(place) => numbered(alloc, b"BadTime ", *place as u128),
         CovFault::NotMonotonic(member) => of_member(alloc, b"NotMonotonic ", *member),
         CovFault::WrongCount(member, wanted, found) => wrong_count(alloc, *member, *wanted, *found),

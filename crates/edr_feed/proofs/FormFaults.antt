@@ -4,7 +4,7 @@ use Rattle.serde_json.specs.Data.{Data, null}
 use Rattle.serde_json.specs.Find.{get}
 use Rattle.covjson_value.specs.declared.coverages.Coverage.{Coverage}
 use Rattle.covjson_checks.specs.declared.faults.CovFault.{CovFault}
-use Rattle.covjson_checks.specs.declared.faults.CovFault.TheVariants.{NotJson, Missing, WrongType, UnsupportedDomain, UnsupportedSystem, UnsupportedRange, NotWhole, OutOfRange, BadTime, NotMonotonic, WrongCount, OutOfMemory}
+use Rattle.covjson_checks.specs.declared.faults.CovFault.TheVariants.{NotJson, Missing, WrongType, UnsupportedDomain, UnsupportedSystem, UnsupportedRange, NotWhole, OutOfRange, OutOfRangeAt, BadTime, NotMonotonic, WrongCount, OutOfMemory}
 use Rattle.covjson_read.specs.Standing.{Stands}
 use Rattle.covjson_read.specs.Rows.{CoverageRows}
 use Rattle.edr_edition.specs.declared.kinds.Kind.{Kind}
@@ -144,6 +144,7 @@ cov_fails d coverage (UnsupportedSystem t) holds nothing fails = record { covera
 cov_fails d coverage (UnsupportedRange t) holds nothing fails = record { coverage = coverage; holds = holds; fails = fails (λ e. cc); nothing = nothing (λ e. cc) }
 cov_fails d coverage (NotWhole m) holds nothing fails = record { coverage = coverage; holds = holds; fails = fails (λ e. cc); nothing = nothing (λ e. cc) }
 cov_fails d coverage (OutOfRange m) holds nothing fails = record { coverage = coverage; holds = holds; fails = fails (λ e. cc); nothing = nothing (λ e. cc) }
+cov_fails d coverage (OutOfRangeAt m place) holds nothing fails = record { coverage = coverage; holds = holds; fails = fails (λ e. cc); nothing = nothing (λ e. cc) }
 cov_fails d coverage (BadTime place) holds nothing fails = record { coverage = coverage; holds = holds; fails = fails (λ e. cc); nothing = nothing (λ e. cc) }
 cov_fails d coverage (NotMonotonic m) holds nothing fails = record { coverage = coverage; holds = holds; fails = fails (λ e. cc); nothing = nothing (λ e. cc) }
 cov_fails d coverage (WrongCount m wanted found) holds nothing fails = record { coverage = coverage; holds = holds; fails = fails (λ e. cc); nothing = nothing (λ e. cc) }

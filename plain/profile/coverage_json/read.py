@@ -5,7 +5,7 @@ The checks stand in the profile's order, coverage by coverage.
 
 import math
 from itertools import product
-from typing import Sequence
+from typing import Iterable, Sequence
 
 from plain.profile import limits
 from plain.profile.coverage_json.coverages import AXES, COMPOSITE, DOMAIN_TYPES, Coverage, Document, Domain, Parameter, Referencing
@@ -22,6 +22,12 @@ class CoverageFault(NamedFault):
 def _check(holds: bool, name: str, *about) -> None:
     if not holds:
         raise CoverageFault(name, *about)
+
+
+def _check_each(hold: Iterable[bool], name: str, member: str) -> None:
+    """What holds of each item of a list. The fault has the place of the first of which it doesn't."""
+    for place, holds in enumerate(hold):
+        _check(holds, name, member, place)
 
 
 def _member(tree: dict, key: str, member: str):
@@ -154,7 +160,7 @@ def _read_list(numbers, member: str) -> list[int]:
     _check(type(numbers) is list and len(numbers) > 0, "WrongType", member)
     _check(all(map(is_number, numbers)), "WrongType", member)
     _check(all(map(is_whole, numbers)), "NotWhole", member)
-    _check(all(map(limits.is_coordinate, numbers)), "OutOfRange", member)
+    _check_each(map(limits.is_coordinate, numbers), "OutOfRangeAt", member)
     return numbers
 
 
@@ -185,9 +191,9 @@ def _read_composite(tree, type_: str, has_axis_z: bool) -> tuple[tuple[str, ...]
     rows = tree.get("values")
     _check(type(rows) is list and len(rows) > 0, "WrongType", "Composite")
     _check(all(_is_row(row, coordinates) for row in rows), "WrongType", "Composite")
-    numbers = [item for row in rows for name, item in zip(coordinates, row) if name != "t"]
-    _check(all(map(is_whole, numbers)), "NotWhole", "Composite")
-    _check(all(map(limits.is_coordinate, numbers)), "OutOfRange", "Composite")
+    numbers = [[item for name, item in zip(coordinates, row) if name != "t"] for row in rows]
+    _check(all(all(map(is_whole, row)) for row in numbers), "NotWhole", "Composite")
+    _check_each((all(map(limits.is_coordinate, row)) for row in numbers), "OutOfRangeAt", "Composite")
     tuples = [_read_row(row, coordinates, place) for place, row in enumerate(rows)]
     if coordinates[0] == "t":
         in_order = all(before[0] <= after[0] for before, after in zip(tuples, tuples[1:]))
@@ -349,7 +355,7 @@ def _read_values(tree: dict, wanted: int) -> list[int | None]:
     numbers = [value for value in values if value is not None]
     _check(all(map(is_number, numbers)), "WrongType", "Values")
     _check(all(map(is_whole, numbers)), "NotWhole", "Values")
-    _check(all(map(limits.is_sample, numbers)), "OutOfRange", "Values")
+    _check_each((value is None or limits.is_sample(value) for value in values), "OutOfRangeAt", "Values")
     return values
 
 

@@ -1,11 +1,11 @@
 use Rattle.std.proofs.Common.{◌≡◌, drop, map}
 use Rattle.serde_json.specs.View.{items_of}
 use Rattle.edr_samples.specs.Tokens.{sample_data}
-use Rattle.covjson_checks.specs.Answers.{each, onto}
+use Rattle.covjson_checks.specs.Answers.{each_from, onto}
 use Rattle.covjson_checks.specs.Members as members
 use Rattle.covjson_checks.proofs.members.samples_within.Given as goal
 
 abbrev pub invariant-loop-place : goal.invariant-loop-place
 invariant-loop-place l =
-    onto l.found.items (each (members.whole_or_null l.member l.limit) (items_of (map sample_data (drop l.place l.samples))))
-    ≡ each (members.whole_or_null l.member l.limit) (items_of (map sample_data l.samples))
+    onto l.found.items (each_from (members.whole_or_null l.member l.limit) l.place (items_of (map sample_data (drop l.place l.samples))))
+    ≡ each_from (members.whole_or_null l.member l.limit) 0 (items_of (map sample_data l.samples))

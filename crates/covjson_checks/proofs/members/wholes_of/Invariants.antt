@@ -1,10 +1,10 @@
 use Rattle.std.proofs.Common.{◌≡◌, drop}
 use Rattle.edr_samples.specs.Trees.{items_view}
-use Rattle.covjson_checks.specs.Answers.{each, onto}
+use Rattle.covjson_checks.specs.Answers.{each_from, onto}
 use Rattle.covjson_checks.specs.Members as members
 use Rattle.covjson_checks.proofs.members.wholes_of.Given as goal
 
-abbrev pub invariant-loop-item : goal.invariant-loop-item
-invariant-loop-item l =
-    onto l.found.items (each (members.whole_within l.member l.limit) (items_view (drop l.item-index l.items.items)))
-    ≡ each (members.whole_within l.member l.limit) (items_view l.items.items)
+abbrev pub invariant-loop-place : goal.invariant-loop-place
+invariant-loop-place l =
+    onto l.found.items (each_from (members.whole_within l.member l.limit) l.place (items_view (drop l.place l.items.items)))
+    ≡ each_from (members.whole_within l.member l.limit) 0 (items_view l.items.items)

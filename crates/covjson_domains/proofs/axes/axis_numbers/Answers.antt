@@ -3,7 +3,7 @@ use Rattle.serde_json.specs.Find.{get}
 use Rattle.edr_samples.specs.Trees.{tree_view, list_view}
 use Rattle.edr_base.specs.Limits.{coordinate_limit}
 use Rattle.edr_json.specs.AnswerLaws.{and_then_given}
-use Rattle.covjson_checks.specs.Answers.{each}
+use Rattle.covjson_checks.specs.Answers.{each_from}
 use Rattle.covjson_checks.specs.Members.{whole_within}
 use Rattle.covjson_domains.specs.AxisAnswers.{axis_numbers, spanned}
 use Rattle.covjson_domains.proofs.axes.axis_numbers.Goals as goal
@@ -19,7 +19,7 @@ pub returns : goal.returns
 returns c =
     let axis = tree_view c.args.axis.now in
     let listed : is_some (get (codes "values") axis) ≡ true = search rules in
-    let answer : axis_numbers c.args.member axis ≡ each (whole_within c.args.member coordinate_limit) (list_view c.in_ok-items.items) =
+    let answer : axis_numbers c.args.member axis ≡ each_from (whole_within c.args.member coordinate_limit) 0 (list_view c.in_ok-items.items) =
     and_then_given _ _ _ _ c.in_ok-_members.ensures
     (rw listed (and_then_given _ _ _ _ c.in_ok-items.ensures (and_then_given _ _ _ _ (sym c.in_ok-need_form.ensures) (and_then_given _ _ _ _ (sym c.in_ok-need_wholes.ensures) refl)))) in
     rw answer c.wholes.ensures

@@ -13,4 +13,4 @@ pub returns-then-not-tuples_pass-3 : goal.returns-then-not-tuples_pass-3
 returns-then-not-tuples_pass-3 c =
     let form = sym c.tuples_pass.ensures ∙ c.if-not-tuples_pass.false in
     let whole = sym c.tuples_pass-2.ensures ∙ c.if-not-tuples_pass-2.false in
-    rw (form, whole, sym c.tuples_pass-3.ensures ∙ c.if-not-tuples_pass-3.true) (inl refl)
+    rw (form, whole, sym c.tuples_pass-3.ensures ∙ c.if-not-tuples_pass-3.true, c.place_beyond.ensures) (inl refl)
