@@ -80,7 +80,7 @@ ended_between lines line rest all plain =
 -- ---- which lines are read
 
 -- all lines of a feed within the limit
-read_within : (bytes : List ℕ) → length bytes ≤ feed_limit → read_lines bytes ≡ lines_of bytes
+pub read_within : (bytes : List ℕ) → length bytes ≤ feed_limit → read_lines bytes ≡ lines_of bytes
 read_within bytes h = ap (λ (b : Bool). if b then lines_of bytes else ended_lines (take feed_limit bytes)) (le-leb (length bytes) feed_limit h)
 
 -- and of one beyond it those that end within it

@@ -12,3 +12,6 @@ pub mod FeedLaws
 pub mod SummaryLemmas
 pub mod ReadFaults
 pub mod FeedBounds
+pub mod OneLine
+pub mod WrittenTrees
+pub mod WrittenFeeds

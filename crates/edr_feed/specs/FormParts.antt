@@ -8,11 +8,9 @@ use Rattle.covjson_read.specs.Standing.{Stands}
 use Rattle.covjson_checks.specs.declared.faults.CovFault.{CovFault}
 use Rattle.covjson_value.specs.declared.coverages.Coverage.{Coverage}
 use Rattle.edr_base.specs.Names.{IsName}
-use Rattle.edr_draft.specs.Changes.{IsChange}
 use Rattle.edr_feed.specs.declared.faults.LineFault.{LineFault}
 use Rattle.edr_feed.specs.declared.faults.LineFault.TheVariants.{NotFeedLine, Cov, OutOfMemory}
 use Rattle.edr_feed.specs.declared.entries.Entry.{Entry}
-use Rattle.edr_feed.specs.declared.entries.Entry.TheVariants.{Change, Publish}
 use Rattle.edr_edition.specs.declared.kinds.Kind.{Kind}
 use Rattle.edr_feed.specs.Forms.{HasForm, HasOutline, HoldsCoverage, kind_word}
 
@@ -71,8 +69,3 @@ ReadsEntry tree result = MatchResult result (HasForm tree) (IsNoEntry tree)
 -- the tree of a line whose one member is that
 abbrev pub line_of : List ℕ → Data → Data
 line_of name value = object (member name value no_members)
-
--- the ids of its change are names, its texts UTF-8, and its coverage is valid
-abbrev pub IsEntry : Entry → Type 0
-IsEntry (Change change) = IsChange change
-IsEntry Publish = ⊤

@@ -1,5 +1,5 @@
 -- Which tree stands for which entry of a feed.
-use Rattle.std.specs.Prelude.{◌≡◌, ◌⊎◌, ◌↔◌, ℕ, List, [], ◌∷◌, codes, IsPermutation, Option, None, Some}
+use Rattle.std.specs.Prelude.{◌≡◌, ◌⊎◌, ◌↔◌, ℕ, List, [], ◌∷◌, codes, IsPermutation, Option, None, Some, ⊤}
 use Rattle.serde_json.specs.Data.{Data, string, object, Members, no_members, member}
 use Rattle.serde_json.specs.Find.{get}
 use Rattle.covjson_value.specs.declared.coverages.Coverage.{Coverage}
@@ -7,6 +7,7 @@ use Rattle.covjson_read.specs.Standing.{Stands}
 use Rattle.edr_base.specs.Names.{IsName}
 use Rattle.edr_edition.specs.declared.kinds.Kind.{Kind}
 use Rattle.edr_edition.specs.declared.kinds.Kind.TheVariants.{Grid as Grids, Station as Stations}
+use Rattle.edr_draft.specs.Changes.{IsChange}
 use Rattle.edr_draft.specs.declared.changes.Change.TheVariants.{Collection, Grid, Station, DropCollection, DropInstance, DropStation, Bare}
 use Rattle.edr_feed.specs.declared.entries.Entry.{Entry}
 use Rattle.edr_feed.specs.declared.entries.Entry.TheVariants.{Change, Publish}
@@ -102,6 +103,11 @@ HoldsCoverage d coverage =
 -- the tree of a line has one of the forms, whatever its coverage is
 abbrev pub HasOutline : Data → Type 0
 HasOutline d = ((entry : Entry) × HasForm d entry) ⊎ ((coverage : Data) × HoldsCoverage d coverage)
+
+-- the ids of its change are names, its texts UTF-8, and its coverage is valid
+abbrev pub IsEntry : Entry → Type 0
+IsEntry (Change change) = IsChange change
+IsEntry Publish = ⊤
 
 -- ---- laws
 

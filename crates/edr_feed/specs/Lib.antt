@@ -3,6 +3,7 @@ pub mod Forms
 pub mod Lines
 pub mod Steps
 pub mod Feeds
+pub mod Written
 pub mod Summaries
 pub mod Faults
 pub mod FormParts

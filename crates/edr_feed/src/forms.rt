@@ -3,8 +3,8 @@ ghost use Rattle.std.specs.Prelude.{◌≡◌, ◌↔◌, codes, IfOk, IfSome, I
 ghost use Rattle.edr_samples.specs.Trees.{tree_view};
 ghost use Rattle.edr_json.specs.Trees as trees;
 ghost use Rattle.edr_feed.specs.FormParts as parts;
-ghost use Rattle.edr_feed.specs.FormParts.{HasText, HasName, HasTextIfGiven, HasKind, Finds, ReadsEntry, IsEntry, line_of};
-ghost use Rattle.edr_feed.specs.Forms.{IsBare, TreesHaveOneForm, TreesHoldOneCoverage};
+ghost use Rattle.edr_feed.specs.FormParts.{HasText, HasName, HasTextIfGiven, HasKind, Finds, ReadsEntry, line_of};
+ghost use Rattle.edr_feed.specs.Forms.{IsBare, IsEntry, TreesHaveOneForm, TreesHoldOneCoverage};
 
 use crate::entries::Entry;
 use crate::faults::LineFault;

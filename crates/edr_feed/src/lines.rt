@@ -3,7 +3,7 @@ ghost use Rattle.std.specs.Prelude.{◌≡◌, ◌≤◌, length, IfOk, IfSome, 
 ghost use Rattle.std.specs.List.{list_all};
 ghost use Rattle.edr_base.specs.Names.{is_blank};
 ghost use Rattle.edr_base.specs.Limits.{line_limit};
-ghost use Rattle.edr_feed.specs.FormParts.{IsEntry};
+ghost use Rattle.edr_feed.specs.Forms.{IsEntry};
 ghost use Rattle.edr_feed.specs.Lines.{IsBlank};
 ghost use Rattle.edr_feed.specs.Readings.{Says};
 

@@ -1,6 +1,6 @@
 //! What lines make of a draft, and of the editions before it.
 ghost use Rattle.std.specs.Prelude.{◌≡◌, ◌↔◌, IfErr, IsTrue, OnOk};
-ghost use Rattle.edr_feed.specs.FormParts.{IsEntry};
+ghost use Rattle.edr_feed.specs.Forms.{IsEntry};
 ghost use Rattle.edr_feed.specs.Steps.{published};
 ghost use Rattle.edr_feed.specs.Readings.{progress_of, is_bare, DoesEntry, DoesLine};
 

@@ -9,7 +9,7 @@ use Rattle.edr_csv.specs.declared.observations.Observation.{Observation}
 use Rattle.edr_import.specs.declared.names.Name.{Name}
 use Rattle.edr_import.specs.declared.sites.Site.{Site}
 use Rattle.edr_import.specs.declared.stations.Station.{Station}
-use Rattle.edr_import.specs.Lines.{entry_line, entries_text}
+use Rattle.edr_feed.specs.Written.{entry_line, entries_text}
 use Rattle.edr_import.specs.Imports.{feed_text, sites_entry, station_entry, times_in}
 use Rattle.edr_feed.specs.declared.entries.Entry.TheVariants.{Publish}
 use Rattle.json.proofs.OnLiterals.{json_on_literals}

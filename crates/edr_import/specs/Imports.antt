@@ -19,7 +19,7 @@ use Rattle.edr_import.specs.declared.refusals.ImportFault.{ImportFault}
 use Rattle.edr_import.specs.declared.refusals.ImportFault.TheVariants.{Refused, WriteFault, OutOfMemory}
 use Rattle.edr_import.specs.Faults.{of_table}
 use Rattle.edr_import.specs.Limits.{parameter_limit, samples_limit}
-use Rattle.edr_import.specs.Lines.{entries_text}
+use Rattle.edr_feed.specs.Written.{entries_text}
 use Rattle.edr_import.specs.Tables.{AreParameters, AreSites, AreStations}
 
 -- ---- the feed

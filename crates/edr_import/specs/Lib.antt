@@ -1,6 +1,5 @@
 pub mod Limits
 pub mod Faults
-pub mod Lines
 pub mod Tables
 pub mod Imports
 pub mod Sorting

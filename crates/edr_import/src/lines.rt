@@ -2,7 +2,7 @@
 ghost use Rattle.std.specs.Prelude.{◌≡◌, ◌++◌, All, false, IfOk, OnOk, map};
 ghost use Rattle.serde_json.specs.View.{view};
 ghost use Rattle.serde_json.specs.Written.{has_float};
-ghost use Rattle.edr_import.specs.Lines.{entry_data, entry_line, entries_text};
+ghost use Rattle.edr_feed.specs.Written.{entry_data, entry_line, entries_text};
 ghost use Rattle.edr_import.specs.Imports.{feed_text, sites_entry, station_entry};
 ghost use Rattle.edr_import.specs.Stations.{IsWritable};
 ghost use Rattle.edr_feed.specs.declared.entries.Entry.TheVariants.{Publish};

@@ -1,5 +1,5 @@
 use Rattle.std.proofs.Common.{◌++◌, ◌∙◌, ap, map, take_all, List}
-use Rattle.edr_import.specs.Lines.{entries_text}
+use Rattle.edr_feed.specs.Written.{entries_text}
 use Rattle.edr_import.specs.Imports.{station_entry}
 use Rattle.edr_import.specs.declared.stations.Station.{Station}
 use Rattle.edr_import.proofs.LineLemmas.{lines_more}

@@ -1,5 +1,5 @@
 use Rattle.std.proofs.Common.{◌≡◌, ◌++◌, map, take}
-use Rattle.edr_import.specs.Lines.{entries_text}
+use Rattle.edr_feed.specs.Written.{entries_text}
 use Rattle.edr_import.specs.Imports.{station_entry}
 use Rattle.edr_import.proofs.lines.push_stations.Given as goal
 
