@@ -1,9 +1,9 @@
 -- A plane that is set where a box has a node, rectangle by rectangle and row by row.
-use Rattle.std.proofs.Common.{◌≡◌, ℕ, ◌+◌, ◌-◌, ◌*◌, ◌<◌, ◌≤◌, Bool, true, false, List, [], length, get_or, take, drop, replicate, eqb, refl, ap, ap₂, sym, ◌∙◌, subst, arith, inl, inr, length-take, length-drop, All}
+use Rattle.std.proofs.Common.{◌≡◌, ℕ, ◌+◌, ◌-◌, ◌*◌, ◌<◌, ◌≤◌, Bool, true, false, List, [], length, get_or, take, drop, replicate, eqb, refl, ap, ap₂, sym, ◌∙◌, subst, arith, inl, inr, length-take, length-drop, All, mul-le-mul, nat_lt}
 use Rattle.std.proofs.Math.Bool.{or_assoc}
-use Rattle.std.specs.Prelude.{◌&&◌, ◌||◌}
+use Rattle.std.specs.Prelude.{◌&&◌, ◌||◌, nat_le}
 use Rattle.std.proofs.Math.Nat.{mul-le-mul_left}
-use Rattle.std.proofs.lemmas.Bool.{cases_lt, cases_eq, eq-eqb, ne_eqb, or_right}
+use Rattle.std.proofs.lemmas.Bool.{cases_lt, cases_eq, eq-eqb, ne_eqb, or_right, le-leb, lt-leb, lt-ltb, le-ltb}
 use Rattle.std.proofs.lemmas.Bool.Decides.{nat_tests}
 use Rattle.std.proofs.lemmas.List.{get_or-replicate, length-replicate}
 use Rattle.edr_corridor.specs.declared.boxes.Rectangle.{Rectangle}
@@ -12,7 +12,7 @@ use Rattle.edr_geometry.specs.Ranges.{lies_in}
 use Rattle.edr_corridor.specs.Boxes.{has_place}
 use Rattle.edr_select.specs.Stacks.{SidesValue, plane_size}
 use borrow.Rule.Slice.PartMut.{put_mid}
-use Rattle.edr_lines.specs.Bits.{RangeSet, RowFits, ColumnsFit, InBox, PlaneSet, IsSmall, node_number, is_in_row}
+use Rattle.edr_lines.specs.Bits.{RangeSet, RowFits, RowsFit, ColumnsFit, InBox, PlaneSet, IsSmall, node_number, is_in_row, is_among_rows}
 use Rattle.edr_lines.specs.Boxes.{has_node, has_first}
 use Rattle.edr_lines.proofs.RectangleNodes.{no_rectangles, all_rectangles, rectangle_more}
 use Rattle.edr_lines.proofs.AskedPlaces.{lies_at}
@@ -158,6 +158,57 @@ module _ (sides : SidesValue) (columns : ℕ × ℕ) where
 
       more : (y x : ℕ) → (is_in_rows first row columns y x || is_in_row row columns y x) ≡ is_in_rows first (row + 1) columns y x
       more y x = apart (lies_in (first, row) y) (eqb y row) (lies_in columns x) ∙ ap (λ b. b && lies_in columns x) (next y)
+
+-- ---- rows that stand together
+
+module _ (k w c : ℕ) (low : c < w) where
+  block_from : (a : ℕ) → nat_le (a * w) (k * w + c) ≡ nat_le a k
+  block_from a = elim (cases_lt k a) [
+    | inl lt ↦ lt-leb (a * w) (k * w + c) (omega (arith, low, block_end k a w lt)) ∙ sym (lt-leb a k lt)
+    | inr ge ↦ (let more : a * w ≤ k * w = mul-le-mul ge (omega arith) in le-leb (a * w) (k * w + c) (omega (arith, more)) ∙ sym (le-leb a k ge))
+  ]
+
+  block_to : (b : ℕ) → nat_lt (k * w + c) (b * w) ≡ nat_lt k b
+  block_to b = elim (cases_lt k b) [
+    | inl lt ↦ lt-ltb (k * w + c) (b * w) (omega (arith, low, block_end k b w lt)) ∙ sym (lt-ltb k b lt)
+    | inr ge ↦ (let more : b * w ≤ k * w = mul-le-mul ge (omega arith) in le-ltb (k * w + c) (b * w) (omega (arith, more)) ∙ sym (le-ltb k b ge))
+  ]
+
+module _ (sides : SidesValue) (rows : ℕ × ℕ) (r : RowsFit sides rows) where
+  same_rows : (y : ℕ) → sides.row ≤ y → lies_in (rows.0 - sides.row, rows.1 - sides.row) (y - sides.row) ≡ lies_in rows y
+  same_rows y low = grind (arith, nat_tests, r.low, r.ordered)
+
+  -- where they stand
+  pub rows_end : (rows.1 - sides.row) * sides.columns ≤ plane_size sides
+  rows_end = mul-le-mul (omega (arith, r.low, r.ordered, r.high)) (omega arith)
+
+  pub rows_ordered : (rows.0 - sides.row) * sides.columns ≤ (rows.1 - sides.row) * sides.columns
+  rows_ordered = mul-le-mul (omega (arith, r.ordered)) (omega arith)
+
+  pub rows_set : (old new : List Bool) → length old ≡ plane_size sides → RangeSet ((rows.0 - sides.row) * sides.columns, (rows.1 - sides.row) * sides.columns) old new → PlaneSet sides (is_among_rows rows) old new
+  rows_set old new full s = record {
+    full = s.full;
+    set = λ y x n.
+        (let k = y - sides.row in let c = x - sides.column in
+        let low : c < sides.columns = in_columns sides y x n in
+        let end = block_end k sides.rows sides.columns (in_rows sides y x n) in
+        s.set (node_number sides y x) (omega (arith, full, low, end))
+        ∙ ap (λ b. get_or old (node_number sides y x) false || b)
+        (ap₂ (λ a b. a && b) (block_from k sides.columns c low (rows.0 - sides.row)) (block_to k sides.columns c low (rows.1 - sides.row)) ∙ same_rows y n.low));
+  }
+
+-- a rectangle with all columns has its rows
+pub all_columns : (sides : SidesValue) (rectangle : Rectangle) (old new : List Bool) → rectangle.columns.0 ≡ sides.column → rectangle.columns.1 ≡ sides.column + sides.columns
+    → PlaneSet sides (is_among_rows rectangle.rows) old new → PlaneSet sides (has_place rectangle) old new
+all_columns sides rectangle old new left right p = record {
+  full = p.full;
+  set = λ y x n. p.set y x n ∙ ap (λ b. get_or old (node_number sides y x) false || b)
+      (sym (ap (λ b. lies_in rectangle.rows y && b) (lies_at rectangle.columns.0 rectangle.columns.1 x (omega (arith, left, n.left)) (omega (arith, right, n.right))) ∙ with_true (lies_in rectangle.rows y)));
+}
+  where
+    with_true : (a : Bool) → (a && true) ≡ a
+    with_true true = refl
+    with_true false = refl
 
 -- ---- a box, rectangle by rectangle
 

@@ -9,7 +9,7 @@ use Rattle.std.proofs.lemmas.List.Folds.{Any-from_list_any, list_any_at}
 use Rattle.edr_geometry.specs.Ranges.{lies_in}
 use Rattle.edr_corridor.specs.declared.boxes.Rectangle.{Rectangle}
 use Rattle.edr_corridor.specs.declared.boxes.SegmentBox.{SegmentBox}
-use Rattle.edr_corridor.specs.Boxes.{GridAxes, LiesOn, TakesNodes, takes_node, wants_node, box_takes, has_place}
+use Rattle.edr_corridor.specs.Boxes.{AddsNothing, GridAxes, LiesOn, TakesNodes, takes_node, wants_node, box_takes, has_place}
 use Rattle.edr_corridor.specs.Segments.{at_segment}
 use Rattle.edr_select.specs.Listings.{NumbersRise}
 use Rattle.edr_select.specs.RiseLaws.{numbers_rise}
@@ -21,7 +21,7 @@ use Rattle.edr_lines.specs.Corridors.{CorridorValue, is_asked, takes, takes_firs
 use Rattle.edr_lines.specs.Boxes.{box_passes, has_node}
 use Rattle.edr_lines.specs.Bits.{DoRise, IsSmall, TimesFit, TimesSet, InBox, node_number}
 use Rattle.edr_lines.proofs.Tests.{some_of, pair_at, some_pair}
-use Rattle.edr_lines.proofs.Firsts.{first_more, all_first, none_first}
+use Rattle.edr_lines.proofs.Firsts.{first_more, first_same, all_first, none_first}
 use Rattle.edr_lines.proofs.RectangleNodes.{is_in, has_this}
 
 same_place : (i many j size k : ℕ) → (i * many + j) * size + k ≡ i * (many * size) + (j * size + k)
@@ -158,6 +158,16 @@ module _ (corridor : CorridorValue) (axes : GridAxes) (sides : SidesValue) (s : 
           ∙ ap₂ (λ a b. a || b) (ap (λ k. get_or old k false) (sym place) ∙ h.bits i j y x at among low high left right) passes
           ∙ first_more corridor axes number box taken t z y x (time_on i at) (level_on j among) (omega (arith, high, s.rows.inside)) (omega (arith, right, s.columns.inside));
     }
+
+  -- with a segment that adds nothing
+  pub bits_same : (number : ℕ) → AddsNothing corridor.segments number axes.ys axes.xs → (mask : List Bool) → HasBits (takes_first corridor axes number) (record { sides = sides; mask = mask })
+      → HasBits (takes_first corridor axes (number + 1)) (record { sides = sides; mask = mask })
+  bits_same number nothing mask h = record {
+    full = h.full;
+    bits = λ i j y x at among low high left right.
+        h.bits i j y x at among low high left right
+        ∙ first_same corridor axes number nothing (time_at sides i) (level_at sides j) y x (time_on i at) (level_on j among) (omega (arith, high, s.rows.inside)) (omega (arith, right, s.columns.inside));
+  }
 
   -- of no segment
   pub no_bits : (mask : List Bool) → mask ≡ replicate (stack_count sides) false → HasBits (takes_first corridor axes 0) (record { sides = sides; mask = mask })

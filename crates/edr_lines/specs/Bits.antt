@@ -30,6 +30,12 @@ pub record RowFits (sides : SidesValue) (row : ℕ) : Type 0 where
   pub low : sides.row ≤ row
   pub high : row < sides.row + sides.rows
 
+-- rows lie in some sides
+pub record RowsFit (sides : SidesValue) (rows : ℕ × ℕ) : Type 0 where
+  pub low : sides.row ≤ rows.0
+  pub ordered : rows.0 ≤ rows.1
+  pub high : rows.1 ≤ sides.row + sides.rows
+
 -- columns lie in some sides
 pub record ColumnsFit (sides : SidesValue) (columns : ℕ × ℕ) : Type 0 where
   pub left : sides.column ≤ columns.0
@@ -50,6 +56,10 @@ BoxFits sides box = All (RectangleFits sides) box.rectangles.items
 -- the node of a row and of some columns
 abbrev pub is_in_row : ℕ → ℕ × ℕ → ℕ → ℕ → Bool
 is_in_row row columns y x = (y == row) && lies_in columns x
+
+-- a node of some rows
+abbrev pub is_among_rows : ℕ × ℕ → ℕ → ℕ → Bool
+is_among_rows rows y x = lies_in rows y
 
 -- where the truth value of a node of a plane stands
 abbrev pub node_number : SidesValue → ℕ → ℕ → ℕ

@@ -1,5 +1,5 @@
 //! How far what a corridor takes spreads along the axes of some nodes.
-ghost use Rattle.std.specs.Prelude.{◌≡◌, ◌<◌, ◌≤◌, true, false, length, IfOk, IsSome};
+ghost use Rattle.std.specs.Prelude.{◌≡◌, ◌+◌, ◌<◌, ◌≤◌, true, false, length, IfOk, OnOk, IsSome};
 ghost use Rattle.std.specs.List.{All};
 ghost use Rattle.edr_base.specs.Limits.{IsCoordinate};
 ghost use Rattle.edr_corridor.specs.Values.{needs_level};
@@ -7,7 +7,7 @@ ghost use Rattle.edr_axes.specs.Axes.{axis_length};
 ghost use Rattle.edr_corridor.specs.Boxes.{LiesOn, IsWithin, has_place};
 ghost use Rattle.edr_lines.specs.Plans.{axes_of, IsFew};
 ghost use Rattle.edr_lines.specs.Taken.{NodeTest, counts_of, either};
-ghost use Rattle.edr_lines.specs.Corridors.{LiesAlong, takes};
+ghost use Rattle.edr_lines.specs.Corridors.{LiesAlong, takes, takes_first};
 ghost use Rattle.edr_lines.specs.Boxes.{MatchPlane, IsExtentOf, IsSpreadOf, SetAsked, extent_with, joined_extent, box_passes, some_asked, has_node};
 
 use crate::corridors::Corridor;
@@ -186,7 +186,7 @@ pub(crate) fn no_spread(alloc: Global, axes: &Axes<'_>) -> Result<Spread, OutOfM
 
 impl Spread {
     // Adds what a box takes of what is asked.
-    pub(crate) fn add(&mut self, corridor: &Corridor<'_>, axes: &Axes<'_>, taken: &SegmentBox)
+    fn add(&mut self, corridor: &Corridor<'_>, axes: &Axes<'_>, taken: &SegmentBox)
         requires along { LiesAlong axes.now corridor.now }
         requires on { LiesOn axes.now taken.now }
         requires full { (length self.old.times ≡ length axes.now.ts) × (length self.old.levels ≡ axis_length axes.now.zs) }
@@ -201,6 +201,31 @@ impl Spread {
         set_asked(&mut self.times, &corridor.times, taken.times);
         set_asked(&mut self.levels, &corridor.levels, taken.levels);
         self.extent = Some(joined(self.extent, extent));
+    }
+
+    // Adds what the segment of a number takes of what is asked, besides those before it.
+    pub(crate) fn add_segment(
+        &mut self,
+        alloc: Global,
+        corridor: &Corridor<'_>,
+        axes: &Axes<'_>,
+        number: usize,
+    ) -> Result<(), OutOfMemory>
+        requires along { LiesAlong axes.now corridor.now }
+        requires levels { needs_level corridor.now.segments ≡ true → IsSome axes.now.zs }
+        requires ys_in { All IsCoordinate axes.now.ys }
+        requires xs_in { All IsCoordinate axes.now.xs }
+        requires inside { number + 1 < length corridor.now.segments.line }
+        requires spread { IsSpreadOf (counts_of axes.now) (takes_first corridor.now axes.now number) self.old }
+        ensures { OnOk result (IsSpreadOf (counts_of axes.now) (takes_first corridor.now axes.now (number + 1)) self.new) }
+    {
+        if corridor.segments.adds(number, axes.ys, axes.xs) {
+            let taken = corridor
+                .segments
+                .box_of(alloc, number, axes.ts, axes.zs, axes.ys, axes.xs)?;
+            self.add(corridor, axes, &taken);
+        }
+        Ok(())
     }
 }
 
@@ -219,10 +244,7 @@ pub(crate) fn spread_of(
 {
     let mut spread = no_spread(alloc, axes)?;
     for number in 0..corridor.segments.len() {
-        let taken = corridor
-            .segments
-            .box_of(alloc, number, axes.ts, axes.zs, axes.ys, axes.xs)?;
-        spread.add(corridor, axes, &taken);
+        spread.add_segment(alloc, corridor, axes, number)?;
     }
     Ok(spread)
 }

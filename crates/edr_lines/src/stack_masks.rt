@@ -1,5 +1,5 @@
 //! Which nodes of a stack a corridor takes.
-ghost use Rattle.std.specs.Prelude.{◌≡◌, ℕ, ◌<◌, ◌≤◌, ◌+◌, ◌*◌, nat_lt, true, length, IfOk, IsSome};
+ghost use Rattle.std.specs.Prelude.{◌≡◌, ℕ, ◌<◌, ◌≤◌, ◌+◌, ◌*◌, nat_lt, true, length, IfOk, OnOk, IsSome};
 ghost use Rattle.std.specs.List.{All, slice_index_or};
 ghost use Rattle.edr_base.specs.Limits.{IsCoordinate};
 ghost use Rattle.edr_corridor.specs.Values.{needs_level};
@@ -7,9 +7,9 @@ ghost use Rattle.edr_geometry.specs.Ranges.{lies_in};
 ghost use Rattle.edr_corridor.specs.Boxes.{box_takes, has_place};
 ghost use Rattle.edr_select.specs.Listings.{NumbersRise};
 ghost use Rattle.edr_select.specs.Stacks.{plane_size, time_at, level_at};
-ghost use Rattle.edr_lines.specs.Bits.{RangeSet, RowFits, ColumnsFit, RectangleFits, BoxFits, is_in_row, PlaneSet, LevelsFit, LevelSet, LevelsSet, takes_below, TimesFit, TimeSet, TimesSet, time_size, DoRise, IsSmall};
+ghost use Rattle.edr_lines.specs.Bits.{RangeSet, RowFits, RowsFit, is_among_rows, ColumnsFit, RectangleFits, BoxFits, is_in_row, PlaneSet, LevelsFit, LevelSet, LevelsSet, takes_below, TimesFit, TimeSet, TimesSet, time_size, DoRise, IsSmall};
 ghost use Rattle.edr_lines.specs.Boxes.{has_node};
-ghost use Rattle.edr_lines.specs.Corridors.{LiesAlong, takes};
+ghost use Rattle.edr_lines.specs.Corridors.{LiesAlong, takes, takes_first};
 ghost use Rattle.edr_lines.specs.Taken.{counts_of, AreSidesOf, HasBits};
 
 use crate::corridors::Corridor;
@@ -43,8 +43,29 @@ fn set_row(plane: &mut [bool], sides: &StackSides, row: usize, columns: (usize, 
     set_range(values, columns.0 - column, columns.1 - column);
 }
 
-// Sets the truth values of a plane where a rectangle has a node.
-fn set_rectangle(plane: &mut [bool], sides: &StackSides, rectangle: &Rectangle)
+// Sets the truth values of some rows of a plane, which stand together.
+fn set_rows(plane: &mut [bool], sides: &StackSides, rows: (usize, usize))
+    requires small { IsSmall sides.now }
+    requires full { length plane.old ≡ plane_size sides.now }
+    requires rows { RowsFit sides.now rows }
+    ensures { PlaneSet sides.now (is_among_rows rows) plane.old plane.new }
+{
+    let width = sides.columns as usize;
+    let row = sides.row as usize;
+    set_range(plane, (rows.0 - row) * width, (rows.1 - row) * width);
+}
+
+// Whether some columns are all of the sides.
+fn are_all(sides: &StackSides, columns: (usize, usize)) -> bool
+    requires small { IsSmall sides.now }
+    ensures { result ≡ true → (columns.0 ≡ sides.now.column) × (columns.1 ≡ sides.now.column + sides.now.columns) }
+{
+    let column = sides.column as usize;
+    columns.0 == column && columns.1 == column + sides.columns as usize
+}
+
+// Sets the truth values of a plane where a rectangle has a node, row by row.
+fn set_each_row(plane: &mut [bool], sides: &StackSides, rectangle: &Rectangle)
     requires small { IsSmall sides.now }
     requires full { length plane.old ≡ plane_size sides.now }
     requires fits { RectangleFits sides.now rectangle.now }
@@ -52,6 +73,20 @@ fn set_rectangle(plane: &mut [bool], sides: &StackSides, rectangle: &Rectangle)
 {
     for row in rectangle.rows.0..rectangle.rows.1 {
         set_row(plane, sides, row, rectangle.columns);
+    }
+}
+
+// Sets the truth values of a plane where a rectangle has a node: at once where it has all columns.
+fn set_rectangle(plane: &mut [bool], sides: &StackSides, rectangle: &Rectangle)
+    requires small { IsSmall sides.now }
+    requires full { length plane.old ≡ plane_size sides.now }
+    requires fits { RectangleFits sides.now rectangle.now }
+    ensures { PlaneSet sides.now (has_place rectangle.now) plane.old plane.new }
+{
+    if are_all(sides, rectangle.columns) {
+        set_rows(plane, sides, rectangle.rows)
+    } else {
+        set_each_row(plane, sides, rectangle)
     }
 }
 
@@ -144,6 +179,35 @@ fn set_times(mask: &mut [bool], sides: &StackSides, taken: &SegmentBox)
     }
 }
 
+// Sets the truth values of a stack where the segment of a number takes a node, besides those before it.
+fn set_segment(
+    alloc: Global,
+    mask: &mut [bool],
+    corridor: &Corridor<'_>,
+    axes: &Axes<'_>,
+    sides: &StackSides,
+    number: usize,
+) -> Result<(), OutOfMemory>
+    requires along { LiesAlong axes.now corridor.now }
+    requires levels { needs_level corridor.now.segments ≡ true → IsSome axes.now.zs }
+    requires ys_in { All IsCoordinate axes.now.ys }
+    requires xs_in { All IsCoordinate axes.now.xs }
+    requires sides { AreSidesOf (counts_of axes.now) (takes corridor.now axes.now) sides.now }
+    requires small { IsSmall sides.now }
+    requires inside { number + 1 < length corridor.now.segments.line }
+    requires mask { HasBits (takes_first corridor.now axes.now number) (record { sides = sides.now; mask = mask.old }) }
+    ensures full { OnOk result (length mask.new ≡ length mask.old) }
+    ensures mask { OnOk result (HasBits (takes_first corridor.now axes.now (number + 1)) (record { sides = sides.now; mask = mask.new })) }
+{
+    if corridor.segments.adds(number, axes.ys, axes.xs) {
+        let taken = corridor
+            .segments
+            .box_of(alloc, number, axes.ts, axes.zs, axes.ys, axes.xs)?;
+        set_times(mask, sides, &taken);
+    }
+    Ok(())
+}
+
 // For each node of a stack whether a corridor takes it, in the order t, z, y, x.
 pub(crate) fn mask_of(
     alloc: Global,
@@ -166,10 +230,7 @@ pub(crate) fn mask_of(
         false,
     )?;
     for number in 0..corridor.segments.len() {
-        let taken = corridor
-            .segments
-            .box_of(alloc, number, axes.ts, axes.zs, axes.ys, axes.xs)?;
-        set_times(&mut mask, sides, &taken);
+        set_segment(alloc, &mut mask, corridor, axes, sides, number)?;
     }
     Ok(mask)
 }

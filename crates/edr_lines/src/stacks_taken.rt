@@ -106,10 +106,7 @@ pub(crate) fn sides_within(
     }
     let mut spread = no_spread(alloc, axes)?;
     for number in 0..corridor.segments.len() {
-        let taken = corridor
-            .segments
-            .box_of(alloc, number, axes.ts, axes.zs, axes.ys, axes.xs)?;
-        spread.add(corridor, axes, &taken);
+        spread.add_segment(alloc, corridor, axes, number)?;
         let found = sides_spread(alloc, axes, &spread)?;
         if is_above(parameters, &found) {
             return Ok(found);

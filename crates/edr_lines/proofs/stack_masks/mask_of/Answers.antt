@@ -31,30 +31,21 @@ loop-number-init c =
     c.new-mask.ensures.items c.new-mask.ensures.len many c.in_ok-resize.ensures.items in
     no_bits c.args.corridor.now c.args.axes.now sides c.requires.sides c.resize.new.self.items mask
 
-pub set_times-requires-clause-rise : goal.set_times-requires-clause-rise
-set_times-requires-clause-rise c = sides_rise c.args.corridor.now c.args.axes.now c.args.sides.now c.requires.sides
+pub set_segment-requires-clause-mask : goal.set_segment-requires-clause-mask
+set_segment-requires-clause-mask c =
+    let corridor = c.args.corridor.now in let axes = c.args.axes.now in let sides = c.args.sides.now in
+    subst (λ (m : List Bool). HasBits (takes_first corridor axes c.loop-number.number) (record { sides = sides; mask = m })) (sym c.deref_mut.ensures.value) c.loop-number.invariant
 
-pub set_times-requires-clause-fit : goal.set_times-requires-clause-fit
-set_times-requires-clause-fit c =
-    let corridor = c.args.corridor.now in let axes = c.args.axes.now in let sides = c.args.sides.now in let box = c.in_ok-taken.taken in let k : ℕ = c.loop-number.number in
-    let read : GridAxes = record { ts = c.axes.inside.ts.now; zs = option_map (λ zs. zs.now) c.axes.inside.zs; ys = c.axes.inside.ys.now; xs = c.axes.inside.xs.now } in
-    let taken : TakesNodes corridor.segments k axes box =
-    subst (λ (a : GridAxes). TakesNodes corridor.segments k a box) c.axes.view_is (subst (λ (v : CorridorValue). TakesNodes v.segments k read box) c.corridor.view_is c.in_ok-taken.ensures.takes) in
-    let on : LiesOn axes box = subst (λ (a : GridAxes). LiesOn a box) c.axes.view_is c.in_ok-taken.ensures.on in
-    let count : c.len-number-end.result + 1 ≡ length corridor.segments.line = c.len-number-end.ensures ∙ ap (λ (v : CorridorValue). length v.segments.line) c.corridor.view_is in
-    let inside : k + 1 < length corridor.segments.line = omega (arith, count, c.loop-number-test.true) in
-    box_fits corridor axes sides c.requires.sides k box taken inside on
+pub set_segment-requires-clause-inside : goal.set_segment-requires-clause-inside
+set_segment-requires-clause-inside c =
+    let count : c.len-number-end.result + 1 ≡ length c.args.corridor.now.segments.line = c.len-number-end.ensures ∙ ap (λ (v : CorridorValue). length v.segments.line) c.corridor.view_is in
+    omega (arith, count, c.loop-number-test.true)
 
 pub loop-number-preserved : goal.loop-number-preserved
 loop-number-preserved c =
-    let corridor = c.args.corridor.now in let axes = c.args.axes.now in let sides = c.args.sides.now in let box = c.in_ok-taken.taken in let k : ℕ = c.loop-number.number in
-    let taken : TakesNodes corridor.segments k axes box =
-    subst (λ (a : GridAxes). TakesNodes corridor.segments k a box) c.axes.view_is
-    (subst (λ (v : CorridorValue). TakesNodes v.segments k (record { ts = c.axes.inside.ts.now; zs = option_map (λ zs. zs.now) c.axes.inside.zs; ys = c.axes.inside.ys.now; xs = c.axes.inside.xs.now }) box) c.corridor.view_is c.in_ok-taken.ensures.takes) in
-    let back = with_items_is c.loop-number.mask c.set_times.new.mask (c.set_times.ensures.full ∙ ap (λ (l : List Bool). length l) c.deref_mut.ensures.value ∙ sym c.loop-number.mask.ok.0) in
-    let set = subst (λ (old : List Bool). TimesSet sides (box_takes box) old c.set_times.new.mask) c.deref_mut.ensures.value c.set_times.ensures in
-    subst (λ (m : List Bool). HasBits (takes_first corridor axes (k + 1)) (record { sides = sides; mask = m })) (sym back)
-    (bits_more corridor axes sides c.requires.sides k box taken c.loop-number.mask.items c.set_times.new.mask c.loop-number.invariant set)
+    let corridor = c.args.corridor.now in let axes = c.args.axes.now in let sides = c.args.sides.now in let k : ℕ = c.loop-number.number in
+    let back = with_items_is c.loop-number.mask c.set_segment.new.mask (c.in_ok-set_segment.ensures.full ∙ ap (λ (l : List Bool). length l) c.deref_mut.ensures.value ∙ sym c.loop-number.mask.ok.0) in
+    subst (λ (m : List Bool). HasBits (takes_first corridor axes (k + 1)) (record { sides = sides; mask = m })) (sym back) c.in_ok-set_segment.ensures.mask
 
 pub returns : goal.returns
 returns c =

@@ -1,24 +1,10 @@
-use Rattle.std.proofs.Common.{◌≡◌, ◌<◌, ◌≤◌, ℕ, subst, arith}
-use Rattle.edr_lines.specs.Bits.{PlaneSet, RowFits}
-use Rattle.edr_lines.proofs.SetPlanes.{is_in_rows, no_rows_set, row_more}
+use Rattle.edr_lines.proofs.SetPlanes.{all_columns}
 use Rattle.edr_lines.proofs.stack_masks.set_rectangle.Goals as goal
 
-pub loop-row-init : goal.loop-row-init
-loop-row-init c = no_rows_set c.args.sides.now c.args.rectangle.now.columns c.args.rectangle.now.rows.0 c.args.plane.now
+pub set_rows-requires-clause-rows : goal.set_rows-requires-clause-rows
+set_rows-requires-clause-rows c = record { low = c.requires.fits.low; ordered = c.requires.fits.ordered; high = c.requires.fits.high }
 
-pub set_row-requires-clause-row : goal.set_row-requires-clause-row
-set_row-requires-clause-row c = record {
-  low = omega (arith, c.requires.fits.low, c.loop-row.auto.row);
-  high = omega (arith, c.requires.fits.high, c.loop-row-test.true);
-}
-
-pub loop-row-preserved : goal.loop-row-preserved
-loop-row-preserved c =
-    row_more c.args.sides.now c.args.rectangle.now.columns c.args.rectangle.now.rows.0 c.loop-row.row c.args.plane.now c.loop-row.plane c.set_row.new.plane c.loop-row.auto.row
-    c.loop-row.invariant c.set_row.ensures
-
-pub returns : goal.returns
-returns c =
-    let rectangle = c.args.rectangle.now in
-    let end : c.loop-row.row ≡ rectangle.rows.1 = omega (arith, c.requires.fits.ordered) in
-    subst (λ (k : ℕ). PlaneSet c.args.sides.now (is_in_rows rectangle.rows.0 k rectangle.columns) c.args.plane.now c.loop-row.plane) end c.loop-row.invariant
+pub returns-then-are_all : goal.returns-then-are_all
+returns-then-are_all c =
+    let all = c.are_all.ensures c.if-are_all.true in
+    all_columns c.args.sides.now c.args.rectangle.now c.args.plane.now c.set_rows.new.plane all.0 all.1 c.set_rows.ensures

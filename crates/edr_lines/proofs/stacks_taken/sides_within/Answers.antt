@@ -1,11 +1,9 @@
 use Rattle.std.proofs.Common.{◌≡◌, ◌∙◌, ◌+◌, ℕ, true, false, length, ap, subst, arith}
-use Rattle.std.specs.Prelude.{option_map}
-use Rattle.edr_corridor.specs.Boxes.{GridAxes, TakesNodes}
-use Rattle.edr_lines.specs.Taken.{counts_of, either}
+use Rattle.edr_lines.specs.Taken.{counts_of}
 use Rattle.edr_lines.specs.Corridors.{CorridorValue, takes, takes_first}
-use Rattle.edr_lines.specs.Boxes.{IsSpreadOf, box_passes}
+use Rattle.edr_lines.specs.Boxes.{IsSpreadOf}
 use Rattle.edr_lines.proofs.Tests.{spread_same}
-use Rattle.edr_lines.proofs.Firsts.{none_first, first_more, all_first}
+use Rattle.edr_lines.proofs.Firsts.{none_first, all_first}
 use Rattle.edr_lines.proofs.MoreSides.{nodes_where, whole_found, first_found, nothing_taken}
 use Rattle.edr_lines.proofs.stacks_taken.sides_within.Goals as goal
 
@@ -18,52 +16,25 @@ loop-number-init c =
     spread_same n (λ t z y x. false) (takes_first corridor axes 0) (none_first corridor axes) c.in_ok-spread.spread c.in_ok-spread.ensures
 
 pub sides_spread-requires-clause-spread : goal.sides_spread-requires-clause-spread
-sides_spread-requires-clause-spread c =
-    let corridor = c.args.corridor.now in let axes = c.args.axes.now in let n = counts_of axes in
-    let box = c.in_ok-taken.taken in let k : ℕ = c.loop-number.number in
-    let taken : TakesNodes corridor.segments k axes box =
-    subst (λ (a : GridAxes). TakesNodes corridor.segments k a box) c.axes.view_is
-    (subst (λ (v : CorridorValue). TakesNodes v.segments k (record { ts = c.axes.inside.ts.now; zs = option_map (λ zs. zs.now) c.axes.inside.zs; ys = c.axes.inside.ys.now; xs = c.axes.inside.xs.now }) box) c.corridor.view_is c.in_ok-taken.ensures.takes) in
-    let next : IsSpreadOf n (takes_first corridor axes (k + 1)) c.add.new.self =
-    spread_same n (either (takes_first corridor axes k) (box_passes corridor box)) (takes_first corridor axes (k + 1)) (first_more corridor axes k box taken) c.add.new.self
-    (c.add.ensures (takes_first corridor axes k) c.loop-number.invariant) in
-    (takes_first corridor axes (k + 1), next)
+sides_spread-requires-clause-spread c = (takes_first c.args.corridor.now c.args.axes.now (c.loop-number.number + 1), c.in_ok-add_segment.ensures)
 
 pub is_above-requires-clause-nodes : goal.is_above-requires-clause-nodes
 is_above-requires-clause-nodes c =
-    let corridor = c.args.corridor.now in let axes = c.args.axes.now in let n = counts_of axes in
-    let box = c.in_ok-taken.taken in let k : ℕ = c.loop-number.number in
-    let taken : TakesNodes corridor.segments k axes box =
-    subst (λ (a : GridAxes). TakesNodes corridor.segments k a box) c.axes.view_is
-    (subst (λ (v : CorridorValue). TakesNodes v.segments k (record { ts = c.axes.inside.ts.now; zs = option_map (λ zs. zs.now) c.axes.inside.zs; ys = c.axes.inside.ys.now; xs = c.axes.inside.xs.now }) box) c.corridor.view_is c.in_ok-taken.ensures.takes) in
-    let next : IsSpreadOf n (takes_first corridor axes (k + 1)) c.add.new.self =
-    spread_same n (either (takes_first corridor axes k) (box_passes corridor box)) (takes_first corridor axes (k + 1)) (first_more corridor axes k box taken) c.add.new.self
-    (c.add.ensures (takes_first corridor axes k) c.loop-number.invariant) in
-    nodes_where n (takes_first corridor axes (k + 1)) c.in_ok-found.found (c.in_ok-found.ensures (takes_first corridor axes (k + 1)) next)
+    let axes = c.args.axes.now in let first = takes_first c.args.corridor.now axes (c.loop-number.number + 1) in
+    nodes_where (counts_of axes) first c.in_ok-found.found (c.in_ok-found.ensures first c.in_ok-add_segment.ensures)
 
 pub returns-then-is_above : goal.returns-then-is_above
 returns-then-is_above c =
-    let corridor = c.args.corridor.now in let axes = c.args.axes.now in let n = counts_of axes in
-    let box = c.in_ok-taken.taken in let k : ℕ = c.loop-number.number in
-    let taken : TakesNodes corridor.segments k axes box =
-    subst (λ (a : GridAxes). TakesNodes corridor.segments k a box) c.axes.view_is
-    (subst (λ (v : CorridorValue). TakesNodes v.segments k (record { ts = c.axes.inside.ts.now; zs = option_map (λ zs. zs.now) c.axes.inside.zs; ys = c.axes.inside.ys.now; xs = c.axes.inside.xs.now }) box) c.corridor.view_is c.in_ok-taken.ensures.takes) in
-    let next : IsSpreadOf n (takes_first corridor axes (k + 1)) c.add.new.self =
-    spread_same n (either (takes_first corridor axes k) (box_passes corridor box)) (takes_first corridor axes (k + 1)) (first_more corridor axes k box taken) c.add.new.self
-    (c.add.ensures (takes_first corridor axes k) c.loop-number.invariant) in
-    first_found c.args.parameters.now corridor axes (k + 1) c.in_ok-found.found c.is_above.result (c.in_ok-found.ensures (takes_first corridor axes (k + 1)) next) c.is_above.ensures c.if-is_above.true
+    let corridor = c.args.corridor.now in let axes = c.args.axes.now in let k : ℕ = c.loop-number.number in
+    first_found c.args.parameters.now corridor axes (k + 1) c.in_ok-found.found c.is_above.result (c.in_ok-found.ensures (takes_first corridor axes (k + 1)) c.in_ok-add_segment.ensures) c.is_above.ensures c.if-is_above.true
+
+pub add_segment-requires-clause-inside : goal.add_segment-requires-clause-inside
+add_segment-requires-clause-inside c =
+    let count : c.len-number-end.result + 1 ≡ length c.args.corridor.now.segments.line = c.len-number-end.ensures ∙ ap (λ (v : CorridorValue). length v.segments.line) c.corridor.view_is in
+    omega (arith, count, c.loop-number-test.true)
 
 pub loop-number-preserved : goal.loop-number-preserved
-loop-number-preserved c =
-    let corridor = c.args.corridor.now in let axes = c.args.axes.now in let n = counts_of axes in
-    let box = c.in_ok-taken.taken in let k : ℕ = c.loop-number.number in
-    let taken : TakesNodes corridor.segments k axes box =
-    subst (λ (a : GridAxes). TakesNodes corridor.segments k a box) c.axes.view_is
-    (subst (λ (v : CorridorValue). TakesNodes v.segments k (record { ts = c.axes.inside.ts.now; zs = option_map (λ zs. zs.now) c.axes.inside.zs; ys = c.axes.inside.ys.now; xs = c.axes.inside.xs.now }) box) c.corridor.view_is c.in_ok-taken.ensures.takes) in
-    let next : IsSpreadOf n (takes_first corridor axes (k + 1)) c.add.new.self =
-    spread_same n (either (takes_first corridor axes k) (box_passes corridor box)) (takes_first corridor axes (k + 1)) (first_more corridor axes k box taken) c.add.new.self
-    (c.add.ensures (takes_first corridor axes k) c.loop-number.invariant) in
-    next
+loop-number-preserved c = c.in_ok-add_segment.ensures
 
 pub returns : goal.returns
 returns c =
