@@ -10,3 +10,4 @@ pub mod Products
 pub mod SpanLemmas
 pub mod StripLemmas
 pub mod StripNumbers
+pub mod Aside

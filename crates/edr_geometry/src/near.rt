@@ -1,5 +1,5 @@
 //! Places near a segment, in whole numbers.
-ghost use Rattle.std.specs.Prelude.{◌≡◌, ◌*ℤ◌, int_le, pos};
+ghost use Rattle.std.specs.Prelude.{◌≡◌, true, false, ◌*ℤ◌, int_le, pos};
 ghost use Rattle.edr_geometry.specs.Limits.{IsSpot};
 ghost use Rattle.edr_base.specs.Limits.{IsMetres};
 ghost use Rattle.edr_geometry.specs.Ways.{IsSegment};
@@ -97,8 +97,19 @@ impl Segment {
         self.squared_length() <= self.along(p) as i128
     }
 
-    /// Whether a place is at most half the width from the segment.
-    pub fn is_near(&self, p: &Spot) -> bool
+    // Whether a place is so far aside of the line through the segment that it can't be near, by a test in small numbers.
+    fn is_aside(&self, p: &Spot) -> bool
+        requires segment { IsSegment self.now }
+        requires p_in { IsSpot p.now }
+        ensures { result ≡ true → plane.near_segment p.now self.now.a self.now.b self.now.width ≡ false }
+    {
+        let way = Way::of(&self.a, &self.b);
+        let sides = way.x.unsigned_abs() + way.y.unsigned_abs();
+        self.width.unsigned_abs() * sides < 2 * self.cross(p).unsigned_abs()
+    }
+
+    // Whether a place is at most half the width from the segment, by its distance.
+    fn is_close(&self, p: &Spot) -> bool
         requires segment { IsSegment self.now }
         requires p_in { IsSpot p.now }
         ensures { result ≡ plane.near_segment p.now self.now.a self.now.b self.now.width }
@@ -111,6 +122,15 @@ impl Segment {
         } else {
             self.is_near_line(p)
         }
+    }
+
+    /// Whether a place is at most half the width from the segment.
+    pub fn is_near(&self, p: &Spot) -> bool
+        requires segment { IsSegment self.now }
+        requires p_in { IsSpot p.now }
+        ensures { result ≡ plane.near_segment p.now self.now.a self.now.b self.now.width }
+    {
+        !self.is_aside(p) && self.is_close(p)
     }
 }
 
