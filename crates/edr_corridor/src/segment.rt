@@ -154,13 +154,40 @@ impl Segment {
         Band::about(self.start.x, self.end.x, self.rule.width)
     }
 
-    /// Whether no place of some y and x is near it, as all y, or all x, are more than half the width away.
-    pub fn misses(&self, ys: &Axis, xs: &Axis) -> bool
+    // Whether some y and x have only one place, and that isn't near it.
+    fn misses_one(&self, ys: &Axis, xs: &Axis) -> bool
+        requires segment { IsSegment self.now }
+        requires ys_in { All IsCoordinate ys.now }
+        requires xs_in { All IsCoordinate xs.now }
+        ensures { result ≡ true → HasNone self.now ys.now xs.now }
+    {
+        if ys.len() != 1 || xs.len() != 1 {
+            return false;
+        }
+        let spot = Spot {
+            x: xs.value(0),
+            y: ys.value(0),
+        };
+        !self.takes_spot(spot)
+    }
+
+    // Whether all of some y, or all x, are more than half the width away.
+    fn is_outside(&self, ys: &Axis, xs: &Axis) -> bool
         requires segment { IsSegment self.now }
         requires ys_in { All IsCoordinate ys.now }
         requires xs_in { All IsCoordinate xs.now }
         ensures { result ≡ true → HasNone self.now ys.now xs.now }
     {
         self.columns().misses(xs) || self.rows().misses(ys)
+    }
+
+    /// Whether no place of some y and x is near it, as all y, or all x, are more than half the width away, or the only place is far.
+    pub fn misses(&self, ys: &Axis, xs: &Axis) -> bool
+        requires segment { IsSegment self.now }
+        requires ys_in { All IsCoordinate ys.now }
+        requires xs_in { All IsCoordinate xs.now }
+        ensures { result ≡ true → HasNone self.now ys.now xs.now }
+    {
+        self.is_outside(ys, xs) || self.misses_one(ys, xs)
     }
 }

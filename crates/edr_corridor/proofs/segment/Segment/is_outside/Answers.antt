@@ -3,7 +3,7 @@ use Rattle.edr_axes.specs.Axes.{value_at}
 use Rattle.edr_geometry.specs.Masks.{spot_at}
 use Rattle.edr_geometry.specs.Planar.{spot_of}
 use Rattle.edr_corridor.proofs.Near.{far_row, far_column}
-use Rattle.edr_corridor.proofs.segment.Segment.misses.Goals as goal
+use Rattle.edr_corridor.proofs.segment.Segment.is_outside.Goals as goal
 
 pub returns-then-misses : goal.returns-then-misses
 returns-then-misses c = λ missed y x y_in x_in.
