@@ -7,12 +7,12 @@ use Rattle.edr_edition.specs.Values.{EditionValue}
 use Rattle.edr_feed.specs.Feeds.{FeedStandsIn, LeavesBehindIn}
 use Rattle.edrd.specs.Ends.{Moment, GateState, DoorsState, AreServed, served_of, HasCause, EndsBy, AsksFeed, ReadsFeed}
 use Rattle.edrd.specs.Feeding.{IsCause}
-use Rattle.edrd.specs.Saying.{serving_lines, bind_line}
-use Rattle.edrd.specs.Settled.{TakesMemory}
+use Rattle.edr_console.specs.Saying.{serving_lines, bind_line}
+use Rattle.edr_console.specs.Settled.{TakesMemory}
 use Rattle.edrd.specs.Shelving.{ServeCause, fault_lines}
-use Rattle.edrd.specs.declared.words.Settings.{Settings}
-use Rattle.edrd.specs.declared.words.Asked.{Asked}
-use Rattle.edrd.specs.declared.words.Asked.TheVariants.{Nothing, Help, Version, Serve}
+use Rattle.edr_console.specs.declared.words.Settings.{Settings}
+use Rattle.edr_console.specs.declared.words.Asked.{Asked}
+use Rattle.edr_console.specs.declared.words.Asked.TheVariants.{Nothing, Help, Version, Serve}
 use Rattle.edrd.specs.declared.endings.Ending.{Ending}
 use Rattle.edrd.specs.declared.endings.Ending.TheVariants.{Done, Usage, NotFeed, ReadFault, OutOfMemory, OpenFault, BindFault, ShelfFault}
 

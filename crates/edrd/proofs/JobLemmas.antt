@@ -7,7 +7,7 @@ use Rattle.std.proofs.lemmas.List.Sums.{sum_by-cons}
 use Rattle.edr_base.specs.Outside.{Rose}
 use Rattle.edr_edition.specs.Values.{EditionValue}
 use Rattle.edr_edition.specs.Shelves.{AreNumberedFrom, IsNext}
-use Rattle.edrd.specs.Limits.{worker_limit, accept_limit}
+use Rattle.edr_console.specs.Limits.{worker_limit, accept_limit}
 use Rattle.edrd.specs.declared.jobs.Serving.{Serving}
 use Rattle.edrd.specs.Serving.{Continues, HasEnded, is_left}
 use Rattle.edrd.specs.Jobs.{HasServed, acceptor_of, sessions_of, faults_of, has_failed}

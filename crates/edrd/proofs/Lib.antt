@@ -1,4 +1,3 @@
-pub mod WordLemmas
 pub mod JobLemmas
 pub mod RunLemmas
 pub mod EndLemmas

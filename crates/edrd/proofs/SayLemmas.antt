@@ -1,22 +1,16 @@
 -- Lines that are said one after another.
-use Rattle.std.proofs.Common.{◌≡◌, ◌==◌, ◌∙◌, ◌⊎◌, ◌+◌, ℕ, suc, true, false, List, [], ◌∷◌, ◌++◌, length, take, drop, map, codes, refl, sym, ap, subst, inl, inr, arith}
+use Rattle.std.proofs.Common.{◌≡◌, ◌∙◌, ◌⊎◌, ◌+◌, ℕ, suc, true, false, List, [], ◌∷◌, ◌++◌, length, take, drop, map, codes, refl, sym, ap, subst, inl, inr, arith}
 use Rattle.std.specs.Prelude.{min, Some}
 use Rattle.std.proofs.lemmas.List.{map-append}
 use Rattle.edr_base.specs.Limits.{count_limit}
 use Rattle.edr_edition.specs.Values.{EditionValue}
 use Rattle.edrd.specs.Ends.{AreServed, DoorsState, GateState, doors_asked}
-use Rattle.edrd.specs.Saying.{OutputState, Says, SaysAll, number_line, edition_line, count_line, behind_line, behind_lines, serving_lines}
+use Rattle.edr_console.specs.SayingLaws.{says_more, says_next}
+use Rattle.edr_console.specs.Saying.{OutputState, Says, SaysAll, number_line, edition_line, count_line, behind_lines, serving_lines}
 use Rattle.edrd.specs.Serving.{Continues}
 use Rattle.edrd.specs.Shelving.{IsFirst}
-use Rattle.edrd.specs.declared.words.Settings.{Settings}
+use Rattle.edr_console.specs.declared.words.Settings.{Settings}
 use Rattle.edrd.proofs.JobLemmas.{split_at}
-
-pub says_more : (lines more : List (List ℕ)) (a b c : OutputState) → SaysAll lines a b → SaysAll more b c → SaysAll (lines ++ more) a c
-says_more [] more a b c first then = subst (λ (s : OutputState). SaysAll more s c) first then
-says_more (line ∷ lines) more a b c first then = (first.0, first.1, says_more lines more first.0 b c first.2 then)
-
-says_next : (lines : List (List ℕ)) (line : List ℕ) (a b c : OutputState) → SaysAll lines a b → Says line b c → SaysAll (lines ++ line ∷ []) a c
-says_next lines line a b c all one = says_more lines (line ∷ []) a b c all (c, one, refl)
 
 -- one more edition is said
 pub said_on : (all old : List EditionValue) (k number : ℕ) (e : EditionValue) (a b c : OutputState) → e ∷ old ≡ drop k all → number ≡ e.number
@@ -88,14 +82,3 @@ last_continues last = record { number = last.number; ends = record { last = last
 pub said_counts : (served served' faulted faulted' : ℕ) (a b : OutputState) → served' ≡ served → faulted' ≡ faulted → Says (count_line served faulted) a b
     → Says (count_line served' faulted') a b
 said_counts served served' faulted faulted' a b p q says = rw (p, q) says
-
--- ---- one line
-
-pub says_alone : (line : List ℕ) (lines : List (List ℕ)) (a b : OutputState) → lines ≡ line ∷ [] → Says line a b → SaysAll lines a b
-says_alone line lines a b is one = subst (λ (l : List (List ℕ)). SaysAll l a b) (sym is) (b, one, refl)
-
-pub behind_some : (behind : ℕ) → (behind == 0) ≡ false → behind_lines behind ≡ behind_line behind ∷ []
-behind_some behind some = rw some refl
-
-pub behind_none : (behind : ℕ) → (behind == 0) ≡ true → behind_lines behind ≡ []
-behind_none behind none = rw none refl

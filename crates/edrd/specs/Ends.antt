@@ -9,12 +9,12 @@ use Rattle.edr_feed.specs.Feeds.{FeedStandsIn, LeavesBehindIn}
 use Rattle.edr_program.specs.FileReads.{IsFileRead}
 use Rattle.edr_program.specs.Lines.{feed_said, Tells}
 use Rattle.edr_program.specs.Versions.{version_line}
-use Rattle.edrd.specs.Helps.{usage, help}
-use Rattle.edrd.specs.Saying.{OutputState, SaysAll, serving_lines, open_line, bind_line, count_line}
+use Rattle.edr_console.specs.Helps.{usage, help}
+use Rattle.edr_console.specs.Saying.{OutputState, SaysAll, serving_lines, open_line, bind_line, count_line}
 use Rattle.edrd.specs.declared.doors.DoorsAsked.{DoorsAsked}
-use Rattle.edrd.specs.declared.words.Settings.{Settings}
-use Rattle.edrd.specs.declared.words.Asked.{Asked}
-use Rattle.edrd.specs.declared.words.Asked.TheVariants.{Nothing, Help, Version, Serve}
+use Rattle.edr_console.specs.declared.words.Settings.{Settings}
+use Rattle.edr_console.specs.declared.words.Asked.{Asked}
+use Rattle.edr_console.specs.declared.words.Asked.TheVariants.{Nothing, Help, Version, Serve}
 use Rattle.edrd.specs.declared.endings.Ending.{Ending}
 use Rattle.edrd.specs.declared.endings.Ending.TheVariants.{Done, Usage, NotFeed, ReadFault, OutOfMemory, OpenFault, BindFault, ShelfFault}
 

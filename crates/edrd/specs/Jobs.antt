@@ -1,7 +1,7 @@
 -- What the jobs do that serve, and what they count; for private clauses.
 use Rattle.std.specs.Prelude.{◌≡◌, ℕ, ◌+◌, ◌≤◌, Bool, true, not}
 use Rattle.edr_base.specs.Outside.{Rose}
-use Rattle.edrd.specs.Limits.{accept_limit}
+use Rattle.edr_console.specs.Limits.{accept_limit}
 use Rattle.edrd.specs.declared.jobs.Serving.{Serving}
 
 -- a job served until no more connections came, or an accept failed, and counted what it did

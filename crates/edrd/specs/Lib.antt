@@ -1,12 +1,7 @@
-pub mod Limits
 pub mod Doors
 pub mod Serving
 pub mod Jobs
 pub mod Closing
-pub mod Words
-pub mod Helps
-pub mod Saying
 pub mod Ends
 pub mod Shelving
 pub mod Feeding
-pub mod Settled

@@ -3,11 +3,11 @@ use Rattle.std.specs.Prelude.{◌≡◌, ◌⊎◌, ℕ, List, [], ◌∷◌, ta
 use Rattle.std.specs.declared.option.Option.{Option}
 use Rattle.edr_base.specs.Outside.{Rose}
 use Rattle.edr_edition.specs.Values.{EditionValue}
-use Rattle.edrd.specs.declared.words.Settings.{Settings}
+use Rattle.edr_console.specs.declared.words.Settings.{Settings}
 use Rattle.edrd.specs.declared.endings.Ending.{Ending}
 use Rattle.edrd.specs.declared.endings.Ending.TheVariants.{Done, OutOfMemory, OpenFault, BindFault, ShelfFault}
 use Rattle.edrd.specs.Ends.{AreServed, DoorsState, GateState, doors_asked}
-use Rattle.edrd.specs.Saying.{serving_lines, open_line, bind_line}
+use Rattle.edr_console.specs.Saying.{serving_lines, open_line, bind_line}
 
 -- a log is of one edition, which has this number
 abbrev pub IsFirst : ℕ → List EditionValue → Type 0

@@ -2,7 +2,7 @@
 ghost use Rattle.std.specs.Prelude.{◌≡◌, ◌≤◌, ◌<◌, ◌+◌, ℕ, Bool, true, false, cond, is_err, OnErr, MatchResult, MatchOption};
 ghost use Rattle.edr_base.specs.Outside.{Rose};
 ghost use Rattle.edr_serve.specs.Connections.{outcome_of};
-ghost use Rattle.edrd.specs.Limits.{accept_limit};
+ghost use Rattle.edr_console.specs.Limits.{accept_limit};
 
 use edr_base::{Failed, Faults, Sink, Source};
 use edr_serve::{Connection, Served};

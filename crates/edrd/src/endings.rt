@@ -5,12 +5,9 @@ ghost use Rattle.edr_program.specs.Lines.{place_of, Tells};
 ghost use Rattle.edrd.specs.Ends.{status_of, said_of, line_of};
 
 use edr_base::Sink;
+use edr_console::USAGE;
 use edr_feed::FeedRefusal;
 use edr_program::{said_of_feed, tell_line};
-
-/// The usage line.
-pub const USAGE: &[u8] =
-    b"usage: edrd FEED --port P [--workers W] [--every S] [--connections C] [--idle I] [--requests R] [--last]";
 
 /// How a run ends, by its cause.
 #[derive(Clone, Copy, Debug, PartialEq, Eq)]

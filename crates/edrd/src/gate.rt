@@ -1,6 +1,6 @@
 //! What says when the next edition is to be published.
 ghost use Rattle.std.specs.Prelude.{◌≡◌, ◌≤◌, ◌+◌, ℕ, Bool, true, false, cond, not};
-ghost use Rattle.edrd.specs.Limits.{grant_limit};
+ghost use Rattle.edr_console.specs.Limits.{grant_limit};
 
 /// What says when the next edition is to be published.
 pub trait Gate {

@@ -9,7 +9,6 @@ mod endings;
 mod feeding;
 mod gate;
 mod jobs;
-mod limits;
 mod parting;
 mod patience;
 mod publishing;
@@ -17,9 +16,7 @@ mod real_door;
 mod real_doors;
 mod real_gate;
 mod running;
-mod saying;
 mod serving;
-mod words;
 mod working;
 
 use edr_base::{RealFiles, RealSink};

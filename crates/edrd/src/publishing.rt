@@ -3,11 +3,11 @@ ghost use Rattle.std.specs.Prelude.{◌≡◌, ◌⊎◌, ◌+◌, ◌++◌, len
 ghost use Rattle.std.specs.Vec.Iter.{into_iter_items, into_iter_len};
 ghost use Rattle.edr_base.specs.Calls.{SinkLent};
 ghost use Rattle.edrd.specs.Serving.{Continues};
-ghost use Rattle.edrd.specs.Saying.{edition_line, output_state, SaysAll};
+ghost use Rattle.edr_console.specs.Saying.{edition_line, output_state, SaysAll};
 
 use crate::gate::Gate;
-use crate::saying::say_number;
 use edr_base::Sink;
+use edr_console::say_number;
 use edr_edition::Edition;
 use edr_share::Publisher;
 use std::alloc::Global;

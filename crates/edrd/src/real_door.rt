@@ -1,7 +1,7 @@
 //! A door over a socket that listens.
 ghost use Rattle.std.specs.Prelude.{◌≡◌, ◌≤◌, ◌<◌, ◌+◌, true, false, cond, is_err};
 ghost use Rattle.edr_serve.specs.Connections.{outcome_of};
-ghost use Rattle.edrd.specs.Limits.{accept_limit};
+ghost use Rattle.edr_console.specs.Limits.{accept_limit};
 ghost use Rattle.edr_base.specs.Limits.{count_limit};
 
 use crate::accept::Accept;

@@ -6,9 +6,9 @@ ghost use Rattle.edrd.specs.Doors.{IsNew};
 
 use crate::accept::Accept;
 use crate::doors::{Doors, DoorsAsked};
-use crate::limits::{ACCEPT_LIMIT, ENDLESS};
 use crate::real_door::RealDoor;
 use edr_base::{Faults, Stop};
+use edr_console::{ACCEPT_LIMIT, ENDLESS};
 use std::alloc::Global;
 use std::io;
 use std::io::ErrorKind;

@@ -1,9 +1,9 @@
 //! A gate by the clock.
 ghost use Rattle.std.specs.Prelude.{◌≡◌, ◌≤◌, false};
-ghost use Rattle.edrd.specs.Limits.{grant_limit};
+ghost use Rattle.edr_console.specs.Limits.{grant_limit};
 
 use crate::gate::Gate;
-use crate::limits::GRANT_LIMIT;
+use edr_console::GRANT_LIMIT;
 use std::rt::Clock;
 use std::thread;
 use std::time::Duration;

@@ -4,14 +4,14 @@ ghost use Rattle.edr_base.specs.Calls.{SinkLent};
 ghost use Rattle.edr_base.specs.Limits.{count_limit};
 ghost use Rattle.edr_edition.specs.Shelves.{IsLog};
 ghost use Rattle.edr_serve.specs.Requests.{request_limit};
-ghost use Rattle.edrd.specs.Limits.{worker_limit};
-ghost use Rattle.edrd.specs.Words as spelled;
+ghost use Rattle.edr_console.specs.Limits.{worker_limit};
+ghost use Rattle.edr_console.specs.Words as spelled;
 ghost use Rattle.edrd.specs.Closing.{MayClose};
 ghost use Rattle.edrd.specs.Ends.{Ends, EndsBy, HasCause, GateComesBack, LeavesDoors, LeavesPlaces, AsksFeed, ReadsFeed, served_of, status_of};
-ghost use Rattle.edrd.specs.Saying.{count_line, output_state, Says, SaysAll};
+ghost use Rattle.edr_console.specs.Saying.{count_line, output_state, Says, SaysAll};
 ghost use Rattle.edrd.specs.Serving.{Continues};
 ghost use Rattle.edrd.specs.Shelving.{IsFirst, ServeCause, fault_lines};
-ghost use Rattle.edrd.specs.declared.words.Asked.TheVariants.{Serve as ToServe};
+ghost use Rattle.edr_console.specs.declared.words.Asked.TheVariants.{Serve as ToServe};
 
 use crate::accept::Accept;
 use crate::choosing::begin_with;
@@ -19,10 +19,11 @@ use crate::doors::{Doors, DoorsAsked};
 use crate::endings::{Ending, tell};
 use crate::feeding::feed_in;
 use crate::gate::Gate;
-use crate::saying::{say_behind, say_counts, say_help, say_named, say_number, say_version};
 use crate::serving::{ServeReport, serve_connections};
-use crate::words::{Asked, Settings, asked_by};
 use edr_base::{Faults, Files, OutOfMemory, Sink, Stop, Text};
+use edr_console::{
+    Asked, Settings, asked_by, say_behind, say_counts, say_help, say_named, say_number, say_version,
+};
 use edr_edition::Edition;
 use edr_feed::Feed;
 use edr_share::{Places, Publisher, SharedShelf, open_shelf};

@@ -3,8 +3,8 @@ ghost use Rattle.std.specs.Prelude.{◌≡◌, ◌⊎◌, ◌≤◌, ◌<◌, �
 ghost use Rattle.std.specs.Vec.Iter.{into_iter_items, into_iter_len};
 ghost use Rattle.edr_base.specs.Calls.{SinkLent};
 ghost use Rattle.edr_serve.specs.Requests.{request_limit};
-ghost use Rattle.edrd.specs.Limits.{worker_limit, accept_limit};
-ghost use Rattle.edrd.specs.Saying.{edition_line, output_state, SaysAll};
+ghost use Rattle.edr_console.specs.Limits.{worker_limit, accept_limit};
+ghost use Rattle.edr_console.specs.Saying.{edition_line, output_state, SaysAll};
 ghost use Rattle.edrd.specs.Serving.{Continues, HasEnded, is_left};
 ghost use Rattle.edrd.specs.Jobs.{HasServed, acceptor_of, sessions_of, faults_of, has_failed};
 ghost use Rattle.edrd.specs.declared.jobs.Serving.{Serving};

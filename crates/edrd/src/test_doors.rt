@@ -4,14 +4,14 @@ ghost use Rattle.edr_base.specs.Calls.{Cause};
 ghost use Rattle.edr_base.specs.Outside.{Rose};
 ghost use Rattle.edr_base.specs.Limits.{count_limit};
 ghost use Rattle.edr_serve.specs.Connections.{outcome_of};
-ghost use Rattle.edrd.specs.Limits.{accept_limit};
+ghost use Rattle.edr_console.specs.Limits.{accept_limit};
 ghost use Rattle.edrd.specs.Doors.{IsNew};
 
 use crate::accept::Accept;
 use crate::doors::{Doors, DoorsAsked};
-use crate::limits::ENDLESS;
 use crate::test_sink::HoldingSink;
 use edr_base::{Failed, Faults, MemorySource, OutOfMemory, Stop};
+use edr_console::ENDLESS;
 use edr_serve::{Connection, Served};
 use std::alloc::Global;
 use std::vec::IntoIter;

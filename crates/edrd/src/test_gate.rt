@@ -1,6 +1,6 @@
 //! A gate in memory.
 ghost use Rattle.std.specs.Prelude.{◌≡◌, ◌≤◌, false};
-ghost use Rattle.edrd.specs.Limits.{grant_limit};
+ghost use Rattle.edr_console.specs.Limits.{grant_limit};
 
 use crate::gate::Gate;
 

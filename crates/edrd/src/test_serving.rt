@@ -1,7 +1,7 @@
 //! Serving from the editions of a feed.
 ghost use Rattle.std.specs.Prelude.{◌≡◌, ◌≤◌, vec_len, All, IfOk, false};
 ghost use Rattle.edr_edition.specs.Shelves.{IsLog};
-ghost use Rattle.edrd.specs.Limits.{worker_limit};
+ghost use Rattle.edr_console.specs.Limits.{worker_limit};
 
 use crate::accept::Accept;
 use crate::choosing::begin_with;

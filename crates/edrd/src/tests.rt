@@ -1,13 +1,13 @@
 //! What serving through doors comes to.
 
 use crate::doors::{Doors, DoorsAsked};
-use crate::limits::{ENDLESS, WORKER_LIMIT};
 use crate::test_coming::{CONFORMANCE, Wanted, doors_of, replies};
 use crate::test_doors::MemoryDoors;
 use crate::test_gate::TurnsGate;
 use crate::test_serving::{Outcome, serve_feed};
 use crate::test_texts::three_grids;
 use edr_base::OutOfMemory;
+use edr_console::{ENDLESS, WORKER_LIMIT};
 use std::alloc::Global;
 use std::rt::HostRuntime;
 use std::sync::Wait;

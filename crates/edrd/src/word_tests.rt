@@ -1,7 +1,7 @@
 //! What the words ask for.
 
-use crate::words::{Asked, Settings, asked_by};
 use edr_base::{OutOfMemory, Text};
+use edr_console::{Asked, Settings, asked_by};
 use std::alloc::{AllocError, Global};
 use std::rt::HostRuntime;
 

@@ -3,7 +3,7 @@ use Rattle.std.specs.Prelude.{option_to_list}
 use Rattle.std.specs.Vec.Iter.{into_iter_items, into_iter_len}
 use Rattle.edr_base.specs.Calls.{SinkLent}
 use Rattle.edrd.specs.Serving.{Continues}
-use Rattle.edrd.specs.Saying.{edition_line, output_state, SaysAll}
+use Rattle.edr_console.specs.Saying.{edition_line, output_state, SaysAll}
 use Rattle.edrd.proofs.publishing.publish_all.Given as goal
 
 abbrev pub invariant-editions : goal.invariant-editions

@@ -1,11 +1,11 @@
 use Rattle.std.proofs.Common.{◌∙◌, [], ◌∷◌, ◌++◌, refl, sym, inl, codes}
 use Rattle.edr_program.specs.Versions.{version_line}
-use Rattle.edrd.specs.Helps.{help}
+use Rattle.edr_console.specs.Helps.{help}
 use Rattle.edrd.specs.Shelving.{fault_lines}
-use Rattle.edrd.specs.declared.words.Asked.TheVariants.{Nothing, Help, Version, Serve}
+use Rattle.edr_console.specs.declared.words.Asked.TheVariants.{Nothing, Help, Version, Serve}
+use Rattle.edr_console.specs.SayingLaws.{says_alone, says_more}
 use Rattle.edrd.specs.declared.endings.Ending.TheVariants.{Done, Usage}
 use Rattle.edrd.proofs.EndLemmas.{memory_ends, memory_asks, memory_reads, asked_is}
-use Rattle.edrd.proofs.SayLemmas.{says_alone, says_more}
 use Rattle.edrd.proofs.running.carry_out.Goals as goal
 
 pub returns-in-Err-clause-cause : goal.returns-in-Err-clause-cause

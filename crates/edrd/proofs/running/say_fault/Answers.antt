@@ -1,7 +1,7 @@
 use Rattle.std.proofs.Common.{◌∙◌, [], ◌∷◌, sym, ap, rules}
-use Rattle.edrd.specs.Saying.{open_line, bind_line}
+use Rattle.edr_console.specs.Saying.{open_line, bind_line}
+use Rattle.edr_console.specs.SayingLaws.{says_alone}
 use Rattle.edrd.specs.Shelving.{fault_lines}
-use Rattle.edrd.proofs.SayLemmas.{says_alone}
 use Rattle.edrd.proofs.running.say_fault.Goals as goal
 
 pub returns-in-OpenFault-clause-lines : goal.returns-in-OpenFault-clause-lines

@@ -1,7 +1,7 @@
 use Rattle.std.proofs.Common.{◌≡◌, ◌≤◌, ◌+◌, ◌++◌, length, map}
 use Rattle.std.specs.Prelude.{sum_by, count_by}
 use Rattle.std.specs.Vec.Iter.{into_iter_items, into_iter_len}
-use Rattle.edrd.specs.Limits.{worker_limit}
+use Rattle.edr_console.specs.Limits.{worker_limit}
 use Rattle.edrd.specs.Jobs.{acceptor_of, sessions_of, faults_of, has_failed}
 use Rattle.edrd.proofs.serving.gather.Given as goal
 

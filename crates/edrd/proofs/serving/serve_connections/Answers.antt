@@ -1,5 +1,5 @@
 use Rattle.std.proofs.Common.{◌≤◌, ◌<◌, length, rules}
-use Rattle.edrd.specs.Limits.{worker_limit}
+use Rattle.edr_console.specs.Limits.{worker_limit}
 use Rattle.edrd.specs.Jobs.{sessions_of, faults_of}
 use Rattle.edrd.proofs.JobLemmas.{few_jobs, few_sessions, few_faults, ended_all, sums_all, left_all}
 use Rattle.edrd.proofs.serving.serve_connections.Goals as goal

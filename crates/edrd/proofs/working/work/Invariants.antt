@@ -1,5 +1,5 @@
 use Rattle.std.proofs.Common.{◌≡◌, ◌≤◌, ◌+◌, false}
-use Rattle.edrd.specs.Limits.{accept_limit}
+use Rattle.edr_console.specs.Limits.{accept_limit}
 use Rattle.edrd.proofs.working.work.Given as goal
 
 abbrev pub invariant-connections : goal.invariant-connections

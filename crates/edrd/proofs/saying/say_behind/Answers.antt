@@ -1,9 +1,0 @@
-use Rattle.std.proofs.Common.{rules, refl}
-use Rattle.edrd.proofs.SayLemmas.{says_alone, behind_some, behind_none}
-use Rattle.edrd.proofs.saying.say_behind.Goals as goal
-
-pub returns-then-behind-eq0-clause-lines : goal.returns-then-behind-eq0-clause-lines
-returns-then-behind-eq0-clause-lines g c = rw (behind_none c.args.behind (search rules)) refl
-
-pub returns-clause-lines : goal.returns-clause-lines
-returns-clause-lines g c = says_alone _ _ _ _ (behind_some c.args.behind (search rules)) (search rules)
