@@ -18,8 +18,8 @@ use Rattle.edr_serve.specs.declared.answering.AnswerFault.{AnswerFault}
 use Rattle.edr_serve.specs.declared.answering.AnswerFault.TheVariants.{Refused, WriteFault, OutOfMemory}
 use Rattle.edr_serve.specs.Answers.{Answers}
 use Rattle.edr_serve.specs.Faults.{of_sending}
-use Rattle.edr_csv.specs.Tables.{table_text}
-use Rattle.edr_csv.specs.Rows.{document_records}
+use Rattle.edr_csv.specs.Tables.{IsTable, table_text}
+use Rattle.edr_csv.specs.Rows.{document_records, WrittenValuesAreRead}
 use Rattle.edr_export.specs.Documents.{IsDocumentOf}
 use Rattle.edr_export.specs.Exports.{IsTableOf}
 
@@ -61,12 +61,13 @@ held edition query plan d planned e = record {
 }
 
 -- its table is that of the query
-pub table_is : (edition : EditionValue) (query : QueryValue) (d : Document) → IsDocumentOf edition query d → IsTableOf edition query (table_text (document_records d))
-table_is edition query d h = record {
+pub table_is : WrittenValuesAreRead → (edition : EditionValue) (query : QueryValue) (d : Document) → IsDocumentOf edition query d → IsTableOf edition query (table_text (document_records d))
+table_is written edition query d h = record {
   none = h.none;
   subject = h.subject;
   named = h.named;
   text_is = ap (λ (e : Document). table_text (document_records e)) h.held_is;
+  reads_back = subst (λ (e : Document). IsTable (table_text (document_records d)) (document_records e)) h.held_is (written d);
 }
 
 -- a beginning of a text was written, and a fault of the sink is answered

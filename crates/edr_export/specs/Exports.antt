@@ -10,15 +10,17 @@ use Rattle.edr_query.specs.declared.pages.Page.{Page}
 use Rattle.edr_query.specs.declared.pages.Page.TheVariants.{Ask}
 use Rattle.edr_select.specs.Refusals.{IsFirstRefusal}
 use Rattle.edr_select.specs.Documents.{document}
-use Rattle.edr_csv.specs.Tables.{table_text}
+use Rattle.edr_csv.specs.Tables.{IsTable, table_text}
 use Rattle.edr_csv.specs.Rows.{document_records}
 
--- no refusal applies to the query, and the text is the table of its document
+-- no refusal applies to the query, and the text is the table of its document, in which `csv` reads the header and exactly the
+-- values that aren't missing
 pub record IsTableOf (edition : EditionValue) (query : QueryValue) (text : List ℕ) : Type 0 where
   pub none : IsFirstRefusal edition (Ask query) None
   pub subject : Subject
   pub named : subject_of edition query.collection query.instance ≡ Some subject
   pub text_is : text ≡ table_text (document_records (document subject query))
+  pub reads_back : IsTable text (document_records (document subject query))
 
 abbrev pub IsQueryTable : EditionValue → QueryValue → Result (List ℕ) Refusal → Type 0
 IsQueryTable edition query (Ok text) = IsTableOf edition query text

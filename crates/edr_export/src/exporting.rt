@@ -8,7 +8,7 @@ ghost use Rattle.edr_export.specs.Exports.{IsTableFor, IsTableTo};
 
 use crate::documents::document_of;
 use edr_base::{Refusal, Sink};
-use edr_csv::write_rows;
+use edr_csv::{write_rows, written_values_are_read};
 use edr_edition::Edition;
 use edr_query::{Page, Query, read_target};
 use edr_serve::AnswerFault;
@@ -26,6 +26,7 @@ fn export_query<K: Sink>(
     ensures cause { IsErrOf result AnswerFault.WriteFault → Rose (K.faults sink.old) (K.faults sink.new) }
 {
     let document = document_of(alloc, query, edition)?;
+    written_values_are_read();
     Ok(write_rows(alloc, &document, sink)?)
 }
 
