@@ -1,3 +1,4 @@
 mod PairLemmas
 mod EntryLemmas
 mod UseLemmas
+mod Walks

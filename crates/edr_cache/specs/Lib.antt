@@ -3,3 +3,6 @@ pub mod Pairs
 pub mod PairLaws
 pub mod Entries
 pub mod Lending
+pub mod Gathering
+pub mod GatheringLaws
+pub mod Gatherings

@@ -61,6 +61,16 @@ impl Kept {
         }
     }
 
+    /// How many bodies it may keep.
+    pub fn capacity(&self) -> usize
+        ensures { result ≡ self.now.capacity }
+    {
+        match &self.cache {
+            None => 0,
+            Some(cache) => cache.cap().get(),
+        }
+    }
+
     /// How many bodies it keeps.
     pub fn len(&self) -> usize
         ensures len { result ≡ length self.now.pairs }
@@ -81,8 +91,8 @@ impl Kept {
         self.peek(target)
     }
 
-    // Brings the pair of a target to the front.
-    fn promote(&mut self, target: &[u8])
+    /// Makes the pair of a target the first, where there is one. It takes no memory.
+    pub fn promote(&mut self, target: &[u8])
         ensures { self.new ≡ held (to_front target.now self.old.pairs) self.old.capacity }
     {
         if let Some(cache) = &mut self.cache {
@@ -90,8 +100,8 @@ impl Kept {
         }
     }
 
-    // The body of a target, and no pair changes its place.
-    fn peek(&self, target: &[u8]) -> Option<&Text>
+    /// The body that is kept for a target, or None exactly where there is none. No pair changes its place.
+    pub fn peek(&self, target: &[u8]) -> Option<&Text>
         ensures { option_copied result ≡ body_of target.now self.now.pairs }
     {
         match &self.cache {
