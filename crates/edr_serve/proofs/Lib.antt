@@ -10,3 +10,4 @@ pub mod OneRequest
 pub mod Going
 pub mod OpenedChunks
 pub mod SessionRows
+pub mod KeptLemmas

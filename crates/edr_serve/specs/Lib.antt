@@ -7,3 +7,4 @@ pub mod SessionLaws
 pub mod AheadLaws
 pub mod Serving
 pub mod Connections
+pub mod Keeping
