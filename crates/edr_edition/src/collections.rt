@@ -28,7 +28,7 @@ use std::sync::Arc;
 
 // What a collection is called, and the systems of its coordinates.
 #[derive(Drop)]
-struct Head {
+pub(crate) struct Head {
     id: Text,
     title: Text,
     kind: Kind,

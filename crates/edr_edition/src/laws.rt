@@ -7,11 +7,14 @@ ghost use Rattle.edr_edition.specs.Instances.{InstancesHaveGrids};
 ghost use Rattle.edr_edition.specs.Editions.{NewestIsOne};
 ghost use Rattle.edr_edition.specs.Stores.{NewestIsNewest};
 
-use crate::collections::CollectionData;
+use crate::collections::{CollectionData, Head};
 use crate::editions::Edition;
 use crate::instances::GridInstance;
+use covjson_value::Parameter;
+use edr_base::Items;
 use edr_ids::{ById, Identified};
 use edr_station::stations_cross_threads;
+use std::sync::Arc;
 
 /// An instance has axes within the limits, parameters in the order of their ids, and for each of them a sample, or none, at
 /// each node of a grid whose sides are the axes' lengths.
@@ -47,6 +50,9 @@ pub fn editions_cross_threads()
 {
     stations_cross_threads();
     crosses_threads::<GridInstance>();
+    crosses_threads::<Arc<Head>>();
+    crosses_threads::<Arc<Items<Parameter>>>();
+    crosses_threads::<ById<GridInstance>>();
     crosses_threads::<CollectionData>();
     crosses_threads::<ById<CollectionData>>();
     crosses_threads::<Edition>();

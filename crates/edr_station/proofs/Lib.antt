@@ -9,4 +9,5 @@ pub mod StationParts
 pub mod LeastIds
 pub mod SeenIds
 pub mod MadeOf
+pub mod CellsOf
 pub mod TallySteps

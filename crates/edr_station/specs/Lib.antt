@@ -1,6 +1,7 @@
 pub mod Stations
 pub mod Blocks
 pub mod Boxes
+pub mod Nearest
 pub mod Inputs
 pub mod Few
 pub mod KeptBlocks

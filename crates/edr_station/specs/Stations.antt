@@ -1,6 +1,7 @@
 -- The stations of a collection (OGC 19-086r6, locations).
 use Rattle.std.specs.Prelude.{◌≡◌, ℕ, ◌*◌, ℤ, pos, List, [], length, All, IfSome, IsUtf8, Option, None}
 use Rattle.std.specs.List.{slice_index_or}
+use Rattle.edr_base.specs.declared.places.Spot.{Spot}
 use Rattle.edr_base.specs.Limits.{IsCoordinate, AreSamples}
 use Rattle.edr_base.specs.Names.{IsName}
 use Rattle.edr_axes.specs.Axes.{axis_length, IsAxis}
@@ -19,6 +20,10 @@ pub record StationValue : Type 0 where
 
 abbrev pub station_id : StationValue → List ℕ
 station_id s = s.id
+
+-- where a station is
+abbrev pub station_spot : StationValue → Spot
+station_spot s = record { x = s.x; y = s.y }
 
 -- how many values each parameter of a station has: one for each time and level
 abbrev pub values_along : StationValue → ℕ

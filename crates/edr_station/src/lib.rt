@@ -1,6 +1,7 @@
 //! The stations of a collection: where and when each of them is, and its values, kept in packed blocks.
 #![tactic(auto)]
 
+mod cells;
 mod faults;
 mod few;
 mod inputs;

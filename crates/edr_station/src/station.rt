@@ -4,7 +4,8 @@ ghost use Rattle.std.specs.Arc.{arc_value};
 ghost use Rattle.std.specs.List.{flat_map};
 ghost use Rattle.edr_base.specs.Names.{IsName};
 ghost use Rattle.edr_base.specs.Limits.{AreSamples};
-ghost use Rattle.edr_station.specs.Stations.{IsPlaced, HasSeries, IsStation, values_along};
+ghost use Rattle.edr_near.specs.Squares.{IsSpot};
+ghost use Rattle.edr_station.specs.Stations.{IsPlaced, HasSeries, IsStation, station_spot, values_along};
 ghost use Rattle.edr_axes.specs.Axes.{axis_length};
 ghost use Rattle.edr_station.specs.Blocks.{blocks_of, cut_block, place_in_series, series_at};
 ghost use Rattle.edr_station.specs.Inputs.{station_of};
@@ -19,6 +20,7 @@ use edr_axes::Axis;
 use edr_base::{Items, OutOfMemory, Spot, Text};
 use edr_chunk::Packed;
 use edr_ids::Identified;
+use edr_near::Placed;
 use std::alloc::Global;
 use std::marker::Model;
 use std::sync::Arc;
@@ -77,6 +79,14 @@ impl Identified for Station {
 
     fn id(&self) -> &[u8] {
         self.id()
+    }
+}
+
+impl Placed for Station {
+    ghost spot_of = { station_spot };
+
+    fn spot(&self) -> Spot {
+        self.spot()
     }
 }
 
@@ -260,9 +270,10 @@ impl Station {
         self.spot.y
     }
 
-    // Where it is.
-    pub(crate) fn spot(&self) -> Spot
-        ensures { result ≡ record { x = self.now.x; y = self.now.y } }
+    /// Where it is.
+    pub fn spot(&self) -> Spot
+        ensures place { result ≡ station_spot self.now }
+        ensures within { IsSpot (station_spot self.now) }
     {
         self.spot
     }

@@ -1,17 +1,21 @@
 //! The stations of a collection.
-ghost use Rattle.std.specs.Prelude.{◌≡◌, ◌≢◌, ◌+◌, ◌*◌, ◌<◌, ◌≤◌, ◌^◌, ◌++◌, ◌∷◌, [], None, Some, length, take, All, is_some, option_map, IfOk, IfErr, IfSome, OnOk, OnErr, MatchOption};
+ghost use Rattle.std.specs.Prelude.{◌≡◌, ◌≢◌, ◌+◌, ◌*◌, ◌<◌, ◌≤◌, ◌^◌, ◌++◌, ◌∷◌, [], None, Some, length, take, All, Contains, is_some, option_map, IfOk, IfErr, IfSome, OnOk, OnErr, MatchOption};
 ghost use Rattle.std.specs.List.{slice_index_or};
 ghost use Rattle.edr_base.specs.FirstThatApplies.{IsLeast, NoneApplies};
 ghost use Rattle.edr_ids.specs.Ids as ids;
 ghost use Rattle.edr_ids.specs.Ids.{AscendBy, with_item, without_id};
 ghost use Rattle.std.specs.Arc.{arc_value};
-ghost use Rattle.edr_station.specs.Stations.{StationValue, IsPlaced, HasSeries, AreStations, IsStation, station_id, station_at};
+ghost use Rattle.edr_near.specs.Squares.{IsSpot};
+ghost use Rattle.edr_near.specs.Near.{Nearest};
+ghost use Rattle.edr_station.specs.Stations.{StationValue, IsPlaced, HasSeries, AreStations, IsStation, station_id, station_spot, station_at};
 ghost use Rattle.edr_station.specs.Blocks.{blocks, blocks_of, block_of, first_block, place_at, Within, IsBlock, block_number};
 ghost use Rattle.edr_station.specs.Boxes.{places_inside};
+ghost use Rattle.edr_station.specs.Nearest.{AreLookedAt};
 ghost use Rattle.edr_station.specs.Inputs.{station_of, IsInput, HasCounts, rank, Applies, AreOf};
 ghost use Rattle.edr_station.specs.Least.{HaveOwnIds};
 ghost use Rattle.edr_station.specs.Places.{IsPlaceOf, IsSpanOf, AreKept};
 
+use crate::cells::{cells_with, cells_without};
 use crate::faults::find_fault;
 use crate::inputs::{StationFault, StationInput};
 use crate::series::BLOCK_LENGTH;
@@ -20,6 +24,7 @@ use crate::station::Station;
 use edr_base::{OutOfMemory, Spot};
 use edr_chunk::{Packed, Reads, open_packed};
 use edr_ids::items_are_by_id;
+use edr_near::{Cells, Looks};
 use std::alloc::Global;
 use std::cmp::Ordering;
 use std::marker::Model;
@@ -36,17 +41,19 @@ use std::sync::Arc;
 pub struct Stations {
     parameters: usize,
     shelf: Shelf,
+    cells: Cells<Station>,
 }
 
 impl Model for Stations {
     ghost use Rattle.edr_station.specs.Stations.{StationsValue};
+    ghost use Rattle.edr_station.specs.Nearest.{HaveThese};
     ghost use Rattle.edr_station.specs.Places.{AreKept};
 
     ghost Value = { StationsValue };
 
     ghost view = { λ s. record { parameters = s.parameters; stations = s.shelf } };
 
-    ghost invariant = { λ s. AreKept (record { parameters = s.parameters; stations = s.shelf }) };
+    ghost invariant = { λ s. AreKept (record { parameters = s.parameters; stations = s.shelf }) × HaveThese s.cells s.shelf };
 }
 
 // The place of the station of an id, or where it would stand: a search by halves.
@@ -144,6 +151,7 @@ impl Stations {
         Stations {
             parameters,
             shelf: Shelf::empty(),
+            cells: Cells::empty(),
         }
     }
 
@@ -221,6 +229,33 @@ impl Stations {
         Ok(places)
     }
 
+    /// The place of the station that is nearest to a place of the plane: it has the least pair of squared distance and id, the
+    /// ids in byte order. It is None exactly where there are no stations.
+    ///
+    /// `looks`, which has to be empty, has the numbers of the cells whose stations were looked at: exactly of those whose squares
+    /// aren't farther from the place than the station, each once, in ascending order. A cell is a square of 65,536 metres in
+    /// which a station stands; they are numbered from 0, by columns, and by rows in a column. After want of memory, the only
+    /// error, it is as it was.
+    pub fn nearest(
+        &self,
+        alloc: Global,
+        spot: Spot,
+        looks: &mut Looks,
+    ) -> Result<Option<usize>, OutOfMemory>
+        requires spot { IsSpot spot }
+        requires empty { looks.old ≡ [] }
+        ensures inside { IfOk result (λ found. IfSome found (λ place. place < length self.now.stations)) }
+        ensures nearest { IfOk result (λ found. Nearest station_id station_spot spot (Contains self.now.stations) (option_map (λ place. station_at self.now.stations place) found)) }
+        ensures looks { IfOk result (λ found. AreLookedAt spot self.now.stations (option_map (λ place. station_at self.now.stations place) found) looks.new) }
+        ensures kept { OnErr result (looks.new ≡ looks.old) }
+    {
+        items_are_by_id::<Station>();
+        match self.cells.nearest(alloc, spot, looks)? {
+            Some(station) => Ok(self.by_id(station.id())),
+            None => Ok(None),
+        }
+    }
+
     /// An equal list, which shares all stations. It takes no memory; its only error is that there are too many copies to be
     /// counted.
     pub fn share(&self) -> Result<Stations, OutOfMemory>
@@ -229,6 +264,7 @@ impl Stations {
         Ok(Stations {
             parameters: self.parameters,
             shelf: self.shelf.share()?,
+            cells: self.cells.share()?,
         })
     }
 
@@ -245,8 +281,10 @@ impl Stations {
     {
         let (place, end) = span_of(&self.shelf, input.id.bytes());
         let station = shared(alloc, near(&self.shelf, place), input)?;
+        let cells = cells_with(alloc, &self.cells, &self.shelf, place, end, &station)?;
         let shelf = self.shelf.spliced(alloc, place, end, Some(station))?;
         self.shelf = counted(self.parameters, shelf)?;
+        self.cells = cells;
         Ok(())
     }
 
@@ -263,7 +301,9 @@ impl Stations {
         match place_of(&self.shelf, id) {
             Err(_) => Ok(false),
             Ok(place) => {
+                let cells = cells_without(alloc, &self.cells, &self.shelf, place)?;
                 self.shelf = self.shelf.spliced(alloc, place, place + 1, None)?;
+                self.cells = cells;
                 Ok(true)
             }
         }

@@ -7,7 +7,7 @@ use Rattle.edr_station.proofs.stations.Stations.blocks.Goals as goal
 pub overflow_mul-result : goal.overflow_mul-result
 overflow_mul-result c =
     let i = c.self.inside in
-    omega (arith, blocks_scaled i.parameters i.shelf, ap (λ n. i.parameters * n) c.blocks-2.ensures, c.self.invariant.counted)
+    omega (arith, blocks_scaled i.parameters i.shelf, ap (λ n. i.parameters * n) c.blocks-2.ensures, c.self.invariant.0.counted)
 
 pub returns : goal.returns
 returns c =

@@ -10,7 +10,7 @@ returns-in-Ok-clause-found c =
     let shelf = c.self.inside.shelf in
     let at = c.in-Ok.ensures.place in
     ap (λ (v : StationsValue). Some (station_at v.stations place)) (sym c.self.view_is)
-    ∙ (sym (one_found c.args.id.now shelf c.self.invariant.stations.ascending place at.0 at.1)
+    ∙ (sym (one_found c.args.id.now shelf c.self.invariant.0.stations.ascending place at.0 at.1)
     ∙ ap (λ (v : StationsValue). item_of station_id c.args.id.now v.stations) c.self.view_is)
 
 pub returns-in-Err-clause-found : goal.returns-in-Err-clause-found

@@ -29,28 +29,28 @@ pub overflow_mul-first : goal.overflow_mul-first
 overflow_mul-first c =
     let i : StationsValue = record { parameters = c.self.inside.parameters; stations = c.self.inside.shelf } in
     let here = blocks_of (station_at i.stations c.args.station) in
-    let h = stands c.args.self.now i c.args.station c.args.parameter c.args.block c.blocks_before.result here c.self.view_is c.self.invariant c.requires.station c.requires.parameter c.requires.block
+    let h = stands c.args.self.now i c.args.station c.args.parameter c.args.block c.blocks_before.result here c.self.view_is c.self.invariant.0 c.requires.station c.requires.parameter c.requires.block
     c.blocks_before.ensures refl in
     omega (arith, h.below, h.fits)
 
 pub overflow_add-result : goal.overflow_add-result
 overflow_add-result c =
     let i : StationsValue = record { parameters = c.self.inside.parameters; stations = c.self.inside.shelf } in
-    let h = stands c.args.self.now i c.args.station c.args.parameter c.args.block c.blocks_before.result c.blocks-2.result c.self.view_is c.self.invariant c.requires.station c.requires.parameter c.requires.block
+    let h = stands c.args.self.now i c.args.station c.args.parameter c.args.block c.blocks_before.result c.blocks-2.result c.self.view_is c.self.invariant.0 c.requires.station c.requires.parameter c.requires.block
     c.blocks_before.ensures (c.blocks-2.ensures ∙ ap blocks_of (c.at.ensures nowhere)) in
     omega (arith, h.below, h.fits)
 
 pub overflow_add-result-2 : goal.overflow_add-result-2
 overflow_add-result-2 c =
     let i : StationsValue = record { parameters = c.self.inside.parameters; stations = c.self.inside.shelf } in
-    let h = stands c.args.self.now i c.args.station c.args.parameter c.args.block c.blocks_before.result c.blocks-2.result c.self.view_is c.self.invariant c.requires.station c.requires.parameter c.requires.block
+    let h = stands c.args.self.now i c.args.station c.args.parameter c.args.block c.blocks_before.result c.blocks-2.result c.self.view_is c.self.invariant.0 c.requires.station c.requires.parameter c.requires.block
     c.blocks_before.ensures (c.blocks-2.ensures ∙ ap blocks_of (c.at.ensures nowhere)) in
     omega (arith, h.below, h.fits)
 
 pub returns-clause-number : goal.returns-clause-number
 returns-clause-number c =
     let i : StationsValue = record { parameters = c.self.inside.parameters; stations = c.self.inside.shelf } in
-    let h = stands c.args.self.now i c.args.station c.args.parameter c.args.block c.blocks_before.result c.blocks-2.result c.self.view_is c.self.invariant c.requires.station c.requires.parameter c.requires.block
+    let h = stands c.args.self.now i c.args.station c.args.parameter c.args.block c.blocks_before.result c.blocks-2.result c.self.view_is c.self.invariant.0 c.requires.station c.requires.parameter c.requires.block
     c.blocks_before.ensures (c.blocks-2.ensures ∙ ap blocks_of (c.at.ensures nowhere)) in
     h.is
     ∙ (ap (λ n. n + c.args.parameter * blocks_of (station_at i.stations c.args.station) + c.args.block) (sym (blocks_scaled i.parameters (take c.args.station i.stations)))
@@ -59,6 +59,6 @@ returns-clause-number c =
 pub returns-clause-below : goal.returns-clause-below
 returns-clause-below c =
     let i : StationsValue = record { parameters = c.self.inside.parameters; stations = c.self.inside.shelf } in
-    let h = stands c.args.self.now i c.args.station c.args.parameter c.args.block c.blocks_before.result c.blocks-2.result c.self.view_is c.self.invariant c.requires.station c.requires.parameter c.requires.block
+    let h = stands c.args.self.now i c.args.station c.args.parameter c.args.block c.blocks_before.result c.blocks-2.result c.self.view_is c.self.invariant.0 c.requires.station c.requires.parameter c.requires.block
     c.blocks_before.ensures (c.blocks-2.ensures ∙ ap blocks_of (c.at.ensures nowhere)) in
     subst (λ (v : StationsValue). i.parameters * c.blocks_before.result + c.args.parameter * c.blocks-2.result + c.args.block < blocks v.parameters v.stations) c.self.view_is h.below

@@ -47,7 +47,7 @@ block-requires-clause-parameter c =
     let here : c.blocks-blocks.result ≡ blocks_of (station_at i.shelf place) = c.blocks-blocks.ensures ∙ ap blocks_of (c.at-station.ensures nowhere) in
     let at = at_number i.parameters i.shelf c.args.number place c.find-place.result.1 c.blocks-blocks.result some c.find-place.ensures here in
     let long = ap (λ (s : StationValue). length s.series) (c.at-station.ensures nowhere) in
-    omega (arith, at.parameter_in, long, (c.self.invariant.stations.each place nowhere c.find-place.ensures.inside).has.many)
+    omega (arith, at.parameter_in, long, (c.self.invariant.0.stations.each place nowhere c.find-place.ensures.inside).has.many)
 
 pub block-requires-clause-block : goal.block-requires-clause-block
 block-requires-clause-block c =
@@ -73,5 +73,5 @@ returns c =
     let cut : c.block.result.now ≡ cut_block block (series_at (station_at i.shelf place) parameter) =
     c.block.ensures ∙ ap (λ (s : StationValue). cut_block block (series_at s parameter)) (c.at-station.ensures nowhere) in
     subst (λ (v : StationsValue). IsBlock v number c.block.result.now) c.self.view_is
-    (block_stands (record { parameters = i.parameters; stations = i.shelf }) c.self.invariant.stations place parameter block number c.block.result.now
+    (block_stands (record { parameters = i.parameters; stations = i.shelf }) c.self.invariant.0.stations place parameter block number c.block.result.now
     c.find-place.ensures.inside at.parameter_in at.block_in at.numbered cut)
