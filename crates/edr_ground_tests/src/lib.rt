@@ -8,6 +8,8 @@ mod corridors;
 #[cfg(test)]
 mod kept;
 #[cfg(test)]
+mod nearest;
+#[cfg(test)]
 mod planes;
 #[cfg(test)]
 mod station_words;
